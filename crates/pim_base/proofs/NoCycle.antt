@@ -1,0 +1,233 @@
+-- No step makes a cycle of waits.
+use Rattle.std.proofs.Common.{◌≡◌, ◌≢◌, ℕ, zero, suc, ◌+◌, ◌<◌, ◌≤◌, Bool, true, false, not, ◌&&◌, ◌||◌, ◌⊎◌, inl, inr, eqb, ltb, List, [], ◌∷◌, length, Option, Some, None, is_some, refl, sym, ◌∙◌, ap, subst, arith, option_and_then, unwrap_or, set, slice_get, fold, true≢false, if◌then◌else◌}
+use Rattle.std.proofs.lemmas.Bool.Decides.{nat_tests, eqb_tells}
+use Rattle.pim_base.specs.Lists.{nth, put}
+use Rattle.pim_base.specs.State.{State, IsState, IsTask, owner_of, wait_of, owned, with_owner, with_wait, with_base, queued}
+use Rattle.pim_base.specs.Chains.{blocker, HasCycle, closes_cycle}
+use Rattle.pim_base.specs.Queues.{first_of}
+use Rattle.pim_base.specs.Checks.{unknown_task, is_waiting, is_owned, checks, withdraws_itself}
+use Rattle.pim_base.specs.Steps.{unless, hand_over, hand_over_to, handed, served, answer, reply_of, changed, after}
+use Rattle.pim_base.specs.Laws.{IsSound, NoCycleLaw}
+use Rattle.pim_base.specs.declared.steps.Op.{Op}
+use Rattle.pim_base.specs.declared.steps.Step.{Step}
+use Rattle.pim_base.specs.declared.steps.Refusal.{Refusal}
+use Rattle.pim_base.specs.declared.steps.Reply.{Reply}
+use Rattle.pim_base.specs.declared.steps.Wait.{Wait}
+use Rattle.pim_base.specs.declared.steps.Waiter.{Waiter}
+use Rattle.pim_base.proofs.Hops.{hops, first_hop, hops_front, NoneReturns}
+use Rattle.pim_base.proofs.Places.{nth-put_other, length-put}
+use Rattle.pim_base.proofs.Closing.{none_returns, returns_from_cycle, closing_law}
+
+-- the hop from x, if there is one, leads to a task that doesn't hop
+abbrev Ends : (ℕ → Option ℕ) → ℕ → Type 0
+Ends hop x = (y : ℕ) → hop x ≡ Some y → hop y ≡ None
+
+pub none-some : {y : ℕ} → None ≡ Some y → ⊥
+none-some e = cc
+
+-- a way of the other that goes on is one of `hop`
+old_way :
+    (hop again : ℕ → Option ℕ)
+    → ((x : ℕ) → (again x ≡ hop x) ⊎ Ends again x)
+    → (k x y z : ℕ)
+    → hops again k x ≡ Some y
+    → again y ≡ Some z
+    → hops hop k x ≡ Some y
+old_way hop again change zero x y z e on = e
+old_way hop again change (suc k) x y z e on =
+    let f = first_hop again k x y e in
+    elim (change x) [
+      | inl same ↦ hops_front hop k x f.0 (sym same ∙ f.1) ∙ old_way hop again change k f.0 y z f.2 on
+      | inr ends ↦ absurd (stops k f.0 (ends f.0 f.1) f.2)
+    ]
+  where
+    stops : (k v : ℕ) → again v ≡ None → hops again k v ≡ Some y → ⊥
+    stops zero v none e = let same : v ≡ y = cc in none-some (sym none ∙ ap again same ∙ on)
+    stops (suc k) v none e = let f = first_hop again k v y e in none-some (sym none ∙ f.1)
+
+-- none returns where each hop is an old one or leads to an end
+none_returns_still :
+    (hop again : ℕ → Option ℕ) (n : ℕ)
+    → NoneReturns hop n
+    → ((x : ℕ) → (again x ≡ hop x) ⊎ Ends again x)
+    → NoneReturns again n
+none_returns_still hop again n acyclic change t k le e =
+    let f = first_hop again k t t e in acyclic t k le (old_way hop again change (suc k) t t f.0 e f.1)
+
+-- the same of states
+no_cycle_still :
+    (S S' : State)
+    → length S'.base ≡ length S.base
+    → ((x : ℕ) → (blocker S' x ≡ blocker S x) ⊎ Ends (blocker S') x)
+    → ¬ HasCycle S
+    → ¬ HasCycle S'
+no_cycle_still S S' bases change acyclic (t, h) =
+    let r = returns_from_cycle (blocker S') (length S'.base) t h in
+    none_returns_still (blocker S) (blocker S') (length S.base) (none_returns S acyclic) change t r.0 (omega (arith, r.1, bases)) r.2
+
+unwrap_or-set_same : {X : Type 0} (xs : List (Option X)) (i : ℕ) (o : Option X) → (unwrap_or (slice_get (set xs i o) i) None ≡ o) ⊎ (unwrap_or (slice_get (set xs i o) i) None ≡ None)
+unwrap_or-set_same [] i o = inr refl
+unwrap_or-set_same (x ∷ xs) zero o = inl refl
+unwrap_or-set_same (x ∷ xs) (suc i) o = unwrap_or-set_same xs i o
+
+pub unwrap_or-put_same : {X : Type 0} (xs : List (Option X)) (n : ℕ) (o : Option X) → (unwrap_or (nth (put xs n o) n) None ≡ o) ⊎ (unwrap_or (nth (put xs n o) n) None ≡ None)
+unwrap_or-put_same xs zero o = inr refl
+unwrap_or-put_same xs (suc i) o = unwrap_or-set_same xs i o
+
+pub idle_now : (S : State) (t : ℕ) → wait_of (with_wait S t None) t ≡ None
+idle_now S t = elim (unwrap_or-put_same S.wait t None) [ inl h ↦ h | inr h ↦ h ]
+
+-- a mutex goes to a task that doesn't wait, or to none
+pub owner_sound :
+    (S : State) (m : ℕ) (o : Option ℕ)
+    → ((t : ℕ) → o ≡ Some t → wait_of S t ≡ None)
+    → IsSound S
+    → IsSound (with_owner S m o)
+owner_sound S m o idle ok = record {
+  lists = record { waits = ok.lists.waits; owners = length-put S.owner m o ∙ ok.lists.owners };
+  no_cycle = no_cycle_still S (with_owner S m o) refl (λ x. go x (wait_of S x) refl) ok.no_cycle;
+}
+  where
+    hop_of : Option Wait → Option ℕ
+    hop_of = option_and_then (λ (w : Wait). owner_of (with_owner S m o) w.mutex)
+
+    go : (x : ℕ) (v : Option Wait) → wait_of S x ≡ v → (hop_of v ≡ option_and_then (λ (w : Wait). owner_of S w.mutex) v) ⊎ Ends (blocker (with_owner S m o)) x
+    go x None e = inl refl
+    go x (Some w) e = elim (eqb_tells m w.mutex) [
+      | inl here ↦ inr (λ y h.
+          let at : owner_of (with_owner S m o) m ≡ Some y =
+          ap (owner_of (with_owner S m o)) here.1 ∙ sym (ap hop_of e) ∙ h in
+          ap hop_of (idle y (elim (unwrap_or-put_same S.owner m o) [ inl is_o ↦ sym is_o ∙ at | inr none ↦ absurd (none-some (sym none ∙ at)) ])))
+      | inr other ↦ inl (ap (λ v. unwrap_or v None) (nth-put_other S.owner m w.mutex o other.1))
+    ]
+
+-- a task waits no more
+pub idle_sound : (S : State) (t : ℕ) → IsSound S → IsSound (with_wait S t None)
+idle_sound S t ok = record {
+  lists = record { waits = length-put S.wait t None ∙ ok.lists.waits; owners = ok.lists.owners };
+  no_cycle = no_cycle_still S (with_wait S t None) refl change ok.no_cycle;
+}
+  where
+    hop_of : Option Wait → Option ℕ
+    hop_of = option_and_then (λ (w : Wait). owner_of S w.mutex)
+
+    change : (x : ℕ) → (blocker (with_wait S t None) x ≡ blocker S x) ⊎ Ends (blocker (with_wait S t None)) x
+    change x = elim (eqb_tells t x) [
+      | inl here ↦ inr (λ y h. absurd (none-some (sym (ap hop_of (idle_now S t)) ∙ ap (blocker (with_wait S t None)) here.1 ∙ h)))
+      | inr other ↦ inl (ap (λ v. hop_of (unwrap_or v None)) (nth-put_other S.wait t x None other.1))
+    ]
+
+pub base_sound : (S : State) (t p : ℕ) → IsSound S → IsSound (with_base S t p)
+base_sound S t p ok = record {
+  lists = record { waits = ok.lists.waits ∙ sym (length-put S.base t p); owners = ok.lists.owners };
+  no_cycle = no_cycle_still S (with_base S t p) (length-put S.base t p) (λ x. inl refl) ok.no_cycle;
+}
+
+pub queued_sound : (S : State) (t m : ℕ) → IsTask S t → wait_of S t ≡ None → closes_cycle S t m ≡ false → IsSound S → IsSound (queued S t m)
+queued_sound S t m task idle open' ok = record {
+  lists = record { waits = length-put S.wait t (Some (record { mutex = m; ticket = S.next })) ∙ ok.lists.waits; owners = ok.lists.owners };
+  no_cycle = λ h. true≢false (sym ((closing_law S t m S.next ok.lists ok.no_cycle task idle).1 h) ∙ open');
+}
+
+pub hand_sound : (S : State) (m : ℕ) → IsSound S → IsSound (hand_over S m)
+hand_sound S m ok = go (first_of S m)
+  where
+    go : (o : Option Waiter) → IsSound (hand_over_to S m o)
+    go None = owner_sound S m None (λ t e. absurd (none-some e)) ok
+    go (Some w) =
+        owner_sound (with_wait S w.task None) m (Some w.task)
+        (λ t e. let same : w.task ≡ t = cc in ap (wait_of (with_wait S w.task None)) (sym same) ∙ idle_now S w.task)
+        (idle_sound S w.task ok)
+
+hands_sound : (ms : List ℕ) (S : State) → IsSound S → IsSound (fold hand_over S ms)
+hands_sound [] S ok = ok
+hands_sound (m ∷ ms) S ok = hands_sound ms (hand_over S m) (hand_sound S m ok)
+
+-- each test fails
+abbrev AllFail : List (Bool × Refusal) → Type 0
+AllFail [] = Unit {0}
+AllFail (check ∷ checks) = (check.0 ≡ false) × AllFail checks
+
+-- it is refused, or each test fails
+unless_cases :
+    (checks : List (Bool × Refusal)) (a : Reply)
+    → ((r : Refusal) × (unless checks a ≡ Reply.Refused r)) ⊎ (AllFail checks × (unless checks a ≡ a))
+unless_cases [] a = inr (tt, refl)
+unless_cases (check ∷ checks) a = go check.0 refl (unless_cases checks a)
+  where
+    go :
+        (b : Bool)
+        → check.0 ≡ b
+        → ((r : Refusal) × (unless checks a ≡ Reply.Refused r)) ⊎ (AllFail checks × (unless checks a ≡ a))
+        → ((r : Refusal) × ((if b then Reply.Refused check.1 else unless checks a) ≡ Reply.Refused r))
+        ⊎ (((check.0 ≡ false) × AllFail checks) × ((if b then Reply.Refused check.1 else unless checks a) ≡ a))
+    go true e rest = inl (check.1, refl)
+    go false e (inl r) = inl r
+    go false e (inr h) = inr ((e, h.0), h.1)
+
+changed-refused : (S : State) (a : ℕ) (op : Op) (r : Refusal) → changed S a op (Reply.Refused r) ≡ S
+changed-refused S a (Op.Lock m) r = refl
+changed-refused S a (Op.Try m) r = refl
+changed-refused S a (Op.Unlock m) r = refl
+changed-refused S a Op.ReleaseAll r = refl
+changed-refused S a (Op.Cancel t) r = refl
+changed-refused S a (Op.SetBase t p) r = refl
+
+-- a refusal changes nothing, so what the reply of a served step does is what counts
+by_reply :
+    (S : State) (a : ℕ) (op : Op) (tests : List (Bool × Refusal)) (r : Reply)
+    → IsSound S
+    → (AllFail tests → IsSound (changed S a op r))
+    → IsSound (changed S a op (unless tests r))
+by_reply S a op tests r ok served = elim (unless_cases tests r) [
+  | inl refused ↦ subst (λ x. IsSound (changed S a op x)) (sym refused.1) (subst IsSound (sym (changed-refused S a op refused.0)) ok)
+  | inr h ↦ subst (λ x. IsSound (changed S a op x)) (sym h.1) (served h.0)
+]
+
+pub idle_from_tests : (S : State) (a : ℕ) → (is_waiting S a && not false) ≡ false → wait_of S a ≡ None
+idle_from_tests S a h = go (wait_of S a) refl h
+  where
+    go : (w : Option Wait) → wait_of S a ≡ w → (is_some w && not false) ≡ false → wait_of S a ≡ None
+    go None e h = e
+    go (Some w) e h = absurd (true≢false h)
+
+served_sound :
+    (S : State) (a : ℕ) (op : Op)
+    → IsTask S a
+    → (is_waiting S a && not (withdraws_itself a op)) ≡ false
+    → IsSound S
+    → AllFail (checks S a op)
+    → IsSound (changed S a op (served S a op))
+served_sound S a (Op.Lock m) task h ok f = go (is_owned S m)
+  where
+    idle : wait_of S a ≡ None
+    idle = idle_from_tests S a h
+
+    go : (b : Bool) → IsSound (changed S a (Op.Lock m) (if b then Reply.Queued else Reply.Granted))
+    go true = queued_sound S a m task idle f.1.0 ok
+    go false = owner_sound S m (Some a) (λ t e. let same : a ≡ t = cc in ap (wait_of S) (sym same) ∙ idle) ok
+served_sound S a (Op.Try m) task h ok f =
+    owner_sound S m (Some a) (λ t e. let same : a ≡ t = cc in ap (wait_of S) (sym same) ∙ idle_from_tests S a h) ok
+served_sound S a (Op.Unlock m) task h ok f = go (first_of S m)
+  where
+    go : (o : Option Waiter) → IsSound (changed S a (Op.Unlock m) (handed o))
+    go None = hand_sound S m ok
+    go (Some w) = hand_sound S m ok
+served_sound S a Op.ReleaseAll task h ok f = hands_sound (owned S a) S ok
+served_sound S a (Op.Cancel t) task h ok f = idle_sound S t ok
+served_sound S a (Op.SetBase t p) task h ok f = base_sound S t p ok
+
+pub known_from_tests : (S : State) (a : ℕ) → unknown_task S a ≡ false → IsTask S a
+known_from_tests S a h = grind (arith, nat_tests)
+
+pub no_cycle_law : NoCycleLaw
+no_cycle_law S step ok =
+    by_reply S step.actor step.op
+    ((unknown_task S step.actor, Refusal.NoTask)
+    ∷ (is_waiting S step.actor && not (withdraws_itself step.actor step.op), Refusal.Waiting)
+    ∷ [])
+    (answer S step.actor step.op)
+    ok
+    (λ h.
+    by_reply S step.actor step.op (checks S step.actor step.op) (served S step.actor step.op) ok
+    (served_sound S step.actor step.op (known_from_tests S step.actor h.0) h.1.0 ok))

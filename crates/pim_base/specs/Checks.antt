@@ -1,0 +1,69 @@
+-- What refuses a step: the tests, and their order.
+use Rattle.std.specs.Prelude.{ℕ, ◌==◌, ◌^◌, ◌-◌, nat_lt, nat_le, ◌&&◌, ◌||◌, not, is_some, Bool, true, false, List, [], ◌∷◌, length}
+use Rattle.std.specs.Option.{option_map_or}
+use Rattle.pim_base.specs.Lists.{holds}
+use Rattle.pim_base.specs.State.{State, base_of, owner_of, wait_of, protocol_of}
+use Rattle.pim_base.specs.Chains.{closes_cycle}
+use Rattle.pim_base.specs.Priorities.{ceiling}
+use Rattle.pim_base.specs.declared.steps.Op.{Op}
+use Rattle.pim_base.specs.declared.steps.Step.{Step}
+use Rattle.pim_base.specs.declared.steps.Refusal.{Refusal}
+
+abbrev pub unknown_task : State → ℕ → Bool
+unknown_task S t = t == 0 || nat_lt (length S.base) t
+
+abbrev pub unknown_mutex : State → ℕ → Bool
+unknown_mutex S m = m == 0 || nat_lt (length S.protocol) m
+
+abbrev pub is_waiting : State → ℕ → Bool
+is_waiting S t = is_some (wait_of S t)
+
+abbrev pub is_owned : State → ℕ → Bool
+is_owned S m = is_some (owner_of S m)
+
+-- POSIX.1-2017, pthread_mutex_lock, EINVAL: the caller's priority, here always its base, is higher than the ceiling
+abbrev pub above_ceiling : State → ℕ → ℕ → Bool
+above_ceiling S t m = option_map_or (λ c. nat_lt c (base_of S t)) (ceiling (protocol_of S m)) false
+
+-- the tickets 1 to 2^64 - 2 are given out
+abbrev pub no_tickets : State → Bool
+no_tickets S = S.next == 2 ^ 64 - 1
+
+-- the step is the withdrawal of the actor itself
+abbrev pub withdraws_itself : ℕ → Op → Bool
+withdraws_itself a (Op.Cancel t) = t == a
+withdraws_itself a _ = false
+
+-- what refuses any step, in order
+abbrev pub first_checks : State → Step → List (Bool × Refusal)
+first_checks S step =
+    (unknown_task S step.actor, Refusal.NoTask)
+    ∷ (is_waiting S step.actor && not (withdraws_itself step.actor step.op), Refusal.Waiting)
+    ∷ []
+
+-- what refuses the step of a known task that may ask, in order
+abbrev pub checks : State → ℕ → Op → List (Bool × Refusal)
+checks S a (Op.Lock m) =
+    (unknown_mutex S m, Refusal.NoMutex)
+    ∷ (closes_cycle S a m, Refusal.Deadlock)
+    ∷ (above_ceiling S a m, Refusal.Ceiling)
+    ∷ (is_owned S m && no_tickets S, Refusal.Tickets)
+    ∷ []
+checks S a (Op.Try m) =
+    (unknown_mutex S m, Refusal.NoMutex)
+    ∷ (above_ceiling S a m, Refusal.Ceiling)
+    ∷ (is_owned S m, Refusal.Busy)
+    ∷ []
+checks S a (Op.Unlock m) =
+    (unknown_mutex S m, Refusal.NoMutex)
+    ∷ (not (holds (owner_of S m) a), Refusal.NotOwner)
+    ∷ []
+checks S a Op.ReleaseAll = []
+checks S a (Op.Cancel t) =
+    (unknown_task S t, Refusal.NoTask)
+    ∷ (not (is_waiting S t), Refusal.NotWaiting)
+    ∷ []
+checks S a (Op.SetBase t p) =
+    (unknown_task S t, Refusal.NoTask)
+    ∷ (not (nat_le 1 p && nat_le p 99), Refusal.Priority)
+    ∷ []

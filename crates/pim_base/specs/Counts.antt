@@ -1,0 +1,26 @@
+-- How much a step changes.
+use Rattle.std.specs.Prelude.{ℕ, zero, suc, ◌+◌, ◌==◌, Bool, true, false, not, cond, length, Option, Some, None}
+use Rattle.pim_base.specs.State.{State, owner_of}
+use Rattle.pim_base.specs.Priorities.{effective_priority}
+
+-- how many of the numbers 1 to n pass the test
+unfoldable pub count : ℕ → (ℕ → Bool) → ℕ
+count zero test = 0
+count (suc n) test = count n test + cond (test (suc n)) 1 0
+
+-- how many of the tasks 1 to n have another priority
+abbrev pub differing : ℕ → (ℕ → ℕ) → (ℕ → ℕ) → ℕ
+differing n f g = count n (λ t. not (f t == g t))
+
+abbrev pub same_owner : Option ℕ → Option ℕ → Bool
+same_owner None None = true
+same_owner (Some t) (Some u) = t == u
+same_owner _ _ = false
+
+-- how many tasks have another effective priority
+abbrev pub changed_tasks : State → State → ℕ
+changed_tasks S T = differing (length S.base) (effective_priority S) (effective_priority T)
+
+-- how many mutexes have another owner, where none counts as one
+abbrev pub handed_mutexes : State → State → ℕ
+handed_mutexes S T = count (length S.protocol) (λ m. not (same_owner (owner_of S m) (owner_of T m)))

@@ -1,0 +1,11 @@
+pub mod Lists
+pub mod State
+pub mod Chains
+pub mod Priorities
+pub mod Queues
+pub mod Checks
+pub mod Steps
+pub mod Runs
+pub mod Reasons
+pub mod Counts
+pub mod Laws

@@ -1,0 +1,78 @@
+-- The state of the mutexes: what is owned, what is waited for, what was declared.
+use Rattle.std.specs.Prelude.{◌≡◌, ◌≤◌, ◌+◌, ℕ, List, length, Option, Some, None, unwrap_or, replicate}
+use Rattle.std.specs.List.{filter}
+use Rattle.pim_base.specs.Lists.{nth, put, numbers, holds}
+use Rattle.pim_base.specs.declared.steps.Protocol.{Protocol}
+use Rattle.pim_base.specs.declared.steps.Wait.{Wait}
+
+-- A list of tasks begins with task 1, and a list of mutexes with mutex 1. There are no priorities in force and no
+-- queues: those are computed from what stands here.
+pub record State : Type 0 where
+  pub base : List ℕ
+  pub protocol : List Protocol
+  pub owner : List (Option ℕ)
+  pub wait : List (Option Wait)
+  pub next : ℕ
+
+-- nothing is owned and nobody waits
+abbrev pub start : List ℕ → List Protocol → ℕ → State
+start bases protocols next = record {
+  base = bases;
+  protocol = protocols;
+  owner = replicate (length protocols) None;
+  wait = replicate (length bases) None;
+  next = next;
+}
+
+abbrev pub tasks : State → List ℕ
+tasks S = numbers (length S.base)
+
+abbrev pub mutexes : State → List ℕ
+mutexes S = numbers (length S.protocol)
+
+abbrev pub base_of : State → ℕ → ℕ
+base_of S t = unwrap_or (nth S.base t) 0
+
+abbrev pub protocol_of : State → ℕ → Protocol
+protocol_of S m = unwrap_or (nth S.protocol m) Protocol.None
+
+abbrev pub owner_of : State → ℕ → Option ℕ
+owner_of S m = unwrap_or (nth S.owner m) None
+
+abbrev pub wait_of : State → ℕ → Option Wait
+wait_of S t = unwrap_or (nth S.wait t) None
+
+-- the mutexes that the task owns, in rising number
+abbrev pub owned : State → ℕ → List ℕ
+owned S t = filter (λ m. holds (owner_of S m) t) (mutexes S)
+
+-- each task has an entry among the waits, and each mutex among the owners
+pub record IsState (S : State) : Type 0 where
+  pub waits : length S.wait ≡ length S.base
+  pub owners : length S.owner ≡ length S.protocol
+
+-- the task has one of the numbers 1 to N
+abbrev pub IsTask : State → ℕ → Type 0
+IsTask S t = (1 ≤ t) × (t ≤ length S.base)
+
+-- the mutex has one of the numbers 1 to their count
+abbrev pub IsMutex : State → ℕ → Type 0
+IsMutex S m = (1 ≤ m) × (m ≤ length S.protocol)
+
+-- The changes of one fact.
+
+abbrev pub with_owner : State → ℕ → Option ℕ → State
+with_owner S m o = record S { owner = put S.owner m o }
+
+abbrev pub with_wait : State → ℕ → Option Wait → State
+with_wait S t w = record S { wait = put S.wait t w }
+
+abbrev pub with_base : State → ℕ → ℕ → State
+with_base S t p = record S { base = put S.base t p }
+
+-- t waits for m with the next ticket
+abbrev pub queued : State → ℕ → ℕ → State
+queued S t m = record S {
+  wait = put S.wait t (Some (record { mutex = m; ticket = S.next }));
+  next = S.next + 1;
+}
