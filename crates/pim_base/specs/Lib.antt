@@ -9,3 +9,6 @@ pub mod Runs
 pub mod Reasons
 pub mod Counts
 pub mod Laws
+pub mod Spelling
+pub mod Texts
+pub mod Reports

@@ -1,0 +1,4 @@
+pub use Rattle.pim_base.specs.State
+pub use Rattle.pim_base.specs.Texts
+pub use Rattle.pim_base.specs.Reports
+pub mod Reading
