@@ -7,6 +7,10 @@ mod numbered;
 mod priorities;
 mod queues;
 mod reasons;
+#[cfg(test)]
+mod scenarios;
+#[cfg(test)]
+mod scene;
 mod steps;
 mod tables;
 

@@ -1,4 +1,4 @@
-use Rattle.std.proofs.Common.{◌≡◌, ◌-◌, ◌+◌, ◌∙◌, ◌==◌, ◌||◌, ℕ, Bool, true, false, arith, sym, ap, length, Option, Some, None}
+use Rattle.std.proofs.Common.{◌≡◌, ◌-◌, ◌+◌, ◌∙◌, ◌==◌, ◌||◌, ℕ, Bool, arith, sym, ap, length, Option, Some}
 use Rattle.std.specs.List.{list_any}
 use Rattle.pim_base.specs.Queues.{waiter_of}
 use Rattle.pim_base.specs.declared.steps.Waiter.{Waiter}

@@ -1,4 +1,4 @@
-use Rattle.std.proofs.Common.{◌≡◌, ◌==◌, ◌+◌, ◌-◌, ◌∙◌, ◌&&◌, ℕ, Bool, true, false, arith, sym, ap, length, find, filter}
+use Rattle.std.proofs.Common.{◌≡◌, ◌+◌, ◌-◌, ◌∙◌, ◌&&◌, ℕ, Bool, false, arith, sym, ap, length, find, filter}
 use Rattle.std.specs.List.{range_with_len}
 use Rattle.pim_base.specs.Lists.{holds}
 use Rattle.pim_base.specs.State.{State, owner_of}
@@ -23,7 +23,7 @@ loop-number-preserved c =
     omega (arith, c.loop-number-test.true, c.mutex_count-number-end.ensures.count) in
     let fails : (q n && p n) ≡ false =
     elim c.else-owns.branch [
-      | else-owns-via-then-owns+else-lends w ↦ 
+      | else-owns-via-then-owns+else-lends w ↦
           ap (λ b. q n && b) (sym w.lends.ensures ∙ w.if-lends.false) ∙ ap (λ b. b && false) (sym c.owns.ensures ∙ w.if-owns.true)
       | else-owns-via-else-owns w ↦ ap (λ b. b && p n) (sym c.owns.ensures ∙ w.if-owns.false)
     ] in
