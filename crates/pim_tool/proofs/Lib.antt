@@ -4,3 +4,8 @@ pub mod SpellingLemmas
 pub mod LineLemmas
 pub mod TraceLemmas
 pub mod ReadingLemmas
+pub mod EndsLemmas
+pub mod DecimalLemmas
+pub mod PrintingLemmas
+pub mod NoneLemmas
+pub mod ReportLemmas

@@ -1,12 +1,19 @@
 //! The text of traces, and the judge that writes their reports.
 #![tactic(auto)]
 
+mod ends;
 mod fault;
+mod judging;
 mod line;
+mod page;
+mod printing;
 mod reading;
 mod text;
+mod transfer;
 
+pub use ends::{Failed, Sink, Source};
 pub use fault::Fault;
+pub use judging::{judge, status};
 pub use pim_base::{StepLine, Verdict};
 pub use reading::parse;
 pub use text::Text;
