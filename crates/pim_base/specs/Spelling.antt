@@ -81,20 +81,29 @@ version_line = codes "pim 1"
 abbrev pub spelled : Line → List ℕ
 spelled line = join_with_byte SPACE (words_of line)
 
--- ---- which lines there are so far: NONE mutexes, locks and unlocks, and no recorded replies
+-- ---- numbers in their ranges
 
 abbrev pub IsProtocol : Protocol → Type 0
-IsProtocol Protocol.None = Unit {0}
-IsProtocol _ = ⊥
+IsProtocol (Protocol.Protect c) = IsPrio c
+IsProtocol _ = Unit {0}
 
 abbrev pub IsOp : Op → Type 0
 IsOp (Op.Lock m) = IsNumber m
+IsOp (Op.Try m) = IsNumber m
 IsOp (Op.Unlock m) = IsNumber m
-IsOp _ = ⊥
+IsOp Op.ReleaseAll = Unit {0}
+IsOp (Op.Cancel t) = IsNumber t
+IsOp (Op.SetBase t p) = IsNumber t × IsNumber p
+
+-- the count of a release may be 0
+abbrev pub IsReply : Reply → Type 0
+IsReply (Reply.Handed t) = IsNumber t
+IsReply (Reply.Released k) = k < 2 ^ 16
+IsReply _ = Unit {0}
 
 abbrev pub IsRecorded : Option Reply → Type 0
 IsRecorded None = Unit {0}
-IsRecorded (Some r) = ⊥
+IsRecorded (Some r) = IsReply r
 
 -- a line of the format, its numbers in their ranges
 abbrev pub IsLine : Line → Type 0

@@ -1,77 +1,41 @@
 -- What words spell, by what they begin with.
-use Rattle.std.proofs.Common.{◌≡◌, ◌≢◌, ◌<◌, ◌≤◌, ℕ, List, [], ◌∷◌, ◌++◌, codes, arith, rules, refl, get_or, sym, ◌∙◌, ap, Option, Some, None, MatchOption, Bool, true, false, not, Bor}
+use Rattle.std.proofs.Common.{◌≡◌, ℕ, List, [], ◌∷◌, ◌++◌, codes, arith, refl, sym, ◌∙◌, ap, Option, Some, None}
 use Rattle.std.specs.Fmt.{decimal}
-use Rattle.std.specs.List.{join_with_byte}
-use Rattle.std.specs.Option.{SomeIff}
-use Rattle.std.specs.Str.{bytes_eq}
-use Rattle.std.specs.Str.Parse.{digits_value}
-use Rattle.std.proofs.lemmas.Slice.Eq.{bytes_eq-Decides}
-use Rattle.std.proofs.lemmas.List.Splits.{join_with_byte-slice_split, slice_split_none}
-use Rattle.std.proofs.lemmas.List.Elements.{All-from_recursion}
 use Rattle.pim_base.specs.declared.steps.Protocol.{Protocol}
 use Rattle.pim_base.specs.declared.steps.Op.{Op}
+use Rattle.pim_base.specs.declared.steps.Reply.{Reply}
 use Rattle.pim_base.specs.declared.lines.Line.{Line}
 use Rattle.pim_base.specs.declared.lines.Line.TheVariants as lines
-use Rattle.pim_base.specs.Spelling.{SPACE, IsNumber, IsPrio, IsProtocol, IsOp, IsLine, words_of, protocol_words, op_words, recorded_words}
-use Rattle.pim_tool.specs.Reading.{words, pieces, Reads}
+use Rattle.pim_base.specs.Spelling.{IsNumber, IsPrio, IsProtocol, IsOp, IsRecorded, IsLine, words_of, protocol_words, op_words, recorded_words}
+use Rattle.pim_tool.specs.Reading.{words, Reads, ReadsAs}
 use Rattle.pim_tool.proofs.NumberLemmas.{no_number}
-use Rattle.pim_tool.proofs.SpellingLemmas.{IsWord, word_decimal, value-decimal}
+use Rattle.pim_tool.proofs.SpellingLemmas.{same_behind}
+use Rattle.pim_tool.proofs.WordLemmas.{only_word}
 
--- ---- a single word
+-- ---- protocols
 
-pub one_word : (w : List ℕ) → IsWord w → words w ≡ w ∷ []
-one_word w is = slice_split_none _ w (All-from_recursion _ w is)
+pub no_protocol :
+    (rest : List ℕ)
+    → (rest ≡ codes "none" → ⊥)
+    → (rest ≡ codes "inherit" → ⊥)
+    → ((c : ℕ) → IsPrio c → words rest ≡ codes "protect" ∷ decimal c ∷ [] → ⊥)
+    → ReadsAs IsProtocol protocol_words (words rest) None
+no_protocol rest none inherit protect Protocol.None is e = none (only_word rest (codes "none") e)
+no_protocol rest none inherit protect Protocol.Inherit is e = inherit (only_word rest (codes "inherit") e)
+no_protocol rest none inherit protect (Protocol.Protect c) is e = protect c is e
 
-pub one_number : (w : List ℕ) (n : ℕ) → IsNumber n → w ≡ decimal n → words w ≡ decimal n ∷ []
-one_number w n is e = ap words e ∙ one_word (decimal n) (word_decimal n is.1)
+-- one word is no PROTECT protocol
+pub no_ceiling : (ws : List (List ℕ)) (w : List ℕ) → ws ≡ w ∷ [] → (c : ℕ) → IsPrio c → ws ≡ codes "protect" ∷ decimal c ∷ [] → ⊥
+no_ceiling ws w one c is e = let both = sym one ∙ e in cc
 
-pub one_prio : (w : List ℕ) (p : ℕ) → IsPrio p → w ≡ decimal p → words w ≡ decimal p ∷ []
-one_prio w p is e = one_number w p (is.0, omega (arith, is.1)) e
+pub bad_ceiling : (ws : List (List ℕ)) (w ceiling : List ℕ) → ws ≡ w ∷ words ceiling → ((p : ℕ) → IsPrio p → ceiling ≡ decimal p → ⊥) → (c : ℕ) → IsPrio c → ws ≡ codes "protect" ∷ decimal c ∷ [] → ⊥
+bad_ceiling ws w ceiling cut none c is e = none c is (only_word ceiling (decimal c) (let both = sym cut ∙ e in cc))
 
--- what stands behind the first word
-pub cut_some : (ws : List (List ℕ)) (first : List ℕ) (o : Option (Bor (List ℕ))) (rest : Bor (List ℕ)) → ws ≡ first ∷ pieces SPACE o → o ≡ Some rest → ws ≡ first ∷ words rest.now
-cut_some ws first o rest cut some = cut ∙ ap (λ o. first ∷ pieces SPACE o) some
+pub not_protect : (ws : List (List ℕ)) (w : List ℕ) (tail : List (List ℕ)) → ws ≡ w ∷ tail → (w ≡ codes "protect" → ⊥) → (c : ℕ) → IsPrio c → ws ≡ codes "protect" ∷ decimal c ∷ [] → ⊥
+not_protect ws w tail cut other c is e = other (let both = sym cut ∙ e in cc)
 
--- a test of bytes that holds
-pub same_bytes : (a b c : List ℕ) → true ≡ bytes_eq a b → b ≡ c → a ≡ c
-same_bytes a b c test e = (bytes_eq-Decides a b).0 (sym test) ∙ e
+-- ---- lines of tasks
 
--- a test of bytes that says that they differ
-pub other_bytes : (a b c : List ℕ) → true ≡ not (bytes_eq a b) → b ≡ c → a ≡ c → ⊥
-other_bytes a b c test e same = differ (bytes_eq a b) ((bytes_eq-Decides a b).1 (same ∙ sym e)) test
-  where
-    differ : (t : Bool) → t ≡ true → true ≡ not t → ⊥
-    differ true h e = cc
-    differ false h e = cc
-
--- such a test that fails
-pub no_other_bytes : (a b c : List ℕ) → false ≡ not (bytes_eq a b) → b ≡ c → a ≡ c
-no_other_bytes a b c test e = (bytes_eq-Decides a b).0 (holds (bytes_eq a b) test) ∙ e
-  where
-    holds : (t : Bool) → false ≡ not t → t ≡ true
-    holds true h = refl
-    holds false h = cc
-
--- bytes of one word are that word
-pub only_word : (bytes w : List ℕ) → words bytes ≡ w ∷ [] → bytes ≡ w
-only_word bytes w e = sym (join_with_byte-slice_split SPACE bytes) ∙ ap (join_with_byte SPACE) e
-
--- the priority that a number is, if it is one
-pub prio_read :
-    (word : List ℕ) (n : ℕ) (r : Option ℕ)
-    → IsNumber n × (word ≡ decimal n)
-    → SomeIff r ((1 ≤ n) × (n ≤ 99)) n
-    → MatchOption r ((p : ℕ) → IsPrio p → word ≡ decimal p → ⊥) (λ p. IsPrio p × (word ≡ decimal p))
-prio_read word n (Some p) read h = ((omega (arith, h.1, read.0.0), omega (arith, h.0.1, h.1)), read.1 ∙ ap decimal (sym h.1))
-prio_read word n None read h =
-    λ p is e.
-    let same : p ≡ n =
-    sym (value-decimal p (omega (arith, is.1))) ∙ ap (digits_value 10) (sym e ∙ read.1) ∙ value-decimal n read.0.1 in
-    h (omega (arith, same, read.0.0), omega (arith, same, is.1))
-
--- ---- words that spell no line
-
--- what begins as a task's line does is a task's line or none
 no_task :
     (ws : List (List ℕ))
     → ((n p : ℕ) → IsNumber n → IsPrio p → ws ≡ decimal n ∷ decimal p ∷ [] → ⊥)
@@ -80,7 +44,18 @@ no_task ws none (lines.Task n p) is e = none n p is.0 is.1 (cc)
 no_task ws none (lines.Mutex n p) is e = cc
 no_task ws none (lines.Step line) is e = no_number line.step.actor (codes "task") is.0 (cc) (omega arith)
 
--- what begins as a mutex's line does is a mutex's line or none
+pub task_no_number : (ws : List (List ℕ)) (first : List ℕ) (tail : List (List ℕ)) → ws ≡ first ∷ tail → ((n : ℕ) → IsNumber n → first ≡ decimal n → ⊥) → Reads (codes "task" ∷ ws) None
+task_no_number ws first tail cut none = no_task ws (λ n p is prio e. none n is (let both = sym cut ∙ e in cc))
+
+pub task_no_base : (ws : List (List ℕ)) (first base : List ℕ) → ws ≡ first ∷ words base → ((p : ℕ) → IsPrio p → base ≡ decimal p → ⊥) → Reads (codes "task" ∷ ws) None
+task_no_base ws first base cut none =
+    no_task ws (λ n p is prio e. none p prio (only_word base (decimal p) (let both = sym cut ∙ e in cc)))
+
+pub task_only_number : (ws : List (List ℕ)) (first : List ℕ) → ws ≡ first ∷ [] → Reads (codes "task" ∷ ws) None
+task_only_number ws first cut = no_task ws (λ n p is prio e. let both = sym cut ∙ e in cc)
+
+-- ---- lines of mutexes
+
 no_mutex :
     (ws : List (List ℕ))
     → ((n : ℕ) (p : Protocol) → IsNumber n → IsProtocol p → ws ≡ decimal n ∷ protocol_words p → ⊥)
@@ -89,44 +64,80 @@ no_mutex ws none (lines.Task n p) is e = cc
 no_mutex ws none (lines.Mutex n p) is e = none n p is.0 is.1 (cc)
 no_mutex ws none (lines.Step line) is e = no_number line.step.actor (codes "mutex") is.0 (cc) (omega arith)
 
-pub task_no_number : (ws : List (List ℕ)) (first : List ℕ) (tail : List (List ℕ)) → ws ≡ first ∷ tail → ((n : ℕ) → IsNumber n → first ≡ decimal n → ⊥) → Reads (codes "task" ∷ ws) None
-task_no_number ws first tail cut none = no_task ws (λ n p is prio e. none n is (let both = sym cut ∙ e in cc))
-
-pub task_no_base : (ws : List (List ℕ)) (first base : List ℕ) → ws ≡ first ∷ words base → ((p : ℕ) → IsPrio p → base ≡ decimal p → ⊥) → Reads (codes "task" ∷ ws) None
-task_no_base ws first base cut none =
-    no_task ws (λ n p is prio e. none p prio (only_word base (decimal p) (let both = sym cut ∙ e in cc)))
-
 pub mutex_no_number : (ws : List (List ℕ)) (first : List ℕ) (tail : List (List ℕ)) → ws ≡ first ∷ tail → ((n : ℕ) → IsNumber n → first ≡ decimal n → ⊥) → Reads (codes "mutex" ∷ ws) None
 mutex_no_number ws first tail cut none = no_mutex ws (λ n p is fits e. none n is (let both = sym cut ∙ e in cc))
 
-pub mutex_no_protocol : (ws : List (List ℕ)) (first protocol : List ℕ) → ws ≡ first ∷ words protocol → (protocol ≡ codes "none" → ⊥) → Reads (codes "mutex" ∷ ws) None
-mutex_no_protocol ws first protocol cut other = no_mutex ws none
-  where
-    none : (n : ℕ) (p : Protocol) → IsNumber n → IsProtocol p → ws ≡ decimal n ∷ protocol_words p → ⊥
-    none n Protocol.None is fits e = other (only_word protocol (codes "none") (let both = sym cut ∙ e in cc))
-    none n Protocol.Inherit is fits e = absurd fits
-    none n (Protocol.Protect c) is fits e = absurd fits
+pub mutex_no_protocol : (ws : List (List ℕ)) (first : List ℕ) (tail : List (List ℕ)) → ws ≡ first ∷ tail → ReadsAs IsProtocol protocol_words tail None → Reads (codes "mutex" ∷ ws) None
+mutex_no_protocol ws first tail cut none = no_mutex ws (λ n p is fits e. none p fits (let both = sym cut ∙ e in cc))
+
+-- no protocol has no word
+pub no_word_protocol : ReadsAs IsProtocol protocol_words [] None
+no_word_protocol Protocol.None is e = cc
+no_word_protocol Protocol.Inherit is e = cc
+no_word_protocol (Protocol.Protect c) is e = cc
+
+-- ---- step lines
 
 -- no line is one word
 pub no_single : (first : List ℕ) → Reads (first ∷ []) None
 no_single first (lines.Task n p) is e = cc
 no_single first (lines.Mutex n p) is e = cc
-no_single first (lines.Step line) is e = short (recorded_words line.recorded) line.step.op is.1 (cc)
+no_single first (lines.Step line) is e = short (recorded_words line.recorded) line.step.op (cc)
   where
-    short : (ws : List (List ℕ)) (op : Op) → IsOp op → [] ≡ op_words op ++ ws → ⊥
-    short ws (Op.Lock m) is e = cc
-    short ws (Op.Unlock m) is e = cc
-    short ws (Op.Try m) is e = absurd is
-    short ws Op.ReleaseAll is e = absurd is
-    short ws (Op.Cancel t) is e = absurd is
-    short ws (Op.SetBase t p) is e = absurd is
+    short : (ws : List (List ℕ)) (op : Op) → [] ≡ op_words op ++ ws → ⊥
+    short ws (Op.Lock m) e = cc
+    short ws (Op.Try m) e = cc
+    short ws (Op.Unlock m) e = cc
+    short ws Op.ReleaseAll e = cc
+    short ws (Op.Cancel t) e = cc
+    short ws (Op.SetBase t p) e = cc
 
--- ---- operations
+-- what begins with another word than the declarations do is a step line or none
+no_step :
+    (first : List ℕ) (ws : List (List ℕ))
+    → (first ≡ codes "task" → ⊥)
+    → (first ≡ codes "mutex" → ⊥)
+    → ((a : ℕ) (op : Op) (r : Option Reply) → IsNumber a → IsOp op → IsRecorded r → first ≡ decimal a → ws ≡ op_words op ++ recorded_words r → ⊥)
+    → Reads (first ∷ ws) None
+no_step first ws task mutex none (lines.Task n p) is e = task (cc)
+no_step first ws task mutex none (lines.Mutex n p) is e = mutex (cc)
+no_step first ws task mutex none (lines.Step line) is e = none line.step.actor line.step.op line.recorded is.0 is.1 is.2 (cc) (cc)
 
-pub no_target : (ws : List (List ℕ)) (first target : List ℕ) → ws ≡ first ∷ words target → ((n : ℕ) → IsNumber n → target ≡ decimal n → ⊥) → (op : Op) → IsOp op → ws ≡ op_words op → ⊥
-no_target ws first target cut none (Op.Lock m) is e = none m is (only_word target (decimal m) (let both = sym cut ∙ e in cc))
-no_target ws first target cut none (Op.Unlock m) is e = none m is (only_word target (decimal m) (let both = sym cut ∙ e in cc))
-no_target ws first target cut none (Op.Try m) is e = absurd is
-no_target ws first target cut none Op.ReleaseAll is e = absurd is
-no_target ws first target cut none (Op.Cancel t) is e = absurd is
-no_target ws first target cut none (Op.SetBase t p) is e = absurd is
+pub step_no_actor :
+    (first : List ℕ) (ws : List (List ℕ))
+    → (first ≡ codes "task" → ⊥)
+    → (first ≡ codes "mutex" → ⊥)
+    → ((n : ℕ) → IsNumber n → first ≡ decimal n → ⊥)
+    → Reads (first ∷ ws) None
+step_no_actor first ws task mutex none = no_step first ws task mutex (λ a op r is fits rec e f. none a is e)
+
+pub step_no_op :
+    (first : List ℕ) (ws vs : List (List ℕ))
+    → (first ≡ codes "task" → ⊥)
+    → (first ≡ codes "mutex" → ⊥)
+    → ws ≡ vs
+    → ((op : Op) (us : List (List ℕ)) → IsOp op → vs ≡ op_words op ++ us → ⊥)
+    → Reads (first ∷ ws) None
+step_no_op first ws vs task mutex cut none =
+    no_step first ws task mutex (λ a op r is fits rec e f. none op (recorded_words r) fits (sym cut ∙ f))
+
+pub step_no_recorded :
+    (first : List ℕ) (ws vs us : List (List ℕ)) (op : Op)
+    → (first ≡ codes "task" → ⊥)
+    → (first ≡ codes "mutex" → ⊥)
+    → ws ≡ vs
+    → vs ≡ op_words op ++ us
+    → ReadsAs IsRecorded recorded_words us None
+    → Reads (first ∷ ws) None
+step_no_recorded first ws vs us op task mutex cut spells none =
+    no_step first ws task mutex (λ a other r is fits rec e f. none r rec (same_behind op other us (recorded_words r) (sym (cut ∙ spells) ∙ f)))
+
+pub step_spelled :
+    (first : List ℕ) (ws vs us : List (List ℕ)) (a : ℕ) (op : Op) (r : Option Reply)
+    → first ≡ decimal a
+    → ws ≡ vs
+    → vs ≡ op_words op ++ us
+    → us ≡ recorded_words r
+    → first ∷ ws ≡ decimal a ∷ (op_words op ++ recorded_words r)
+step_spelled first ws vs us a op r actor cut spells rec =
+    ap (λ (w : List ℕ). w ∷ ws) actor ∙ ap (λ (xs : List (List ℕ)). decimal a ∷ xs) (cut ∙ spells ∙ ap (λ (xs : List (List ℕ)). op_words op ++ xs) rec)

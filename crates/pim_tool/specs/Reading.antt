@@ -24,11 +24,13 @@ pieces separator (Some rest) = slice_split (λ b. b == separator) rest.now
 abbrev pub words : List ℕ → List (List ℕ)
 words bytes = slice_split (λ b. b == SPACE) bytes
 
--- what these words say: nothing if they are the words of no line
+-- what these words spell: nothing if they spell none of those
+abbrev pub ReadsAs : {X : Type 0} → (X → Type 0) → (X → List (List ℕ)) → List (List ℕ) → Option X → Type 0
+ReadsAs {X} Is spelling ws result = MatchOption result ((x : X) → Is x → ws ≡ spelling x → ⊥) (λ x. Is x × (ws ≡ spelling x))
+
+-- the line that these words spell
 abbrev pub Reads : List (List ℕ) → Option Line → Type 0
-Reads ws result = MatchOption result
-    ((line : Line) → IsLine line → ws ≡ words_of line → ⊥)
-    (λ line. IsLine line × (ws ≡ words_of line))
+Reads ws result = ReadsAs IsLine words_of ws result
 
 -- what a line of these bytes says: nothing if no line is spelled so
 abbrev pub ReadsBytes : List ℕ → Option Line → Type 0

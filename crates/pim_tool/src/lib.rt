@@ -1,6 +1,7 @@
 //! The text of traces, and the judge that writes their reports.
 #![tactic(auto)]
 
+mod agreement;
 mod ends;
 mod fault;
 mod judging;
@@ -8,8 +9,11 @@ mod line;
 mod page;
 mod printing;
 mod reading;
+mod reply;
+mod request;
 mod text;
 mod transfer;
+mod word;
 
 pub use ends::{Failed, Sink, Source};
 pub use fault::Fault;

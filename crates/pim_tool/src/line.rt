@@ -1,30 +1,12 @@
 //! One line of a text, below the first.
-ghost use Rattle.std.specs.Prelude.{◌≡◌, ◌≢◌, ℕ, codes, ◌∷◌, ◌==◌, List, MatchOption, IfSome, decimal, position, length, ◌<◌};
-ghost use Rattle.std.specs.List.{slice_split};
-ghost use Rattle.pim_base.specs.Spelling.{SPACE, IsNumber, IsPrio, IsOp, op_words};
-ghost use Rattle.pim_tool.specs.Reading.{pieces, words, Reads, ReadsBytes};
+ghost use Rattle.std.specs.Prelude.{◌≡◌, ◌≢◌, ◌^◌, ℕ, codes, ◌∷◌, ◌++◌, ◌==◌, List, MatchOption, IfSome, length, ◌<◌};
+ghost use Rattle.pim_base.specs.Spelling.{IsProtocol, protocol_words};
+ghost use Rattle.pim_tool.specs.Reading.{words, Reads, ReadsBytes, ReadsAs};
 
-use pim_base::{Line, MutexNo, Op, Prio, Protocol, Step, StepLine, TaskNo};
-
-/// The bytes before the first separator and, if there is one, those behind it.
-#[inline]
-pub(crate) fn cut(bytes: &[u8], separator: u8) -> (&[u8], Option<&[u8]>)
-    ensures parts { slice_split (λ b. b == separator) bytes.now ≡ result.0.now ∷ pieces separator result.1 }
-    ensures shorter { IfSome result.1 (λ rest. length rest.now < length bytes.now) }
-{
-    match place_of(bytes, separator) {
-        Some(place) => (&bytes[..place], Some(&bytes[place + 1..])),
-        None => (bytes, None),
-    }
-}
-
-/// The place of the first separator.
-#[inline]
-fn place_of(bytes: &[u8], separator: u8) -> Option<usize>
-    ensures { result ≡ position (λ b. b == separator) bytes.now }
-{
-    bytes.iter().position(|byte| *byte == separator)
-}
+use crate::reply::read_recorded;
+use crate::request::read_op;
+use crate::word::{cut, number_of, prio_of};
+use pim_base::{Line, MutexNo, Protocol, Step, StepLine, TaskNo};
 
 /// What the line says, if it is spelled as one.
 pub(crate) fn read_line(bytes: &[u8]) -> Option<Line>
@@ -60,69 +42,52 @@ fn read_task(rest: &[u8]) -> Option<Line>
     })
 }
 
-/// `mutex <n> none`, from the number on.
+/// `mutex <n> <protocol>`, from the number on.
 fn read_mutex(rest: &[u8]) -> Option<Line>
     ensures { Reads (codes "mutex" ∷ words rest.now) result }
 {
     let (number, protocol) = cut(rest, b' ');
     let number = number_of(number)?;
-    if protocol? != b"none".as_slice() {
-        return None;
-    }
+    let protocol = read_protocol(protocol?)?;
     Some(Line::Mutex {
         number: MutexNo(number),
-        protocol: Protocol::None,
+        protocol,
     })
 }
 
-/// `<a> lock <m>` or `<a> unlock <m>`.
+/// `none`, `inherit` or `protect <ceiling>`.
+fn read_protocol(rest: &[u8]) -> Option<Protocol>
+    ensures { ReadsAs IsProtocol protocol_words (words rest.now) result }
+{
+    if rest == b"none".as_slice() {
+        return Some(Protocol::None);
+    }
+    if rest == b"inherit".as_slice() {
+        return Some(Protocol::Inherit);
+    }
+    let (word, ceiling) = cut(rest, b' ');
+    let ceiling = prio_of(ceiling?)?;
+    if word == b"protect".as_slice() {
+        Some(Protocol::Protect(ceiling))
+    } else {
+        None
+    }
+}
+
+/// `<a> <operation>`, perhaps with ` = <reply>` behind it.
 fn read_step(first: &[u8], rest: &[u8]) -> Option<Line>
     requires no_task { first.now ≢ codes "task" }
     requires no_mutex { first.now ≢ codes "mutex" }
     ensures { Reads (first.now ∷ words rest.now) result }
 {
     let actor = TaskNo(number_of(first)?);
-    let op = read_op(rest)?;
+    let (word, tail) = cut(rest, b' ');
+    let Some((op, tail)) = read_op(word, tail) else {
+        return None;
+    };
+    let recorded = read_recorded(tail)?;
     Some(Line::Step(StepLine {
         step: Step { actor, op },
-        recorded: None,
+        recorded,
     }))
-}
-
-/// What the actor of a step line asks for.
-fn read_op(rest: &[u8]) -> Option<Op>
-    ensures { MatchOption result
-        ((op : Op) → IsOp op → words rest.now ≡ op_words op → ⊥)
-        (λ op. IsOp op × (words rest.now ≡ op_words op)) }
-{
-    let (word, target) = cut(rest, b' ');
-    let mutex = MutexNo(number_of(target?)?);
-    if word == b"lock".as_slice() {
-        Some(Op::Lock(mutex))
-    } else if word == b"unlock".as_slice() {
-        Some(Op::Unlock(mutex))
-    } else {
-        None
-    }
-}
-
-/// The declared priority that a word spells.
-fn prio_of(word: &[u8]) -> Option<Prio>
-    ensures { MatchOption result
-        ((p : ℕ) → IsPrio p → word.now ≡ decimal p → ⊥)
-        (λ p. IsPrio p × (word.now ≡ decimal p)) }
-{
-    Prio::new(number_of(word)?)
-}
-
-/// The number, 1 to 65535, that a word spells.
-fn number_of(word: &[u8]) -> Option<u16>
-    ensures { MatchOption result
-        ((n : ℕ) → IsNumber n → word.now ≡ decimal n → ⊥)
-        (λ n. IsNumber n × (word.now ≡ decimal n)) }
-{
-    match word {
-        [b'1'..=b'9', ..] => std::str::from_utf8(word).ok()?.parse().ok(),
-        _ => None,
-    }
 }

@@ -1,9 +1,10 @@
 //! The bytes of a report that are not yet written.
 ghost use Rattle.std.specs.Prelude.{◌≡◌, ◌++◌, ◌<◌, ◌+◌, [], decimal, OnOk, IfOk};
 ghost use Rattle.pim_base.specs.Spelling.{refusal_word};
-ghost use Rattle.pim_base.specs.Reports.{reply_text, reply_line, accepted};
+ghost use Rattle.pim_base.specs.Reports.{reply_text, reply_line, differing_line, rejected, accepted};
+ghost use Rattle.pim_tool.specs.Printed.{reason_text, changed_line};
 
-use pim_base::{Refusal, Reply};
+use pim_base::{Prio, Reason, Refusal, Reply, TaskNo};
 use std::alloc::{AllocError, Global};
 
 /// How many bytes are gathered before they are written.
@@ -42,6 +43,43 @@ impl Page {
         self.number(number)?;
         self.word(b" ")?;
         self.reply(reply)?;
+        self.word(b"\n")
+    }
+
+    /// The line of a task whose priority changed: the priority that it has now, and why.
+    #[tactic(auto, unfolding(crate::specs::Printed::changed_line))]
+    pub fn change(&mut self, task: TaskNo, prio: Prio, reason: Reason) -> Result<(), AllocError>
+        ensures { OnOk result (self.new.bytes.items ≡ self.old.bytes.items ++ changed_line task prio reason) }
+    {
+        self.word(b"  task ")?;
+        self.number(u32::from(task.get()))?;
+        self.word(b" at ")?;
+        self.number(u32::from(prio.get()))?;
+        self.word(b" ")?;
+        self.reason(reason)?;
+        self.word(b"\n")
+    }
+
+    /// The line of a step whose recorded reply differs.
+    #[tactic(auto, unfolding(pim_base::specs::Reports::differing_line))]
+    pub fn differing(&mut self, number: u32, reply: Reply, recorded: Reply) -> Result<(), AllocError>
+        ensures { OnOk result (self.new.bytes.items ≡ self.old.bytes.items ++ differing_line number reply recorded) }
+    {
+        self.number(number)?;
+        self.word(b" ")?;
+        self.reply(reply)?;
+        self.word(b" but recorded ")?;
+        self.reply(recorded)?;
+        self.word(b"\n")
+    }
+
+    /// The last line, where a recorded reply differs.
+    #[tactic(auto, unfolding(pim_base::specs::Reports::rejected))]
+    pub fn rejected(&mut self, number: u32) -> Result<(), AllocError>
+        ensures { OnOk result (self.new.bytes.items ≡ self.old.bytes.items ++ rejected number) }
+    {
+        self.word(b"rejected ")?;
+        self.number(number)?;
         self.word(b"\n")
     }
 
@@ -93,6 +131,24 @@ impl Page {
             Refusal::NotWaiting => self.word(b"not-waiting"),
             Refusal::Priority => self.word(b"priority"),
             Refusal::Tickets => self.word(b"tickets"),
+        }
+    }
+
+    fn reason(&mut self, reason: Reason) -> Result<(), AllocError>
+        ensures { OnOk result (self.new.bytes.items ≡ self.old.bytes.items ++ reason_text reason) }
+    {
+        match reason {
+            Reason::Base => self.word(b"base"),
+            Reason::Ceiling(mutex) => {
+                self.word(b"ceiling ")?;
+                self.number(u32::from(mutex.get()))
+            }
+            Reason::Waiter(task, mutex) => {
+                self.word(b"waiter ")?;
+                self.number(u32::from(task.get()))?;
+                self.word(b" mutex ")?;
+                self.number(u32::from(mutex.get()))
+            }
         }
     }
 

@@ -5,8 +5,9 @@ ghost use Rattle.pim_base.specs.Texts.{lines_of, Spells, IsTrace};
 ghost use Rattle.pim_tool.specs.Reading.{trace_of, IsParseFault};
 
 use crate::fault::Fault;
-use crate::line::{cut, read_line};
+use crate::line::read_line;
 use crate::text::Text;
+use crate::word::cut;
 use std::alloc::{AllocError, Global};
 
 /// The text that the lines of the bytes spell. `Fault::Line(n)` is answered exactly where line n, counted from 1, is the

@@ -1,10 +1,14 @@
 use Rattle.std.proofs.Common.{◌≡◌, List, ℕ, ap, ◌∙◌, ◌∷◌, [], codes, decimal}
 use Rattle.pim_tool.specs.Reading.{words}
-use Rattle.pim_tool.proofs.LineLemmas.{cut_some, task_no_number, task_no_base, one_prio}
+use Rattle.pim_tool.proofs.WordLemmas.{cut_some, cut_none, one_prio}
+use Rattle.pim_tool.proofs.LineLemmas.{task_no_number, task_only_number, task_no_base}
 use Rattle.pim_tool.proofs.line.read_task.Goals as goal
 
 pub returns-in_err-number : goal.returns-in_err-number
 returns-in_err-number c = rw c.from_residual.ensures (task_no_number _ _ _ c.cut.ensures.parts c.in_err-number.ensures)
+
+pub returns-in_err-base : goal.returns-in_err-base
+returns-in_err-base c = rw c.from_residual-in_err-base.ensures (task_only_number _ _ (cut_none _ _ _ c.cut.ensures.parts c.in_err-base.was))
 
 pub returns-in_err-base-2 : goal.returns-in_err-base-2
 returns-in_err-base-2 c =

@@ -1,7 +1,7 @@
 use Rattle.std.proofs.Common.{arith, subst}
 use Rattle.std.specs.Str.Parse.{ParsesUnsigned}
 use Rattle.pim_tool.proofs.NumberLemmas.{first_of_number, utf8_of_number, number_parsed, at_some, at_none}
-use Rattle.pim_tool.proofs.line.number_of.Goals as goal
+use Rattle.pim_tool.proofs.word.number_of.Goals as goal
 
 pub returns-in_err-ok-in-49-to-57 : goal.returns-in_err-ok-in-49-to-57
 returns-in_err-ok-in-49-to-57 c = rw c.from_residual.ensures (λ n is e.
