@@ -8,4 +8,6 @@ pub mod Steps
 pub mod Runs
 pub mod Reasons
 pub mod Counts
+pub mod Steady
 pub mod Laws
+pub mod RunLaws
