@@ -141,7 +141,7 @@ hand_sound S m ok = go (first_of S m)
         (λ t e. let same : w.task ≡ t = cc in ap (wait_of (with_wait S w.task None)) (sym same) ∙ idle_now S w.task)
         (idle_sound S w.task ok)
 
-sound_kept : IsKeptBySteps IsSound
+pub sound_kept : IsKeptBySteps IsSound
 sound_kept = record {
   grant = λ S a m ok idle. owner_sound S m (Some a) (λ t e. let same : a ≡ t = cc in ap (wait_of S) (sym same) ∙ idle) ok;
   enqueue = λ S a m ok task idle open' owned. queued_sound S a m task idle open' ok;
