@@ -1,11 +1,11 @@
 -- What an effective priority is the greatest of.
-use Rattle.std.proofs.Common.{◌≡◌, ◌⊎◌, inl, inr, ℕ, zero, suc, ◌+◌, ◌≤◌, ◌<◌, max, Bool, true, false, List, [], ◌∷◌, map, filter, length, Option, Some, None, IsTrue, refl, sym, ◌∙◌, ap, subst, arith, option_and_then, unwrap_or, le_antisymm}
+use Rattle.std.proofs.Common.{◌≡◌, inl, inr, ℕ, zero, suc, ◌≤◌, Bool, true, [], ◌∷◌, map, length, Option, Some, None, refl, ◌∙◌, ap, subst, arith, option_and_then, unwrap_or, le_antisymm}
 use Rattle.std.proofs.lemmas.Option.{same_Some}
-use Rattle.pim_base.specs.Lists.{nth, contains, holds, numbers, greatest}
-use Rattle.pim_base.specs.State.{State, IsState, IsTask, base_of, owner_of, wait_of, owned}
-use Rattle.pim_base.specs.Chains.{blocker, heir, inherit_chain}
+use Rattle.pim_base.specs.Lists.{nth, contains, holds, greatest}
+use Rattle.pim_base.specs.State.{State, IsState, base_of, owner_of, wait_of, owned}
+use Rattle.pim_base.specs.Chains.{heir, inherit_chain}
 use Rattle.pim_base.specs.Priorities.{ceiling_of, own_priority, effective_priority}
-use Rattle.pim_base.specs.Laws.{IsSound, IsLeastBound, EffectiveLaw, RisingLaw, BaseLaw}
+use Rattle.pim_base.specs.Laws.{EffectiveLaw, RisingLaw, BaseLaw}
 use Rattle.pim_base.specs.declared.steps.Wait.{Wait}
 use Rattle.pim_base.proofs.Hops.{hops, Reaches, reaches_from_contains, contains-chain_here}
 use Rattle.pim_base.proofs.Places.{nth_within}

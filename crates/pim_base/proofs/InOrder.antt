@@ -1,15 +1,15 @@
 -- A queue has its waiters, each before all later ones.
-use Rattle.std.proofs.Common.{◌≡◌, ◌≢◌, ◌⊎◌, inl, inr, ℕ, zero, suc, ◌+◌, ◌-◌, ◌<◌, ◌≤◌, Bool, true, false, cond, ◌&&◌, ◌||◌, List, [], ◌∷◌, length, Option, Some, None, IsTrue, refl, sym, ◌∙◌, ap, subst, arith, eqb, ltb, option_and_then, eq-or-lt_of_le, All, Contains, AllPairs, if◌then◌else◌}
-use Rattle.std.specs.List.{AllByRecursion, slice_index_or}
+use Rattle.std.proofs.Common.{◌≡◌, ◌≢◌, ◌⊎◌, inl, inr, ℕ, zero, suc, ◌<◌, ◌≤◌, Bool, true, false, cond, ◌&&◌, List, [], ◌∷◌, length, Option, Some, None, refl, sym, ◌∙◌, ap, subst, arith, eqb, ltb, option_and_then, eq-or-lt_of_le, Contains, AllPairs, if◌then◌else◌}
+use Rattle.std.specs.List.{AllByRecursion}
 use Rattle.std.proofs.lemmas.Bool.{cases_lt, ltb-true, lt-ltb, eqb-true, eq-eqb, or_cases, or_left, or_right, and_parts, and_from, both_ways}
 use Rattle.std.proofs.lemmas.Option.{none-some, same_Some}
 use Rattle.std.proofs.lemmas.List.Elements.{All-from_recursion}
 use Rattle.pim_base.specs.Lists.{insert_by}
-use Rattle.pim_base.specs.State.{State, IsTask, wait_of}
+use Rattle.pim_base.specs.State.{State, wait_of}
 use Rattle.pim_base.specs.Priorities.{effective_priority}
 use Rattle.pim_base.specs.Queues.{precedes, Precedes, waiter_of, queue_of}
 use Rattle.pim_base.specs.Steady.{HasOwnTickets}
-use Rattle.pim_base.specs.Laws.{IsQueueOfWaiters, QueueLaw}
+use Rattle.pim_base.specs.Laws.{QueueLaw}
 use Rattle.pim_base.specs.declared.steps.Wait.{Wait}
 use Rattle.pim_base.specs.declared.steps.Waiter.{Waiter}
 use Rattle.pim_base.proofs.Firsts.{queue_upto, queue_upto-some, queue_upto-none}

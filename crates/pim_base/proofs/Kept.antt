@@ -1,11 +1,11 @@
 -- What each step keeps: it is enough to look at the changes of one fact.
-use Rattle.std.proofs.Common.{◌≡◌, ℕ, Bool, true, false, not, ◌&&◌, ◌||◌, ◌⊎◌, inl, inr, List, [], ◌∷◌, length, Option, Some, None, is_some, refl, sym, ap, subst, arith, fold, true≢false, if◌then◌else◌}
+use Rattle.std.proofs.Common.{◌≡◌, ℕ, Bool, true, false, not, ◌&&◌, ◌⊎◌, inl, inr, List, [], ◌∷◌, Option, Some, None, is_some, refl, sym, subst, arith, fold, true≢false, if◌then◌else◌}
 use Rattle.std.proofs.lemmas.Bool.Decides.{nat_tests}
 use Rattle.pim_base.specs.State.{State, IsTask, wait_of, owned, with_owner, with_wait, with_base, queued}
 use Rattle.pim_base.specs.Chains.{closes_cycle}
 use Rattle.pim_base.specs.Queues.{first_of}
 use Rattle.pim_base.specs.Checks.{unknown_task, is_waiting, is_owned, first_checks, checks, withdraws_itself}
-use Rattle.pim_base.specs.Steps.{unless, hand_over, handed, served, answer, reply_of, changed, after}
+use Rattle.pim_base.specs.Steps.{unless, hand_over, handed, served, answer, changed, after}
 use Rattle.pim_base.specs.declared.steps.Op.{Op}
 use Rattle.pim_base.specs.declared.steps.Step.{Step}
 use Rattle.pim_base.specs.declared.steps.Refusal.{Refusal}

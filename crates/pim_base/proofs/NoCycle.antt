@@ -1,17 +1,12 @@
 -- No step makes a cycle of waits.
-use Rattle.std.proofs.Common.{◌≡◌, ◌≢◌, ℕ, zero, suc, ◌+◌, ◌<◌, ◌≤◌, Bool, true, false, not, ◌&&◌, ◌||◌, ◌⊎◌, inl, inr, eqb, ltb, List, [], ◌∷◌, length, Option, Some, None, is_some, refl, sym, ◌∙◌, ap, subst, arith, option_and_then, unwrap_or, set, slice_get, fold, true≢false, if◌then◌else◌}
-use Rattle.std.proofs.lemmas.Bool.Decides.{nat_tests, eqb_tells}
+use Rattle.std.proofs.Common.{◌≡◌, ℕ, zero, suc, false, ◌⊎◌, inl, inr, List, [], ◌∷◌, length, Option, Some, None, refl, sym, ◌∙◌, ap, arith, option_and_then, unwrap_or, set, slice_get, true≢false}
+use Rattle.std.proofs.lemmas.Bool.Decides.{eqb_tells}
 use Rattle.pim_base.specs.Lists.{nth, put}
-use Rattle.pim_base.specs.State.{State, IsState, IsTask, owner_of, wait_of, owned, with_owner, with_wait, with_base, queued}
+use Rattle.pim_base.specs.State.{State, IsTask, owner_of, wait_of, with_owner, with_wait, with_base, queued}
 use Rattle.pim_base.specs.Chains.{blocker, HasCycle, closes_cycle}
 use Rattle.pim_base.specs.Queues.{first_of}
-use Rattle.pim_base.specs.Checks.{unknown_task, is_waiting, is_owned, checks, withdraws_itself}
-use Rattle.pim_base.specs.Steps.{unless, hand_over, hand_over_to, handed, served, answer, reply_of, changed, after}
+use Rattle.pim_base.specs.Steps.{hand_over, hand_over_to}
 use Rattle.pim_base.specs.Laws.{IsSound, NoCycleLaw}
-use Rattle.pim_base.specs.declared.steps.Op.{Op}
-use Rattle.pim_base.specs.declared.steps.Step.{Step}
-use Rattle.pim_base.specs.declared.steps.Refusal.{Refusal}
-use Rattle.pim_base.specs.declared.steps.Reply.{Reply}
 use Rattle.pim_base.specs.declared.steps.Wait.{Wait}
 use Rattle.pim_base.specs.declared.steps.Waiter.{Waiter}
 use Rattle.pim_base.proofs.Hops.{hops, first_hop, hops_front, NoneReturns}

@@ -1,6 +1,6 @@
 -- Runs whose replies, priorities and reasons were worked out by hand, computed by the definitions alone. Nothing
 -- cites these theorems: they are checked with the crate, and show that the definitions say what is meant.
-use Rattle.std.specs.Prelude.{◌≡◌, ℕ, ◌^◌, ◌-◌, List, [], ◌∷◌, ◌++◌, map, Option, Some, None, refl, ◌==◌, if◌then◌else◌}
+use Rattle.std.specs.Prelude.{◌≡◌, ℕ, ◌^◌, ◌-◌, List, [], ◌∷◌, ◌++◌, Option, Some, None, refl, ◌==◌, if◌then◌else◌}
 use Rattle.std.specs.List.{filter_map}
 use Rattle.pim_base.specs.State.{State, start, tasks}
 use Rattle.pim_base.specs.Priorities.{effective_priority}

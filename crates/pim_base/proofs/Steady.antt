@@ -1,30 +1,28 @@
 -- What no step breaks: tickets of their own, and no free mutex with waiters.
-use Rattle.std.proofs.Common.{◌≡◌, ◌≢◌, ◌⊎◌, inl, inr, ℕ, zero, suc, ◌+◌, ◌<◌, ◌≤◌, Bool, true, false, List, [], ◌∷◌, length, map, replicate, Option, Some, None, is_some, IsSome, refl, sym, ◌∙◌, ap, subst, arith, unwrap_or, option_and_then, eqb, Contains, slice_get, if◌then◌else◌}
+use Rattle.std.proofs.Common.{◌≡◌, ◌⊎◌, inl, inr, ℕ, zero, suc, ◌+◌, ◌<◌, true, List, [], ◌∷◌, length, map, replicate, Option, Some, None, is_some, IsSome, refl, sym, ◌∙◌, ap, subst, arith, unwrap_or, option_and_then, eqb, Contains, slice_get, if◌then◌else◌}
 use Rattle.std.proofs.lemmas.Bool.{eq-eqb}
 use Rattle.std.proofs.lemmas.List.{length-replicate}
-use Rattle.std.proofs.lemmas.Bool.Decides.{nat_tests, eqb_tells}
+use Rattle.std.proofs.lemmas.Bool.Decides.{eqb_tells}
 use Rattle.std.proofs.lemmas.Option.{none-some, same_Some}
 use Rattle.pim_base.specs.Lists.{nth, put, head_of}
-use Rattle.pim_base.specs.State.{State, IsState, IsTask, start, owner_of, wait_of, with_owner, with_wait, with_base, queued}
-use Rattle.pim_base.specs.Chains.{HasCycle, blocker}
+use Rattle.pim_base.specs.State.{State, IsTask, start, owner_of, wait_of, with_owner, with_wait, with_base, queued}
+use Rattle.pim_base.specs.Chains.{blocker}
 use Rattle.pim_base.specs.Priorities.{effective_priority}
 use Rattle.pim_base.specs.Queues.{first_of, waiter_of, queue_of}
 use Rattle.pim_base.specs.Checks.{is_owned}
 use Rattle.pim_base.specs.Steps.{hand_over, hand_over_to, reply_of, after}
 use Rattle.pim_base.specs.Runs.{IsRun}
-use Rattle.pim_base.specs.Steady.{IsSound, HasOwnTickets, WaitsAreForOwned, IsSteady}
+use Rattle.pim_base.specs.Steady.{HasOwnTickets, WaitsAreForOwned, IsSteady}
 use Rattle.pim_base.specs.RunLaws.{SameStepLaw, SameRunLaw, SteadyStepLaw, SteadyRunLaw, StartLaw}
 use Rattle.pim_base.specs.declared.steps.Entry.{Entry}
 use Rattle.pim_base.specs.declared.steps.Protocol.{Protocol}
-use Rattle.pim_base.specs.declared.steps.Step.{Step}
-use Rattle.pim_base.specs.declared.steps.Reply.{Reply}
 use Rattle.pim_base.specs.declared.steps.Wait.{Wait}
 use Rattle.pim_base.specs.declared.steps.Waiter.{Waiter}
 use Rattle.pim_base.proofs.Hops.{first_hop}
 use Rattle.pim_base.proofs.Closing.{returns_from_cycle}
 use Rattle.pim_base.proofs.InOrder.{queue_law}
 use Rattle.pim_base.proofs.Kept.{IsKeptBySteps, kept_by_step}
-use Rattle.pim_base.proofs.NoCycle.{sound_kept, unwrap_or-put_same, idle_now}
+use Rattle.pim_base.proofs.NoCycle.{sound_kept, unwrap_or-put_same}
 use Rattle.pim_base.proofs.Places.{nth-put_same, nth-put_other, nth_within}
 
 -- a wait after one task's wait was changed is that one, or an old one

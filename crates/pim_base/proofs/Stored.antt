@@ -1,9 +1,9 @@
 -- Priorities that agree with their neighbours are the effective ones.
-use Rattle.std.proofs.Common.{◌≡◌, ◌↔◌, ℕ, zero, suc, ◌+◌, ◌-◌, ◌<◌, ◌≤◌, max, Bool, true, false, eqb, List, [], ◌∷◌, length, map, filter, Option, Some, None, refl, sym, ◌∙◌, ap, arith, option_and_then, le_trans, le_antisymm}
+use Rattle.std.proofs.Common.{◌≡◌, ℕ, zero, suc, ◌+◌, ◌≤◌, max, true, length, map, filter, Option, Some, None, refl, ◌∙◌, ap, arith, option_and_then, le_trans, le_antisymm}
 use Rattle.std.proofs.lemmas.Bool.{eqb-true, eq-eqb}
-use Rattle.pim_base.specs.Lists.{contains, holds, numbers}
+use Rattle.pim_base.specs.Lists.{contains, holds}
 use Rattle.pim_base.specs.State.{State, IsTask, tasks, wait_of, owner_of, protocol_of}
-use Rattle.pim_base.specs.Chains.{chain, blocker, heir, heir_in, heir_of, inherit_chain}
+use Rattle.pim_base.specs.Chains.{blocker, heir, heir_in, heir_of, inherit_chain}
 use Rattle.pim_base.specs.Priorities.{own_priority, effective_priority, local_priority}
 use Rattle.pim_base.specs.Laws.{IsSound, StoredLaw}
 use Rattle.pim_base.specs.declared.steps.Protocol.{Protocol}

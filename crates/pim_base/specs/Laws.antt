@@ -1,5 +1,5 @@
 -- What the definitions have to do with one another.
-use Rattle.std.specs.Prelude.{◌≡◌, ◌≤◌, ℕ, List, [], ◌↔◌, IsTrue, Some, None, All, AllPairs, Contains}
+use Rattle.std.specs.Prelude.{◌≡◌, ◌≤◌, ℕ, [], ◌↔◌, IsTrue, Some, None, All, AllPairs, Contains}
 use Rattle.pim_base.specs.Lists.{contains}
 use Rattle.pim_base.specs.State.{State, IsState, IsTask, base_of, wait_of, owned, with_wait}
 use Rattle.pim_base.specs.Chains.{HasCycle, closes_cycle, inherit_chain}

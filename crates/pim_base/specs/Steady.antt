@@ -1,5 +1,5 @@
 -- What holds at the start and no step breaks.
-use Rattle.std.specs.Prelude.{◌≡◌, ◌<◌, ℕ, Option, Some, IsSome}
+use Rattle.std.specs.Prelude.{◌≡◌, ◌<◌, ℕ, Some, IsSome}
 use Rattle.pim_base.specs.State.{State, IsState, owner_of, wait_of}
 use Rattle.pim_base.specs.Chains.{HasCycle}
 use Rattle.pim_base.specs.declared.steps.Wait.{Wait}
