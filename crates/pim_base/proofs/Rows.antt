@@ -224,3 +224,11 @@ second_waiter_becomes_first_with_a_changed_priority :
     ∷ says Queued ∷ at 3 90 (Waiter 2 3) ∷ says Queued ∷ at 1 70 (Waiter 5 4)
     ∷ says (Handed 2) ∷ at 3 30 Base ∷ says (Handed 6) ∷ at 2 70 (Waiter 1 3) ∷ []
 second_waiter_becomes_first_with_a_changed_priority = refl
+
+worked_story :
+    report (start (10 ∷ 20 ∷ 30 ∷ 90 ∷ []) (inherit ∷ inherit ∷ inherit ∷ []) 1)
+    (chain_of_three ++ (1, Lock 3) ∷ (1, SetBase 4 15) ∷ (1, Unlock 1) ∷ [])
+    ≡ boosted_chain ++ says (Refused Refusal.Deadlock)
+    ∷ says Set ∷ at 1 30 (Waiter 2 1) ∷ at 2 30 (Waiter 3 2) ∷ at 3 30 Base ∷ at 4 15 Base
+    ∷ says (Handed 2) ∷ at 1 10 Base ∷ []
+worked_story = refl
