@@ -1,11 +1,10 @@
 -- The law of closing a cycle.
-use Rattle.std.proofs.Common.{◌≡◌, ◌≢◌, ◌↔◌, ℕ, zero, suc, ◌+◌, ◌-◌, ◌<◌, ◌≤◌, Bool, true, false, ◌||◌, ◌⊎◌, inl, inr, eqb, List, [], ◌∷◌, drop, length, Option, Some, None, refl, sym, ◌∙◌, ap, subst, arith, option_and_then, unwrap_or, IsTrue, true≢false}
+use Rattle.std.proofs.Common.{◌≡◌, ◌≢◌, ◌↔◌, ℕ, zero, suc, ◌+◌, ◌-◌, ◌≤◌, true, false, ◌⊎◌, inl, inr, [], drop, length, Option, Some, None, refl, sym, ◌∙◌, ap, arith, option_and_then, unwrap_or, IsTrue, true≢false}
 use Rattle.std.specs.Option.{option_map_or}
-use Rattle.std.proofs.lemmas.Bool.Decides.{nat_tests, eqb_tells}
-use Rattle.std.proofs.lemmas.Bool.{eqb-true, eq-eqb}
-use Rattle.pim_base.specs.Lists.{contains, nth, put}
-use Rattle.pim_base.specs.State.{State, IsState, IsTask, owner_of, wait_of, with_wait}
-use Rattle.pim_base.specs.Chains.{chain, blocker, waits_chain, HasCycle, closes_cycle}
+use Rattle.std.proofs.lemmas.Bool.Decides.{eqb_tells}
+use Rattle.pim_base.specs.Lists.{contains, nth}
+use Rattle.pim_base.specs.State.{State, IsState, IsTask, owner_of, with_wait}
+use Rattle.pim_base.specs.Chains.{chain, blocker, waits_chain, HasCycle}
 use Rattle.pim_base.specs.Laws.{ClosingLaw}
 use Rattle.pim_base.specs.declared.steps.Wait.{Wait}
 use Rattle.pim_base.proofs.Hops.{hops, Reaches, reaches_from_contains, contains_from_reaches, first_hop, hops_front, hops-add, hops_rest, NoneReturns, OnlyKnownHop, chain_is_short}

@@ -1,9 +1,9 @@
 -- Priorities that agree with their neighbours are the effective ones.
-use Rattle.std.proofs.Common.{◌≡◌, ◌↔◌, ℕ, zero, suc, ◌+◌, ◌-◌, ◌<◌, ◌≤◌, max, Bool, true, false, eqb, List, [], ◌∷◌, length, map, filter, Option, Some, None, refl, sym, ◌∙◌, ap, arith, option_and_then, le_trans, le_antisymm}
+use Rattle.std.proofs.Common.{◌≡◌, ℕ, zero, suc, ◌+◌, ◌≤◌, max, true, length, map, filter, Option, Some, None, refl, ◌∙◌, ap, arith, option_and_then, le_trans, le_antisymm}
 use Rattle.std.proofs.lemmas.Bool.{eqb-true, eq-eqb}
-use Rattle.pim_base.specs.Lists.{contains, holds, numbers}
+use Rattle.pim_base.specs.Lists.{contains, holds}
 use Rattle.pim_base.specs.State.{State, IsTask, tasks, wait_of, owner_of, protocol_of}
-use Rattle.pim_base.specs.Chains.{chain, blocker, heir, heir_in, heir_of, inherit_chain}
+use Rattle.pim_base.specs.Chains.{blocker, heir, heir_in, heir_of, inherit_chain}
 use Rattle.pim_base.specs.Priorities.{own_priority, effective_priority, local_priority}
 use Rattle.pim_base.specs.Laws.{IsSound, StoredLaw}
 use Rattle.pim_base.specs.declared.steps.Protocol.{Protocol}
@@ -56,13 +56,13 @@ from_holds None t e = cc
 from_holds (Some u) t e = ap Some (eqb-true u t e)
 
 -- a task's own priority counts where its chain leads
-own_priority-le-effective_priority : (S : State) (u t k : ℕ) → IsTask S u → k ≤ length S.base → hops (heir S) k u ≡ Some t → own_priority S u ≤ effective_priority S t
+pub own_priority-le-effective_priority : (S : State) (u t k : ℕ) → IsTask S u → k ≤ length S.base → hops (heir S) k u ≡ Some t → own_priority S u ≤ effective_priority S t
 own_priority-le-effective_priority S u t k task le e =
     le-greatest_of (own_priority S) (λ v. contains (inherit_chain S v) t) (length S.base) u task.0 task.1
     (contains_from_reaches (heir S) (length S.base) u t k le e)
 
 -- and nothing else does
-effective_priority-le : (S : State) (t b : ℕ) → ((u k : ℕ) → IsTask S u → k ≤ length S.base → hops (heir S) k u ≡ Some t → own_priority S u ≤ b) → effective_priority S t ≤ b
+pub effective_priority-le : (S : State) (t b : ℕ) → ((u k : ℕ) → IsTask S u → k ≤ length S.base → hops (heir S) k u ≡ Some t → own_priority S u ≤ b) → effective_priority S t ≤ b
 effective_priority-le S t b h =
     greatest_of-le (own_priority S) (λ v. contains (inherit_chain S v) t) (length S.base) b
     (λ u low high on. let r : Reaches (heir S) (length S.base) u t = reaches_from_contains (heir S) (length S.base) u t on in h u r.0 (low, high) r.1 r.2)
@@ -91,7 +91,7 @@ abbrev pub Agree : State → (ℕ → ℕ) → Type 0
 Agree S stored = (t : ℕ) → IsTask S t → stored t ≡ local_priority S stored t
 
 -- .. don't fall along a chain
-rises :
+pub rises :
     (S : State) (stored : ℕ → ℕ)
     → IsSound S
     → Agree S stored
@@ -142,7 +142,7 @@ bounded S stored ok agree (suc fuel) j v t full task e =
     omega (arith, bound, agree v task)
 
 -- what reaches a task's neighbour reaches the task
-effective_priority-le_next : (S : State) → IsSound S → (u t : ℕ) → IsTask S t → heir S u ≡ Some t → effective_priority S u ≤ effective_priority S t
+pub effective_priority-le_next : (S : State) → IsSound S → (u t : ℕ) → IsTask S t → heir S u ≡ Some t → effective_priority S u ≤ effective_priority S t
 effective_priority-le_next S ok u t task h =
     effective_priority-le S u (effective_priority S t)
     (λ w k task_w le e.

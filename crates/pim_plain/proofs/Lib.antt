@@ -1,3 +1,2 @@
-pub mod Firsts
 pub mod Releases
 pub mod Searches

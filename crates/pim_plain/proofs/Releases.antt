@@ -8,7 +8,7 @@ use Rattle.pim_base.specs.Steps.{hand_over, hand_over_to}
 use Rattle.pim_base.specs.declared.steps.Waiter.{Waiter}
 use Rattle.pim_base.proofs.Places.{nth-put_other}
 use Rattle.pim_base.proofs.Greatest.{numbers-more, append_nothing}
-use Rattle.pim_plain.proofs.Firsts.{fold-append_one}
+use Rattle.pim_base.proofs.Firsts.{fold-append_one}
 
 pub filter-pass : (p : ℕ → Bool) (n m : ℕ) → m + 1 ≡ n → p n ≡ true → filter p (numbers n) ≡ filter p (numbers m) ++ n ∷ []
 filter-pass p n m e h = rw (← e) (go (rw (← e) at h))

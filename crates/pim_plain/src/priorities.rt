@@ -23,7 +23,7 @@ impl Tables {
     }
 
     /// The greatest of the task's base and the ceilings of the PROTECT mutexes that it owns.
-    pub fn own_priority(&self, task: TaskNo) -> Prio
+    pub(crate) fn own_priority(&self, task: TaskNo) -> Prio
         requires { IsTask self.now task }
         ensures { result ≡ own_priority self.now task }
     {
@@ -40,7 +40,7 @@ impl Tables {
     }
 
     /// The greatest own priority among the tasks from which this one inherits, itself included.
-    pub fn known_effective(&self, task: TaskNo) -> Prio
+    pub(crate) fn known_effective(&self, task: TaskNo) -> Prio
         requires { IsTask self.now task }
         ensures { result ≡ effective_priority self.now task }
     {

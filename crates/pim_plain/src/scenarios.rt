@@ -8,7 +8,7 @@ use crate::scene::{
 };
 use Refusal::{Busy, Deadlock, NoMutex, NoTask, NotOwner, NotWaiting, Priority, Tickets, Waiting};
 use Reply::{Freed, Granted, Queued, Refused, Released, Set, Withdrawn};
-use pim_base::{Refusal, Reply, TaskNo};
+use pim_base::{MutexNo, Prio, Refusal, Reply, TaskNo};
 use std::alloc::Global;
 use std::process::Abort;
 use std::test::Fail;
@@ -540,5 +540,46 @@ fn second_waiter_becomes_first_with_a_changed_priority(rt: HostRuntime) -> Resul
     ] {
         expect_step(&rt, &mut tables, step, reply, &tasks);
     }
+    Ok(())
+}
+
+#[test]
+fn what_the_tables_show(rt: HostRuntime) -> Result<(), Fail> {
+    let mut tables = made(rt.alloc(), &[20, 40, 90], &[protect(&rt, 50), INHERIT], 1)?;
+    for step in [lock(1, 1), lock(2, 2), lock(2, 1), lock(3, 2)] {
+        tables.step(step);
+    }
+    let one = TaskNo(1);
+    let two = TaskNo(2);
+    let three = TaskNo(3);
+    let protected = MutexNo(1);
+    let inherited = MutexNo(2);
+    assert_eq!(rt; tables.task_count(), 3);
+    assert_eq!(rt; tables.mutex_count(), 2);
+    assert_eq!(rt; tables.next_ticket(), 3);
+    assert_eq!(rt; tables.base(two), Prio::new(40));
+    assert_eq!(rt; tables.protocol(inherited), Some(INHERIT));
+    assert_eq!(rt; tables.ceiling(protected), Prio::new(50));
+    assert_eq!(rt; tables.owner(inherited), Some(two));
+    assert_eq!(rt; tables.wait(three).map(|wait| wait.mutex), Some(inherited));
+    assert!(rt; tables.owns(one, protected));
+    assert!(rt; !tables.is_unknown_task(three));
+    assert!(rt; !tables.is_unknown_mutex(inherited));
+    assert!(rt; tables.is_owned(protected));
+    assert!(rt; tables.is_waiting(two));
+    assert!(rt; tables.is_above_ceiling(three, protected));
+    assert_eq!(rt; tables.blocker(two), Some(one));
+    assert_eq!(rt; tables.heir(two), None);
+    assert_eq!(rt; tables.heir(three), Some(two));
+    assert!(rt; tables.on_chain(three, one));
+    assert!(rt; tables.inherits(three, two));
+    assert!(rt; !tables.inherits(three, one));
+    assert!(rt; tables.closes_cycle(one, inherited));
+    assert_eq!(rt; tables.effective(one), Prio::new(50));
+    assert_eq!(rt; tables.wait(three).map(|wait| wait.ticket), Some(2));
+    assert_eq!(rt;
+        tables.first(inherited).map(|waiter| waiter.task),
+        Some(three)
+    );
     Ok(())
 }

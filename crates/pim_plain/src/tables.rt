@@ -127,7 +127,7 @@ impl Tables {
     }
 
     /// The base of a known task.
-    pub fn known_base(&self, task: TaskNo) -> Prio
+    pub(crate) fn known_base(&self, task: TaskNo) -> Prio
         requires { IsTask self.now task }
         ensures { result ≡ base_of self.now task }
     {
@@ -135,28 +135,28 @@ impl Tables {
     }
 
     /// Gives the mutex this owner, or none; an unknown mutex changes nothing.
-    pub fn set_owner(&mut self, mutex: MutexNo, owner: Option<TaskNo>)
+    pub(crate) fn set_owner(&mut self, mutex: MutexNo, owner: Option<TaskNo>)
         ensures { self.new ≡ with_owner self.old mutex owner }
     {
         put(&mut self.owner, mutex.get(), owner);
     }
 
     /// Ends the wait of the task, if it waits.
-    pub fn end_wait(&mut self, task: TaskNo)
+    pub(crate) fn end_wait(&mut self, task: TaskNo)
         ensures { self.new ≡ with_wait self.old task None }
     {
         put(&mut self.wait, task.get(), None);
     }
 
     /// Gives the task this base; an unknown task changes nothing.
-    pub fn set_base(&mut self, task: TaskNo, prio: Prio)
+    pub(crate) fn set_base(&mut self, task: TaskNo, prio: Prio)
         ensures { self.new ≡ with_base self.old task prio }
     {
         put(&mut self.base, task.get(), prio);
     }
 
     /// The task waits for the mutex with the next ticket, and the next ticket rises by one.
-    pub fn enqueue(&mut self, task: TaskNo, mutex: MutexNo)
+    pub(crate) fn enqueue(&mut self, task: TaskNo, mutex: MutexNo)
         requires { self.old.next < 2 ^ 64 - 1 }
         ensures { self.new ≡ queued self.old task mutex }
     {

@@ -2,7 +2,8 @@ use Rattle.std.proofs.Common.{◌≡◌, ◌-◌, ◌+◌, ◌∙◌, ◌==◌, 
 use Rattle.std.specs.List.{list_any}
 use Rattle.pim_base.specs.Queues.{waiter_of}
 use Rattle.pim_base.specs.declared.steps.Waiter.{Waiter}
-use Rattle.pim_plain.proofs.Firsts.{queue_upto, queue_upto-some, queue_upto-none, list_any-insert_by}
+use Rattle.pim_base.proofs.Firsts.{queue_upto, queue_upto-some, queue_upto-none}
+use Rattle.pim_plain.proofs.Searches.{list_any-insert_by}
 use Rattle.pim_plain.proofs.tables.Tables.has_waiter_at.Goals as goal
 use Rattle.pim_plain.proofs.tables.Tables.has_waiter_at.Goals.{in-Some+then-found, in-Some+else-found, in_default}
 

@@ -1,7 +1,7 @@
 use Rattle.std.proofs.Common.{◌≡◌, ◌==◌, ◌-◌}
 use Rattle.std.specs.List.{list_any}
 use Rattle.pim_base.specs.Queues.{waiter_of}
-use Rattle.pim_plain.proofs.Firsts.{queue_upto}
+use Rattle.pim_base.proofs.Firsts.{queue_upto}
 use Rattle.pim_plain.proofs.tables.Tables.has_waiter_at.Given as goal
 
 -- whether one of the waiters so far has that priority
