@@ -1,0 +1,114 @@
+-- The same, where a field of the tables was written.
+use Rattle.std.proofs.Common.{◌≡◌, ℕ, ◌≤◌, ◌<◌, ◌-◌, true, false, sym, ◌∙◌, ap, subst, arith, Option, Some, None, List, length, get_or, unwrap_or}
+use Rattle.pim_base.proofs.Places.{nth-get_or}
+use Rattle.pim_chain.proofs.Queues.{room_for}
+use Rattle.std.specs.List.{list_any}
+use Rattle.std.proofs.lemmas.Option.{same_Some}
+use Rattle.pim_base.specs.Lists.{put, insert_by}
+use Rattle.pim_base.specs.State.{State, IsTask, IsMutex, wait_of}
+use Rattle.pim_base.specs.Chains.{closes_cycle}
+use Rattle.pim_base.specs.Queues.{precedes}
+use Rattle.pim_base.specs.declared.steps.Wait.{Wait}
+use Rattle.pim_base.specs.declared.steps.Waiter.{Waiter}
+use Rattle.pim_queue.specs.Lined.{Lined}
+use Rattle.pim_queue.specs.Waiters.{is_of, without}
+use Rattle.pim_chain.specs.Views.{View, Ready, with_state, stored_at, queue_at, line_in, put_queue}
+use Rattle.pim_chain.specs.Settled.{moved, restored}
+use Rattle.pim_chain.proofs.Changes.{ready_bound, ready_based, ready_left, ready_joined, not_waiting}
+use Rattle.pim_chain.proofs.Visit.{restored_free, restored_waiting, stands}
+
+pub bound_field :
+    (v u : View) (m t : ℕ) (owners : List (Option ℕ))
+    → v ≡ u
+    → IsTask u.state t
+    → wait_of u.state t ≡ None
+    → owners ≡ put v.state.owner m (Some t)
+    → Ready v
+    → Ready (with_state v (record v.state { owner = owners }))
+bound_field v u m t owners same known idle is ready =
+    subst (λ os. Ready (with_state v (record v.state { owner = os }))) (sym is)
+    (ready_bound v m (Some t) (λ y e.
+    subst (λ z. IsTask v.state z × (wait_of v.state z ≡ None)) (same_Some t y e)
+    (subst (λ (w : View). IsTask w.state t × (wait_of w.state t ≡ None)) (sym same) (known, idle))) ready)
+
+pub unbound_field : (v : View) (m : ℕ) (owners : List (Option ℕ)) → owners ≡ put v.state.owner m None → Ready v → Ready (with_state v (record v.state { owner = owners }))
+unbound_field v m owners is ready =
+    subst (λ os. Ready (with_state v (record v.state { owner = os }))) (sym is) (ready_bound v m None (λ y e. absurd (no y e)) ready)
+  where
+    no : (y : ℕ) → None ≡ Some y → ⊥
+    no y e = cc
+
+pub based_field : (v : View) (t p : ℕ) (bases : List ℕ) → bases ≡ put v.state.base t p → Ready v → Ready (with_state v (record v.state { base = bases }))
+based_field v t p bases is ready = subst (λ bs. Ready (with_state v (record v.state { base = bs }))) (sym is) (ready_based v t p ready)
+
+pub joined_fields :
+    (v u : View) (t prio : ℕ) (w : Wait) (waits : List (Option Wait)) (lines : List Lined)
+    → v ≡ u
+    → IsTask u.state t
+    → IsMutex u.state w.mutex
+    → wait_of u.state t ≡ None
+    → closes_cycle u.state t w.mutex ≡ false
+    → ((y : ℕ) → wait_of u.state y ≡ Some w → ⊥)
+    → prio ≡ stored_at v t
+    → waits ≡ put v.state.wait t (Some w)
+    → lines ≡ put_queue v.queues w.mutex (insert_by precedes (queue_at v w.mutex) (record { task = t; prio = prio; ticket = w.ticket }))
+    → Ready v
+    → Ready (record { state = record v.state { wait = waits }; stored = v.stored; queues = lines })
+joined_fields v u t prio w waits lines same known mutex idle open' fresh is_prio is_waits is_lines ready =
+    subst (λ ws. Ready (record { state = record v.state { wait = ws }; stored = v.stored; queues = lines })) (sym is_waits)
+    (subst (λ ls. Ready (record { state = record v.state { wait = put v.state.wait t (Some w) }; stored = v.stored; queues = ls })) (sym (is_lines ∙ ap (λ p. put_queue v.queues w.mutex (insert_by precedes (queue_at v w.mutex) (record { task = t; prio = p; ticket = w.ticket }))) is_prio))
+    (ready_joined v t w
+    (subst (λ (x : View). IsTask x.state t) (sym same) known)
+    (subst (λ (x : View). IsMutex x.state w.mutex) (sym same) mutex)
+    (subst (λ (x : View). wait_of x.state t ≡ None) (sym same) idle)
+    (subst (λ (x : View). closes_cycle x.state t w.mutex ≡ false) (sym same) open')
+    (λ y e. fresh y (subst (λ (x : View). wait_of x.state y ≡ Some w) same e)) ready))
+
+pub left_fields :
+    (v : View) (t : ℕ) (w : Wait) (waits : List (Option Wait)) (lines : List Lined)
+    → wait_of v.state t ≡ Some w
+    → waits ≡ put v.state.wait t None
+    → lines ≡ put_queue v.queues w.mutex (without t (queue_at v w.mutex))
+    → Ready v
+    → Ready (record { state = record v.state { wait = waits }; stored = v.stored; queues = lines })
+left_fields v t w waits lines at is_waits is_lines ready =
+    subst (λ ws. Ready (record { state = record v.state { wait = ws }; stored = v.stored; queues = lines })) (sym is_waits)
+    (subst (λ ls. Ready (record { state = record v.state { wait = put v.state.wait t None }; stored = v.stored; queues = ls })) (sym is_lines) (ready_left v t w at ready))
+
+pub restored_field : (v : View) (t p : ℕ) (stored : List ℕ) → wait_of v.state t ≡ None → stored ≡ put v.stored t p → Ready v → Ready (record { state = v.state; stored = stored; queues = v.queues })
+restored_field v t p stored at is ready = subst (λ ss. Ready (record { state = v.state; stored = ss; queues = v.queues })) (sym is) (restored_free v t p at ready)
+
+pub restored_fields :
+    (v u : View) (t p : ℕ) (w : Wait) (stored : List ℕ) (lines : List Lined)
+    → v ≡ u
+    → IsTask u.state t
+    → wait_of v.state t ≡ Some w
+    → stored ≡ put v.stored t p
+    → lines ≡ moved v.queues (Some w) t p
+    → Ready v
+    → Ready (record { state = v.state; stored = stored; queues = lines })
+restored_fields v u t p w stored lines same known at is is_lines ready =
+    subst (λ ss. Ready (record { state = v.state; stored = ss; queues = lines })) (sym is)
+    (subst (λ ls. Ready (record { state = v.state; stored = put v.stored t p; queues = ls })) (sym is_lines) (restored_waiting v t p w (subst (λ (x : View). IsTask x.state t) (sym same) known) at ready))
+
+pub is_restored : (v : View) (t p : ℕ) (o : Option Wait) (stored : List ℕ) (lines : List Lined) → wait_of v.state t ≡ o → stored ≡ put v.stored t p → lines ≡ moved v.queues o t p → record { state = v.state; stored = stored; queues = lines } ≡ restored v t p
+is_restored v t p o stored lines at is is_lines =
+    ap (λ ss. record { state = v.state; stored = ss; queues = lines }) is
+    ∙ ap (λ ls. record { state = v.state; stored = put v.stored t p; queues = ls }) (is_lines ∙ ap (λ x. moved v.queues x t p) (sym at))
+
+-- ---- what the calls on the lines ask for
+pub join_room : (v u : View) (t m : ℕ) → v ≡ u → IsTask u.state t → IsMutex u.state m → wait_of u.state t ≡ None → Ready v → length (queue_at v m) < (line_in v.queues m).room
+join_room v u t m same known mutex idle ready =
+    let isk : IsMutex v.state m = subst (λ (x : View). IsMutex x.state m) (sym same) mutex in
+    let short : length (queue_at v m) < length v.state.base = room_for v.state (stored_at v) m t (queue_at v m) ready.sound.lists (subst (λ (x : View). IsTask x.state t) (sym same) known) (not_waiting (wait_of v.state) m t (subst (λ (x : View). wait_of x.state t ≡ None) (sym same) idle)) (ready.queues m isk) in
+    omega (arith, short, ready.room m isk)
+
+pub stands_in : (v u : View) (t : ℕ) (w : Wait) → v ≡ u → Some w ≡ wait_of u.state t → Ready v → list_any (is_of t) (queue_at v w.mutex) ≡ true
+stands_in v u t w same at ready = stands v t w ready (subst (λ (x : View). wait_of x.state t ≡ Some w) (sym same) (sym at))
+
+pub inside_wait : (v u : View) (t : ℕ) (o o' : Option Wait) → v ≡ u → o ≡ wait_of u.state t → o ≡ o' → wait_of v.state t ≡ o'
+inside_wait v u t o o' same is at = subst (λ (x : View). wait_of x.state t ≡ o') (sym same) (sym is ∙ at)
+
+pub stored_read : (v : View) (t k p : ℕ) → 1 ≤ t → k ≡ t → k - 1 < length v.stored → p ≡ get_or v.stored (k - 1) p → p ≡ stored_at v t
+stored_read v t k p low e short is =
+    is ∙ sym (ap (λ o. unwrap_or o 0) (nth-get_or v.stored t (k - 1) p (omega (arith, low, e)) short))

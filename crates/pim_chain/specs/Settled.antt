@@ -1,0 +1,36 @@
+-- Stored priorities that agree with their neighbours, and what a visit changes.
+use Rattle.std.specs.Prelude.{◌≡◌, ℕ, List, length, Option, Some, None}
+use Rattle.pim_base.specs.Counts.{differing}
+use Rattle.pim_base.specs.Lists.{put, insert_by}
+use Rattle.pim_base.specs.State.{State, IsTask, wait_of}
+use Rattle.pim_base.specs.Chains.{heir}
+use Rattle.pim_base.specs.Priorities.{local_priority}
+use Rattle.pim_base.specs.Queues.{precedes}
+use Rattle.pim_base.specs.declared.steps.Wait.{Wait}
+use Rattle.pim_queue.specs.Lined.{Lined}
+use Rattle.pim_queue.specs.Waiters.{without}
+use Rattle.pim_chain.specs.Views.{View, stored_at, queue_in, put_queue}
+
+-- each task has the priority that it has locally, but perhaps the one that is named
+abbrev pub SettledBut : State → (ℕ → ℕ) → Option ℕ → Type 0
+SettledBut S stored except = (t : ℕ) → IsTask S t → (except ≡ Some t → ⊥) → stored t ≡ local_priority S stored t
+
+-- the lines, where the task is moved in the queue that it waits in
+abbrev pub moved : List Lined → Option Wait → ℕ → ℕ → List Lined
+moved lines None t p = lines
+moved lines (Some w) t p = put_queue lines w.mutex (insert_by precedes (without t (queue_in lines w.mutex)) (record { task = t; prio = p; ticket = w.ticket }))
+
+-- another stored priority for the task
+abbrev pub restored : View → ℕ → ℕ → View
+restored v t p = record { state = v.state; stored = put v.stored t p; queues = moved v.queues (wait_of v.state t) t p }
+
+-- what the visit of x leaves, and who is next
+pub record Visited (v w : View) (x : ℕ) (next : Option ℕ) : Type 0 where
+  pub state : w.state ≡ v.state
+  pub settled : SettledBut w.state (stored_at w) next
+  pub others : (u : ℕ) → (u ≡ x → ⊥) → stored_at w u ≡ stored_at v u
+  pub onward : (y : ℕ) → next ≡ Some y → (heir v.state x ≡ Some y) × (stored_at w x ≡ stored_at v x → ⊥)
+
+-- how many tasks have another stored priority
+abbrev pub changed : View → View → ℕ
+changed v w = differing (length v.state.base) (stored_at v) (stored_at w)

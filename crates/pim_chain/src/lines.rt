@@ -1,0 +1,49 @@
+// The queues of the mutexes, by number.
+
+ghost use Rattle.std.specs.Prelude.{◌≡◌, ◌≤◌, ◌<◌, length, true};
+ghost use Rattle.std.specs.List.{list_any};
+ghost use Rattle.pim_base.specs.Lists.{insert_by, head_of};
+ghost use Rattle.pim_base.specs.Queues.{precedes};
+ghost use Rattle.pim_queue.specs.Waiters.{is_of, without};
+ghost use Rattle.pim_chain.specs.Views.{line_in, queue_in, put_queue};
+
+use pim_base::{MutexNo, TaskNo, Waiter};
+use pim_queue::Queue;
+
+/// The first of those who wait for the mutex.
+pub fn front(lines: &[Queue], mutex: MutexNo) -> Option<Waiter>
+    ensures { result ≡ head_of (queue_in lines.now mutex) }
+{
+    let place = (mutex.get() as usize).checked_sub(1)?;
+    lines.get(place)?.front()
+}
+
+/// Puts the waiter into the queue of the mutex.
+pub fn insert(lines: &mut Vec<Queue>, mutex: MutexNo, waiter: Waiter)
+    requires least { 1 ≤ mutex }
+    requires most { mutex ≤ length lines.old.items }
+    requires room { length (queue_in lines.old.items mutex) < (line_in lines.old.items mutex).room }
+    ensures { lines.new.items ≡ put_queue lines.old.items mutex (insert_by precedes (queue_in lines.old.items mutex) waiter) }
+{
+    lines[mutex.get() as usize - 1].insert(waiter);
+}
+
+/// Takes the task out of the queue of the mutex.
+pub fn remove(lines: &mut Vec<Queue>, mutex: MutexNo, task: TaskNo)
+    requires least { 1 ≤ mutex }
+    requires most { mutex ≤ length lines.old.items }
+    requires waits { list_any (is_of task) (queue_in lines.old.items mutex) ≡ true }
+    ensures { lines.new.items ≡ put_queue lines.old.items mutex (without task (queue_in lines.old.items mutex)) }
+{
+    let _waiter = lines[mutex.get() as usize - 1].remove(task);
+}
+
+/// Moves the waiter's task to where it belongs in the queue of the mutex.
+pub fn reposition(lines: &mut Vec<Queue>, mutex: MutexNo, waiter: Waiter)
+    requires least { 1 ≤ mutex }
+    requires most { mutex ≤ length lines.old.items }
+    requires waits { list_any (is_of waiter.task) (queue_in lines.old.items mutex) ≡ true }
+    ensures { lines.new.items ≡ put_queue lines.old.items mutex (insert_by precedes (without waiter.task (queue_in lines.old.items mutex)) waiter) }
+{
+    lines[mutex.get() as usize - 1].reposition(waiter);
+}
