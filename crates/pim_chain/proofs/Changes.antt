@@ -20,7 +20,7 @@ use Rattle.pim_base.proofs.Stored.{heir_in-owner, own_priority-le-local_priority
 use Rattle.std.proofs.Common.{map}
 use Rattle.pim_base.specs.declared.steps.Protocol.{Protocol}
 use Rattle.pim_base.specs.State.{owned}
-use Rattle.pim_queue.specs.Lined.{Lined, with_waiters}
+use Rattle.pim_queue.specs.Line.{Line, with_waiters}
 use Rattle.pim_queue.specs.Waiters.{without}
 use Rattle.pim_chain.specs.Views.{View, stored_at, queue_at, queue_in, line_in, put_queue, with_state, waits_for, IsQueue, WaitsFit, Ready}
 use Rattle.pim_chain.specs.Settled.{SettledBut}
@@ -194,23 +194,23 @@ ready_based v t p ready = record {
     same = length-put v.state.base t p
 
 -- ---- lines after one was changed
-pub line_same : (lines : List Lined) (m : ℕ) (ws : List Waiter) → 1 ≤ m → m ≤ length lines → line_in (put_queue lines m ws) m ≡ with_waiters (line_in lines m) ws
+pub line_same : (lines : List Line) (m : ℕ) (ws : List Waiter) → 1 ≤ m → m ≤ length lines → line_in (put_queue lines m ws) m ≡ with_waiters (line_in lines m) ws
 line_same lines m ws low high = ap (λ o. unwrap_or o (record { waiters = []; room = 0 })) (nth-put_same lines m (with_waiters (line_in lines m) ws) low high)
 
-pub line_other : (lines : List Lined) (m k : ℕ) (ws : List Waiter) → (k ≡ m → ⊥) → line_in (put_queue lines m ws) k ≡ line_in lines k
+pub line_other : (lines : List Line) (m k : ℕ) (ws : List Waiter) → (k ≡ m → ⊥) → line_in (put_queue lines m ws) k ≡ line_in lines k
 line_other lines m k ws ne = ap (λ o. unwrap_or o (record { waiters = []; room = 0 })) (nth-put_other lines m k (with_waiters (line_in lines m) ws) (λ e. ne (sym e)))
 
 -- every line has its room still
-pub room_kept : (lines : List Lined) (m : ℕ) (ws : List Waiter) (n k : ℕ) → 1 ≤ k → k ≤ length lines → n ≤ (line_in lines k).room → n ≤ (line_in (put_queue lines m ws) k).room
+pub room_kept : (lines : List Line) (m : ℕ) (ws : List Waiter) (n k : ℕ) → 1 ≤ k → k ≤ length lines → n ≤ (line_in lines k).room → n ≤ (line_in (put_queue lines m ws) k).room
 room_kept lines m ws n k low high h = go (cases_eq k m)
   where
     go : (k ≡ m) ⊎ (k ≡ m → ⊥) → n ≤ (line_in (put_queue lines m ws) k).room
-    go (inl is) = subst (λ j. n ≤ (line_in (put_queue lines m ws) j).room) (sym is) (subst (λ (q : Lined). n ≤ q.room) (sym (line_same lines m ws (subst (λ j. 1 ≤ j) is low) (subst (λ j. j ≤ length lines) is high))) (subst (λ j. n ≤ (line_in lines j).room) is h))
-    go (inr ne) = subst (λ (q : Lined). n ≤ q.room) (sym (line_other lines m k ws ne)) h
+    go (inl is) = subst (λ j. n ≤ (line_in (put_queue lines m ws) j).room) (sym is) (subst (λ (q : Line). n ≤ q.room) (sym (line_same lines m ws (subst (λ j. 1 ≤ j) is low) (subst (λ j. j ≤ length lines) is high))) (subst (λ j. n ≤ (line_in lines j).room) is h))
+    go (inr ne) = subst (λ (q : Line). n ≤ q.room) (sym (line_other lines m k ws ne)) h
 
 -- each mutex has its queue still, where that of m is the new one
 pub queues_put :
-    (S T : State) (stored stored' : ℕ → ℕ) (lines : List Lined) (m : ℕ) (ws : List Waiter)
+    (S T : State) (stored stored' : ℕ → ℕ) (lines : List Line) (m : ℕ) (ws : List Waiter)
     → length lines ≡ length S.protocol
     → length T.protocol ≡ length S.protocol
     → IsQueue (wait_of T) stored' m ws
@@ -224,10 +224,10 @@ queues_put S T stored stored' lines m ws len same here others k known = go (case
     known_S = (known.0, subst (λ n. k ≤ n) same known.1)
 
     go : (k ≡ m) ⊎ (k ≡ m → ⊥) → IsQueue (wait_of T) stored' k (queue_in (put_queue lines m ws) k)
-    go (inr ne) = subst (λ (q : Lined). IsQueue (wait_of T) stored' k q.waiters) (sym (line_other lines m k ws ne)) (others k known_S ne)
+    go (inr ne) = subst (λ (q : Line). IsQueue (wait_of T) stored' k q.waiters) (sym (line_other lines m k ws ne)) (others k known_S ne)
     go (inl is) =
         subst (λ j. IsQueue (wait_of T) stored' j (queue_in (put_queue lines m ws) j)) (sym is)
-        (subst (λ (q : Lined). IsQueue (wait_of T) stored' m q.waiters) (sym (line_same lines m ws (subst (λ j. 1 ≤ j) is known.0) (subst (λ j. j ≤ length lines) is (subst (λ n. k ≤ n) (sym len) known_S.1)))) here)
+        (subst (λ (q : Line). IsQueue (wait_of T) stored' m q.waiters) (sym (line_same lines m ws (subst (λ j. 1 ≤ j) is known.0) (subst (λ j. j ≤ length lines) is (subst (λ n. k ≤ n) (sym len) known_S.1)))) here)
 
 pub not_waiting : (wait : ℕ → Option Wait) (m t : ℕ) → wait t ≡ None → waits_for wait m t ≡ true → ⊥
 not_waiting wait m t e h = both_ways _ (ap (λ o. option_map_or (λ (w : Wait). eqb w.mutex m) o false) e) h

@@ -1,18 +1,20 @@
 -- The same, where a field of the tables was written.
-use Rattle.std.proofs.Common.{◌≡◌, ℕ, ◌≤◌, ◌<◌, ◌-◌, true, false, sym, ◌∙◌, ap, subst, arith, Option, Some, None, List, length, get_or, unwrap_or}
+use Rattle.std.proofs.Common.{◌≡◌, ℕ, ◌≤◌, ◌<◌, ◌-◌, Bool, true, false, refl, sym, ◌∙◌, ap, subst, arith, Option, Some, None, List, length, get_or, unwrap_or}
 use Rattle.pim_base.proofs.Places.{nth-get_or}
 use Rattle.pim_chain.proofs.Queues.{room_for}
 use Rattle.std.specs.List.{list_any}
-use Rattle.std.proofs.lemmas.Option.{same_Some}
+use Rattle.std.proofs.lemmas.Bool.{eqb-true}
+use Rattle.std.proofs.lemmas.Option.{none-some, same_Some}
 use Rattle.pim_base.specs.Lists.{put, insert_by}
 use Rattle.pim_base.specs.State.{State, IsTask, IsMutex, wait_of}
 use Rattle.pim_base.specs.Chains.{closes_cycle}
 use Rattle.pim_base.specs.Queues.{precedes}
 use Rattle.pim_base.specs.declared.steps.Wait.{Wait}
 use Rattle.pim_base.specs.declared.steps.Waiter.{Waiter}
-use Rattle.pim_queue.specs.Lined.{Lined}
-use Rattle.pim_queue.specs.Waiters.{is_of, without}
-use Rattle.pim_chain.specs.Views.{View, Ready, with_state, stored_at, queue_at, line_in, put_queue}
+use Rattle.pim_queue.specs.Line.{Line}
+use Rattle.pim_queue.specs.Waiters.{is_of, has_ticket, without}
+use Rattle.pim_queue.proofs.Order.{Found, found}
+use Rattle.pim_chain.specs.Views.{View, Ready, Shows, IsQueue, with_state, stored_at, queue_at, line_in, put_queue}
 use Rattle.pim_chain.specs.Settled.{moved, restored}
 use Rattle.pim_chain.proofs.Changes.{ready_bound, ready_based, ready_left, ready_joined, not_waiting}
 use Rattle.pim_chain.proofs.Visit.{restored_free, restored_waiting, stands}
@@ -42,7 +44,7 @@ pub based_field : (v : View) (t p : ℕ) (bases : List ℕ) → bases ≡ put v.
 based_field v t p bases is ready = subst (λ bs. Ready (with_state v (record v.state { base = bs }))) (sym is) (ready_based v t p ready)
 
 pub joined_fields :
-    (v u : View) (t prio : ℕ) (w : Wait) (waits : List (Option Wait)) (lines : List Lined)
+    (v u : View) (t prio : ℕ) (w : Wait) (waits : List (Option Wait)) (lines : List Line)
     → v ≡ u
     → IsTask u.state t
     → IsMutex u.state w.mutex
@@ -65,7 +67,7 @@ joined_fields v u t prio w waits lines same known mutex idle open' fresh is_prio
     (λ y e. fresh y (subst (λ (x : View). wait_of x.state y ≡ Some w) same e)) ready))
 
 pub left_fields :
-    (v : View) (t : ℕ) (w : Wait) (waits : List (Option Wait)) (lines : List Lined)
+    (v : View) (t : ℕ) (w : Wait) (waits : List (Option Wait)) (lines : List Line)
     → wait_of v.state t ≡ Some w
     → waits ≡ put v.state.wait t None
     → lines ≡ put_queue v.queues w.mutex (without t (queue_at v w.mutex))
@@ -79,7 +81,7 @@ pub restored_field : (v : View) (t p : ℕ) (stored : List ℕ) → wait_of v.st
 restored_field v t p stored at is ready = subst (λ ss. Ready (record { state = v.state; stored = ss; queues = v.queues })) (sym is) (restored_free v t p at ready)
 
 pub restored_fields :
-    (v u : View) (t p : ℕ) (w : Wait) (stored : List ℕ) (lines : List Lined)
+    (v u : View) (t p : ℕ) (w : Wait) (stored : List ℕ) (lines : List Line)
     → v ≡ u
     → IsTask u.state t
     → wait_of v.state t ≡ Some w
@@ -91,7 +93,7 @@ restored_fields v u t p w stored lines same known at is is_lines ready =
     subst (λ ss. Ready (record { state = v.state; stored = ss; queues = lines })) (sym is)
     (subst (λ ls. Ready (record { state = v.state; stored = put v.stored t p; queues = ls })) (sym is_lines) (restored_waiting v t p w (subst (λ (x : View). IsTask x.state t) (sym same) known) at ready))
 
-pub is_restored : (v : View) (t p : ℕ) (o : Option Wait) (stored : List ℕ) (lines : List Lined) → wait_of v.state t ≡ o → stored ≡ put v.stored t p → lines ≡ moved v.queues o t p → record { state = v.state; stored = stored; queues = lines } ≡ restored v t p
+pub is_restored : (v : View) (t p : ℕ) (o : Option Wait) (stored : List ℕ) (lines : List Line) → wait_of v.state t ≡ o → stored ≡ put v.stored t p → lines ≡ moved v.queues o t p → record { state = v.state; stored = stored; queues = lines } ≡ restored v t p
 is_restored v t p o stored lines at is is_lines =
     ap (λ ss. record { state = v.state; stored = ss; queues = lines }) is
     ∙ ap (λ ls. record { state = v.state; stored = put v.stored t p; queues = ls }) (is_lines ∙ ap (λ x. moved v.queues x t p) (sym at))
@@ -112,3 +114,36 @@ inside_wait v u t o o' same is at = subst (λ (x : View). wait_of x.state t ≡ 
 pub stored_read : (v : View) (t k p : ℕ) → 1 ≤ t → k ≡ t → k - 1 < length v.stored → p ≡ get_or v.stored (k - 1) p → p ≡ stored_at v t
 stored_read v t k p low e short is =
     is ∙ sym (ap (λ o. unwrap_or o 0) (nth-get_or v.stored t (k - 1) p (omega (arith, low, e)) short))
+
+-- who doesn't wait is in no queue
+pub not_here : (v u : View) (t m : ℕ) → v ≡ u → IsMutex u.state m → wait_of u.state t ≡ None → Ready v → list_any (is_of t) (queue_at v m) ≡ false
+not_here v u t m same mutex idle ready = go (list_any (is_of t) (queue_at v m)) refl
+  where
+    q : IsQueue (wait_of v.state) (stored_at v) m (queue_at v m)
+    q = ready.queues m (subst (λ (x : View). IsMutex x.state m) (sym same) mutex)
+
+    go : (b : Bool) → list_any (is_of t) (queue_at v m) ≡ b → b ≡ false
+    go false h = refl
+    go true h =
+        let it : Found (is_of t) (Shows (wait_of v.state) (stored_at v) m) (queue_at v m) = found (is_of t) (Shows (wait_of v.state) (stored_at v) m) (queue_at v m) h q.sound in
+        absurd (none-some _ (sym (subst (λ (x : View). wait_of x.state t ≡ None) (sym same) idle) ∙ ap (wait_of v.state) (sym (eqb-true it.one.task t it.passes)) ∙ it.holds.waits))
+
+-- a ticket that nobody waits with is in no queue
+pub ticket_not_here :
+    (v u : View) (m k : ℕ)
+    → v ≡ u
+    → IsMutex u.state m
+    → ((y : ℕ) → wait_of u.state y ≡ Some (record { mutex = m; ticket = k }) → ⊥)
+    → Ready v
+    → list_any (has_ticket k) (queue_at v m) ≡ false
+ticket_not_here v u m k same mutex fresh ready = go (list_any (has_ticket k) (queue_at v m)) refl
+  where
+    q : IsQueue (wait_of v.state) (stored_at v) m (queue_at v m)
+    q = ready.queues m (subst (λ (x : View). IsMutex x.state m) (sym same) mutex)
+
+    go : (b : Bool) → list_any (has_ticket k) (queue_at v m) ≡ b → b ≡ false
+    go false h = refl
+    go true h =
+        let it : Found (has_ticket k) (Shows (wait_of v.state) (stored_at v) m) (queue_at v m) = found (has_ticket k) (Shows (wait_of v.state) (stored_at v) m) (queue_at v m) h q.sound in
+        absurd (fresh it.one.task (subst (λ (x : View). wait_of x.state it.one.task ≡ Some (record { mutex = m; ticket = k })) same
+        (it.holds.waits ∙ ap (λ n. Some (record { mutex = m; ticket = n })) (eqb-true it.one.ticket k it.passes))))

@@ -2,7 +2,7 @@
 use Rattle.std.proofs.Common.{◌≡◌, ℕ, eqb, ◌≤◌, Bool, cond, true, false, ◌⊎◌, inl, inr, refl, sym, ◌∙◌, ap, subst, Option, Some, None, List, [], length, unwrap_or, option_and_then}
 use Rattle.std.specs.List.{list_any}
 use Rattle.std.specs.Option.{option_map_or}
-use Rattle.std.proofs.lemmas.Bool.{cases_eq, eq-eqb, ne_eqb}
+use Rattle.std.proofs.lemmas.Bool.{cases_eq, eqb-true, eq-eqb, ne_eqb}
 use Rattle.std.proofs.lemmas.Option.{none-some, same_Some}
 use Rattle.pim_base.specs.Lists.{put, insert_by}
 use Rattle.pim_base.specs.State.{State, IsTask, IsMutex, wait_of}
@@ -12,10 +12,10 @@ use Rattle.pim_base.specs.Queues.{precedes}
 use Rattle.pim_base.specs.declared.steps.Wait.{Wait}
 use Rattle.pim_base.specs.declared.steps.Waiter.{Waiter}
 use Rattle.pim_base.proofs.Places.{nth-put_same, nth-put_other, length-put}
-use Rattle.pim_queue.specs.Lined.{Lined}
-use Rattle.pim_queue.specs.Waiters.{is_of, without}
-use Rattle.pim_queue.proofs.Order.{any_place_new}
-use Rattle.pim_chain.specs.Views.{View, stored_in, stored_at, queue_at, queue_in, line_in, put_queue, front_prio, waits_for, IsQueue, Ready}
+use Rattle.pim_queue.specs.Line.{Line}
+use Rattle.pim_queue.specs.Waiters.{is_of, without, ticket_of, repositioned}
+use Rattle.pim_queue.proofs.Order.{Found, found}
+use Rattle.pim_chain.specs.Views.{View, stored_in, stored_at, queue_at, queue_in, line_in, put_queue, front_prio, waits_for, Shows, IsQueue, Ready}
 use Rattle.pim_chain.specs.Settled.{SettledBut, moved, restored, Visited}
 use Rattle.pim_chain.proofs.Local.{Mends, mended_onward, mended_stop, waits_for_from, heir_at, top}
 use Rattle.pim_chain.proofs.Queues.{queue_kept, queue_left, queue_joined, top_front, waiting_known}
@@ -28,23 +28,45 @@ stored_now v x p ready known = ap (λ o. unwrap_or o 0) (nth-put_same v.stored x
 pub stored_else : (v : View) (x p u : ℕ) → (u ≡ x → ⊥) → stored_in (put v.stored x p) u ≡ stored_at v u
 stored_else v x p u ne = ap (λ o. unwrap_or o 0) (nth-put_other v.stored x u p (λ e. ne (sym e)))
 
+-- the ticket that the queue shows is the task's
+pub ticket_shown :
+    (wait : ℕ → Option Wait) (stored : ℕ → ℕ) (x : ℕ) (w : Wait) (ws : List Waiter)
+    → IsQueue wait stored w.mutex ws
+    → wait x ≡ Some w
+    → list_any (is_of x) ws ≡ true
+    → ticket_of x ws ≡ w.ticket
+ticket_shown wait stored x w ws q at here =
+    let it : Found (is_of x) (Shows wait stored w.mutex) ws = found (is_of x) (Shows wait stored w.mutex) ws here q.sound in
+    ap (λ o. option_map_or (λ (v : Waiter). v.ticket) o 0) it.is
+    ∙ ap (λ (y : Wait). y.ticket) (same_Some _ _ (sym it.holds.waits ∙ ap wait (eqb-true it.one.task x it.passes) ∙ at))
+
 -- its queue afterwards, where the task waits
 queue_moved :
     (v : View) (x p : ℕ) (w : Wait)
     → Ready v
     → IsTask v.state x
     → wait_of v.state x ≡ Some w
-    → IsQueue (wait_of v.state) (stored_in (put v.stored x p)) w.mutex (insert_by precedes (without x (queue_at v w.mutex)) (record { task = x; prio = p; ticket = w.ticket }))
+    → IsQueue (wait_of v.state) (stored_in (put v.stored x p)) w.mutex (repositioned x p (queue_at v w.mutex))
 queue_moved v x p w ready known at =
-    subst (λ n. IsQueue (wait_of v.state) (stored_in (put v.stored x p)) w.mutex (insert_by precedes (without x (queue_at v w.mutex)) (record { task = x; prio = n; ticket = w.ticket }))) (stored_now v x p ready known)
+    subst (λ k. IsQueue (wait_of v.state) (stored_in (put v.stored x p)) w.mutex (placed p k)) (sym ticket)
+    (subst (λ n. IsQueue (wait_of v.state) (stored_in (put v.stored x p)) w.mutex (placed n w.ticket)) (stored_now v x p ready known)
     (queue_joined away (wait_of v.state) (stored_at v) (stored_in (put v.stored x p)) x w (without x (queue_at v w.mutex))
     back (stored_else v x p) (λ h. none_true (sym (ap (λ o. waits_in o) idle) ∙ h)) at
     (λ u ne e. ne (ready.waits.tickets u x w (back u ne ∙ e) at))
-    (queue_left (wait_of v.state) away (stored_at v) (stored_at v) x w.mutex (queue_at v w.mutex) (λ u ne. sym (back u ne)) (λ u _. refl) (λ h. none_true (sym (ap (λ o. waits_in o) idle) ∙ h))
-    (ready.queues w.mutex (ready.waits.mutexes x w at))))
+    (queue_left (wait_of v.state) away (stored_at v) (stored_at v) x w.mutex (queue_at v w.mutex) (λ u ne. sym (back u ne)) (λ u _. refl)
+    (λ h. none_true (sym (ap (λ o. waits_in o) idle) ∙ h)) here)))
   where
     none_true : false ≡ true → ⊥
     none_true e = cc
+
+    here : IsQueue (wait_of v.state) (stored_at v) w.mutex (queue_at v w.mutex)
+    here = ready.queues w.mutex (ready.waits.mutexes x w at)
+
+    placed : ℕ → ℕ → List Waiter
+    placed n k = insert_by precedes (without x (queue_at v w.mutex)) (record { task = x; prio = n; ticket = k })
+
+    ticket : ticket_of x (queue_at v w.mutex) ≡ w.ticket
+    ticket = ticket_shown (wait_of v.state) (stored_at v) x w (queue_at v w.mutex) here at (here.complete x (waits_for_from (wait_of v.state) x w at))
 
     waits_in : Option Wait → Bool
     waits_in o = option_map_or (λ (y : Wait). eqb y.mutex w.mutex) o false

@@ -1,14 +1,13 @@
 -- Stored priorities that agree with their neighbours, and what a visit changes.
 use Rattle.std.specs.Prelude.{◌≡◌, ℕ, List, length, Option, Some, None}
 use Rattle.pim_base.specs.Counts.{differing}
-use Rattle.pim_base.specs.Lists.{put, insert_by}
+use Rattle.pim_base.specs.Lists.{put}
 use Rattle.pim_base.specs.State.{State, IsTask, wait_of}
 use Rattle.pim_base.specs.Chains.{heir}
 use Rattle.pim_base.specs.Priorities.{local_priority}
-use Rattle.pim_base.specs.Queues.{precedes}
 use Rattle.pim_base.specs.declared.steps.Wait.{Wait}
-use Rattle.pim_queue.specs.Lined.{Lined}
-use Rattle.pim_queue.specs.Waiters.{without}
+use Rattle.pim_queue.specs.Line.{Line}
+use Rattle.pim_queue.specs.Waiters.{repositioned}
 use Rattle.pim_chain.specs.Views.{View, stored_at, queue_in, put_queue}
 
 -- each task has the priority that it has locally, but perhaps the one that is named
@@ -16,9 +15,9 @@ abbrev pub SettledBut : State → (ℕ → ℕ) → Option ℕ → Type 0
 SettledBut S stored except = (t : ℕ) → IsTask S t → (except ≡ Some t → ⊥) → stored t ≡ local_priority S stored t
 
 -- the lines, where the task is moved in the queue that it waits in
-abbrev pub moved : List Lined → Option Wait → ℕ → ℕ → List Lined
+abbrev pub moved : List Line → Option Wait → ℕ → ℕ → List Line
 moved lines None t p = lines
-moved lines (Some w) t p = put_queue lines w.mutex (insert_by precedes (without t (queue_in lines w.mutex)) (record { task = t; prio = p; ticket = w.ticket }))
+moved lines (Some w) t p = put_queue lines w.mutex (repositioned t p (queue_in lines w.mutex))
 
 -- another stored priority for the task
 abbrev pub restored : View → ℕ → ℕ → View

@@ -8,14 +8,14 @@ use Rattle.pim_base.specs.Queues.{precedes}
 use Rattle.pim_base.specs.Laws.{IsSound}
 use Rattle.pim_base.specs.declared.steps.Wait.{Wait}
 use Rattle.pim_base.specs.declared.steps.Waiter.{Waiter}
-use Rattle.pim_queue.specs.Lined.{Lined, with_waiters}
+use Rattle.pim_queue.specs.Line.{Line, with_waiters}
 use Rattle.pim_queue.specs.Waiters.{is_of, without, IsOrdered}
 
 -- the state, whose next ticket is not the tables', the stored priorities, and the queue of each mutex
 pub record View : Type 0 where
   pub state : State
   pub stored : List ℕ
-  pub queues : List Lined
+  pub queues : List Line
 
 abbrev pub with_state : View → State → View
 with_state v S = record v { state = S }
@@ -26,17 +26,17 @@ stored_in stored t = unwrap_or (nth stored t) 0
 abbrev pub stored_at : View → ℕ → ℕ
 stored_at v t = stored_in v.stored t
 
-abbrev pub line_in : List Lined → ℕ → Lined
+abbrev pub line_in : List Line → ℕ → Line
 line_in lines m = unwrap_or (nth lines m) (record { waiters = []; room = 0 })
 
-abbrev pub queue_in : List Lined → ℕ → List Waiter
+abbrev pub queue_in : List Line → ℕ → List Waiter
 queue_in lines m = (line_in lines m).waiters
 
 abbrev pub queue_at : View → ℕ → List Waiter
 queue_at v m = queue_in v.queues m
 
 -- the same lines with another queue at this mutex
-abbrev pub put_queue : List Lined → ℕ → List Waiter → List Lined
+abbrev pub put_queue : List Line → ℕ → List Waiter → List Line
 put_queue lines m ws = put lines m (with_waiters (line_in lines m) ws)
 
 -- the priority of the first, and 0 where there is none

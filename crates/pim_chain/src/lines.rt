@@ -1,13 +1,13 @@
 // The queues of the mutexes, by number.
 
-ghost use Rattle.std.specs.Prelude.{◌≡◌, ◌≤◌, ◌<◌, length, true};
+ghost use Rattle.std.specs.Prelude.{◌≡◌, ◌≤◌, ◌<◌, length, true, false};
 ghost use Rattle.std.specs.List.{list_any};
 ghost use Rattle.pim_base.specs.Lists.{insert_by, head_of};
 ghost use Rattle.pim_base.specs.Queues.{precedes};
-ghost use Rattle.pim_queue.specs.Waiters.{is_of, without};
+ghost use Rattle.pim_queue.specs.Waiters.{is_of, has_ticket, without, repositioned};
 ghost use Rattle.pim_chain.specs.Views.{line_in, queue_in, put_queue};
 
-use pim_base::{MutexNo, TaskNo, Waiter};
+use pim_base::{MutexNo, Prio, TaskNo, Waiter};
 use pim_queue::Queue;
 
 /// The first of those who wait for the mutex.
@@ -23,6 +23,8 @@ pub fn insert(lines: &mut Vec<Queue>, mutex: MutexNo, waiter: Waiter)
     requires least { 1 ≤ mutex }
     requires most { mutex ≤ length lines.old.items }
     requires room { length (queue_in lines.old.items mutex) < (line_in lines.old.items mutex).room }
+    requires task { list_any (is_of waiter.task) (queue_in lines.old.items mutex) ≡ false }
+    requires ticket { list_any (has_ticket waiter.ticket) (queue_in lines.old.items mutex) ≡ false }
     ensures { lines.new.items ≡ put_queue lines.old.items mutex (insert_by precedes (queue_in lines.old.items mutex) waiter) }
 {
     lines[mutex.get() as usize - 1].insert(waiter);
@@ -38,12 +40,12 @@ pub fn remove(lines: &mut Vec<Queue>, mutex: MutexNo, task: TaskNo)
     let _waiter = lines[mutex.get() as usize - 1].remove(task);
 }
 
-/// Moves the waiter's task to where it belongs in the queue of the mutex.
-pub fn reposition(lines: &mut Vec<Queue>, mutex: MutexNo, waiter: Waiter)
+/// Moves the task to where it belongs with this priority in the queue of the mutex.
+pub fn reposition(lines: &mut Vec<Queue>, mutex: MutexNo, task: TaskNo, prio: Prio)
     requires least { 1 ≤ mutex }
     requires most { mutex ≤ length lines.old.items }
-    requires waits { list_any (is_of waiter.task) (queue_in lines.old.items mutex) ≡ true }
-    ensures { lines.new.items ≡ put_queue lines.old.items mutex (insert_by precedes (without waiter.task (queue_in lines.old.items mutex)) waiter) }
+    requires waits { list_any (is_of task) (queue_in lines.old.items mutex) ≡ true }
+    ensures { lines.new.items ≡ put_queue lines.old.items mutex (repositioned task prio (queue_in lines.old.items mutex)) }
 {
-    lines[mutex.get() as usize - 1].reposition(waiter);
+    lines[mutex.get() as usize - 1].reposition(task, prio);
 }

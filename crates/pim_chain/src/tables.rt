@@ -27,13 +27,16 @@ pub struct Tables {
 }
 
 impl Model for Tables {
-    ghost use Rattle.pim_chain.specs.Views.{View, Ready};
+    ghost use Rattle.pim_chain.specs.Views.{View};
 
     ghost Value = { View };
 
-    ghost view = { λ t. record { state = record { base = t.base.items; protocol = t.protocol.items; owner = t.owner.items; wait = t.wait.items; next = 0 }; stored = t.stored.items; queues = t.queues.items } };
+    ghost use Rattle.pim_chain.specs.Views.{Ready};
+    ghost use Rattle.pim_chain.specs.Shown.{shown};
 
-    ghost invariant = { λ t. Ready (record { state = record { base = t.base.items; protocol = t.protocol.items; owner = t.owner.items; wait = t.wait.items; next = 0 }; stored = t.stored.items; queues = t.queues.items }) };
+    ghost view = { shown };
+
+    ghost invariant = { λ t. Ready (shown t) };
 }
 
 impl Tables {
@@ -205,8 +208,7 @@ impl Tables {
         let wait = self.wait(task);
         put(&mut self.stored, task.get(), prio);
         if let Some(wait) = wait {
-            let ticket = wait.ticket;
-            lines::reposition(&mut self.queues, wait.mutex, Waiter { task, prio, ticket });
+            lines::reposition(&mut self.queues, wait.mutex, task, prio);
         }
     }
 }

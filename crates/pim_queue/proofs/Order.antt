@@ -1,5 +1,5 @@
-use Rattle.std.proofs.Common.{◌≡◌, ℕ, ◌<◌, ◌≤◌, Bool, true, false, ◌&&◌, ◌⊎◌, inl, inr, refl, sym, ◌∙◌, arith, List, [], ◌∷◌, eqb, ltb}
-use Rattle.std.specs.List.{list_any, AllByRecursion}
+use Rattle.std.proofs.Common.{◌≡◌, ℕ, ◌<◌, ◌≤◌, Bool, true, false, cond, ◌&&◌, ◌||◌, ◌⊎◌, inl, inr, refl, sym, ◌∙◌, ap, arith, Some, List, [], ◌∷◌, eqb, ltb}
+use Rattle.std.specs.List.{list_any, find, AllByRecursion}
 use Rattle.std.proofs.lemmas.Bool.{both_ways, cases_order, ltb-true, lt-ltb, eqb-true, eq-eqb, or_cases, or_left, or_right, and_parts, and_from, cond_both}
 use Rattle.pim_base.specs.declared.steps.Waiter.{Waiter}
 use Rattle.pim_base.specs.Lists.{insert_by}
@@ -14,19 +14,22 @@ all_both P Q R f (x ∷ xs) h k = (f x h.0 k.0, all_both P Q R f xs h.1 k.1)
 pub all_each : {X : Type 0} (P R : X → Type 0) → ((x : X) → P x → R x) → (xs : List X) → AllByRecursion P xs → AllByRecursion R xs
 all_each P R f xs h = all_both P P R (λ x p _. f x p) xs h h
 
--- one that passes, with what holds of it
-pub record Found {X : Type 0} (p : X → Bool) (P : X → Type 0) : Type 0 where
+-- the first that passes, with what holds of it
+pub record Found {X : Type 0} (p : X → Bool) (P : X → Type 0) (xs : List X) : Type 0 where
   pub one : X
+  pub is : find p xs ≡ Some one
   pub passes : p one ≡ true
   pub holds : P one
 
-pub found : {X : Type 0} (p : X → Bool) (P : X → Type 0) → (xs : List X) → list_any p xs ≡ true → AllByRecursion P xs → Found p P
+pub found : {X : Type 0} (p : X → Bool) (P : X → Type 0) → (xs : List X) → list_any p xs ≡ true → AllByRecursion P xs → Found p P xs
 found p P [] h k = absurd (both_ways false refl h)
-found p P (x ∷ xs) h k = go (found p P xs) (or_cases _ _ h)
+found p P (x ∷ xs) h k = go (p x) refl (λ there. found p P xs there k.1) h
   where
-    go : (list_any p xs ≡ true → AllByRecursion P xs → Found p P) → (p x ≡ true) ⊎ (list_any p xs ≡ true) → Found p P
-    go rest (inl here) = record { one = x; passes = here; holds = k.0 }
-    go rest (inr there) = rest there k.1
+    go : (b : Bool) → p x ≡ b → (list_any p xs ≡ true → Found p P xs) → (b || list_any p xs) ≡ true → Found p P (x ∷ xs)
+    go true here rest e = record { one = x; is = ap (λ b. cond b (Some x) (find p xs)) here; passes = here; holds = k.0 }
+    go false away rest e =
+        let it = rest e in
+        record { one = it.one; is = ap (λ b. cond b (Some x) (find p xs)) away ∙ it.is; passes = it.passes; holds = it.holds }
 
 -- ---- the order
 pub before_prio : (a b : Waiter) → precedes a b ≡ true → b.prio ≤ a.prio
