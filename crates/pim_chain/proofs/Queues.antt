@@ -51,7 +51,7 @@ top_front S stored m (w ∷ ws) lists q =
     (le-greatest_of stored (waits_for (wait_of S) m) (length S.base) w.task known.0 known.1 (waits_for_from (wait_of S) w.task _ q.sound.0.waits)))
 
 -- ---- the local priority, mutex by mutex
-local_by_mutexes : (S : State) (stored : ℕ → ℕ) (t : ℕ) → WaitsFit S → local_priority S stored t ≡ max (own_priority S t) (greatest_of (top S stored) (λ m. holds (heir_of S m) t) (length S.protocol))
+pub local_by_mutexes : (S : State) (stored : ℕ → ℕ) (t : ℕ) → WaitsFit S → local_priority S stored t ≡ max (own_priority S t) (greatest_of (top S stored) (λ m. holds (heir_of S m) t) (length S.protocol))
 local_by_mutexes S stored t fit =
     le_antisymm
     (local_priority-le S stored t _ (le-max_left _ _) (λ u task e.
@@ -66,32 +66,6 @@ local_by_mutexes S stored t fit =
     (greatest_of-le (top S stored) (λ m. holds (heir_of S m) t) (length S.protocol) (local_priority S stored t) (λ m _ _ p.
     greatest_of-le stored (waits_for (wait_of S) m) (length S.base) (local_priority S stored t) (λ u low high h.
     stored-le-local_priority S stored u t (low, high) (heir_at S m u h ∙ from_holds (heir_of S m) t p)))))
-
--- the priority, where the mutexes up to n have been asked
-abbrev pub AsFar : View → ℕ → ℕ → ℕ → Type 0
-AsFar v t n prio = prio ≡ max (max (base_of v.state t) (greatest_of (ceiling_of v.state) (λ m. holds (owner_of v.state m) t) n)) (greatest_of (λ m. front_prio (queue_at v m)) (λ m. holds (heir_of v.state m) t) n)
-
--- what the mutex adds
-abbrev pub lent : View → ℕ → ℕ → ℕ
-lent v m t = max (cond (holds (owner_of v.state m) t) (ceiling_of v.state m) 0) (cond (holds (heir_of v.state m) t) (front_prio (queue_at v m)) 0)
-
-pub as_far_more : (v : View) (t n m prio : ℕ) → m + 1 ≡ n → AsFar v t m prio → AsFar v t n (max prio (lent v n t))
-as_far_more v t n m prio e so_far =
-    let one : greatest_of (ceiling_of v.state) (λ m. holds (owner_of v.state m) t) n ≡ max (greatest_of (ceiling_of v.state) (λ m. holds (owner_of v.state m) t) m) (cond (holds (owner_of v.state n) t) (ceiling_of v.state n) 0) = greatest_of-more (ceiling_of v.state) (λ m. holds (owner_of v.state m) t) n m e in
-    let two : greatest_of (λ m. front_prio (queue_at v m)) (λ m. holds (heir_of v.state m) t) n ≡ max (greatest_of (λ m. front_prio (queue_at v m)) (λ m. holds (heir_of v.state m) t) m) (cond (holds (heir_of v.state n) t) (front_prio (queue_at v n)) 0) = greatest_of-more (λ m. front_prio (queue_at v m)) (λ m. holds (heir_of v.state m) t) n m e in
-    omega (arith, one, two, so_far)
-
-pub as_far_all : (v : View) (t n prio : ℕ) → Ready v → n ≡ length v.state.protocol → AsFar v t n prio → prio ≡ local_priority v.state (stored_at v) t
-as_far_all v t n prio ready all so_far =
-    subst (λ k. AsFar v t k prio) all so_far
-    ∙ ap (λ o. max o (greatest_of (λ m. front_prio (queue_at v m)) (λ m. holds (heir_of v.state m) t) (length v.state.protocol))) (sym (greatest-cons (base_of v.state t) (map (ceiling_of v.state) (owned v.state t))))
-    ∙ ap (max (own_priority v.state t)) (le_antisymm
-    (greatest_of-below (λ m. front_prio (queue_at v m)) (top v.state (stored_at v)) (λ m. holds (heir_of v.state m) t) (λ m. holds (heir_of v.state m) t) (length v.state.protocol) (λ m low high h. (h, sym (fronts m low high))))
-    (greatest_of-below (top v.state (stored_at v)) (λ m. front_prio (queue_at v m)) (λ m. holds (heir_of v.state m) t) (λ m. holds (heir_of v.state m) t) (length v.state.protocol) (λ m low high h. (h, fronts m low high))))
-    ∙ sym (local_by_mutexes v.state (stored_at v) t ready.waits)
-  where
-    fronts : (m : ℕ) → 1 ≤ m → m ≤ length v.state.protocol → top v.state (stored_at v) m ≡ front_prio (queue_at v m)
-    fronts m low high = top_front v.state (stored_at v) m (queue_at v m) ready.sound.lists (ready.queues m (low, high))
 
 -- ---- the queues after one task has another wait or another priority
 -- a queue that the task stands in neither before nor after

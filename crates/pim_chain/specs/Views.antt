@@ -1,11 +1,12 @@
 -- What the tables hold, and what always holds of it.
-use Rattle.std.specs.Prelude.{◌≡◌, ◌≤◌, ℕ, Bool, true, false, ◌==◌, List, [], Option, Some, None, length, unwrap_or}
+use Rattle.std.specs.Prelude.{◌≡◌, ◌≤◌, ℕ, Bool, true, false, ◌==◌, List, [], Option, Some, None, length, replicate, unwrap_or}
 use Rattle.std.specs.List.{list_any, AllByRecursion}
 use Rattle.std.specs.Option.{option_map_or}
 use Rattle.pim_base.specs.Lists.{nth, put, head_of, insert_by}
-use Rattle.pim_base.specs.State.{State, IsTask, IsMutex, wait_of, owner_of}
+use Rattle.pim_base.specs.State.{State, start, IsTask, IsMutex, wait_of, owner_of}
 use Rattle.pim_base.specs.Queues.{precedes}
 use Rattle.pim_base.specs.Laws.{IsSound}
+use Rattle.pim_base.specs.declared.steps.Protocol.{Protocol}
 use Rattle.pim_base.specs.declared.steps.Wait.{Wait}
 use Rattle.pim_base.specs.declared.steps.Waiter.{Waiter}
 use Rattle.pim_queue.specs.Line.{Line, with_waiters}
@@ -16,6 +17,14 @@ pub record View : Type 0 where
   pub state : State
   pub stored : List ℕ
   pub queues : List Line
+
+-- nothing is owned, nobody waits, each stored priority is the base, and each queue has room for all tasks
+abbrev pub fresh : List ℕ → List Protocol → View
+fresh bases protocols = record {
+  state = start bases protocols 0;
+  stored = bases;
+  queues = replicate (length protocols) (record { waiters = []; room = length bases });
+}
 
 abbrev pub with_state : View → State → View
 with_state v S = record v { state = S }

@@ -1,6 +1,6 @@
 // The queues of the mutexes, by number.
 
-ghost use Rattle.std.specs.Prelude.{◌≡◌, ◌≤◌, ◌<◌, length, true, false};
+ghost use Rattle.std.specs.Prelude.{◌≡◌, ◌≤◌, ◌<◌, length, replicate, [], true, false, IfOk};
 ghost use Rattle.std.specs.List.{list_any};
 ghost use Rattle.pim_base.specs.Lists.{insert_by, head_of};
 ghost use Rattle.pim_base.specs.Queues.{precedes};
@@ -9,6 +9,29 @@ ghost use Rattle.pim_chain.specs.Views.{line_in, queue_in, put_queue};
 
 use pim_base::{MutexNo, Prio, TaskNo, Waiter};
 use pim_queue::Queue;
+use std::alloc::{AllocError, Global};
+
+/// This many empty queues, each with this room.
+pub fn empty(alloc: Global, count: usize, room: u16) -> Result<Vec<Queue>, AllocError>
+    ensures { IfOk result (λ lines. lines.items ≡ replicate count (record { waiters = []; room = room })) }
+{
+    let mut lines = Vec::with_capacity(alloc, count)?;
+    for _made in 0..count {
+        lines.push(Queue::new(alloc, room)?)?;
+    }
+    Ok(lines)
+}
+
+/// The same queues.
+pub fn try_clone(alloc: Global, lines: &[Queue]) -> Result<Vec<Queue>, AllocError>
+    ensures { IfOk result (λ clones. clones.items ≡ lines.now) }
+{
+    let mut clones = Vec::with_capacity(alloc, lines.len())?;
+    for line in lines {
+        clones.push(line.try_clone(alloc)?)?;
+    }
+    Ok(clones)
+}
 
 /// The first of those who wait for the mutex.
 pub fn front(lines: &[Queue], mutex: MutexNo) -> Option<Waiter>

@@ -1,18 +1,19 @@
 // What is owned and waited for, with the stored priorities and the queues.
 
-ghost use Rattle.std.specs.Prelude.{◌≡◌, ◌≢◌, ◌≤◌, ◌<◌, ◌-◌, ◌^◌, length, IfOk, None, Some, true, false, ℕ};
-ghost use Rattle.pim_base.specs.Lists.{nth, put, contains, holds, head_of};
-ghost use Rattle.pim_base.specs.State.{IsTask, IsMutex, base_of, owner_of, wait_of, protocol_of, with_owner, with_wait, with_base};
-ghost use Rattle.pim_base.specs.Chains.{blocker, waits_chain, heir_of, closes_cycle};
-ghost use Rattle.pim_base.specs.Priorities.{ceiling};
+ghost use Rattle.std.specs.Prelude.{◌≡◌, ◌≢◌, ◌≤◌, length, IfOk, None, Some, false, ℕ};
+ghost use Rattle.std.specs.Option.{option_copied};
+ghost use Rattle.pim_base.specs.Lists.{nth, head_of};
+ghost use Rattle.pim_base.specs.State.{IsTask, IsMutex, base_of, owner_of, wait_of, with_owner, with_wait, with_base};
+ghost use Rattle.pim_base.specs.Chains.{closes_cycle};
 
-ghost use Rattle.pim_chain.specs.Views.{Ready, with_state, queue_at};
-ghost use Rattle.pim_chain.specs.Settled.{restored};
+ghost use Rattle.pim_chain.specs.Views.{Ready, fresh, with_state, queue_at, stored_at};
+ghost use Rattle.pim_chain.specs.Settled.{SettledBut, restored};
 
 use crate::lines;
-use crate::numbered::{nth, put};
+use crate::numbered::{filled, nth, put};
 use pim_base::{MutexNo, Prio, Protocol, TaskNo, Wait, Waiter};
 use pim_queue::Queue;
+use std::alloc::{AllocError, Global};
 use std::marker::Model;
 
 /// The facts about tasks and mutexes, the stored priorities and the queues.
@@ -40,34 +41,107 @@ impl Model for Tables {
 }
 
 impl Tables {
+    /// The tables of these tasks and mutexes: all mutexes are free, nobody waits, and each stored priority is the base.
+    /// The only error is that memory was refused.
+    pub fn new(alloc: Global, bases: &[Prio], protocols: &[Protocol]) -> Result<Tables, AllocError>
+        requires tasks { length bases.now ≤ 256 }
+        requires mutexes { length protocols.now ≤ 256 }
+        ensures made { IfOk result (λ tables. tables ≡ fresh bases.now protocols.now) }
+        ensures settled { IfOk result (λ tables. SettledBut tables.state (stored_at tables) None) }
+    {
+        let base = Vec::from_slice(alloc, bases)?;
+        let protocol = Vec::from_slice(alloc, protocols)?;
+        let owner = filled(alloc, protocols.len(), None)?;
+        let wait = filled(alloc, bases.len(), None)?;
+        let stored = Vec::from_slice(alloc, bases)?;
+        let queues = lines::empty(alloc, protocols.len(), bases.len() as u16)?;
+        Ok(Tables {
+            base,
+            protocol,
+            owner,
+            wait,
+            stored,
+            queues,
+        })
+    }
+
+    /// Equal tables, stored priorities too. The only error is that memory was refused.
+    pub fn try_clone(&self, alloc: Global) -> Result<Tables, AllocError>
+        ensures { IfOk result (λ tables. tables ≡ self.now) }
+    {
+        let base = Vec::from_slice(alloc, &self.base)?;
+        let protocol = Vec::from_slice(alloc, &self.protocol)?;
+        let owner = Vec::from_slice(alloc, &self.owner)?;
+        let wait = Vec::from_slice(alloc, &self.wait)?;
+        let stored = Vec::from_slice(alloc, &self.stored)?;
+        let queues = lines::try_clone(alloc, &self.queues)?;
+        Ok(Tables {
+            base,
+            protocol,
+            owner,
+            wait,
+            stored,
+            queues,
+        })
+    }
+
+    /// How many tasks there are, at most 256.
+    pub fn task_count(&self) -> u16
+        ensures count { result ≡ length self.now.state.base }
+        ensures ready { Ready self.now }
+    {
+        self.base.len() as u16
+    }
+
+    /// How many mutexes there are, at most 256.
+    pub fn mutex_count(&self) -> u16
+        ensures count { result ≡ length self.now.state.protocol }
+        ensures ready { Ready self.now }
+    {
+        self.protocol.len() as u16
+    }
+
+    /// The base priority of the task, None for an unknown one.
     pub fn base(&self, task: TaskNo) -> Option<Prio>
         ensures { result ≡ nth self.now.state.base task }
     {
         nth(&self.base, task.get())
     }
 
+    /// The protocol of the mutex, None for an unknown one.
     pub fn protocol(&self, mutex: MutexNo) -> Option<Protocol>
         ensures { result ≡ nth self.now.state.protocol mutex }
     {
         nth(&self.protocol, mutex.get())
     }
 
+    /// The owner of the mutex, None where it is free or unknown.
     pub fn owner(&self, mutex: MutexNo) -> Option<TaskNo>
         ensures { result ≡ owner_of self.now.state mutex }
     {
         nth(&self.owner, mutex.get()).flatten()
     }
 
-    pub fn wait(&self, task: TaskNo) -> Option<Wait>
+    /// The mutex that the task waits for, with its ticket there, None where it waits for nothing or is unknown.
+    pub fn waits_for(&self, task: TaskNo) -> Option<Wait>
         ensures { result ≡ wait_of self.now.state task }
     {
         nth(&self.wait, task.get()).flatten()
     }
 
+    /// The stored priority of the task, None for an unknown one.
     pub fn stored(&self, task: TaskNo) -> Option<Prio>
         ensures { result ≡ nth self.now.stored task }
     {
         nth(&self.stored, task.get())
+    }
+
+    /// Those who wait for the mutex, None for an unknown one.
+    pub fn queue(&self, mutex: MutexNo) -> Option<&Queue>
+        ensures { option_copied result ≡ nth self.now.queues mutex }
+    {
+        let place = (mutex.get() as usize).checked_sub(1)?;
+        self.queues.get(place)
     }
 
     /// The first of those who wait for the mutex.
@@ -77,20 +151,7 @@ impl Tables {
         lines::front(&self.queues, mutex)
     }
 
-    pub fn task_count(&self) -> u16
-        ensures count { result ≡ length self.now.state.base }
-        ensures ready { Ready self.now }
-    {
-        self.base.len() as u16
-    }
-
-    pub fn mutex_count(&self) -> u16
-        ensures count { result ≡ length self.now.state.protocol }
-        ensures ready { Ready self.now }
-    {
-        self.protocol.len() as u16
-    }
-
+    /// The base priority of a known task.
     pub fn known_base(&self, task: TaskNo) -> Prio
         requires { IsTask self.now.state task }
         ensures { result ≡ base_of self.now.state task }
@@ -98,55 +159,10 @@ impl Tables {
         self.base[task.get() as usize - 1]
     }
 
-    /// The owner of the mutex that the task waits for.
-    pub fn blocker(&self, task: TaskNo) -> Option<TaskNo>
-        ensures { result ≡ blocker self.now.state task }
-    {
-        self.owner(self.wait(task)?.mutex)
-    }
-
-    /// The owner, of a mutex that inherits.
-    pub fn heir_of(&self, mutex: MutexNo) -> Option<TaskNo>
-        ensures { result ≡ heir_of self.now.state mutex }
-    {
-        match self.protocol(mutex)? {
-            Protocol::Inherit => self.owner(mutex),
-            Protocol::None | Protocol::Protect(_) => None,
-        }
-    }
-
-    /// Whether the task is `from`, or is reached from it by waits and owners.
-    pub fn on_chain(&self, from: TaskNo, task: TaskNo) -> bool
-        ensures { result ≡ contains (waits_chain self.now.state from) task }
-    {
-        let mut at = from;
-        for _hop in 0..self.task_count() {
-            if task == at {
-                return true;
-            }
-            match self.blocker(at) {
-                Some(next) => at = next,
-                None => return false,
-            }
-        }
-        task == at
-    }
-
-    pub fn owns(&self, task: TaskNo, mutex: MutexNo) -> bool
-        ensures { result ≡ holds (owner_of self.now.state mutex) task }
-    {
-        self.owner(mutex) == Some(task)
-    }
-
-    /// The ceiling of a PROTECT mutex.
-    pub fn ceiling(&self, mutex: MutexNo) -> Option<Prio>
-        ensures { result ≡ ceiling (protocol_of self.now.state mutex) }
-    {
-        self.protocol(mutex)?.ceiling()
-    }
-
-    /// The task, which waits for nothing, owns the mutex.
+    /// The free mutex gets an owner, who waits for nothing.
     pub fn bind(&mut self, mutex: MutexNo, task: TaskNo)
+        requires mutex { IsMutex self.old.state mutex }
+        requires free { owner_of self.old.state mutex ≡ None }
         requires known { IsTask self.old.state task }
         requires idle { wait_of self.old.state task ≡ None }
         ensures state { self.new ≡ with_state self.old (with_owner self.old.state mutex (Some task)) }
@@ -155,23 +171,25 @@ impl Tables {
         put(&mut self.owner, mutex.get(), Some(task));
     }
 
-    /// Nobody owns the mutex.
+    /// The owned mutex is free.
     pub fn unbind(&mut self, mutex: MutexNo)
+        requires owned { owner_of self.old.state mutex ≢ None }
         ensures state { self.new ≡ with_state self.old (with_owner self.old.state mutex None) }
         ensures ready { Ready self.new }
     {
         put(&mut self.owner, mutex.get(), None);
     }
 
-    /// The task has this base priority.
+    /// The task has another base priority.
     pub fn put_base(&mut self, task: TaskNo, prio: Prio)
+        requires { IsTask self.old.state task }
         ensures state { self.new ≡ with_state self.old (with_base self.old.state task prio) }
         ensures ready { Ready self.new }
     {
         put(&mut self.base, task.get(), prio);
     }
 
-    /// The task, which waits for nothing, waits for the mutex.
+    /// The task, which waits for nothing, waits for the mutex, where nobody has this ticket. That may close no cycle.
     pub fn join(&mut self, task: TaskNo, mutex: MutexNo, ticket: u64)
         requires known { IsTask self.old.state task }
         requires mutex { IsMutex self.old.state mutex }
@@ -187,25 +205,25 @@ impl Tables {
         put(&mut self.wait, task.get(), Some(Wait { mutex, ticket }));
     }
 
-    /// The task waits no more.
+    /// The task, which waits, waits no more.
     pub fn leave(&mut self, task: TaskNo)
         requires waits { wait_of self.old.state task ≢ None }
         ensures state { self.new.state ≡ with_wait self.old.state task None }
         ensures stored { self.new.stored ≡ self.old.stored }
         ensures ready { Ready self.new }
     {
-        if let Some(wait) = self.wait(task) {
+        if let Some(wait) = self.waits_for(task) {
             lines::remove(&mut self.queues, wait.mutex, task);
             put(&mut self.wait, task.get(), None);
         }
     }
 
     /// Stores the priority, and moves the task in the queue that it waits in.
-    pub fn restore(&mut self, task: TaskNo, prio: Prio)
+    pub(crate) fn restore(&mut self, task: TaskNo, prio: Prio)
         requires { IsTask self.old.state task }
         ensures { self.new ≡ restored self.old task prio }
     {
-        let wait = self.wait(task);
+        let wait = self.waits_for(task);
         put(&mut self.stored, task.get(), prio);
         if let Some(wait) = wait {
             lines::reposition(&mut self.queues, wait.mutex, task, prio);

@@ -6,6 +6,7 @@ ghost use Rattle.pim_base.specs.State.{IsTask, owner_of};
 ghost use Rattle.pim_base.specs.Chains.{heir, heir_of};
 ghost use Rattle.pim_base.specs.Priorities.{local_priority, ceiling_of, effective_priority};
 ghost use Rattle.pim_chain.specs.Views.{Ready, stored_at, queue_at, front_prio};
+ghost use Rattle.pim_chain.specs.Owned.{worth};
 ghost use Rattle.pim_chain.specs.Settled.{SettledBut, Visited, changed};
 
 use crate::numbered::higher;
@@ -44,20 +45,18 @@ impl Tables {
         }
     }
 
-    // the priority that the mutex lends to the task
-    fn lent(&self, mutex: MutexNo, task: TaskNo) -> Option<Prio>
-        ensures { unwrap_or result 0 ≡ max (cond (holds (owner_of self.now.state mutex) task) (ceiling_of self.now.state mutex) 0) (cond (holds (heir_of self.now.state mutex) task) (front_prio (queue_at self.now mutex)) 0) }
+    // the priority that the mutex lends to its owner
+    fn lent(&self, mutex: MutexNo) -> Option<Prio>
+        ensures { unwrap_or result 0 ≡ worth self.now mutex }
     {
-        if !self.owns(task, mutex) {
-            return None;
-        }
         match self.heir_of(mutex) {
             Some(_heir) => self.front_prio(mutex),
             None => self.ceiling(mutex),
         }
     }
 
-    /// The greatest of the task's own priority and what its mutexes lend it. This is a visit.
+    /// The greatest of the task's base and what its mutexes lend it: the ceilings of the PROTECT mutexes and the
+    /// priorities at the front of the queues of the INHERIT mutexes. This is a visit, and counted.
     pub fn local(&self, task: TaskNo, visits: &mut Visits) -> Prio
         requires known { IsTask self.now.state task }
         requires room { visits.old < 2 ^ 32 - 1 }
@@ -66,9 +65,12 @@ impl Tables {
         ensures ready { Ready self.now }
     {
         visits.add();
+        let _tasks = self.task_count();
         let mut prio = self.known_base(task);
-        for number in 1..self.mutex_count() + 1 {
-            if let Some(lent) = self.lent(MutexNo(number), task) {
+        let mut asked = 0;
+        while let Some(mutex) = self.next_owned(task, asked) {
+            asked = mutex.get();
+            if let Some(lent) = self.lent(mutex) {
                 prio = higher(prio, lent);
             }
         }
@@ -90,7 +92,7 @@ impl Tables {
         if level == old {
             return None;
         }
-        match self.wait(task) {
+        match self.waits_for(task) {
             None => {
                 self.restore(task, prio);
                 None
