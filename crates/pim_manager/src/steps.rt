@@ -28,6 +28,7 @@ impl Manager {
     }
 
     // makes the step and counts its visits
+    #[tactic(auto, using(crate::proofs::Counted::unchanged_least))]
     fn reply_to(&mut self, step: Step, visits: &mut Visits) -> Reply
         requires { visits.old ≡ 0 }
         ensures reply { result ≡ reply_of self.old step }
