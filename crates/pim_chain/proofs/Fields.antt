@@ -1,11 +1,11 @@
 -- The same, where a field of the tables was written.
-use Rattle.std.proofs.Common.{◌≡◌, ℕ, ◌≤◌, ◌<◌, ◌-◌, Bool, true, false, refl, sym, ◌∙◌, ap, subst, arith, Option, Some, None, List, length, get_or, unwrap_or}
-use Rattle.pim_base.proofs.Places.{nth-get_or}
+use Rattle.std.proofs.Common.{◌≡◌, ℕ, ◌≤◌, ◌<◌, ◌-◌, Bool, true, false, ◌⊎◌, inl, inr, refl, sym, ◌∙◌, ap, subst, arith, Option, Some, None, List, [], ◌∷◌, length, get_or, unwrap_or}
+use Rattle.pim_base.proofs.Places.{nth-get_or, nth_within}
 use Rattle.pim_chain.proofs.Queues.{room_for}
-use Rattle.std.specs.List.{list_any}
-use Rattle.std.proofs.lemmas.Bool.{eqb-true}
+use Rattle.std.specs.List.{list_any, AllByRecursion}
+use Rattle.std.proofs.lemmas.Bool.{eqb-true, eq-eqb, or_cases, or_left, or_right}
 use Rattle.std.proofs.lemmas.Option.{none-some, same_Some}
-use Rattle.pim_base.specs.Lists.{put, insert_by}
+use Rattle.pim_base.specs.Lists.{nth, put, insert_by}
 use Rattle.pim_base.specs.State.{State, IsTask, IsMutex, wait_of}
 use Rattle.pim_base.specs.Chains.{closes_cycle}
 use Rattle.pim_base.specs.Queues.{precedes}
@@ -16,6 +16,7 @@ use Rattle.pim_queue.specs.Waiters.{is_of, has_ticket, without}
 use Rattle.pim_queue.proofs.Order.{Found, found}
 use Rattle.pim_chain.specs.Views.{View, Ready, Shows, IsQueue, with_state, stored_at, queue_at, line_in, put_queue}
 use Rattle.pim_chain.specs.Settled.{moved, restored}
+use Rattle.pim_chain.proofs.Local.{waits_for_from}
 use Rattle.pim_chain.proofs.Changes.{ready_bound, ready_based, ready_left, ready_joined, not_waiting}
 use Rattle.pim_chain.proofs.Visit.{restored_free, restored_waiting, stands}
 
@@ -147,3 +148,32 @@ ticket_not_here v u m k same mutex fresh ready = go (list_any (has_ticket k) (qu
         let it : Found (has_ticket k) (Shows (wait_of v.state) (stored_at v) m) (queue_at v m) = found (has_ticket k) (Shows (wait_of v.state) (stored_at v) m) (queue_at v m) h q.sound in
         absurd (fresh it.one.task (subst (λ (x : View). wait_of x.state it.one.task ≡ Some (record { mutex = m; ticket = k })) same
         (it.holds.waits ∙ ap (λ n. Some (record { mutex = m; ticket = n })) (eqb-true it.one.ticket k it.passes))))
+
+-- who waits with the ticket shows it
+ticket_there : (wait : ℕ → Option Wait) (stored : ℕ → ℕ) (m k t : ℕ) (ws : List Waiter) → wait t ≡ Some (record { mutex = m; ticket = k }) → AllByRecursion (Shows wait stored m) ws → list_any (is_of t) ws ≡ true → list_any (has_ticket k) ws ≡ true
+ticket_there wait stored m k t [] at shows h = h
+ticket_there wait stored m k t (w ∷ ws) at shows h = go (or_cases _ _ h) (ticket_there wait stored m k t ws at shows.1)
+  where
+    go : (is_of t w ≡ true) ⊎ (list_any (is_of t) ws ≡ true) → (list_any (is_of t) ws ≡ true → list_any (has_ticket k) ws ≡ true) → list_any (has_ticket k) (w ∷ ws) ≡ true
+    go (inl e) rest = or_left _ _ (eq-eqb w.ticket k (ap (λ (x : Wait). x.ticket) (same_Some _ _ (sym shows.0.waits ∙ ap wait (eqb-true w.task t e) ∙ at))))
+    go (inr r) rest = or_right _ _ (rest r)
+
+-- a queue has the ticket exactly where somebody waits with it
+pub ticket_told :
+    (v : View) (m k : ℕ) (q : Line)
+    → Ready v
+    → nth v.queues m ≡ Some q
+    → (list_any (has_ticket k) q.waiters ≡ true → (t : ℕ) × (wait_of v.state t ≡ Some (record { mutex = m; ticket = k })))
+    × (((t : ℕ) × (wait_of v.state t ≡ Some (record { mutex = m; ticket = k }))) → list_any (has_ticket k) q.waiters ≡ true)
+ticket_told v m k q ready at = (
+  (λ h.
+  let it : Found (has_ticket k) (Shows (wait_of v.state) (stored_at v) m) q.waiters = found (has_ticket k) (Shows (wait_of v.state) (stored_at v) m) q.waiters h here.sound in
+  (it.one.task, it.holds.waits ∙ ap (λ n. Some (record { mutex = m; ticket = n })) (eqb-true it.one.ticket k it.passes))),
+  (λ h. ticket_there (wait_of v.state) (stored_at v) m k h.0 q.waiters h.1 here.sound (here.complete h.0 (waits_for_from (wait_of v.state) h.0 _ h.1))),
+)
+  where
+    isk : IsMutex v.state m
+    isk = let within = nth_within v.queues m q at in (within.0, subst (λ n. m ≤ n) ready.queues_len within.1)
+
+    here : IsQueue (wait_of v.state) (stored_at v) m q.waiters
+    here = subst (λ o. IsQueue (wait_of v.state) (stored_at v) m (unwrap_or {T = Line} o (record { waiters = []; room = 0 })).waiters) at (ready.queues m isk)

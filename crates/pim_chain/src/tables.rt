@@ -159,6 +159,14 @@ impl Tables {
         self.base[task.get() as usize - 1]
     }
 
+    /// The stored priority of a known task.
+    pub fn known_stored(&self, task: TaskNo) -> Prio
+        requires { IsTask self.now.state task }
+        ensures { result ≡ stored_at self.now task }
+    {
+        self.stored[task.get() as usize - 1]
+    }
+
     /// The free mutex gets an owner, who waits for nothing.
     pub fn bind(&mut self, mutex: MutexNo, task: TaskNo)
         requires mutex { IsMutex self.old.state mutex }
