@@ -6,7 +6,7 @@ use Rattle.std.specs.List.{list_any, AllByRecursion}
 use Rattle.std.proofs.lemmas.Bool.{eqb-true, eq-eqb, or_cases, or_left, or_right}
 use Rattle.std.proofs.lemmas.Option.{none-some, same_Some}
 use Rattle.pim_base.specs.Lists.{nth, put, insert_by}
-use Rattle.pim_base.specs.State.{State, IsTask, IsMutex, wait_of}
+use Rattle.pim_base.specs.State.{State, IsTask, IsMutex, wait_of, with_owner, with_base}
 use Rattle.pim_base.specs.Chains.{closes_cycle}
 use Rattle.pim_base.specs.Queues.{precedes}
 use Rattle.pim_base.specs.declared.steps.Wait.{Wait}
@@ -15,7 +15,7 @@ use Rattle.pim_queue.specs.Line.{Line}
 use Rattle.pim_queue.specs.Waiters.{is_of, has_ticket, without}
 use Rattle.pim_queue.proofs.Order.{Found, found}
 use Rattle.pim_chain.specs.Views.{View, Ready, Shows, IsQueue, with_state, stored_at, queue_at, line_in, put_queue}
-use Rattle.pim_chain.specs.Settled.{moved, restored}
+use Rattle.pim_chain.specs.Settled.{joined, left, moved, restored}
 use Rattle.pim_chain.proofs.Local.{waits_for_from}
 use Rattle.pim_chain.proofs.Changes.{ready_bound, ready_based, ready_left, ready_joined, not_waiting}
 use Rattle.pim_chain.proofs.Visit.{restored_free, restored_waiting, stands}
@@ -177,3 +177,36 @@ ticket_told v m k q ready at = (
 
     here : IsQueue (wait_of v.state) (stored_at v) m q.waiters
     here = subst (λ o. IsQueue (wait_of v.state) (stored_at v) m (unwrap_or {T = Line} o (record { waiters = []; room = 0 })).waiters) at (ready.queues m isk)
+
+-- ---- the tables after a field was written
+pub owner_written : (v u : View) (m : ℕ) (o : Option ℕ) (owners : List (Option ℕ)) → v ≡ u → owners ≡ put v.state.owner m o → with_state v (record v.state { owner = owners }) ≡ with_state u (with_owner u.state m o)
+owner_written v u m o owners same is =
+    ap (λ os. with_state v (record v.state { owner = os })) is ∙ ap (λ (x : View). with_state x (with_owner x.state m o)) same
+
+pub base_written : (v u : View) (t p : ℕ) (bases : List ℕ) → v ≡ u → bases ≡ put v.state.base t p → with_state v (record v.state { base = bases }) ≡ with_state u (with_base u.state t p)
+base_written v u t p bases same is =
+    ap (λ bs. with_state v (record v.state { base = bs })) is ∙ ap (λ (x : View). with_state x (with_base x.state t p)) same
+
+pub is_joined :
+    (v u : View) (t prio : ℕ) (w : Wait) (waits : List (Option Wait)) (lines : List Line)
+    → v ≡ u
+    → prio ≡ stored_at v t
+    → waits ≡ put v.state.wait t (Some w)
+    → lines ≡ put_queue v.queues w.mutex (insert_by precedes (queue_at v w.mutex) (record { task = t; prio = prio; ticket = w.ticket }))
+    → record { state = record v.state { wait = waits }; stored = v.stored; queues = lines } ≡ joined u t w
+is_joined v u t prio w waits lines same is_prio is_waits is_lines =
+    ap (λ ws. record { state = record v.state { wait = ws }; stored = v.stored; queues = lines }) is_waits
+    ∙ ap (λ ls. record { state = record v.state { wait = put v.state.wait t (Some w) }; stored = v.stored; queues = ls })
+      (is_lines ∙ ap (λ p. put_queue v.queues w.mutex (insert_by precedes (queue_at v w.mutex) (record { task = t; prio = p; ticket = w.ticket }))) is_prio)
+    ∙ ap (λ x. joined x t w) same
+
+pub is_left :
+    (v u : View) (t m : ℕ) (waits : List (Option Wait)) (lines : List Line)
+    → v ≡ u
+    → waits ≡ put v.state.wait t None
+    → lines ≡ put_queue v.queues m (without t (queue_at v m))
+    → record { state = record v.state { wait = waits }; stored = v.stored; queues = lines } ≡ left u t m
+is_left v u t m waits lines same is_waits is_lines =
+    ap (λ ws. record { state = record v.state { wait = ws }; stored = v.stored; queues = lines }) is_waits
+    ∙ ap (λ ls. record { state = record v.state { wait = put v.state.wait t None }; stored = v.stored; queues = ls }) is_lines
+    ∙ ap (λ x. left x t m) same
