@@ -23,7 +23,7 @@ use Rattle.pim_base.specs.State.{owned}
 use Rattle.pim_queue.specs.Line.{Line, with_waiters}
 use Rattle.pim_queue.specs.Waiters.{without}
 use Rattle.pim_chain.specs.Views.{View, stored_at, queue_at, queue_in, line_in, put_queue, with_state, waits_for, IsQueue, WaitsFit, Ready}
-use Rattle.pim_chain.specs.Settled.{SettledBut}
+use Rattle.pim_chain.specs.Settled.{SettledBut, left, joined}
 use Rattle.pim_chain.proofs.Local.{Through, through, greatest_of-below}
 use Rattle.pim_chain.proofs.Queues.{queue_kept, queue_left, queue_joined, waiting_known}
 
@@ -235,10 +235,6 @@ not_waiting wait m t e h = both_ways _ (ap (λ o. option_map_or (λ (w : Wait). 
 pub waits_once : (wait : ℕ → Option Wait) (m t : ℕ) (w : Wait) → wait t ≡ Some w → waits_for wait m t ≡ true → w.mutex ≡ m
 waits_once wait m t w e h = eqb-true w.mutex m (sym (ap (λ o. option_map_or (λ (x : Wait). eqb x.mutex m) o false) e) ∙ h)
 
--- the tables after the task has left the queue in which it waited
-abbrev pub left : View → ℕ → ℕ → View
-left v t m = record { state = with_wait v.state t None; stored = v.stored; queues = put_queue v.queues m (without t (queue_at v m)) }
-
 pub ready_left : (v : View) (t : ℕ) (w : Wait) → wait_of v.state t ≡ Some w → Ready v → Ready (left v t w.mutex)
 ready_left v t w at ready = record {
   sound = idle_sound v.state t ready.sound;
@@ -269,10 +265,6 @@ ready_left v t w at ready = record {
           where
             clash : None ≡ Some x → wait_of v.state u ≡ Some x
             clash h = cc
-
--- the tables after the task has begun to wait
-abbrev pub joined : View → ℕ → Wait → View
-joined v t w = record { state = with_wait v.state t (Some w); stored = v.stored; queues = put_queue v.queues w.mutex (insert_by precedes (queue_at v w.mutex) (record { task = t; prio = stored_at v t; ticket = w.ticket })) }
 
 pub ready_joined :
     (v : View) (t : ℕ) (w : Wait)

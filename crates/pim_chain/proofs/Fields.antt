@@ -1,12 +1,12 @@
 -- The same, where a field of the tables was written.
-use Rattle.std.proofs.Common.{◌≡◌, ℕ, ◌≤◌, ◌<◌, ◌-◌, Bool, true, false, refl, sym, ◌∙◌, ap, subst, arith, Option, Some, None, List, length, get_or, unwrap_or}
-use Rattle.pim_base.proofs.Places.{nth-get_or}
+use Rattle.std.proofs.Common.{◌≡◌, ℕ, ◌≤◌, ◌<◌, ◌-◌, Bool, true, false, ◌⊎◌, inl, inr, refl, sym, ◌∙◌, ap, subst, arith, Option, Some, None, List, [], ◌∷◌, length, get_or, unwrap_or}
+use Rattle.pim_base.proofs.Places.{nth-get_or, nth_within}
 use Rattle.pim_chain.proofs.Queues.{room_for}
-use Rattle.std.specs.List.{list_any}
-use Rattle.std.proofs.lemmas.Bool.{eqb-true}
+use Rattle.std.specs.List.{list_any, AllByRecursion}
+use Rattle.std.proofs.lemmas.Bool.{eqb-true, eq-eqb, or_cases, or_left, or_right}
 use Rattle.std.proofs.lemmas.Option.{none-some, same_Some}
-use Rattle.pim_base.specs.Lists.{put, insert_by}
-use Rattle.pim_base.specs.State.{State, IsTask, IsMutex, wait_of}
+use Rattle.pim_base.specs.Lists.{nth, put, insert_by}
+use Rattle.pim_base.specs.State.{State, IsTask, IsMutex, wait_of, with_owner, with_base}
 use Rattle.pim_base.specs.Chains.{closes_cycle}
 use Rattle.pim_base.specs.Queues.{precedes}
 use Rattle.pim_base.specs.declared.steps.Wait.{Wait}
@@ -15,7 +15,8 @@ use Rattle.pim_queue.specs.Line.{Line}
 use Rattle.pim_queue.specs.Waiters.{is_of, has_ticket, without}
 use Rattle.pim_queue.proofs.Order.{Found, found}
 use Rattle.pim_chain.specs.Views.{View, Ready, Shows, IsQueue, with_state, stored_at, queue_at, line_in, put_queue}
-use Rattle.pim_chain.specs.Settled.{moved, restored}
+use Rattle.pim_chain.specs.Settled.{joined, left, moved, restored}
+use Rattle.pim_chain.proofs.Local.{waits_for_from}
 use Rattle.pim_chain.proofs.Changes.{ready_bound, ready_based, ready_left, ready_joined, not_waiting}
 use Rattle.pim_chain.proofs.Visit.{restored_free, restored_waiting, stands}
 
@@ -147,3 +148,65 @@ ticket_not_here v u m k same mutex fresh ready = go (list_any (has_ticket k) (qu
         let it : Found (has_ticket k) (Shows (wait_of v.state) (stored_at v) m) (queue_at v m) = found (has_ticket k) (Shows (wait_of v.state) (stored_at v) m) (queue_at v m) h q.sound in
         absurd (fresh it.one.task (subst (λ (x : View). wait_of x.state it.one.task ≡ Some (record { mutex = m; ticket = k })) same
         (it.holds.waits ∙ ap (λ n. Some (record { mutex = m; ticket = n })) (eqb-true it.one.ticket k it.passes))))
+
+-- who waits with the ticket shows it
+ticket_there : (wait : ℕ → Option Wait) (stored : ℕ → ℕ) (m k t : ℕ) (ws : List Waiter) → wait t ≡ Some (record { mutex = m; ticket = k }) → AllByRecursion (Shows wait stored m) ws → list_any (is_of t) ws ≡ true → list_any (has_ticket k) ws ≡ true
+ticket_there wait stored m k t [] at shows h = h
+ticket_there wait stored m k t (w ∷ ws) at shows h = go (or_cases _ _ h) (ticket_there wait stored m k t ws at shows.1)
+  where
+    go : (is_of t w ≡ true) ⊎ (list_any (is_of t) ws ≡ true) → (list_any (is_of t) ws ≡ true → list_any (has_ticket k) ws ≡ true) → list_any (has_ticket k) (w ∷ ws) ≡ true
+    go (inl e) rest = or_left _ _ (eq-eqb w.ticket k (ap (λ (x : Wait). x.ticket) (same_Some _ _ (sym shows.0.waits ∙ ap wait (eqb-true w.task t e) ∙ at))))
+    go (inr r) rest = or_right _ _ (rest r)
+
+-- a queue has the ticket exactly where somebody waits with it
+pub ticket_told :
+    (v : View) (m k : ℕ) (q : Line)
+    → Ready v
+    → nth v.queues m ≡ Some q
+    → (list_any (has_ticket k) q.waiters ≡ true → (t : ℕ) × (wait_of v.state t ≡ Some (record { mutex = m; ticket = k })))
+    × (((t : ℕ) × (wait_of v.state t ≡ Some (record { mutex = m; ticket = k }))) → list_any (has_ticket k) q.waiters ≡ true)
+ticket_told v m k q ready at = (
+  (λ h.
+  let it : Found (has_ticket k) (Shows (wait_of v.state) (stored_at v) m) q.waiters = found (has_ticket k) (Shows (wait_of v.state) (stored_at v) m) q.waiters h here.sound in
+  (it.one.task, it.holds.waits ∙ ap (λ n. Some (record { mutex = m; ticket = n })) (eqb-true it.one.ticket k it.passes))),
+  (λ h. ticket_there (wait_of v.state) (stored_at v) m k h.0 q.waiters h.1 here.sound (here.complete h.0 (waits_for_from (wait_of v.state) h.0 _ h.1))),
+)
+  where
+    isk : IsMutex v.state m
+    isk = let within = nth_within v.queues m q at in (within.0, subst (λ n. m ≤ n) ready.queues_len within.1)
+
+    here : IsQueue (wait_of v.state) (stored_at v) m q.waiters
+    here = subst (λ o. IsQueue (wait_of v.state) (stored_at v) m (unwrap_or {T = Line} o (record { waiters = []; room = 0 })).waiters) at (ready.queues m isk)
+
+-- ---- the tables after a field was written
+pub owner_written : (v u : View) (m : ℕ) (o : Option ℕ) (owners : List (Option ℕ)) → v ≡ u → owners ≡ put v.state.owner m o → with_state v (record v.state { owner = owners }) ≡ with_state u (with_owner u.state m o)
+owner_written v u m o owners same is =
+    ap (λ os. with_state v (record v.state { owner = os })) is ∙ ap (λ (x : View). with_state x (with_owner x.state m o)) same
+
+pub base_written : (v u : View) (t p : ℕ) (bases : List ℕ) → v ≡ u → bases ≡ put v.state.base t p → with_state v (record v.state { base = bases }) ≡ with_state u (with_base u.state t p)
+base_written v u t p bases same is =
+    ap (λ bs. with_state v (record v.state { base = bs })) is ∙ ap (λ (x : View). with_state x (with_base x.state t p)) same
+
+pub is_joined :
+    (v u : View) (t prio : ℕ) (w : Wait) (waits : List (Option Wait)) (lines : List Line)
+    → v ≡ u
+    → prio ≡ stored_at v t
+    → waits ≡ put v.state.wait t (Some w)
+    → lines ≡ put_queue v.queues w.mutex (insert_by precedes (queue_at v w.mutex) (record { task = t; prio = prio; ticket = w.ticket }))
+    → record { state = record v.state { wait = waits }; stored = v.stored; queues = lines } ≡ joined u t w
+is_joined v u t prio w waits lines same is_prio is_waits is_lines =
+    ap (λ ws. record { state = record v.state { wait = ws }; stored = v.stored; queues = lines }) is_waits
+    ∙ ap (λ ls. record { state = record v.state { wait = put v.state.wait t (Some w) }; stored = v.stored; queues = ls })
+      (is_lines ∙ ap (λ p. put_queue v.queues w.mutex (insert_by precedes (queue_at v w.mutex) (record { task = t; prio = p; ticket = w.ticket }))) is_prio)
+    ∙ ap (λ x. joined x t w) same
+
+pub is_left :
+    (v u : View) (t m : ℕ) (waits : List (Option Wait)) (lines : List Line)
+    → v ≡ u
+    → waits ≡ put v.state.wait t None
+    → lines ≡ put_queue v.queues m (without t (queue_at v m))
+    → record { state = record v.state { wait = waits }; stored = v.stored; queues = lines } ≡ left u t m
+is_left v u t m waits lines same is_waits is_lines =
+    ap (λ ws. record { state = record v.state { wait = ws }; stored = v.stored; queues = lines }) is_waits
+    ∙ ap (λ ls. record { state = record v.state { wait = put v.state.wait t None }; stored = v.stored; queues = ls }) is_lines
+    ∙ ap (λ x. left x t m) same

@@ -1,5 +1,5 @@
 -- One visit.
-use Rattle.std.proofs.Common.{◌≡◌, ℕ, eqb, ◌≤◌, Bool, cond, true, false, ◌⊎◌, inl, inr, refl, sym, ◌∙◌, ap, subst, Option, Some, None, List, [], length, unwrap_or, option_and_then}
+use Rattle.std.proofs.Common.{◌≡◌, ℕ, eqb, ◌≤◌, ◌==◌, Bool, cond, if◌then◌else◌, true, false, ◌⊎◌, inl, inr, refl, sym, ◌∙◌, ap, subst, Option, Some, None, List, [], length, unwrap_or, option_and_then}
 use Rattle.std.specs.List.{list_any}
 use Rattle.std.specs.Option.{option_map_or}
 use Rattle.std.proofs.lemmas.Bool.{cases_eq, eqb-true, eq-eqb, ne_eqb}
@@ -16,7 +16,7 @@ use Rattle.pim_queue.specs.Line.{Line}
 use Rattle.pim_queue.specs.Waiters.{is_of, without, ticket_of, repositioned}
 use Rattle.pim_queue.proofs.Order.{Found, found}
 use Rattle.pim_chain.specs.Views.{View, stored_in, stored_at, queue_at, queue_in, line_in, put_queue, front_prio, waits_for, Shows, IsQueue, Ready}
-use Rattle.pim_chain.specs.Settled.{SettledBut, moved, restored, Visited}
+use Rattle.pim_chain.specs.Settled.{SettledBut, moved, restored, next_of, Visited}
 use Rattle.pim_chain.proofs.Local.{Mends, mended_onward, mended_stop, waits_for_from, heir_at, top}
 use Rattle.pim_chain.proofs.Queues.{queue_kept, queue_left, queue_joined, top_front, waiting_known}
 use Rattle.pim_chain.proofs.Changes.{queues_put, line_same, room_kept, not_waiting, waits_once}
@@ -173,3 +173,13 @@ module _ (v : View) (x p : ℕ) (ready : Ready v) (known : IsTask v.state x) (se
           others = stored_else v x p;
           onward = λ y e. (hop ∙ e, λ same. other (sym (stored_now v x p ready known) ∙ same));
         }
+
+    -- on or not, by the front
+    pub visited_next :
+        (p ≡ stored_at v x → ⊥)
+        → Visited v (restored v x p) x (if front_prio (queue_at v w.mutex) == front_prio (queue_at (restored v x p) w.mutex) then None else heir_of v.state w.mutex)
+    visited_next other = go (front_prio (queue_at v w.mutex) == front_prio (queue_at (restored v x p) w.mutex)) refl
+      where
+        go : (b : Bool) → (front_prio (queue_at v w.mutex) == front_prio (queue_at (restored v x p) w.mutex)) ≡ b → Visited v (restored v x p) x (if b then None else heir_of v.state w.mutex)
+        go true same = visited_stop (eqb-true _ _ same)
+        go false _ = visited_on other

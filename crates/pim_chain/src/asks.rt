@@ -1,8 +1,8 @@
 // What the steps ask of the tables.
 
-ghost use Rattle.std.specs.Prelude.{◌≡◌};
+ghost use Rattle.std.specs.Prelude.{◌≡◌, ◌↔◌, IsTrue, ℕ, Some};
 ghost use Rattle.pim_base.specs.Lists.{contains, holds};
-ghost use Rattle.pim_base.specs.State.{owner_of, protocol_of};
+ghost use Rattle.pim_base.specs.State.{owner_of, wait_of, protocol_of};
 ghost use Rattle.pim_base.specs.Chains.{blocker, waits_chain, heir_of, closes_cycle};
 ghost use Rattle.pim_base.specs.Priorities.{ceiling};
 ghost use Rattle.pim_base.specs.Checks.{unknown_task, unknown_mutex, is_owned, above_ceiling};
@@ -99,6 +99,17 @@ impl Tables {
     {
         match self.owner(mutex) {
             Some(owner) => self.on_chain(owner, task),
+            None => false,
+        }
+    }
+
+    /// Whether somebody waits for the mutex with this ticket.
+    pub fn has_ticket(&self, mutex: MutexNo, ticket: u64) -> bool
+        ensures { IsTrue result ↔ ((t : ℕ) × (wait_of self.now.state t ≡ Some (record { mutex = mutex; ticket = ticket }))) }
+    {
+        let _tasks = self.task_count();
+        match self.queue(mutex) {
+            Some(queue) => queue.has_ticket(ticket),
             None => false,
         }
     }

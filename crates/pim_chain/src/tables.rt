@@ -3,11 +3,12 @@
 ghost use Rattle.std.specs.Prelude.{◌≡◌, ◌≢◌, ◌≤◌, length, IfOk, None, Some, false, ℕ};
 ghost use Rattle.std.specs.Option.{option_copied};
 ghost use Rattle.pim_base.specs.Lists.{nth, head_of};
-ghost use Rattle.pim_base.specs.State.{IsTask, IsMutex, base_of, owner_of, wait_of, with_owner, with_wait, with_base};
-ghost use Rattle.pim_base.specs.Chains.{closes_cycle};
+ghost use Rattle.pim_base.specs.State.{IsTask, IsMutex, base_of, owner_of, wait_of, with_owner, with_base};
+ghost use Rattle.pim_base.specs.Chains.{blocker, closes_cycle};
 
+ghost use Rattle.pim_base.specs.declared.steps.Wait.{Wait};
 ghost use Rattle.pim_chain.specs.Views.{Ready, fresh, with_state, queue_at, stored_at};
-ghost use Rattle.pim_chain.specs.Settled.{SettledBut, restored};
+ghost use Rattle.pim_chain.specs.Settled.{SettledBut, Unsettles, joined, left, restored};
 
 use crate::lines;
 use crate::numbered::{filled, nth, put};
@@ -159,6 +160,14 @@ impl Tables {
         self.base[task.get() as usize - 1]
     }
 
+    /// The stored priority of a known task.
+    pub fn known_stored(&self, task: TaskNo) -> Prio
+        requires { IsTask self.now.state task }
+        ensures { result ≡ stored_at self.now task }
+    {
+        self.stored[task.get() as usize - 1]
+    }
+
     /// The free mutex gets an owner, who waits for nothing.
     pub fn bind(&mut self, mutex: MutexNo, task: TaskNo)
         requires mutex { IsMutex self.old.state mutex }
@@ -166,6 +175,7 @@ impl Tables {
         requires known { IsTask self.old.state task }
         requires idle { wait_of self.old.state task ≡ None }
         ensures state { self.new ≡ with_state self.old (with_owner self.old.state mutex (Some task)) }
+        ensures unsettles { Unsettles self.old self.new (Some task) }
         ensures ready { Ready self.new }
     {
         put(&mut self.owner, mutex.get(), Some(task));
@@ -175,6 +185,7 @@ impl Tables {
     pub fn unbind(&mut self, mutex: MutexNo)
         requires owned { owner_of self.old.state mutex ≢ None }
         ensures state { self.new ≡ with_state self.old (with_owner self.old.state mutex None) }
+        ensures unsettles { Unsettles self.old self.new (owner_of self.old.state mutex) }
         ensures ready { Ready self.new }
     {
         put(&mut self.owner, mutex.get(), None);
@@ -184,6 +195,7 @@ impl Tables {
     pub fn put_base(&mut self, task: TaskNo, prio: Prio)
         requires { IsTask self.old.state task }
         ensures state { self.new ≡ with_state self.old (with_base self.old.state task prio) }
+        ensures unsettles { Unsettles self.old self.new (Some task) }
         ensures ready { Ready self.new }
     {
         put(&mut self.base, task.get(), prio);
@@ -196,8 +208,8 @@ impl Tables {
         requires idle { wait_of self.old.state task ≡ None }
         requires closes_none { closes_cycle self.old.state task mutex ≡ false }
         requires fresh { (u : ℕ) → wait_of self.old.state u ≢ Some (record { mutex = mutex; ticket = ticket }) }
-        ensures state { self.new.state ≡ with_wait self.old.state task (Some (record { mutex = mutex; ticket = ticket })) }
-        ensures stored { self.new.stored ≡ self.old.stored }
+        ensures joined { self.new ≡ joined self.old task (record { mutex = mutex; ticket = ticket }) }
+        ensures unsettles { Unsettles self.old self.new (owner_of self.old.state mutex) }
         ensures ready { Ready self.new }
     {
         let prio = self.stored[task.get() as usize - 1];
@@ -207,9 +219,9 @@ impl Tables {
 
     /// The task, which waits, waits no more.
     pub fn leave(&mut self, task: TaskNo)
-        requires waits { wait_of self.old.state task ≢ None }
-        ensures state { self.new.state ≡ with_wait self.old.state task None }
-        ensures stored { self.new.stored ≡ self.old.stored }
+        requires { wait_of self.old.state task ≢ None }
+        ensures left { (w : Wait) → wait_of self.old.state task ≡ Some w → self.new ≡ left self.old task w.mutex }
+        ensures unsettles { Unsettles self.old self.new (blocker self.old.state task) }
         ensures ready { Ready self.new }
     {
         if let Some(wait) = self.waits_for(task) {
