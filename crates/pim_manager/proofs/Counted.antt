@@ -10,15 +10,15 @@ use Rattle.pim_base.specs.Steps.{hand_over_to}
 use Rattle.pim_base.specs.declared.steps.Waiter.{Waiter}
 use Rattle.pim_base.proofs.NoCycle.{idle_now, unwrap_or-put_same}
 use Rattle.pim_base.specs.Lists.{head_of}
-use Rattle.pim_manager.proofs.Unsettled.{freed_owner, first_waits}
+use Rattle.pim_manager.proofs.Passing.{freed_owner, first_waits}
 use Rattle.std.proofs.Common.{zero, suc, cond, Bool, true, eq-or-lt_of_le}
 use Rattle.pim_base.specs.Counts.{count, differing, changed_tasks, handed_mutexes, same_owner}
 use Rattle.pim_base.specs.declared.steps.Wait.{Wait}
-use Rattle.pim_chain.specs.Views.{View, stored_at, queue_at}
+use Rattle.pim_chain.specs.Views.{View, stored_at, stored_in, queue_at}
 use Rattle.pim_chain.specs.Settled.{changed}
 use Rattle.pim_chain.proofs.Walking.{differing_same, count_none, settled_effective}
 use Rattle.pim_chain.proofs.Changes.{wait_other, wait_now}
-use Rattle.pim_manager.specs.Calm.{Calm, Kept}
+use Rattle.pim_chain.specs.Settled.{Calm}
 
 pub counted : (v w : View) (n k : ℕ) → Calm v → Calm w → length w.state.base ≡ length v.state.base → changed v w ≡ changed_tasks (record v.state { next = n }) (record w.state { next = k })
 counted v w n k calm after same =
@@ -109,3 +109,9 @@ unchanged_least S n = omega (arith, unchanged S)
 -- changes of stored priorities, where the state shown is this one
 pub counted_as : (v w : View) (n k : ℕ) (S : State) → Calm v → Calm w → length w.state.base ≡ length v.state.base → record v.state { next = n } ≡ S → changed v w ≡ changed_tasks S (record w.state { next = k })
 counted_as v w n k S calm after same is = counted v w n k calm after same ∙ ap (λ (T : State). changed_tasks T (record w.state { next = k })) is
+
+-- the same stored priorities are no change
+pub unchanged_stored : (v w : View) → w.stored ≡ v.stored → changed v w ≡ 0
+unchanged_stored v w same =
+    ap (λ ss. differing (length v.state.base) (stored_at v) (stored_in ss)) same
+    ∙ count_none (length v.state.base) (λ t. not (eqb (stored_at v t) (stored_at v t))) (λ t. ap not (eq-eqb (stored_at v t) (stored_at v t) refl))

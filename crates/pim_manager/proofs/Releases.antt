@@ -1,5 +1,5 @@
 -- Mutexes handed over one after another.
-use Rattle.std.proofs.Common.{eqb, ◌≡◌, ◌≢◌, ◌<◌, ◌≤◌, ℕ, zero, suc, ◌+◌, ◌-◌, ◌*◌, Bool, true, false, cond, not, [], ◌∷◌, ◌++◌, filter, length, length-append, Option, Some, None, refl, sym, ◌∙◌, ap, subst, arith, fold, unwrap_or, ◌⊎◌, inl, inr}
+use Rattle.std.proofs.Common.{List, eqb, ◌≡◌, ◌≢◌, ◌<◌, ◌≤◌, ℕ, zero, suc, ◌+◌, ◌-◌, ◌*◌, Bool, true, false, cond, not, [], ◌∷◌, ◌++◌, filter, length, length-append, Option, Some, None, refl, sym, ◌∙◌, ap, subst, arith, fold, unwrap_or, ◌⊎◌, inl, inr}
 use Rattle.std.proofs.lemmas.Bool.{both_ways, cases_eq, cases_lt, eq-eqb, ne_eqb}
 use Rattle.std.proofs.lemmas.List.Elements.{filter-append}
 use Rattle.std.proofs.lemmas.Option.{none-some}
@@ -17,7 +17,10 @@ use Rattle.pim_base.proofs.Stored.{from_holds, holds_from}
 use Rattle.pim_chain.specs.Owned.{IsFirstAbove}
 use Rattle.pim_chain.proofs.Changes.{wait_other}
 use Rattle.pim_chain.proofs.Walking.{differing_over}
-use Rattle.pim_manager.proofs.Firsts.{fold-append_one}
+
+fold-append_one : {A B : Type 0} (f : B → A → B) (a : B) (xs : List A) (x : A) → fold f a (xs ++ x ∷ []) ≡ f (fold f a xs) x
+fold-append_one f a [] x = refl
+fold-append_one f a (y ∷ ys) x = fold-append_one f (f a y) ys x
 
 -- ---- the numbers that pass a test
 filter-pass : (p : ℕ → Bool) (n m : ℕ) → m + 1 ≡ n → p n ≡ true → filter p (numbers n) ≡ filter p (numbers m) ++ n ∷ []

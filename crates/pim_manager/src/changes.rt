@@ -7,7 +7,7 @@ ghost use Rattle.pim_base.specs.Chains.{closes_cycle};
 ghost use Rattle.pim_base.specs.Steps.{hand_over_to};
 ghost use Rattle.pim_chain.specs.Views.{queue_at};
 ghost use Rattle.pim_chain.specs.Settled.{changed};
-ghost use Rattle.pim_manager.specs.Calm.{Calm};
+ghost use Rattle.pim_chain.specs.Settled.{Calm};
 
 use pim_base::{MutexNo, Prio, TaskNo, Waiter};
 use pim_chain::{Tables, Visits};

@@ -24,7 +24,7 @@ pub struct Manager {
 
 impl Model for Manager {
     ghost use Rattle.pim_base.specs.State.{State};
-    ghost use Rattle.pim_manager.specs.Calm.{Kept};
+    ghost use Rattle.pim_manager.specs.Kept.{Kept};
 
     ghost Value = { State };
 

@@ -5,7 +5,7 @@ use Rattle.pim_base.specs.State.{with_wait, queued}
 use Rattle.pim_base.specs.Counts.{changed_tasks}
 use Rattle.pim_base.specs.declared.steps.Wait.{Wait}
 use Rattle.pim_chain.specs.Settled.{changed}
-use Rattle.pim_manager.specs.Calm.{Kept}
+use Rattle.pim_manager.specs.Kept.{Kept}
 use Rattle.pim_manager.proofs.Counted.{counted, given_more, fresh_ticket}
 use Rattle.pim_manager.proofs.manager.Manager.enqueue.Goals as goal
 

@@ -3,7 +3,7 @@ use Rattle.pim_base.specs.State.{State, IsTask, wait_of, owner_of}
 use Rattle.pim_base.specs.State.{with_owner}
 use Rattle.pim_base.specs.Counts.{changed_tasks}
 use Rattle.pim_base.specs.declared.steps.Wait.{Wait}
-use Rattle.pim_manager.specs.Calm.{Kept}
+use Rattle.pim_manager.specs.Kept.{Kept}
 use Rattle.pim_manager.proofs.Counted.{counted}
 use Rattle.pim_manager.proofs.manager.Manager.grant.Goals as goal
 

@@ -7,7 +7,7 @@ use Rattle.pim_base.specs.Counts.{changed_tasks, handed_mutexes}
 use Rattle.pim_base.specs.declared.steps.Wait.{Wait}
 use Rattle.pim_base.specs.declared.steps.Waiter.{Waiter}
 use Rattle.pim_manager.proofs.Counted.{counted, given_handed, bases_handed, next_handed, handed_once}
-use Rattle.pim_manager.proofs.Models.{queue_is}
+use Rattle.pim_chain.proofs.Models.{queue_is}
 use Rattle.pim_manager.proofs.manager.Manager.hand_over.Goals as goal
 
 pub hand_over-requires-clause-calm : goal.hand_over-requires-clause-calm
