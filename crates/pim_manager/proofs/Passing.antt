@@ -60,8 +60,11 @@ first_waits v m w ready known e = go (queue_at v m) (ready.queues m known) e
 pub record Passing (v u x : View) (m : ℕ) (w : Waiter) : Type 0 where
   pub state : x.state ≡ with_wait (with_owner v.state m None) w.task None
   pub stored : x.stored ≡ u.stored
-  pub known : IsTask v.state w.task
-  pub settled : SettledBut x.state (stored_at x) None
+  pub calm : Calm x
+  pub mutex : IsMutex x.state m
+  pub known : IsTask x.state w.task
+  pub idle : wait_of x.state w.task ≡ None
+  pub free : owner_of x.state m ≡ None
 
 pub passing :
     (v u x : View) (m : ℕ) (w : Waiter)
@@ -70,12 +73,16 @@ pub passing :
     → SettledBut u.state (stored_at u) None
     → ((y : Wait) → wait_of u.state w.task ≡ Some y → x ≡ left u w.task y.mutex)
     → Unsettles u x (blocker u.state w.task)
+    → Ready x
     → Passing v u x m w
-passing v u x m w calm known first freed settled leaves unsettles = record {
-  state = gone.state ∙ ap (λ S. with_wait S w.task None) freed;
+passing v u x m w calm known first freed settled leaves unsettles ready = record {
+  state = is;
   stored = gone.stored;
-  known = waiting_known v.state calm.ready.sound.lists w.task (record { mutex = m; ticket = w.ticket }) waits;
-  settled = subst (SettledBut x.state (stored_at x)) blocked (unsettles settled);
+  calm = record { ready = ready; settled = subst (SettledBut x.state (stored_at x)) blocked (unsettles settled) };
+  mutex = subst (λ (S : State). IsMutex S m) (sym is) known;
+  known = subst (λ (S : State). IsTask S w.task) (sym is) (waiting_known v.state calm.ready.sound.lists w.task (record { mutex = m; ticket = w.ticket }) waits);
+  idle = ap (λ S. wait_of S w.task) is ∙ idle_now (with_owner v.state m None) w.task;
+  free = ap (λ S. owner_of S m) is ∙ freed_owner v.state m;
 }
   where
     waits : wait_of v.state w.task ≡ Some (record { mutex = m; ticket = w.ticket })
@@ -90,11 +97,8 @@ passing v u x m w calm known first freed settled leaves unsettles = record {
     blocked : blocker u.state w.task ≡ None
     blocked = ap (option_and_then (λ (y : Wait). owner_of u.state y.mutex)) still ∙ ap (λ S. owner_of S m) freed ∙ freed_owner v.state m
 
-pub passed_known : (v u x : View) (m : ℕ) (w : Waiter) → Passing v u x m w → IsTask x.state w.task
-passed_known v u x m w p = subst (λ (S : State). IsTask S w.task) (sym p.state) p.known
-
-pub passed_idle : (v u x : View) (m : ℕ) (w : Waiter) → Passing v u x m w → wait_of x.state w.task ≡ None
-passed_idle v u x m w p = ap (λ S. wait_of S w.task) p.state ∙ idle_now (with_owner v.state m None) w.task
+    is : x.state ≡ with_wait (with_owner v.state m None) w.task None
+    is = gone.state ∙ ap (λ S. with_wait S w.task None) freed
 
 -- the state that it makes
 pub passed_state : (v u x : View) (m : ℕ) (w : Waiter) → Passing v u x m w → with_owner x.state m (Some w.task) ≡ hand_over_to v.state m (Some w)
@@ -104,15 +108,14 @@ passed_state v u x m w p =
 
 -- two walks change no more than each of them
 pub passed_changes :
-    (v u y z : View) (a b c : ℕ)
-    → y.state.base ≡ v.state.base
-    → y.stored ≡ u.stored
+    (v u x z : View) (m : ℕ) (w : Waiter) (a b c : ℕ)
+    → Passing v u x m w
     → a + changed v u ≤ b
-    → b + changed y z ≤ c
+    → b + changed x z ≤ c
     → a + changed v z ≤ c
-passed_changes v u y z a b c bases same one two =
+passed_changes v u x z m w a b c p one two =
     let n : ℕ = length v.state.base in
     let over : differing n (stored_at v) (stored_at z) ≤ differing n (stored_at v) (stored_at u) + differing n (stored_at u) (stored_at z) = differing_over n (stored_at v) (stored_at u) (stored_at z) in
-    let second : changed y z ≡ differing n (stored_at u) (stored_at z) =
-    ap (λ bs. differing (length bs) (stored_at y) (stored_at z)) bases ∙ ap (λ ss. differing n (stored_in ss) (stored_at z)) same in
+    let second : changed x z ≡ differing n (stored_at u) (stored_at z) =
+    ap (λ (S : State). differing (length S.base) (stored_at x) (stored_at z)) p.state ∙ ap (λ ss. differing n (stored_in ss) (stored_at z)) p.stored in
     omega (arith, over, second, one, two)

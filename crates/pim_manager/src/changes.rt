@@ -101,8 +101,7 @@ pub fn hand_over(tables: &mut Tables, mutex: MutexNo, owner: TaskNo, visits: &mu
     if let Some(waiter) = &first {
         let task = waiter.task;
         tables.leave(task);
-        tables.bind(mutex, task);
-        tables.settle_from(task, visits);
+        grant(tables, mutex, task, visits);
     }
     first
 }
