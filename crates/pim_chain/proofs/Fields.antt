@@ -167,8 +167,8 @@ pub ticket_told :
     × (((t : ℕ) × (wait_of v.state t ≡ Some (record { mutex = m; ticket = k }))) → list_any (has_ticket k) q.waiters ≡ true)
 ticket_told v m k q ready at = (
   (λ h.
-  let it : Found (has_ticket k) (Shows (wait_of v.state) (stored_at v) m) q.waiters = found (has_ticket k) (Shows (wait_of v.state) (stored_at v) m) q.waiters h here.sound in
-  (it.one.task, it.holds.waits ∙ ap (λ n. Some (record { mutex = m; ticket = n })) (eqb-true it.one.ticket k it.passes))),
+      let it : Found (has_ticket k) (Shows (wait_of v.state) (stored_at v) m) q.waiters = found (has_ticket k) (Shows (wait_of v.state) (stored_at v) m) q.waiters h here.sound in
+      (it.one.task, it.holds.waits ∙ ap (λ n. Some (record { mutex = m; ticket = n })) (eqb-true it.one.ticket k it.passes))),
   (λ h. ticket_there (wait_of v.state) (stored_at v) m k h.0 q.waiters h.1 here.sound (here.complete h.0 (waits_for_from (wait_of v.state) h.0 _ h.1))),
 )
   where
@@ -197,7 +197,7 @@ pub is_joined :
 is_joined v u t prio w waits lines same is_prio is_waits is_lines =
     ap (λ ws. record { state = record v.state { wait = ws }; stored = v.stored; queues = lines }) is_waits
     ∙ ap (λ ls. record { state = record v.state { wait = put v.state.wait t (Some w) }; stored = v.stored; queues = ls })
-      (is_lines ∙ ap (λ p. put_queue v.queues w.mutex (insert_by precedes (queue_at v w.mutex) (record { task = t; prio = p; ticket = w.ticket }))) is_prio)
+    (is_lines ∙ ap (λ p. put_queue v.queues w.mutex (insert_by precedes (queue_at v w.mutex) (record { task = t; prio = p; ticket = w.ticket }))) is_prio)
     ∙ ap (λ x. joined x t w) same
 
 pub is_left :

@@ -47,7 +47,7 @@ abbrev pub AsFar : View → ℕ → ℕ → ℕ → Type 0
 AsFar v t n prio =
     prio
     ≡ max (max (base_of v.state t) (greatest_of (ceiling_of v.state) (λ m. holds (owner_of v.state m) t) n))
-      (greatest_of (λ m. front_prio (queue_at v m)) (λ m. holds (heir_of v.state m) t) n)
+    (greatest_of (λ m. front_prio (queue_at v m)) (λ m. holds (heir_of v.state m) t) n)
 
 not_heir : (S : State) (m t : ℕ) → holds (owner_of S m) t ≡ false → holds (heir_of S m) t ≡ false
 not_heir S m t away = go (holds (heir_of S m) t) refl
@@ -73,9 +73,9 @@ as_far_skip : (v : View) (t n m prio : ℕ) → n ≤ m → ((k : ℕ) → n < k
 as_far_skip v t n m prio le none so_far = subst (λ k. AsFar v t k prio) is
     (so_far
     ∙ ap (λ x. max (max (base_of v.state t) x) (greatest_of (λ m. front_prio (queue_at v m)) (λ m. holds (heir_of v.state m) t) n))
-      (sym (greatest_of-skip (ceiling_of v.state) (λ m. holds (owner_of v.state m) t) n (m - n) (λ k low high. none k low (omega (arith, high, le)))))
+    (sym (greatest_of-skip (ceiling_of v.state) (λ m. holds (owner_of v.state m) t) n (m - n) (λ k low high. none k low (omega (arith, high, le)))))
     ∙ ap (max (max (base_of v.state t) (greatest_of (ceiling_of v.state) (λ m. holds (owner_of v.state m) t) (n + (m - n)))))
-      (sym (greatest_of-skip (λ m. front_prio (queue_at v m)) (λ m. holds (heir_of v.state m) t) n (m - n) (λ k low high. not_heir v.state k t (none k low (omega (arith, high, le)))))))
+    (sym (greatest_of-skip (λ m. front_prio (queue_at v m)) (λ m. holds (heir_of v.state m) t) n (m - n) (λ k low high. not_heir v.state k t (none k low (omega (arith, high, le)))))))
   where
     is : n + (m - n) ≡ m
     is = omega (arith, le)

@@ -5,7 +5,7 @@ ghost use Rattle.pim_base.specs.Lists.{contains, holds};
 ghost use Rattle.pim_base.specs.State.{owner_of, wait_of, protocol_of};
 ghost use Rattle.pim_base.specs.Chains.{blocker, waits_chain, heir_of, closes_cycle};
 ghost use Rattle.pim_base.specs.Priorities.{ceiling};
-ghost use Rattle.pim_base.specs.Checks.{unknown_task, unknown_mutex, is_owned, above_ceiling};
+ghost use Rattle.pim_base.specs.Checks.{unknown_task, unknown_mutex, is_waiting, is_owned, above_ceiling};
 ghost use Rattle.pim_chain.specs.Owned.{IsNext};
 
 use crate::tables::Tables;
@@ -17,6 +17,13 @@ impl Tables {
         ensures { result ≡ unknown_task self.now.state task }
     {
         task.get() == 0 || self.task_count() < task.get()
+    }
+
+    /// Whether the task waits for a mutex.
+    pub fn is_waiting(&self, task: TaskNo) -> bool
+        ensures { result ≡ is_waiting self.now.state task }
+    {
+        self.waits_for(task).is_some()
     }
 
     /// Whether no mutex has this number.

@@ -5,7 +5,6 @@ ghost use Rattle.std.specs.Option.{option_copied};
 ghost use Rattle.pim_base.specs.Lists.{nth, head_of};
 ghost use Rattle.pim_base.specs.State.{IsTask, IsMutex, base_of, owner_of, wait_of, with_owner, with_base};
 ghost use Rattle.pim_base.specs.Chains.{blocker, closes_cycle};
-
 ghost use Rattle.pim_base.specs.declared.steps.Wait.{Wait};
 ghost use Rattle.pim_chain.specs.Views.{Ready, fresh, with_state, queue_at, stored_at};
 ghost use Rattle.pim_chain.specs.Settled.{SettledBut, Unsettles, joined, left, restored};

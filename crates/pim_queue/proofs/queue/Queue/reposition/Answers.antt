@@ -13,12 +13,11 @@ put_in-requires-clause-ordered c =
 
 pub invariant_of-self : goal.invariant_of-self
 invariant_of-self c =
-    let reserved : c.self.inside.room ≤ vec_capacity c.self.inside.waiters = c.self.invariant.1 in
-    (
+    let reserved : c.self.inside.room ≤ vec_capacity c.self.inside.waiters = c.self.invariant.1 in (
       subst (IsLine c.self.inside.room)
-      (sym (is_repositioned c.args.task c.args.prio c.take_out-ticket.result c.self.inside.waiters.items c.take_out-ticket.new.waiters.items c.put_in.new.waiters.items
-      c.take_out-ticket.ensures.waiter c.take_out-ticket.ensures.waiters c.put_in.ensures.waiters))
-      (line_repositioned c.self.inside.room c.args.task c.args.prio c.self.inside.waiters.items c.self.invariant.0
-      (subst (λ (q : Line). list_any (is_of c.args.task) q.waiters ≡ true) (sym c.self.view_is) c.requires)),
+          (sym (is_repositioned c.args.task c.args.prio c.take_out-ticket.result c.self.inside.waiters.items c.take_out-ticket.new.waiters.items c.put_in.new.waiters.items
+          c.take_out-ticket.ensures.waiter c.take_out-ticket.ensures.waiters c.put_in.ensures.waiters))
+          (line_repositioned c.self.inside.room c.args.task c.args.prio c.self.inside.waiters.items c.self.invariant.0
+          (subst (λ (q : Line). list_any (is_of c.args.task) q.waiters ≡ true) (sym c.self.view_is) c.requires)),
       omega (arith, reserved, c.take_out-ticket.ensures.capacity, c.put_in.ensures.capacity),
     )
