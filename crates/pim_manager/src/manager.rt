@@ -1,18 +1,26 @@
 // The manager of mutexes: its tables, and the next ticket.
 
-ghost use Rattle.std.specs.Prelude.{◌≡◌, ◌≢◌, ◌≤◌, ◌<◌, ◌+◌, ◌-◌, ◌^◌, Some, None, false, IfSome};
+ghost use Rattle.std.specs.Prelude.{◌≡◌, ◌≢◌, ◌≤◌, ◌<◌, ◌+◌, ◌-◌, ◌^◌, ◌↔◌, length, Some, None, false, IfSome, IfOk, IsErrOf};
+ghost use Rattle.std.specs.Option.{option_map, option_copied};
 ghost use Rattle.pim_base.specs.Lists.{holds};
-ghost use Rattle.pim_base.specs.State.{IsTask, IsMutex, owner_of, wait_of, with_owner, with_wait, with_base, queued};
-ghost use Rattle.pim_base.specs.Chains.{closes_cycle};
-ghost use Rattle.pim_base.specs.Queues.{first_of};
+ghost use Rattle.pim_base.specs.State.{start, IsTask, IsMutex, base_of, protocol_of, owner_of, wait_of, with_owner, with_wait, with_base, queued};
+ghost use Rattle.pim_base.specs.Chains.{HasCycle, closes_cycle};
+ghost use Rattle.pim_base.specs.Queues.{first_of, queue_of};
+ghost use Rattle.pim_base.specs.Priorities.{effective_priority};
+ghost use Rattle.pim_base.specs.Reasons.{reason_of};
+ghost use Rattle.pim_base.specs.Laws.{IsSound};
+ghost use Rattle.pim_base.specs.declared.steps.Wait.{Wait};
+ghost use Rattle.pim_manager.specs.Known.{of_task, of_mutex};
 ghost use Rattle.pim_base.specs.Counts.{changed_tasks, handed_mutexes};
 ghost use Rattle.pim_base.specs.Checks.{unknown_task, unknown_mutex, is_owned, is_waiting, above_ceiling};
 ghost use Rattle.pim_base.specs.Steps.{hand_over};
 ghost use Rattle.pim_chain.specs.Owned.{IsNext};
 
 use crate::changes;
-use pim_base::{MutexNo, Prio, TaskNo, Waiter};
+use crate::make_fault::MakeFault;
+use pim_base::{MutexNo, Prio, Protocol, Reason, TaskNo, Waiter};
 use pim_chain::{Tables, Visits};
+use std::alloc::{AllocError, Global};
 use std::marker::Model;
 
 /// The manager of mutexes.
@@ -34,11 +42,138 @@ impl Model for Manager {
 }
 
 impl Manager {
+    /// A manager of tasks with these base priorities and of mutexes with these protocols. All mutexes are free, nobody
+    /// waits, and the next ticket is 1.
+    pub fn new(alloc: Global, bases: &[Prio], protocols: &[Protocol]) -> Result<Manager, MakeFault>
+        ensures made { IfOk result (λ manager. manager ≡ start bases.now protocols.now 1) }
+        ensures tasks { IsErrOf result MakeFault.TooManyTasks ↔ (256 < length bases.now) }
+        ensures mutexes { IsErrOf result MakeFault.TooManyMutexes ↔ ((length bases.now ≤ 256) × (256 < length protocols.now)) }
+    {
+        Manager::with_next_ticket(alloc, bases, protocols, 1)
+    }
+
+    /// The same with another next ticket, which is at least 1. At u64::MAX no ticket is left.
+    pub fn with_next_ticket(
+        alloc: Global,
+        bases: &[Prio],
+        protocols: &[Protocol],
+        next: u64,
+    ) -> Result<Manager, MakeFault>
+        requires { 1 ≤ next }
+        ensures made { IfOk result (λ manager. manager ≡ start bases.now protocols.now next) }
+        ensures tasks { IsErrOf result MakeFault.TooManyTasks ↔ (256 < length bases.now) }
+        ensures mutexes { IsErrOf result MakeFault.TooManyMutexes ↔ ((length bases.now ≤ 256) × (256 < length protocols.now)) }
+    {
+        if 256 < bases.len() {
+            return Err(MakeFault::TooManyTasks);
+        }
+        if 256 < protocols.len() {
+            return Err(MakeFault::TooManyMutexes);
+        }
+        let tables = Tables::new(alloc, bases, protocols)?;
+        let _tasks = tables.task_count();
+        Ok(Manager { tables, next })
+    }
+
+    /// An equal manager. The only error is that memory was refused.
+    pub fn try_clone(&self, alloc: Global) -> Result<Manager, AllocError>
+        ensures { IfOk result (λ manager. manager ≡ self.now) }
+    {
+        let tables = self.tables.try_clone(alloc)?;
+        Ok(Manager {
+            tables,
+            next: self.next,
+        })
+    }
+
+    /// How many tasks there are, 0 to 256. They have the numbers from 1 on.
+    pub fn tasks(&self) -> u16
+        ensures count { result ≡ length self.now.base }
+        ensures few { result ≤ 256 }
+        ensures sound { IsSound self.now }
+    {
+        self.tables.task_count()
+    }
+
+    /// How many mutexes there are, 0 to 256. They have the numbers from 1 on.
+    pub fn mutexes(&self) -> u16
+        ensures count { result ≡ length self.now.protocol }
+        ensures few { result ≤ 256 }
+    {
+        self.tables.mutex_count()
+    }
+
     /// The ticket that the next waiter gets.
     pub fn next_ticket(&self) -> u64
         ensures { result ≡ self.now.next }
     {
         self.next
+    }
+
+    /// The priority at which the task would execute, None for an unknown one.
+    pub fn effective(&self, task: TaskNo) -> Option<Prio>
+        ensures { result ≡ of_task self.now task (effective_priority self.now task) }
+    {
+        self.tables.stored(task)
+    }
+
+    /// The base priority of the task, None for an unknown one.
+    pub fn base(&self, task: TaskNo) -> Option<Prio>
+        ensures { result ≡ of_task self.now task (base_of self.now task) }
+    {
+        self.tables.base(task)
+    }
+
+    /// Why the task has its effective priority, None for an unknown one.
+    pub fn reason(&self, task: TaskNo) -> Option<Reason>
+        ensures { result ≡ of_task self.now task (reason_of self.now task) }
+    {
+        if self.tables.is_unknown_task(task) {
+            None
+        } else {
+            Some(self.tables.reason(task))
+        }
+    }
+
+    /// The mutex that the task waits for, or that it waits for none; None for an unknown one.
+    pub fn waits_for(&self, task: TaskNo) -> Option<Option<MutexNo>>
+        ensures waits { result ≡ of_task self.now task (option_map (λ (w : Wait). w.mutex) (wait_of self.now task)) }
+        ensures no_cycle { ¬ HasCycle self.now }
+    {
+        if self.tables.is_unknown_task(task) {
+            None
+        } else {
+            Some(self.tables.waits_for(task).map(|wait| wait.mutex))
+        }
+    }
+
+    /// The owner of the mutex, or that it is free; None for an unknown one.
+    pub fn owner(&self, mutex: MutexNo) -> Option<Option<TaskNo>>
+        ensures { result ≡ of_mutex self.now mutex (owner_of self.now mutex) }
+    {
+        if self.tables.is_unknown_mutex(mutex) {
+            None
+        } else {
+            Some(self.tables.owner(mutex))
+        }
+    }
+
+    /// The protocol of the mutex, None for an unknown one.
+    pub fn protocol(&self, mutex: MutexNo) -> Option<Protocol>
+        ensures { result ≡ of_mutex self.now mutex (protocol_of self.now mutex) }
+    {
+        self.tables.protocol(mutex)
+    }
+
+    /// Those who wait for the mutex, each with its effective priority and its ticket, the first in front: the higher
+    /// priority first, then the smaller ticket. None for an unknown mutex.
+    pub fn waiters(&self, mutex: MutexNo) -> Option<&[Waiter]>
+        ensures { option_copied result ≡ of_mutex self.now mutex (queue_of self.now mutex) }
+    {
+        match self.tables.queue(mutex) {
+            Some(queue) => Some(queue.as_slice()),
+            None => None,
+        }
     }
 
     // whether no task has this number
