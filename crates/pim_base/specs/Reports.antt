@@ -92,13 +92,18 @@ abbrev pub rejection_lines : ℕ → Reply → Option Reply → List ℕ
 rejection_lines k reply None = []
 rejection_lines k reply (Some recorded) = differing_line k reply recorded ++ rejected k
 
+-- what is shown of a step
+abbrev pub step_lines : ℕ → State → StepLine → List ℕ
+step_lines k S line =
+    if agrees line.recorded (reply_of S line.step) then answer_lines k S line
+    else rejection_lines k (reply_of S line.step) line.recorded
+
 -- the report of the step lines from number k on, from this state: it ends at the first reply that differs
 abbrev pub report_from : ℕ → State → List StepLine → List ℕ
 report_from k S [] = accepted (k - 1)
 report_from k S (line ∷ ls) =
-    if agrees line.recorded (reply_of S line.step)
-    then answer_lines k S line ++ report_from (k + 1) (after S line.step) ls
-    else rejection_lines k (reply_of S line.step) line.recorded
+    step_lines k S line
+    ++ (if agrees line.recorded (reply_of S line.step) then report_from (k + 1) (after S line.step) ls else [])
 
 -- what that report says in the end
 abbrev pub verdict_from : ℕ → State → List StepLine → Verdict

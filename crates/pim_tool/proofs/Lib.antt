@@ -11,3 +11,4 @@ pub mod EndsLemmas
 pub mod DecimalLemmas
 pub mod PrintingLemmas
 pub mod ReportLemmas
+pub mod ShownLemmas

@@ -11,9 +11,11 @@ but_more : (a b c : Option (List ℕ)) (whole page bytes rest left : List ℕ) �
     AppendsBut a b whole (page ++ (bytes ++ rest)) → AppendsBut b c (page ++ bytes) left → AppendsBut a c whole (left ++ rest)
 but_more None b c whole page bytes rest left first second = tt
 but_more (Some had) b c whole page bytes rest left (f, is, e) second =
-    let g = subst (λ (o : Option (List ℕ)). AppendsBut o c (page ++ bytes) left) e second in
-    (f ++ g.0, is ∙ ap (λ t. f ++ t) (sym (append_assoc page bytes rest) ∙ ap (λ t. t ++ rest) g.1 ∙ append_assoc g.0 left rest) ∙ sym (append_assoc f g.0 (left ++ rest)),
-      g.2 ∙ ap Some (append_assoc had f g.0))
+    let g = subst (λ (o : Option (List ℕ)). AppendsBut o c (page ++ bytes) left) e second in (
+      f ++ g.0,
+      is ∙ ap (λ t. f ++ t) (sym (append_assoc page bytes rest) ∙ ap (λ t. t ++ rest) g.1 ∙ append_assoc g.0 left rest) ∙ sym (append_assoc f g.0 (left ++ rest)),
+      g.2 ∙ ap Some (append_assoc had f g.0),
+    )
 
 pub puts_more : {a b c : Told} {whole left : List ℕ} (page bytes rest : List ℕ) →
     Puts a b whole (page ++ (bytes ++ rest)) → Puts b c (page ++ bytes) left → Puts a c whole (left ++ rest)
@@ -28,8 +30,9 @@ pub stops_more : {a b c : Told} {whole : List ℕ} {fault : Fault} (page bytes r
 stops_more {a} {b} {c} {whole} {fault} page bytes rest first second = record {
   contents = (second.contents.0 ++ rest, but_more a.contents b.contents c.contents whole page bytes rest second.contents.0 first.contents second.contents.1);
   write = λ is. elim (second.write is) as (λ _. Fails a c) [
-    inl h ↦ inl (subst (λ n. Happened n c.failures) first.failures h)
-  | inr h ↦ inr (subst (λ n. Happened n c.stalls) first.stalls h) ];
+    | inl h ↦ inl (subst (λ n. Happened n c.failures) first.failures h)
+    | inr h ↦ inr (subst (λ n. Happened n c.stalls) first.stalls h)
+  ];
   others = second.others;
 }
 
@@ -45,7 +48,7 @@ puts_none a bytes rest e = subst (λ (b : List ℕ). Puts a a bytes b) e (record
 pub puts_line : {a b : Told} {next : List ℕ} (page left line : List ℕ) → Puts a b page left → next ≡ left ++ line → Puts a b (page ++ line) next
 puts_line {a} {b} {next} page left line first e =
     subst (λ (t : List ℕ). Puts a b (page ++ line) t) (sym e)
-      (puts_more page [] line (puts_none a (page ++ line) (page ++ ([] ++ line)) refl) (subst (λ (t : List ℕ). Puts a b t left) (sym (append-nil page)) first))
+    (puts_more page [] line (puts_none a (page ++ line) (page ++ ([] ++ line)) refl) (subst (λ (t : List ℕ). Puts a b t left) (sym (append-nil page)) first))
 
 -- it stopped before the line
 pub stops_line : {a b : Told} {fault : Fault} (page line : List ℕ) → Stops a b page fault → Stops a b (page ++ line) fault
@@ -114,3 +117,39 @@ pub stops_page : {a b c : Told} {whole page : List ℕ} {fault : Fault} → Puts
 stops_page {a} {b} {c} {whole} {page} {fault} first h =
     stops_last page [] (subst (λ (t : List ℕ). Puts a b whole t) (sym (append-nil page)) first) (subst (λ (t : List ℕ). Stops b c t fault) (sym (append-nil page)) h)
 
+-- first a line, and then more bytes, whether it went well or not
+pub prints_then : {T : Type 0} {a b : Told} (c : Told) (page line bytes next left : List ℕ) (r : Result T Fault) →
+    Puts a b (page ++ line) next → Prints b c (next ++ bytes) left r → Prints a c (page ++ (line ++ bytes)) left r
+prints_then {T} {a} {b} c page line bytes next left r first h =
+    prints_last a b c _ left next bytes r (subst (λ (t : List ℕ). Puts a b t (next ++ bytes)) (append_assoc page line bytes) (puts_line (page ++ line) next bytes first refl)) h
+
+pub prints_as : {T : Type 0} (a b : Told) (left page bytes more : List ℕ) (r : Result T Fault) → bytes ≡ more → Prints a b (page ++ bytes) left r → Prints a b (page ++ more) left r
+prints_as a b left page bytes more (Ok x) e h = subst (λ (t : List ℕ). Puts a b (page ++ t) left) e h
+prints_as a b left page bytes more (Err x) e h = subst (λ (t : List ℕ). Stops a b (page ++ t) x) e h
+
+-- the lines of the report up to the one that was rejected
+pub puts_rejected : {a b c : Told} {whole left : List ℕ} (page bytes all : List ℕ) → all ≡ bytes ++ [] →
+    Puts a b whole (page ++ all) → Puts b c (page ++ bytes) left → Puts a c whole left
+puts_rejected {a} {b} {c} {whole} {left} page bytes all e first second = subst (λ (t : List ℕ). Puts a c whole t) (append-nil left) (puts_next page bytes [] all e first second)
+
+pub puts_page : {a b c : Told} {whole page left : List ℕ} → Puts a b whole page → Puts b c page left → Puts a c whole left
+puts_page {a} {b} {c} {whole} {page} {left} first h =
+    puts_last page [] (subst (λ (t : List ℕ). Puts a b whole t) (sym (append-nil page)) first) (subst (λ (t : List ℕ). Puts b c t left) (sym (append-nil page)) h)
+
+pub puts_all : {a b : Told} {whole page : List ℕ} (rest : List ℕ) → rest ≡ [] → Puts a b whole (page ++ rest) → Puts a b whole page
+puts_all {a} {b} {whole} {page} rest e first =
+    subst (λ (t : List ℕ). Puts a b whole t) (append-nil page) (subst (λ (t : List ℕ). Puts a b whole (page ++ t)) e first)
+
+pub puts_emptied : {a b : Told} {whole page : List ℕ} → page ≡ [] → Puts a b whole page → Puts a b whole []
+puts_emptied {a} {b} {whole} {page} e first = subst (λ (t : List ℕ). Puts a b whole t) e first
+
+-- the same where the bytes are known by an equation
+pub puts_as : {a b : Told} {left : List ℕ} (page bytes more : List ℕ) → bytes ≡ more → Puts a b (page ++ bytes) left → Puts a b (page ++ more) left
+puts_as {a} {b} {left} page bytes more e first = subst (λ (t : List ℕ). Puts a b (page ++ t) left) e first
+
+pub stops_as : {a b : Told} {fault : Fault} (page bytes more : List ℕ) → bytes ≡ more → Stops a b (page ++ bytes) fault → Stops a b (page ++ more) fault
+stops_as {a} {b} {fault} page bytes more e first = subst (λ (t : List ℕ). Stops a b (page ++ t) fault) e first
+
+-- memory was wanting, by whatever fault says so
+pub stops_fault : {a b : Told} {whole left : List ℕ} {fault : Fault} → fault ≡ faults.Memory → Puts a b whole left → Stops a b whole fault
+stops_fault {a} {b} {whole} {left} {fault} e first = subst (λ (f : Fault). Stops a b whole f) (sym e) (stops_memory first)

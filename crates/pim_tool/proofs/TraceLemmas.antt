@@ -214,11 +214,10 @@ within t (lines.Step s) is may each =
 grows : (ls : List (List ℕ)) (t : Trace) (m : Line) → Spells ls t → IsLine m → MayFollow t m → Spells (ls ++ spelled m ∷ []) (with_line t m)
 grows ls t m spells is may =
     let more = declared-with_line t m may in
-    let each : AllByRecursion IsLine (declared (with_line t m)) = subst (AllByRecursion IsLine) (sym more) (all_append_one IsLine (declared t) m spells.0.each is) in
-    (
+    let each : AllByRecursion IsLine (declared (with_line t m)) = subst (AllByRecursion IsLine) (sym more) (all_append_one IsLine (declared t) m spells.0.each is) in (
       within t m spells.0 may each,
       ap (λ xs. xs ++ spelled m ∷ []) spells.1
-      ∙ ap (λ xs. version_line ∷ xs) (sym (map-append_one spelled (declared t) m) ∙ ap (map spelled) (sym more)),
+          ∙ ap (λ xs. version_line ∷ xs) (sym (map-append_one spelled (declared t) m) ∙ ap (map spelled) (sym more)),
     )
 
 -- the last of the lines whose spellings end so

@@ -4,7 +4,6 @@ use Rattle.std.specs.List.{slice_split}
 use Rattle.std.specs.Borrow.{Bor}
 use Rattle.pim_base.specs.Spelling.{SPACE, IsLine, words_of, spelled}
 use Rattle.pim_base.specs.Texts.{Trace, FirstBadLine}
-use Rattle.pim_base.specs.declared.lines.StepLine.{StepLine}
 use Rattle.pim_base.specs.declared.lines.Line.{Line}
 use Rattle.pim_base.specs.declared.lines.Line.TheVariants as lines
 use Rattle.pim_tool.specs.declared.text.Text.{Text}
@@ -56,7 +55,3 @@ IsParseFault ls (faults.Line n) = FirstBadLine ls n
 IsParseFault ls faults.Memory = Unit {0}
 IsParseFault ls faults.Read = ⊥
 IsParseFault ls faults.Write = ⊥
-
--- a step line of the format
-abbrev pub IsStepLine : StepLine → Type 0
-IsStepLine line = IsLine (lines.Step line)

@@ -2,13 +2,13 @@
 ghost use Rattle.std.specs.Prelude.{◌≡◌};
 ghost use Rattle.pim_base.specs.Reports.{agrees};
 
-use pim_base::Reply;
+use pim_base::{Reply, StepLine};
 
-/// Whether no reply was recorded, or this one.
-pub(crate) fn agrees(recorded: Option<Reply>, reply: Reply) -> bool
-    ensures { result ≡ agrees recorded reply }
+/// Whether no reply was recorded for the step, or this one.
+pub(crate) fn agrees(line: &StepLine, reply: &Reply) -> bool
+    ensures { result ≡ agrees line.now.recorded reply.now }
 {
-    match recorded {
+    match &line.recorded {
         None => true,
         Some(recorded) => recorded == reply,
     }

@@ -1,5 +1,6 @@
 //! From a reader to a writer.
-ghost use Rattle.std.specs.Prelude.{◌≡◌, ℕ, ◌⊎◌, [], IfOk, IfSome, Err};
+ghost use Rattle.std.specs.Prelude.{◌≡◌, ℕ, ◌⊎◌, [], IfOk, IfSome, Err, MatchResult};
+ghost use Rattle.pim_base.specs.State.{start};
 ghost use Rattle.pim_base.specs.Texts.{Trace, lines_of, Spells, IsWithinLimits, FirstBadLine};
 ghost use Rattle.pim_base.specs.Reports.{report_of, verdict_of};
 ghost use Rattle.pim_tool.specs.Ends.{Happened, Fails, Appends, AppendsFront, Prints};
@@ -11,10 +12,11 @@ use crate::fault::Fault;
 use crate::page::Page;
 use crate::printing::print_report;
 use crate::reading::parse;
+use crate::shown::priorities_of;
 use crate::text::Text;
 use crate::transfer::read_all;
 use pim_base::Verdict;
-use pim_plain::Tables;
+use pim_manager::Manager;
 use std::alloc::Global;
 
 /// Reads a trace to its end, and writes its report.
@@ -72,8 +74,22 @@ fn print_text<W: Sink>(alloc: Global, writer: &mut W, text: &Text) -> Result<Ver
     ensures verdict { IfOk result (λ verdict. verdict ≡ verdict_of (trace_of text.now)) }
 {
     let mut page = Page::new(alloc)?;
-    let mut manager = Tables::new(alloc, &text.bases, &text.protocols, 1)?;
-    print_report(&mut page, writer, &mut manager, &text.lines)
+    let mut manager = manager_of(alloc, text)?;
+    let mut shown = priorities_of(alloc, &manager)?;
+    print_report(&mut page, writer, &mut manager, &mut shown, &text.lines)
+}
+
+/// The manager of what a text declares, in which all mutexes are free.
+fn manager_of(alloc: Global, text: &Text) -> Result<Manager, Fault>
+    requires limits { IsWithinLimits (trace_of text.now) }
+    ensures { MatchResult result
+        (λ manager. manager ≡ start text.now.bases.items text.now.protocols.items 1)
+        (λ fault. fault ≡ Fault.Memory) }
+{
+    match Manager::new(alloc, &text.bases, &text.protocols) {
+        Ok(manager) => Ok(manager),
+        Err(_) => Err(Fault::Memory),
+    }
 }
 
 /// The exit status for an answer of `judge`: 0 where the trace was accepted, 1 where it was rejected, 2 for a fault.

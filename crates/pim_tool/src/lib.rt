@@ -11,6 +11,7 @@ mod printing;
 mod reading;
 mod reply;
 mod request;
+mod shown;
 mod text;
 mod transfer;
 mod word;

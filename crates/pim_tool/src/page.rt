@@ -37,8 +37,8 @@ impl Page {
 
     /// The line of a step: its number, and what it was answered.
     #[tactic(auto, unfolding(pim_base::specs::Reports::reply_line))]
-    pub fn answer(&mut self, number: u32, reply: Reply) -> Result<(), AllocError>
-        ensures { OnOk result (self.new.bytes.items ≡ self.old.bytes.items ++ reply_line number reply) }
+    pub fn answer(&mut self, number: u32, reply: &Reply) -> Result<(), AllocError>
+        ensures { OnOk result (self.new.bytes.items ≡ self.old.bytes.items ++ reply_line number reply.now) }
     {
         self.number(number)?;
         self.word(b" ")?;
@@ -60,10 +60,23 @@ impl Page {
         self.word(b"\n")
     }
 
+    /// Both lines of a step whose recorded reply differs.
+    pub fn rejection(
+        &mut self,
+        number: u32,
+        reply: &Reply,
+        recorded: &Reply,
+    ) -> Result<(), AllocError>
+        ensures { OnOk result (self.new.bytes.items ≡ self.old.bytes.items ++ (differing_line number reply.now recorded.now ++ rejected number)) }
+    {
+        self.differing(number, reply, recorded)?;
+        self.rejected(number)
+    }
+
     /// The line of a step whose recorded reply differs.
     #[tactic(auto, unfolding(pim_base::specs::Reports::differing_line))]
-    pub fn differing(&mut self, number: u32, reply: Reply, recorded: Reply) -> Result<(), AllocError>
-        ensures { OnOk result (self.new.bytes.items ≡ self.old.bytes.items ++ differing_line number reply recorded) }
+    fn differing(&mut self, number: u32, reply: &Reply, recorded: &Reply) -> Result<(), AllocError>
+        ensures { OnOk result (self.new.bytes.items ≡ self.old.bytes.items ++ differing_line number reply.now recorded.now) }
     {
         self.number(number)?;
         self.word(b" ")?;
@@ -75,7 +88,7 @@ impl Page {
 
     /// The last line, where a recorded reply differs.
     #[tactic(auto, unfolding(pim_base::specs::Reports::rejected))]
-    pub fn rejected(&mut self, number: u32) -> Result<(), AllocError>
+    fn rejected(&mut self, number: u32) -> Result<(), AllocError>
         ensures { OnOk result (self.new.bytes.items ≡ self.old.bytes.items ++ rejected number) }
     {
         self.word(b"rejected ")?;
@@ -93,8 +106,8 @@ impl Page {
         self.word(b"\n")
     }
 
-    fn reply(&mut self, reply: Reply) -> Result<(), AllocError>
-        ensures { OnOk result (self.new.bytes.items ≡ self.old.bytes.items ++ reply_text reply) }
+    fn reply(&mut self, reply: &Reply) -> Result<(), AllocError>
+        ensures { OnOk result (self.new.bytes.items ≡ self.old.bytes.items ++ reply_text reply.now) }
     {
         match reply {
             Reply::Granted => self.word(b"granted"),
@@ -106,13 +119,13 @@ impl Page {
             }
             Reply::Released(count) => {
                 self.word(b"released ")?;
-                self.number(u32::from(count))
+                self.number(u32::from(*count))
             }
             Reply::Withdrawn => self.word(b"withdrawn"),
             Reply::Set => self.word(b"set"),
             Reply::Refused(refusal) => {
                 self.word(b"refused ")?;
-                self.refusal(refusal)
+                self.refusal(*refusal)
             }
         }
     }
@@ -170,7 +183,11 @@ impl Page {
         } else if number < 100 {
             self.word(&[digit(number / 10), digit(number % 10)])
         } else if number < 1000 {
-            self.word(&[digit(number / 100), digit(number / 10 % 10), digit(number % 10)])
+            self.word(&[
+                digit(number / 100),
+                digit(number / 10 % 10),
+                digit(number % 10),
+            ])
         } else {
             self.long_number(number)
         }

@@ -21,8 +21,8 @@ returns-then-eq-3 c =
     let ceiling = c.in_ok-ceiling-2.ensures in (
       ceiling.0,
       cut_some _ _ _ _ c.cut.ensures.parts c.in_ok-ceiling.was
-      ∙ ap (λ (w : List ℕ). w ∷ words c.in_ok-ceiling.field-0.now) (same_bytes _ _ _ c.if-eq-3.ensures c.as_slice-3.ensures)
-      ∙ ap (λ (ws : List (List ℕ)). codes "protect" ∷ ws) (one_prio _ _ ceiling.0 ceiling.1),
+          ∙ ap (λ (w : List ℕ). w ∷ words c.in_ok-ceiling.field-0.now) (same_bytes _ _ _ c.if-eq-3.ensures c.as_slice-3.ensures)
+          ∙ ap (λ (ws : List (List ℕ)). codes "protect" ∷ ws) (one_prio _ _ ceiling.0 ceiling.1),
     )
 
 pub returns-else-eq-3 : goal.returns-else-eq-3

@@ -22,8 +22,8 @@ returns-in_ok-number_of c =
     let number = c.in_ok-number_of.ensures in (
       number.0,
       spells_with c.args.word.now c.args.argument.now (codes "handed") (decimal c.in_ok-number_of.field-0)
-      (same_bytes _ _ _ c.if-eq.ensures c.as_slice.ensures)
-      (one_number _ _ number.0.1 number.1),
+          (same_bytes _ _ _ c.if-eq.ensures c.as_slice.ensures)
+          (one_number _ _ number.0.1 number.1),
     )
 
 pub returns-in_ok-count_of : goal.returns-in_ok-count_of
@@ -31,8 +31,8 @@ returns-in_ok-count_of c =
     let count = c.in_ok-count_of.ensures in (
       count.0,
       spells_with c.args.word.now c.args.argument.now (codes "released") (decimal c.in_ok-count_of.field-0)
-      (same_bytes _ _ _ c.if-eq-2.ensures c.as_slice-else-eq.ensures)
-      (one_number _ _ count.0 count.1),
+          (same_bytes _ _ _ c.if-eq-2.ensures c.as_slice-else-eq.ensures)
+          (one_number _ _ count.0 count.1),
     )
 
 pub returns-else-eq-3 : goal.returns-else-eq-3
