@@ -83,7 +83,12 @@ pub fn rebase(tables: &mut Tables, task: TaskNo, prio: Prio, visits: &mut Visits
 }
 
 /// The mutex goes from its owner, who waits for nothing, to the first of its queue, or is free.
-pub fn hand_over(tables: &mut Tables, mutex: MutexNo, owner: TaskNo, visits: &mut Visits) -> Option<Waiter>
+pub fn hand_over(
+    tables: &mut Tables,
+    mutex: MutexNo,
+    owner: TaskNo,
+    visits: &mut Visits,
+) -> Option<Waiter>
     requires calm { Calm tables.old }
     requires mutex { IsMutex tables.old.state mutex }
     requires owned { owner_of tables.old.state mutex ≡ Some owner }
