@@ -146,8 +146,8 @@ fn expect_change(
     }
     assert_eq!(rt; manager.step(step), Done { reply, visits }, "{step:?}");
     let mut differing = 0;
-    for number in 1u16..257 {
-        if manager.effective(TaskNo(number)) != before[number as usize] {
+    for other in 1u16..257 {
+        if manager.effective(TaskNo(other)) != before[other as usize] {
             differing += 1;
         }
     }
