@@ -17,25 +17,7 @@ use Rattle.pim_queue.specs.Line.{Line}
 use Rattle.pim_chain.specs.Views.{View, fresh, stored_at, line_in, queue_at, IsQueue, Ready}
 use Rattle.pim_chain.specs.Settled.{SettledBut}
 use Rattle.pim_chain.proofs.Changes.{not_waiting}
-
--- ---- lists of one item
-nth-replicate_none : {X : Type 0} (n k : ℕ) → unwrap_or {T = Option X} (nth (replicate n None) k) None ≡ None
-nth-replicate_none n zero = refl
-nth-replicate_none {X} n (suc k) = at n k
-  where
-    at : (n k : ℕ) → unwrap_or {T = Option X} (slice_get (replicate n None) k) None ≡ None
-    at zero k = refl
-    at (suc n) zero = refl
-    at (suc n) (suc k) = at n k
-
-nth-replicate_within : {X : Type 0} (n k : ℕ) (x d : X) → 1 ≤ k → k ≤ n → unwrap_or (nth (replicate n x) k) d ≡ x
-nth-replicate_within n zero x d low high = absurd (omega arith)
-nth-replicate_within n (suc k) x d low high = at n k (omega arith)
-  where
-    at : (n k : ℕ) → k < n → unwrap_or (slice_get (replicate n x) k) d ≡ x
-    at zero k h = absurd (omega arith)
-    at (suc n) zero h = refl
-    at (suc n) (suc k) h = at n k (omega arith)
+use Rattle.pim_chain.proofs.Repeated.{nth-replicate_none, nth-replicate_same}
 
 module _ (bases : List ℕ) (protocols : List Protocol) where
   free : (m : ℕ) → owner_of (start bases protocols 0) m ≡ None
@@ -84,7 +66,7 @@ module _ (bases : List ℕ) (protocols : List Protocol) where
   }
     where
       empty : (m : ℕ) → IsMutex (start bases protocols 0) m → line_in (fresh bases protocols).queues m ≡ record { waiters = []; room = length bases }
-      empty m known = nth-replicate_within (length protocols) m _ _ known.0 known.1
+      empty m known = ap (λ o. unwrap_or o (record { waiters = []; room = 0 })) (nth-replicate_same (length protocols) m _ known.0 known.1)
 
   -- nobody lends anything
   pub settled_fresh : SettledBut (start bases protocols 0) (stored_at (fresh bases protocols)) None

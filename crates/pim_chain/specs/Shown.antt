@@ -1,5 +1,7 @@
 -- What the fields of the tables show.
-use Rattle.pim_chain.specs.Views.{View}
+use Rattle.std.specs.Prelude.{length}
+use Rattle.pim_chain.specs.Views.{View, Ready}
+use Rattle.pim_chain.specs.Sets.{AreOwned}
 use Rattle.pim_chain.specs.declared.tables.Tables.TheInside.{Inside}
 
 -- the tables know no next ticket
@@ -15,3 +17,8 @@ shown t = record {
   stored = t.stored.items;
   queues = t.queues.items;
 }
+
+-- what always holds of the fields
+pub record Kept (t : Inside) : Type 0 where
+  pub ready : Ready (shown t)
+  pub owned : AreOwned (length t.base.items) t.owner.items t.owned.items

@@ -6,7 +6,6 @@ ghost use Rattle.pim_base.specs.State.{owner_of, wait_of, protocol_of};
 ghost use Rattle.pim_base.specs.Chains.{blocker, waits_chain, heir_of, closes_cycle};
 ghost use Rattle.pim_base.specs.Priorities.{ceiling};
 ghost use Rattle.pim_base.specs.Checks.{unknown_task, unknown_mutex, is_waiting, is_owned, above_ceiling};
-ghost use Rattle.pim_chain.specs.Owned.{IsNext};
 
 use crate::tables::Tables;
 use pim_base::{MutexNo, Prio, Protocol, TaskNo};
@@ -45,18 +44,6 @@ impl Tables {
         ensures { result ≡ holds (owner_of self.now.state mutex) task }
     {
         self.owner(mutex) == Some(task)
-    }
-
-    /// The least mutex above this number that the task owns.
-    pub fn next_owned(&self, task: TaskNo, above: u16) -> Option<MutexNo>
-        ensures { IsNext (λ m. holds (owner_of self.now.state m) task) above result }
-    {
-        for number in above..self.mutex_count() {
-            if self.owns(task, MutexNo(number + 1)) {
-                return Some(MutexNo(number + 1));
-            }
-        }
-        None
     }
 
     /// The ceiling of a PROTECT mutex.

@@ -2,15 +2,17 @@
 
 ghost use Rattle.std.specs.Prelude.{◌≡◌, ◌≢◌, ◌≤◌, length, IfOk, None, Some, false, ℕ};
 ghost use Rattle.std.specs.Option.{option_copied};
-ghost use Rattle.pim_base.specs.Lists.{nth, head_of};
+ghost use Rattle.pim_base.specs.Lists.{nth, holds, head_of};
 ghost use Rattle.pim_base.specs.State.{IsTask, IsMutex, base_of, owner_of, wait_of, with_owner, with_base};
 ghost use Rattle.pim_base.specs.Chains.{blocker, closes_cycle};
 ghost use Rattle.pim_base.specs.declared.steps.Wait.{Wait};
 ghost use Rattle.pim_chain.specs.Views.{Ready, fresh, with_state, queue_at, stored_at};
+ghost use Rattle.pim_chain.specs.Owned.{IsNext};
 ghost use Rattle.pim_chain.specs.Settled.{SettledBut, Unsettles, joined, left, restored};
 
-use crate::lines;
+use crate::number_set::NumberSet;
 use crate::numbered::{filled, nth, put};
+use crate::{lines, sets};
 use pim_base::{MutexNo, Prio, Protocol, TaskNo, Wait, Waiter};
 use pim_queue::Queue;
 use std::alloc::{AllocError, Global};
@@ -23,6 +25,7 @@ pub struct Tables {
     protocol: Vec<Protocol>,
     owner: Vec<Option<TaskNo>>,
     wait: Vec<Option<Wait>>,
+    owned: Vec<NumberSet>,
     stored: Vec<Prio>,
     queues: Vec<Queue>,
 }
@@ -32,12 +35,11 @@ impl Model for Tables {
 
     ghost Value = { View };
 
-    ghost use Rattle.pim_chain.specs.Views.{Ready};
-    ghost use Rattle.pim_chain.specs.Shown.{shown};
+    ghost use Rattle.pim_chain.specs.Shown.{shown, Kept};
 
     ghost view = { shown };
 
-    ghost invariant = { λ t. Ready (shown t) };
+    ghost invariant = { Kept };
 }
 
 impl Tables {
@@ -53,6 +55,7 @@ impl Tables {
         let protocol = Vec::from_slice(alloc, protocols)?;
         let owner = filled(alloc, protocols.len(), None)?;
         let wait = filled(alloc, bases.len(), None)?;
+        let owned = filled(alloc, bases.len(), NumberSet::new())?;
         let stored = Vec::from_slice(alloc, bases)?;
         let queues = lines::empty(alloc, protocols.len(), bases.len() as u16)?;
         Ok(Tables {
@@ -60,6 +63,7 @@ impl Tables {
             protocol,
             owner,
             wait,
+            owned,
             stored,
             queues,
         })
@@ -73,6 +77,7 @@ impl Tables {
         let protocol = Vec::from_slice(alloc, &self.protocol)?;
         let owner = Vec::from_slice(alloc, &self.owner)?;
         let wait = Vec::from_slice(alloc, &self.wait)?;
+        let owned = Vec::from_slice(alloc, &self.owned)?;
         let stored = Vec::from_slice(alloc, &self.stored)?;
         let queues = lines::try_clone(alloc, &self.queues)?;
         Ok(Tables {
@@ -80,6 +85,7 @@ impl Tables {
             protocol,
             owner,
             wait,
+            owned,
             stored,
             queues,
         })
@@ -120,6 +126,16 @@ impl Tables {
         ensures { result ≡ owner_of self.now.state mutex }
     {
         nth(&self.owner, mutex.get()).flatten()
+    }
+
+    /// The least mutex above this number that the task owns.
+    pub fn next_owned(&self, task: TaskNo, above: u16) -> Option<MutexNo>
+        ensures { IsNext (λ m. holds (owner_of self.now.state m) task) above result }
+    {
+        match sets::next_above(&self.owned, task, above) {
+            Some(number) => Some(MutexNo(number)),
+            None => None,
+        }
     }
 
     /// The mutex that the task waits for, with its ticket there, None where it waits for nothing or is unknown.
@@ -178,6 +194,7 @@ impl Tables {
         ensures ready { Ready self.new }
     {
         put(&mut self.owner, mutex.get(), Some(task));
+        sets::insert(&mut self.owned, task, mutex.get());
     }
 
     /// The owned mutex is free.
@@ -187,7 +204,10 @@ impl Tables {
         ensures unsettles { Unsettles self.old self.new (owner_of self.old.state mutex) }
         ensures ready { Ready self.new }
     {
-        put(&mut self.owner, mutex.get(), None);
+        if let Some(owner) = self.owner(mutex) {
+            put(&mut self.owner, mutex.get(), None);
+            sets::remove(&mut self.owned, owner, mutex.get());
+        }
     }
 
     /// The task has another base priority.

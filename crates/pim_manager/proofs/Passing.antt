@@ -67,18 +67,19 @@ pub record Passing (v u x : View) (m : ℕ) (w : Waiter) : Type 0 where
   pub free : owner_of x.state m ≡ None
 
 pub passing :
-    (v u x : View) (m : ℕ) (w : Waiter)
+    (v u x : View) (m : ℕ) (w : Waiter) (o : Option ℕ)
     → Calm v → IsMutex v.state m → head_of (queue_at v m) ≡ Some w
     → u.state ≡ with_owner v.state m None
     → SettledBut u.state (stored_at u) None
-    → ((y : Wait) → wait_of u.state w.task ≡ Some y → x ≡ left u w.task y.mutex)
-    → Unsettles u x (blocker u.state w.task)
+    → HasLeft u x w.task
+    → o ≡ blocker u.state w.task
+    → Unsettles u x o
     → Ready x
     → Passing v u x m w
-passing v u x m w calm known first freed settled leaves unsettles ready = record {
+passing v u x m w o calm known first freed settled gone blocks unsettles ready = record {
   state = is;
   stored = gone.stored;
-  calm = record { ready = ready; settled = subst (SettledBut x.state (stored_at x)) blocked (unsettles settled) };
+  calm = record { ready = ready; settled = subst (SettledBut x.state (stored_at x)) (blocks ∙ blocked) (unsettles settled) };
   mutex = subst (λ (S : State). IsMutex S m) (sym is) known;
   known = subst (λ (S : State). IsTask S w.task) (sym is) (waiting_known v.state calm.ready.sound.lists w.task (record { mutex = m; ticket = w.ticket }) waits);
   idle = ap (λ S. wait_of S w.task) is ∙ idle_now (with_owner v.state m None) w.task;
@@ -90,9 +91,6 @@ passing v u x m w calm known first freed settled leaves unsettles ready = record
 
     still : wait_of u.state w.task ≡ Some (record { mutex = m; ticket = w.ticket })
     still = ap (λ S. wait_of S w.task) freed ∙ waits
-
-    gone : HasLeft u x w.task
-    gone = has_left u x w.task (λ e. none-some (record { mutex = m; ticket = w.ticket }) (sym e ∙ still)) leaves
 
     blocked : blocker u.state w.task ≡ None
     blocked = ap (option_and_then (λ (y : Wait). owner_of u.state y.mutex)) still ∙ ap (λ S. owner_of S m) freed ∙ freed_owner v.state m

@@ -3,11 +3,10 @@
 ghost use Rattle.std.specs.Prelude.{◌≡◌, ◌≢◌, ◌≤◌, ◌+◌, ◌-◌, ◌^◌, Some, None, false, ℕ};
 ghost use Rattle.pim_base.specs.Lists.{head_of};
 ghost use Rattle.pim_base.specs.State.{IsTask, IsMutex, owner_of, wait_of, with_owner, with_wait, with_base};
-ghost use Rattle.pim_base.specs.Chains.{closes_cycle};
+ghost use Rattle.pim_base.specs.Chains.{blocker, closes_cycle};
 ghost use Rattle.pim_base.specs.Steps.{hand_over_to};
-ghost use Rattle.pim_chain.specs.Views.{queue_at};
-ghost use Rattle.pim_chain.specs.Settled.{changed};
-ghost use Rattle.pim_chain.specs.Settled.{Calm};
+ghost use Rattle.pim_chain.specs.Views.{Ready, queue_at};
+ghost use Rattle.pim_chain.specs.Settled.{changed, Calm, Unsettles};
 
 use pim_base::{MutexNo, Prio, TaskNo, Waiter};
 use pim_chain::{Tables, Visits};
@@ -52,6 +51,7 @@ pub fn enqueue(tables: &mut Tables, task: TaskNo, mutex: MutexNo, ticket: u64, v
 }
 
 /// The task, which waits, waits no more.
+#[tactic(auto, using(crate::proofs::Counted::unchanged_stored))]
 pub fn withdraw(tables: &mut Tables, task: TaskNo, visits: &mut Visits)
     requires calm { Calm tables.old }
     requires waits { wait_of tables.old.state task ≢ None }
@@ -61,25 +61,23 @@ pub fn withdraw(tables: &mut Tables, task: TaskNo, visits: &mut Visits)
     ensures least { visits.old + changed tables.old tables.new ≤ visits.new }
     ensures most { visits.new ≤ visits.old + changed tables.old tables.new + 1 }
 {
-    let owner = tables.blocker(task);
-    tables.leave(task);
-    if let Some(owner) = owner {
-        tables.settle_from(owner, visits);
+    if let Some(blocker) = leave(tables, task) {
+        tables.settle_from(blocker, visits);
     }
 }
 
-/// The task has another base priority.
-pub fn rebase(tables: &mut Tables, task: TaskNo, prio: Prio, visits: &mut Visits)
+/// The target has another base priority.
+pub fn rebase(tables: &mut Tables, target: TaskNo, prio: Prio, visits: &mut Visits)
     requires calm { Calm tables.old }
-    requires known { IsTask tables.old.state task }
+    requires known { IsTask tables.old.state target }
     requires room { visits.old ≤ 2 ^ 32 - 1 - 256 }
-    ensures state { tables.new.state ≡ with_base tables.old.state task prio }
+    ensures state { tables.new.state ≡ with_base tables.old.state target prio }
     ensures calm { Calm tables.new }
     ensures least { visits.old + changed tables.old tables.new ≤ visits.new }
     ensures most { visits.new ≤ visits.old + changed tables.old tables.new + 1 }
 {
-    tables.put_base(task, prio);
-    tables.settle_from(task, visits);
+    tables.put_base(target, prio);
+    tables.settle_from(target, visits);
 }
 
 /// The mutex goes from its owner, who waits for nothing, to the first of its queue, or is free.
@@ -96,12 +94,42 @@ pub fn hand_over(tables: &mut Tables, mutex: MutexNo, owner: TaskNo, visits: &mu
     ensures most { visits.new ≤ visits.old + 2 }
 {
     let first = tables.front(mutex);
+    pass_on(tables, mutex, owner, &first, visits);
+    first
+}
+
+// the mutex goes from its owner, who waits for nothing, to the first of its queue, who is given, or is free
+fn pass_on(tables: &mut Tables, mutex: MutexNo, owner: TaskNo, first: &Option<Waiter>, visits: &mut Visits)
+    requires calm { Calm tables.old }
+    requires mutex { IsMutex tables.old.state mutex }
+    requires owned { owner_of tables.old.state mutex ≡ Some owner }
+    requires idle { wait_of tables.old.state owner ≡ None }
+    requires first { first.now ≡ head_of (queue_at tables.old mutex) }
+    requires room { visits.old ≤ 2 ^ 32 - 1 - 257 }
+    ensures state { tables.new.state ≡ hand_over_to tables.old.state mutex first.now }
+    ensures calm { Calm tables.new }
+    ensures least { visits.old + changed tables.old tables.new ≤ visits.new }
+    ensures most { visits.new ≤ visits.old + 2 }
+{
     tables.unbind(mutex);
     tables.settle_from(owner, visits);
-    if let Some(waiter) = &first {
+    if let Some(waiter) = first {
         let task = waiter.task;
-        tables.leave(task);
+        let _blocker = leave(tables, task);
         grant(tables, mutex, task, visits);
     }
-    first
+}
+
+// The task, which waits, waits no more. The answer is the owner of the mutex that it waited for.
+fn leave(tables: &mut Tables, task: TaskNo) -> Option<TaskNo>
+    requires { wait_of tables.old.state task ≢ None }
+    ensures blocker { result ≡ blocker tables.old.state task }
+    ensures state { tables.new.state ≡ with_wait tables.old.state task None }
+    ensures stored { tables.new.stored ≡ tables.old.stored }
+    ensures unsettles { Unsettles tables.old tables.new result }
+    ensures ready { Ready tables.new }
+{
+    let blocker = tables.blocker(task);
+    tables.leave(task);
+    blocker
 }

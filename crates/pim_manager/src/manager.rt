@@ -290,7 +290,12 @@ impl Manager {
     }
 
     // the mutex goes from its owner, who waits for nothing, to the first that waits for it, or is free
-    pub(crate) fn hand_over(&mut self, mutex: MutexNo, owner: TaskNo, visits: &mut Visits) -> Option<Waiter>
+    pub(crate) fn hand_over(
+        &mut self,
+        mutex: MutexNo,
+        owner: TaskNo,
+        visits: &mut Visits,
+    ) -> Option<Waiter>
         requires mutex { IsMutex self.old mutex }
         requires owned { owner_of self.old mutex ≡ Some owner }
         requires idle { wait_of self.old owner ≡ None }

@@ -1,27 +1,16 @@
-use Rattle.std.proofs.Common.{◌≡◌, ◌<◌, ◌≤◌, ◌+◌, ◌⊎◌, ℕ, false, inl, inr, ap, sym, ◌∙◌, arith, length, eq-or-lt_of_le}
-use Rattle.std.proofs.lemmas.Bool.{cases_lt}
+use Rattle.std.proofs.Common.{Some, subst}
 use Rattle.pim_base.specs.Lists.{holds}
 use Rattle.pim_base.specs.State.{owner_of}
-use Rattle.pim_chain.proofs.Lent.{unknown_free}
+use Rattle.pim_chain.specs.Owned.{IsNext}
+use Rattle.pim_chain.specs.Numbers.{has}
+use Rattle.pim_chain.specs.Sets.{words_in}
+use Rattle.pim_chain.specs.Shown.{shown}
+use Rattle.pim_chain.proofs.Finding.{next_same}
+use Rattle.pim_chain.proofs.Owning.{sets_tell}
 use Rattle.pim_chain.proofs.tables.Tables.next_owned.Goals as goal
 
-pub loop-number-preserved : goal.loop-number-preserved
-loop-number-preserved c k above le = go (eq-or-lt_of_le le)
-  where
-    go : (k ≡ c.loop-number.number + 1) ⊎ (k < c.loop-number.number + 1) → holds (owner_of c.args.self.now.state k) c.args.task ≡ false
-    go (inl is) = ap (λ j. holds (owner_of c.args.self.now.state j) c.args.task) is ∙ sym c.owns.ensures ∙ c.if-owns.false
-    go (inr less) = c.loop-number.invariant k above (omega (arith, less))
-
-pub returns-then-owns : goal.returns-then-owns
-returns-then-owns c = record {
-  above = omega arith;
-  passes = sym c.owns.ensures ∙ c.if-owns.true;
-  none_between = λ k low high. c.loop-number.invariant k low (omega (arith, high));
-}
-
-pub returns : goal.returns
-returns c k above = go (cases_lt (length c.args.self.now.state.protocol) k)
-  where
-    go : (length c.args.self.now.state.protocol < k) ⊎ (k ≤ length c.args.self.now.state.protocol) → holds (owner_of c.args.self.now.state k) c.args.task ≡ false
-    go (inl past) = ap (λ o. holds o c.args.task) (unknown_free c.args.self.now.state c.mutex_count-number-end.ensures.ready.sound.lists k past)
-    go (inr le) = c.loop-number.invariant k above (omega (arith, le, c.mutex_count-number-end.ensures.count, c.loop-number-test.false))
+pub returns-in-Some : goal.returns-in-Some
+returns-in-Some c =
+    next_same (has (words_in c.self.inside.owned.items c.args.task)) (λ m. holds (owner_of c.args.self.now.state m) c.args.task) c.args.above (Some c.in-Some.number)
+    (sets_tell (shown c.self.inside) c.args.self.now c.self.view_is c.self.invariant.ready c.self.inside.owned.items c.self.invariant.owned c.args.task)
+    (subst (λ sets. IsNext (has (words_in sets c.args.task)) c.args.above (Some c.in-Some.number)) c.deref.ensures.value c.in-Some.ensures)

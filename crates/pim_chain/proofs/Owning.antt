@@ -1,0 +1,162 @@
+-- The sets of owned mutexes after a change of one owner.
+use Rattle.std.proofs.Common.{◌≡◌, ◌≢◌, ℕ, zero, suc, ◌%◌, ◌<◌, ◌≤◌, ◌==◌, ◌&&◌, ◌||◌, Bool, true, false, not, ◌⊎◌, inl, inr, refl, sym, ◌∙◌, ap, subst, arith, Option, Some, None, List, [], length, replicate, unwrap_or}
+use Rattle.std.specs.Option.{option_map_or}
+use Rattle.std.proofs.lemmas.Bool.{cases_eq, cases_lt, eq-eqb, ne_eqb}
+use Rattle.std.proofs.lemmas.List.{length-replicate}
+use Rattle.pim_base.specs.Lists.{nth, put, holds}
+use Rattle.std.proofs.lemmas.Nat.Bits.{bit_at-zero}
+use Rattle.std.proofs.lemmas.Option.{slice_get_past}
+use Rattle.pim_base.specs.State.{IsTask, IsMutex, owner_of}
+use Rattle.pim_base.proofs.Places.{nth-put_same, nth-put_other}
+use Rattle.pim_base.proofs.Stored.{holds_from, from_holds}
+use Rattle.pim_chain.specs.declared.number_set.NumberSet.{NumberSet}
+use Rattle.pim_chain.specs.Numbers.{has}
+use Rattle.pim_chain.specs.Sets.{words_in, owner_in, AreOwned}
+use Rattle.pim_chain.specs.Views.{View, Ready}
+use Rattle.pim_chain.proofs.Lent.{owned_known}
+use Rattle.pim_chain.proofs.Repeated.{nth-replicate_none, nth-replicate_same}
+
+owner_put : (owners : List (Option ℕ)) (m : ℕ) (o : Option ℕ) → 1 ≤ m → m ≤ length owners → owner_in (put owners m o) m ≡ o
+owner_put owners m o low high = ap (λ x. unwrap_or x None) (nth-put_same owners m o low high)
+
+owner_kept : (owners : List (Option ℕ)) (m k : ℕ) (o : Option ℕ) → k ≢ m → owner_in (put owners m o) k ≡ owner_in owners k
+owner_kept owners m k o ne = ap (λ x. unwrap_or x None) (nth-put_other owners m k o (λ e. ne (sym e)))
+
+-- the free mutex has got an owner
+pub owned_bound :
+    (n : ℕ) (owners : List (Option ℕ)) (sets after : List NumberSet) (m t : ℕ)
+    → 1 ≤ m
+    → m ≤ length owners
+    → owner_in owners m ≡ None
+    → AreOwned n owners sets
+    → 1 ≤ t
+    → t ≤ n
+    → length after ≡ length sets
+    → ((k : ℕ) → has (words_in after t) k ≡ (k == m || has (words_in sets t) k))
+    → ((u : ℕ) → u ≢ t → words_in after u ≡ words_in sets u)
+    → AreOwned n (put owners m (Some t)) after
+owned_bound n owners sets after m t low high free owned low_t high_t len inserted others = record {
+  len = len ∙ owned.len;
+  members = λ u k low_u high_u. go u k low_u high_u (cases_eq u t) (cases_eq k m);
+}
+  where
+    go : (u k : ℕ) → 1 ≤ u → u ≤ n → (u ≡ t) ⊎ (u ≡ t → ⊥) → (k ≡ m) ⊎ (k ≡ m → ⊥) → has (words_in after u) k ≡ holds (owner_in (put owners m (Some t)) k) u
+    go u k low_u high_u (inl is) (inl here) =
+        subst (λ x. has (words_in after x) k ≡ holds (owner_in (put owners m (Some t)) k) x) (sym is)
+        (inserted k ∙ ap (λ b. b || has (words_in sets t) k) (eq-eqb k m here)
+        ∙ sym (ap (λ j. holds (owner_in (put owners m (Some t)) j) t) here ∙ ap (λ o. holds o t) (owner_put owners m (Some t) low high) ∙ eq-eqb t t refl))
+    go u k low_u high_u (inl is) (inr ne) =
+        subst (λ x. has (words_in after x) k ≡ holds (owner_in (put owners m (Some t)) k) x) (sym is)
+        (inserted k ∙ ap (λ b. b || has (words_in sets t) k) (ne_eqb k m ne) ∙ owned.members t k low_t high_t ∙ ap (λ o. holds o t) (sym (owner_kept owners m k (Some t) ne)))
+    go u k low_u high_u (inr other) (inl here) =
+        ap (λ ws. has ws k) (others u other) ∙ owned.members u k low_u high_u
+        ∙ ap (λ j. holds (owner_in owners j) u) here ∙ ap (λ o. holds o u) free
+        ∙ sym (ap (λ j. holds (owner_in (put owners m (Some t)) j) u) here ∙ ap (λ o. holds o u) (owner_put owners m (Some t) low high) ∙ ne_eqb t u (λ e. other (sym e)))
+    go u k low_u high_u (inr other) (inr ne) =
+        ap (λ ws. has ws k) (others u other) ∙ owned.members u k low_u high_u ∙ ap (λ o. holds o u) (sym (owner_kept owners m k (Some t) ne))
+
+-- the owned mutex is free
+pub owned_unbound :
+    (n : ℕ) (owners : List (Option ℕ)) (sets after : List NumberSet) (m t : ℕ)
+    → 1 ≤ m
+    → m ≤ length owners
+    → owner_in owners m ≡ Some t
+    → AreOwned n owners sets
+    → 1 ≤ t
+    → t ≤ n
+    → length after ≡ length sets
+    → ((k : ℕ) → has (words_in after t) k ≡ (not (k == m) && has (words_in sets t) k))
+    → ((u : ℕ) → u ≢ t → words_in after u ≡ words_in sets u)
+    → AreOwned n (put owners m None) after
+owned_unbound n owners sets after m t low high mine owned low_t high_t len removed others = record {
+  len = len ∙ owned.len;
+  members = λ u k low_u high_u. go u k low_u high_u (cases_eq u t) (cases_eq k m);
+}
+  where
+    gone : (k u : ℕ) → k ≡ m → false ≡ holds (owner_in (put owners m None) k) u
+    gone k u here = sym (ap (λ j. holds (owner_in (put owners m None) j) u) here ∙ ap (λ o. holds o u) (owner_put owners m None low high))
+
+    go : (u k : ℕ) → 1 ≤ u → u ≤ n → (u ≡ t) ⊎ (u ≡ t → ⊥) → (k ≡ m) ⊎ (k ≡ m → ⊥) → has (words_in after u) k ≡ holds (owner_in (put owners m None) k) u
+    go u k low_u high_u (inl is) (inl here) =
+        ap (λ x. has (words_in after x) k) is ∙ removed k ∙ ap (λ b. not b && has (words_in sets t) k) (eq-eqb k m here) ∙ gone k u here
+    go u k low_u high_u (inl is) (inr ne) =
+        subst (λ x. has (words_in after x) k ≡ holds (owner_in (put owners m None) k) x) (sym is)
+        (removed k ∙ ap (λ b. not b && has (words_in sets t) k) (ne_eqb k m ne) ∙ owned.members t k low_t high_t ∙ ap (λ o. holds o t) (sym (owner_kept owners m k None ne)))
+    go u k low_u high_u (inr other) (inl here) =
+        ap (λ ws. has ws k) (others u other) ∙ owned.members u k low_u high_u
+        ∙ ap (λ j. holds (owner_in owners j) u) here ∙ ap (λ o. holds o u) mine ∙ ne_eqb t u (λ e. other (sym e)) ∙ gone k u here
+    go u k low_u high_u (inr other) (inr ne) =
+        ap (λ ws. has ws k) (others u other) ∙ owned.members u k low_u high_u ∙ ap (λ o. holds o u) (sym (owner_kept owners m k None ne))
+
+-- ---- as the tables have it
+-- nothing is owned
+pub none_owned : (n k : ℕ) (s : NumberSet) (sets : List NumberSet) → ((m : ℕ) → has s.words m ≡ false) → sets ≡ replicate n s → AreOwned n (replicate k None) sets
+none_owned n k s sets empty is = record {
+  len = ap length is ∙ length-replicate n s;
+  members = λ t m low high.
+      ap (λ xs. has (words_in xs t) m) is
+      ∙ ap (λ ws. has ws m) (words_same n t low high)
+      ∙ empty m
+      ∙ sym (ap (λ o. holds o t) (nth-replicate_none k m));
+}
+  where
+    words_same : (n t : ℕ) → 1 ≤ t → t ≤ n → words_in (replicate n s) t ≡ s.words
+    words_same n t low high = ap (λ o. option_map_or (λ (x : NumberSet). x.words) o []) (nth-replicate_same n t s low high)
+
+module _ (v u : View) (same : v ≡ u) (ready : Ready v) (sets : List NumberSet) (owned : AreOwned (length v.state.base) v.state.owner sets) where
+  mutex_in : (m : ℕ) → IsMutex u.state m → (1 ≤ m) × (m ≤ length v.state.owner)
+  mutex_in m known =
+      let isk : IsMutex v.state m = subst (λ (x : View). IsMutex x.state m) (sym same) known in
+      (isk.0, subst (λ n. m ≤ n) (sym ready.sound.lists.owners) isk.1)
+
+  task_in : (t : ℕ) → IsTask u.state t → (1 ≤ t) × (t ≤ length v.state.base)
+  task_in t known = subst (λ (x : View). IsTask x.state t) (sym same) known
+
+  pub bound_sets :
+      (m t : ℕ) (owners : List (Option ℕ)) (after : List NumberSet)
+      → IsMutex u.state m
+      → owner_of u.state m ≡ None
+      → IsTask u.state t
+      → owners ≡ put v.state.owner m (Some t)
+      → length after ≡ length sets
+      → ((k : ℕ) → has (words_in after t) k ≡ (k == m || has (words_in sets t) k))
+      → ((x : ℕ) → x ≢ t → words_in after x ≡ words_in sets x)
+      → AreOwned (length v.state.base) owners after
+  bound_sets m t owners after mutex free task is len inserted others =
+      subst (λ os. AreOwned (length v.state.base) os after) (sym is)
+      (owned_bound (length v.state.base) v.state.owner sets after m t (mutex_in m mutex).0 (mutex_in m mutex).1
+      (subst (λ (x : View). owner_of x.state m ≡ None) (sym same) free) owned (task_in t task).0 (task_in t task).1 len inserted others)
+
+  pub unbound_sets :
+      (m t : ℕ) (owners : List (Option ℕ)) (after : List NumberSet)
+      → owner_of u.state m ≡ Some t
+      → owners ≡ put v.state.owner m None
+      → length after ≡ length sets
+      → ((k : ℕ) → has (words_in after t) k ≡ (not (k == m) && has (words_in sets t) k))
+      → ((x : ℕ) → x ≢ t → words_in after x ≡ words_in sets x)
+      → AreOwned (length v.state.base) owners after
+  unbound_sets m t owners after mine is len removed others =
+      let here : owner_of v.state m ≡ Some t = subst (λ (x : View). owner_of x.state m ≡ Some t) (sym same) mine in
+      let mutex : IsMutex v.state m = owned_known v.state ready.sound.lists m t (holds_from (owner_of v.state m) t here) in
+      let task : IsTask v.state t = ready.waits.owners m t here in
+      subst (λ os. AreOwned (length v.state.base) os after) (sym is)
+      (owned_unbound (length v.state.base) v.state.owner sets after m t mutex.0 (subst (λ n. m ≤ n) (sym ready.sound.lists.owners) mutex.1)
+      here owned task.0 task.1 len removed others)
+
+  -- the task's set says what it owns
+  pub sets_tell : (t k : ℕ) → has (words_in sets t) k ≡ holds (owner_of u.state k) t
+  sets_tell t k = subst (λ (x : View). has (words_in sets t) k ≡ holds (owner_of x.state k) t) same (go t (cases_lt (length v.state.base) t))
+    where
+      no_number : has [] k ≡ false
+      no_number = ap (λ b. b == 1) (bit_at-zero (k % 64))
+
+      nobody : (t : ℕ) → (IsTask v.state t → ⊥) → (b : Bool) → holds (owner_of v.state k) t ≡ b → false ≡ b
+      nobody t unknown false h = refl
+      nobody t unknown true h = absurd (unknown (ready.waits.owners k t (from_holds (owner_of v.state k) t h)))
+
+      go : (t : ℕ) → (length v.state.base < t) ⊎ (t ≤ length v.state.base) → has (words_in sets t) k ≡ holds (owner_of v.state k) t
+      go zero _ = no_number ∙ nobody zero (λ known. let low = known.0 in absurd (omega (arith, low))) _ refl
+      go (suc t) (inr le) = owned.members (suc t) k (omega arith) le
+      go (suc t) (inl past) =
+          ap (λ o. has (option_map_or (λ (s : NumberSet). s.words) o []) k) (slice_get_past sets t (omega (arith, past, owned.len)))
+          ∙ no_number ∙ nobody (suc t) (λ known. let high = known.1 in absurd (omega (arith, high, past))) _ refl
