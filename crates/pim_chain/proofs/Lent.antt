@@ -1,10 +1,10 @@
 -- The local priority, one owned mutex after another.
-use Rattle.std.proofs.Common.{◌≡◌, ℕ, zero, suc, ◌+◌, ◌-◌, ◌<◌, ◌≤◌, max, Bool, true, false, cond, ◌⊎◌, inl, inr, refl, sym, ◌∙◌, ap, subst, arith, le_antisymm, Option, Some, None, length, is_some, map, unwrap_or, eq-or-lt_of_le}
+use Rattle.std.proofs.Common.{◌≡◌, ℕ, zero, suc, ◌+◌, ◌-◌, ◌<◌, ◌≤◌, max, Bool, true, false, cond, refl, sym, ◌∙◌, ap, subst, arith, le_antisymm, Option, Some, None, length, is_some, map, unwrap_or}
 use Rattle.std.proofs.lemmas.Bool.{both_ways}
 use Rattle.pim_base.specs.Lists.{nth, holds}
 use Rattle.pim_base.specs.State.{State, IsState, IsMutex, base_of, owner_of, owned, protocol_of}
 use Rattle.pim_base.specs.Chains.{heir_in, heir_of}
-use Rattle.pim_base.specs.Priorities.{own_priority, local_priority, ceiling, ceiling_of}
+use Rattle.pim_base.specs.Priorities.{own_priority, local_priority, ceiling_of}
 use Rattle.pim_base.specs.declared.steps.Protocol.{Protocol}
 use Rattle.pim_base.proofs.Greatest.{greatest_of, greatest_of-fail, greatest-cons}
 use Rattle.pim_base.proofs.Places.{nth_within}
