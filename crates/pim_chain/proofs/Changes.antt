@@ -49,9 +49,6 @@ differs_settled S T stored x differs settled t task away =
 abbrev pub AtMost : Option ℕ → ℕ → Type 0
 AtMost o x = (t : ℕ) → o ≡ Some t → t ≡ x
 
-none_at_most : (x : ℕ) → AtMost None x
-none_at_most x t e = absurd (none-some t e)
-
 -- ---- another owner
 owner_now : (S : State) (m : ℕ) (o : Option ℕ) (x : ℕ) → AtMost o x → AtMost (owner_of (with_owner S m o) m) x
 owner_now S m o x at t e = go (unwrap_or-put_same S.owner m o)

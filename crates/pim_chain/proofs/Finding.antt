@@ -12,39 +12,6 @@ use Rattle.pim_chain.specs.Owned.{IsFirstAbove, IsNext}
 abbrev pub NoneUpto : (ℕ → Bool) → (ℕ → Bool) → ℕ → Type 0
 NoneUpto q p n = (k : ℕ) → 0 < k → k ≤ n → (q k && p k) ≡ false
 
-left_false : (a b : Bool) → a ≡ false → (a && b) ≡ false
-left_false a b h = ap (λ x. x && b) h
-
-right_false : (a b : Bool) → b ≡ false → (a && b) ≡ false
-right_false true b h = h
-right_false false b h = refl
-
-pub asked_more : (q p : ℕ → Bool) (n m : ℕ) → IsFirstAbove q n m → p m ≡ false → NoneUpto q p n → NoneUpto q p m
-asked_more q p n m next fails none k low high = go (cases_lt n k) (eq-or-lt_of_le high)
-  where
-    go : (n < k) ⊎ (k ≤ n) → (k ≡ m) ⊎ (k < m) → (q k && p k) ≡ false
-    go (inr le) _ = none k low le
-    go (inl above) (inr less) = left_false (q k) (p k) (next.none_between k above less)
-    go (inl above) (inl is) = right_false (q k) (p k) (ap p is ∙ fails)
-
-pub asked_found : (q p : ℕ → Bool) (n m : ℕ) → IsFirstAbove q n m → p m ≡ true → NoneUpto q p n → IsFirstAbove (λ k. q k && p k) 0 m
-asked_found q p n m next holds none = record {
-  above = (let above : n < m = next.above in omega (arith, above));
-  passes = and_from (q m) (p m) next.passes holds;
-  none_between = λ k low high. go k low high (cases_lt n k);
-}
-  where
-    go : (k : ℕ) → 0 < k → k < m → (n < k) ⊎ (k ≤ n) → (q k && p k) ≡ false
-    go k low high (inl above) = left_false (q k) (p k) (next.none_between k above high)
-    go k low high (inr le) = none k low le
-
-pub asked_all : (q p : ℕ → Bool) (n : ℕ) → ((k : ℕ) → n < k → q k ≡ false) → NoneUpto q p n → (k : ℕ) → 0 < k → (q k && p k) ≡ false
-asked_all q p n past none k low = go (cases_lt n k)
-  where
-    go : (n < k) ⊎ (k ≤ n) → (q k && p k) ≡ false
-    go (inl above) = left_false (q k) (p k) (past k above)
-    go (inr le) = none k low le
-
 -- ---- as the definitions look for it
 find_past : (p : ℕ → Bool) (xs ys : List ℕ) → find p xs ≡ None → find p (xs ++ ys) ≡ find p ys
 find_past p xs ys h = find-append p xs ys ∙ ap (λ o. option_or o (find p ys)) h

@@ -14,17 +14,6 @@ use Rattle.pim_chain.specs.Owned.{IsFirstAbove, worth}
 use Rattle.pim_chain.proofs.Local.{top, greatest_of-more, greatest_of-below}
 use Rattle.pim_chain.proofs.Queues.{local_by_mutexes, top_front}
 
--- nobody owns an unknown mutex
-pub unknown_free : (S : State) → IsState S → (m : ℕ) → length S.protocol < m → owner_of S m ≡ None
-unknown_free S lists m past = go (nth S.owner m) refl
-  where
-    go : (o : Option (Option ℕ)) → nth S.owner m ≡ o → unwrap_or o None ≡ None
-    go None e = refl
-    go (Some x) e =
-        let within = nth_within S.owner m x e in
-        let high : m ≤ length S.owner = within.1 in
-        absurd (omega (arith, high, past, lists.owners))
-
 -- who owns, owns a known mutex
 pub owned_known : (S : State) → IsState S → (m t : ℕ) → holds (owner_of S m) t ≡ true → IsMutex S m
 owned_known S lists m t h = go (nth S.owner m) refl (from_holds (owner_of S m) t h)
