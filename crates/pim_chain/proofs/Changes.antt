@@ -1,30 +1,28 @@
 -- What a single change of the state leaves in order.
-use Rattle.std.proofs.Common.{◌≡◌, ℕ, eqb, zero, suc, ◌+◌, ◌≤◌, max, Bool, true, false, ◌⊎◌, inl, inr, refl, sym, ◌∙◌, ap, subst, arith, le_antisymm, Option, Some, None, List, [], ◌∷◌, length, unwrap_or, option_and_then}
+use Rattle.std.proofs.Common.{◌≡◌, ℕ, eqb, ◌≤◌, max, true, false, ◌⊎◌, inl, inr, refl, sym, ◌∙◌, ap, subst, le_antisymm, Option, Some, None, List, [], length, unwrap_or, option_and_then}
 use Rattle.std.specs.Option.{option_map_or}
 use Rattle.std.proofs.lemmas.Bool.{both_ways, cases_eq, eqb-true}
 use Rattle.std.proofs.lemmas.Option.{none-some, same_Some}
-use Rattle.pim_base.specs.Lists.{nth, put, holds, insert_by}
+use Rattle.pim_base.specs.Lists.{holds}
 use Rattle.pim_base.specs.State.{State, IsState, IsTask, IsMutex, base_of, owner_of, wait_of, protocol_of}
 use Rattle.pim_base.specs.Chains.{heir, heir_in, heir_of, closes_cycle}
 use Rattle.pim_base.specs.Priorities.{own_priority, local_priority, ceiling_of}
-use Rattle.pim_base.specs.Queues.{precedes}
-use Rattle.pim_base.specs.Laws.{IsSound}
 use Rattle.pim_base.specs.State.{with_owner, with_wait, with_base}
 use Rattle.pim_base.specs.declared.steps.Wait.{Wait}
 use Rattle.pim_base.specs.declared.steps.Waiter.{Waiter}
 use Rattle.pim_base.proofs.Greatest.{greatest_of, greatest-cons}
-use Rattle.pim_base.proofs.Places.{nth-put_same, nth-put_other, length-put, nth_within}
+use Rattle.pim_base.proofs.Places.{nth-put_same, nth-put_other, length-put}
 use Rattle.pim_base.proofs.Closing.{closing_law}
 use Rattle.pim_base.proofs.NoCycle.{owner_sound, idle_sound, base_sound, unwrap_or-put_same}
-use Rattle.pim_base.proofs.Stored.{heir_in-owner, own_priority-le-local_priority, stored-le-local_priority, local_priority-le, holds_from, from_holds}
+use Rattle.pim_base.proofs.Stored.{own_priority-le-local_priority, stored-le-local_priority, local_priority-le, holds_from, from_holds}
 use Rattle.std.proofs.Common.{map}
 use Rattle.pim_base.specs.declared.steps.Protocol.{Protocol}
 use Rattle.pim_base.specs.State.{owned}
 use Rattle.pim_queue.specs.Line.{Line, with_waiters}
 use Rattle.pim_queue.specs.Waiters.{without}
-use Rattle.pim_chain.specs.Views.{View, stored_at, queue_at, queue_in, line_in, put_queue, with_state, waits_for, IsQueue, WaitsFit, Ready}
+use Rattle.pim_chain.specs.Views.{View, stored_at, queue_at, queue_in, line_in, put_queue, with_state, waits_for, IsQueue, Ready}
 use Rattle.pim_chain.specs.Settled.{SettledBut, left, joined}
-use Rattle.pim_chain.proofs.Local.{Through, through, greatest_of-below}
+use Rattle.pim_chain.proofs.Local.{through, greatest_of-below}
 use Rattle.pim_chain.proofs.Queues.{queue_kept, queue_left, queue_joined, waiting_known}
 
 -- two states with the same tasks, that differ in nothing that the priority of another task than x comes from
@@ -50,9 +48,6 @@ differs_settled S T stored x differs settled t task away =
 -- nobody else than x
 abbrev pub AtMost : Option ℕ → ℕ → Type 0
 AtMost o x = (t : ℕ) → o ≡ Some t → t ≡ x
-
-none_at_most : (x : ℕ) → AtMost None x
-none_at_most x t e = absurd (none-some t e)
 
 -- ---- another owner
 owner_now : (S : State) (m : ℕ) (o : Option ℕ) (x : ℕ) → AtMost o x → AtMost (owner_of (with_owner S m o) m) x

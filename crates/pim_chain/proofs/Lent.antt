@@ -1,10 +1,10 @@
 -- The local priority, one owned mutex after another.
-use Rattle.std.proofs.Common.{◌≡◌, ℕ, zero, suc, ◌+◌, ◌-◌, ◌<◌, ◌≤◌, max, Bool, true, false, cond, ◌⊎◌, inl, inr, refl, sym, ◌∙◌, ap, subst, arith, le_antisymm, Option, Some, None, length, is_some, map, unwrap_or, eq-or-lt_of_le}
+use Rattle.std.proofs.Common.{◌≡◌, ℕ, zero, suc, ◌+◌, ◌-◌, ◌<◌, ◌≤◌, max, Bool, true, false, cond, refl, sym, ◌∙◌, ap, subst, arith, le_antisymm, Option, Some, None, length, is_some, map, unwrap_or}
 use Rattle.std.proofs.lemmas.Bool.{both_ways}
 use Rattle.pim_base.specs.Lists.{nth, holds}
 use Rattle.pim_base.specs.State.{State, IsState, IsMutex, base_of, owner_of, owned, protocol_of}
 use Rattle.pim_base.specs.Chains.{heir_in, heir_of}
-use Rattle.pim_base.specs.Priorities.{own_priority, local_priority, ceiling, ceiling_of}
+use Rattle.pim_base.specs.Priorities.{own_priority, local_priority, ceiling_of}
 use Rattle.pim_base.specs.declared.steps.Protocol.{Protocol}
 use Rattle.pim_base.proofs.Greatest.{greatest_of, greatest_of-fail, greatest-cons}
 use Rattle.pim_base.proofs.Places.{nth_within}
@@ -13,17 +13,6 @@ use Rattle.pim_chain.specs.Views.{View, Ready, queue_at, stored_at, front_prio}
 use Rattle.pim_chain.specs.Owned.{IsFirstAbove, worth}
 use Rattle.pim_chain.proofs.Local.{top, greatest_of-more, greatest_of-below}
 use Rattle.pim_chain.proofs.Queues.{local_by_mutexes, top_front}
-
--- nobody owns an unknown mutex
-pub unknown_free : (S : State) → IsState S → (m : ℕ) → length S.protocol < m → owner_of S m ≡ None
-unknown_free S lists m past = go (nth S.owner m) refl
-  where
-    go : (o : Option (Option ℕ)) → nth S.owner m ≡ o → unwrap_or o None ≡ None
-    go None e = refl
-    go (Some x) e =
-        let within = nth_within S.owner m x e in
-        let high : m ≤ length S.owner = within.1 in
-        absurd (omega (arith, high, past, lists.owners))
 
 -- who owns, owns a known mutex
 pub owned_known : (S : State) → IsState S → (m t : ℕ) → holds (owner_of S m) t ≡ true → IsMutex S m

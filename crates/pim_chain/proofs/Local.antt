@@ -1,15 +1,14 @@
 -- The local priority, and what one mended task leaves of it.
-use Rattle.std.proofs.Common.{◌≡◌, ℕ, eqb, zero, suc, ◌+◌, ◌≤◌, max, Bool, true, false, cond, ◌⊎◌, inl, inr, refl, sym, ◌∙◌, ap, subst, arith, le_antisymm, le_trans, Option, Some, None, length, option_and_then, filter, map}
+use Rattle.std.proofs.Common.{◌≡◌, ℕ, eqb, ◌+◌, ◌≤◌, max, Bool, true, false, cond, ◌⊎◌, inl, inr, refl, sym, ◌∙◌, ap, subst, arith, le_antisymm, le_trans, Option, Some, None, length, option_and_then}
 use Rattle.std.specs.Option.{option_map_or}
 use Rattle.std.proofs.lemmas.Bool.{cases_eq, eqb-true, eq-eqb}
 use Rattle.std.proofs.lemmas.Option.{none-some, same_Some}
-use Rattle.pim_base.specs.Lists.{holds}
-use Rattle.pim_base.specs.State.{State, IsTask, IsMutex, wait_of, owner_of, protocol_of}
-use Rattle.pim_base.specs.Chains.{heir, heir_in, heir_of}
-use Rattle.pim_base.specs.Priorities.{own_priority, local_priority}
+use Rattle.pim_base.specs.State.{State, IsTask, wait_of}
+use Rattle.pim_base.specs.Chains.{heir, heir_of}
+use Rattle.pim_base.specs.Priorities.{local_priority}
 use Rattle.pim_base.specs.Laws.{IsSound}
 use Rattle.pim_base.specs.declared.steps.Wait.{Wait}
-use Rattle.pim_base.proofs.Hops.{hops, hops_front}
+use Rattle.pim_base.proofs.Hops.{hops_front}
 use Rattle.pim_base.proofs.Greatest.{greatest_of, greatest_of-pass, greatest_of-fail, greatest_of-le, le-greatest_of}
 use Rattle.pim_base.proofs.Stored.{none_inherits_back, own_priority-le-local_priority, stored-le-local_priority, local_priority-le}
 use Rattle.pim_chain.specs.Views.{waits_for}

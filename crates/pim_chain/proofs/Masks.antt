@@ -1,5 +1,5 @@
 -- The bits of a word from one place on, and the least number of a set.
-use Rattle.std.proofs.Common.{◌≡◌, ℕ, zero, suc, ◌+◌, ◌*◌, ◌-◌, ◌/◌, ◌%◌, ◌^◌, ◌<◌, ◌≤◌, min, ◌⊎◌, inl, inr, refl, sym, ◌∙◌, ap, subst, arith, bit_and, w64, List, false, ◌==◌, slice_index}
+use Rattle.std.proofs.Common.{◌≡◌, ℕ, ◌+◌, ◌*◌, ◌-◌, ◌/◌, ◌%◌, ◌^◌, ◌<◌, ◌≤◌, min, ◌⊎◌, inl, inr, sym, ◌∙◌, ap, subst, arith, bit_and, w64, List, false, ◌==◌, slice_index}
 use Rattle.std.specs.Int.{bit_at, trailing_zeros}
 use Rattle.std.proofs.lemmas.Bool.{cases_lt}
 use Rattle.std.proofs.lemmas.Nat.Bits.{bit_at_and, bit_at_mask_inside, bit_at_mask_below, bit_at-lt, bit_at-zero, bit_at-trailing_zeros, ones_shl}
@@ -96,10 +96,3 @@ first_found words n index low place above none found =
     go k low_k high_k (inr behind) =
         let within : place < 64 = found.within in
         not_there words index low place k (omega (arith, within)) found.none_between behind high_k
-
-pub none_found : (words : List ℕ) (n index low : ℕ) → NoneBelow words n (64 * index + low) → NoneFrom (slice_index words index) low → NoneBelow words n (64 * (index + 1) + 0)
-none_found words n index low none rest k low_k high_k = go (cases_lt k (64 * index + low))
-  where
-    go : (k < 64 * index + low) ⊎ (64 * index + low ≤ k) → has words k ≡ false
-    go (inl before) = none k low_k before
-    go (inr behind) = not_there words index low 64 k (omega arith) rest behind (omega (arith, high_k))

@@ -1,15 +1,14 @@
 -- The definitions' queue is one that tables may have, so it is theirs.
-use Rattle.std.proofs.Common.{◌≡◌, ℕ, zero, suc, ◌+◌, ◌≤◌, ◌<◌, Bool, true, false, cond, ◌⊎◌, inl, inr, refl, sym, ◌∙◌, ap, subst, arith, Option, Some, None, List, [], ◌∷◌, length, eqb, ltb, option_and_then}
+use Rattle.std.proofs.Common.{◌≡◌, ℕ, zero, suc, ◌≤◌, ◌<◌, Bool, true, false, cond, ◌⊎◌, inl, inr, refl, sym, ◌∙◌, ap, subst, arith, Option, Some, None, List, length, eqb, ltb, option_and_then}
 use Rattle.std.specs.Option.{option_map_or}
-use Rattle.std.proofs.lemmas.Bool.{both_ways, cases_eq, cases_lt, eqb-true, eq-eqb, ltb-true, lt-ltb}
-use Rattle.std.proofs.lemmas.Option.{same_Some}
-use Rattle.pim_base.specs.Lists.{insert_by, head_of}
-use Rattle.pim_base.specs.State.{State, IsState, IsTask, IsMutex, wait_of}
+use Rattle.std.proofs.lemmas.Bool.{cases_eq, cases_lt, eqb-true, eq-eqb, ltb-true, lt-ltb}
+use Rattle.pim_base.specs.Lists.{insert_by}
+use Rattle.pim_base.specs.State.{State, IsState, IsMutex, wait_of}
 use Rattle.pim_base.specs.Priorities.{effective_priority}
-use Rattle.pim_base.specs.Queues.{precedes, waiter_of, queue_of, first_of}
+use Rattle.pim_base.specs.Queues.{precedes, waiter_of, queue_of}
 use Rattle.pim_base.specs.declared.steps.Wait.{Wait}
 use Rattle.pim_base.specs.declared.steps.Waiter.{Waiter}
-use Rattle.pim_chain.specs.Views.{View, stored_at, queue_at, waits_for, IsQueue, WaitsFit, Ready, Shows}
+use Rattle.pim_chain.specs.Views.{View, stored_at, queue_at, waits_for, IsQueue, WaitsFit, Shows}
 use Rattle.pim_chain.proofs.Queues.{queue_kept, queue_joined, waiting_known}
 use Rattle.pim_chain.proofs.Changes.{not_waiting, waits_once}
 use Rattle.pim_chain.proofs.Walking.{settled_effective}

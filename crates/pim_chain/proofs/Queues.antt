@@ -1,25 +1,25 @@
 -- The queues: who stands first, and what a change of one task leaves of them.
-use Rattle.std.proofs.Common.{◌≡◌, ℕ, eqb, zero, suc, ◌+◌, ◌-◌, ◌<◌, ◌≤◌, max, Bool, true, false, cond, ◌⊎◌, inl, inr, refl, sym, ◌∙◌, ap, subst, arith, le_trans, le_antisymm, Option, Some, None, List, [], ◌∷◌, length, map, filter, unwrap_or, option_and_then}
+use Rattle.std.proofs.Common.{◌≡◌, ℕ, eqb, suc, ◌<◌, ◌≤◌, max, true, false, ◌⊎◌, inl, inr, refl, sym, ◌∙◌, ap, subst, arith, le_trans, le_antisymm, Option, Some, None, List, [], ◌∷◌, length, map, unwrap_or}
 use Rattle.std.specs.List.{list_any, AllByRecursion, IsDistinct}
 use Rattle.std.specs.Option.{option_map_or}
-use Rattle.std.proofs.lemmas.Bool.{both_ways, cases_eq, eqb-true, eq-eqb, ne_eqb, cond_both, or_cases, or_left, or_right}
+use Rattle.std.proofs.lemmas.Bool.{both_ways, cases_eq, eqb-true, eq-eqb, ne_eqb, cond_both, or_cases}
 use Rattle.std.proofs.lemmas.Option.{same_Some}
 use Rattle.std.proofs.lemmas.Map.Steps.{length-le_from_distinct_below}
 use Rattle.std.proofs.Math.Nat.{le-max_left, le-max_right, max-le}
 use Rattle.pim_base.specs.Lists.{nth, holds, insert_by}
-use Rattle.pim_base.specs.State.{State, IsState, IsTask, IsMutex, base_of, owner_of, wait_of, owned}
+use Rattle.pim_base.specs.State.{State, IsState, IsTask, wait_of}
 use Rattle.pim_base.specs.Chains.{heir_of}
-use Rattle.pim_base.specs.Priorities.{own_priority, local_priority, ceiling_of}
+use Rattle.pim_base.specs.Priorities.{own_priority, local_priority}
 use Rattle.pim_base.specs.Queues.{precedes}
 use Rattle.pim_base.specs.declared.steps.Wait.{Wait}
 use Rattle.pim_base.specs.declared.steps.Waiter.{Waiter}
-use Rattle.pim_base.proofs.Greatest.{greatest_of, greatest-cons, greatest_of-le, le-greatest_of}
+use Rattle.pim_base.proofs.Greatest.{greatest_of, greatest_of-le, le-greatest_of}
 use Rattle.pim_base.proofs.Places.{nth_within}
 use Rattle.pim_base.proofs.Stored.{own_priority-le-local_priority, stored-le-local_priority, local_priority-le, holds_from, from_holds}
 use Rattle.pim_queue.specs.Waiters.{is_of, without, IsOrdered}
 use Rattle.pim_queue.proofs.Order.{found, all_both, all_each, before_prio, told_before, Before, all_without, ordered_without, any_without, all_place, ordered_place, any_place_new, any_place}
-use Rattle.pim_chain.specs.Views.{View, stored_at, queue_at, front_prio, waits_for, Shows, IsQueue, WaitsFit, Ready}
-use Rattle.pim_chain.proofs.Local.{top, Through, through, heir_at, waits_for_from, greatest_of-more, greatest_of-below}
+use Rattle.pim_chain.specs.Views.{front_prio, waits_for, Shows, IsQueue, WaitsFit}
+use Rattle.pim_chain.proofs.Local.{top, through, heir_at, waits_for_from}
 
 none_waits : (o : Option Wait) (x : Wait) → o ≡ None → o ≡ Some x → ⊥
 none_waits None x e f = cc

@@ -1,12 +1,12 @@
 -- The reason of a settled priority.
-use Rattle.std.proofs.Common.{◌≡◌, ℕ, zero, suc, ◌<◌, ◌≤◌, ◌==◌, Bool, true, false, cond, ◌&&◌, ◌⊎◌, inl, inr, refl, sym, ◌∙◌, ap, subst, arith, le_trans, Option, Some, None, List, [], ◌∷◌, length, eqb, option_and_then, if◌then◌else◌}
+use Rattle.std.proofs.Common.{◌≡◌, ℕ, ◌<◌, ◌≤◌, ◌==◌, Bool, true, false, ◌&&◌, ◌⊎◌, inl, inr, refl, sym, ◌∙◌, ap, subst, arith, Option, Some, None, List, [], ◌∷◌, length, eqb, if◌then◌else◌}
 use Rattle.std.specs.List.{find, list_any, AllByRecursion}
 use Rattle.std.specs.Option.{option_map_or}
-use Rattle.std.proofs.lemmas.Bool.{both_ways, cases_eq, eqb-true, eq-eqb, ne_eqb, or_left, or_from, and_parts}
+use Rattle.std.proofs.lemmas.Bool.{both_ways, cases_eq, eq-eqb, ne_eqb, or_left, or_from, and_parts}
 use Rattle.std.proofs.lemmas.Option.{none-some}
-use Rattle.pim_base.specs.Lists.{holds, head_of}
+use Rattle.pim_base.specs.Lists.{head_of}
 use Rattle.pim_base.specs.State.{State, IsTask, IsMutex, base_of, owner_of, wait_of, protocol_of, owned}
-use Rattle.pim_base.specs.Chains.{heir, heir_in, heir_of}
+use Rattle.pim_base.specs.Chains.{heir_in, heir_of}
 use Rattle.pim_base.specs.Priorities.{ceiling_of, effective_priority}
 use Rattle.pim_base.specs.Queues.{precedes, queue_of}
 use Rattle.pim_base.specs.Reasons.{is_inherit, lends, waiter_reason, owning_reason, reason_of}
@@ -15,8 +15,8 @@ use Rattle.pim_base.specs.declared.steps.Reason.{Reason}
 use Rattle.pim_base.specs.declared.steps.Waiter.{Waiter}
 use Rattle.pim_base.proofs.Stored.{stored-le-local_priority, from_holds}
 use Rattle.pim_queue.specs.Waiters.{IsOrdered}
-use Rattle.pim_queue.proofs.Order.{all_each, before_prio}
-use Rattle.pim_chain.specs.Views.{View, stored_at, queue_at, front_prio, Shows, Ready}
+use Rattle.pim_queue.proofs.Order.{before_prio}
+use Rattle.pim_chain.specs.Views.{View, stored_at, queue_at, front_prio, Shows}
 use Rattle.pim_chain.specs.Settled.{Calm}
 use Rattle.pim_chain.specs.Owned.{IsFirstAbove, IsNext, owns, lends_now, first_reason}
 use Rattle.pim_chain.proofs.Local.{heir_at, waits_for_from}

@@ -1,11 +1,11 @@
 -- New tables: nothing is owned and nobody waits.
-use Rattle.std.proofs.Common.{◌≡◌, ℕ, zero, suc, ◌<◌, ◌≤◌, max, Bool, true, false, refl, sym, ◌∙◌, ap, subst, arith, le_antisymm, Option, Some, None, List, [], ◌∷◌, length, replicate, map, drop, unwrap_or, option_and_then, slice_get}
+use Rattle.std.proofs.Common.{◌≡◌, ℕ, zero, suc, ◌≤◌, max, false, refl, sym, ◌∙◌, ap, subst, arith, le_antisymm, Option, None, List, [], length, replicate, map, drop, unwrap_or, option_and_then}
 use Rattle.std.specs.Option.{option_map_or}
 use Rattle.std.proofs.lemmas.Bool.{both_ways}
 use Rattle.std.proofs.lemmas.List.{length-replicate}
 use Rattle.std.proofs.lemmas.Option.{none-some}
-use Rattle.pim_base.specs.Lists.{nth, contains, holds}
-use Rattle.pim_base.specs.State.{State, start, IsTask, IsMutex, base_of, owner_of, wait_of, owned}
+use Rattle.pim_base.specs.Lists.{contains, holds}
+use Rattle.pim_base.specs.State.{State, start, IsMutex, base_of, owner_of, wait_of, owned}
 use Rattle.pim_base.specs.Chains.{chain, blocker, heir, heir_of, HasCycle}
 use Rattle.pim_base.specs.Priorities.{own_priority, local_priority, ceiling_of}
 use Rattle.pim_base.specs.Laws.{IsSound}
@@ -14,7 +14,7 @@ use Rattle.pim_base.specs.declared.steps.Wait.{Wait}
 use Rattle.pim_base.proofs.Greatest.{greatest_of, greatest-cons, greatest_of-le}
 use Rattle.pim_base.proofs.Stored.{own_priority-le-local_priority, local_priority-le}
 use Rattle.pim_queue.specs.Line.{Line}
-use Rattle.pim_chain.specs.Views.{View, fresh, stored_at, line_in, queue_at, IsQueue, Ready}
+use Rattle.pim_chain.specs.Views.{fresh, stored_at, line_in, IsQueue, Ready}
 use Rattle.pim_chain.specs.Settled.{SettledBut}
 use Rattle.pim_chain.proofs.Changes.{not_waiting}
 use Rattle.pim_chain.proofs.Repeated.{nth-replicate_none, nth-replicate_same}

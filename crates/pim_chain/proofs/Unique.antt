@@ -1,15 +1,14 @@
 -- There is one queue alone, and the definitions' queue is it.
-use Rattle.std.proofs.Common.{◌≡◌, ℕ, zero, suc, ◌+◌, ◌≤◌, ◌<◌, Bool, true, false, cond, ◌⊎◌, inl, inr, refl, sym, ◌∙◌, ap, subst, arith, Option, Some, None, List, [], ◌∷◌, length, eqb, ltb}
+use Rattle.std.proofs.Common.{◌≡◌, ℕ, ◌<◌, true, false, ◌⊎◌, inl, inr, refl, sym, ◌∙◌, ap, subst, arith, Option, List, [], ◌∷◌}
 use Rattle.std.specs.List.{list_any, AllByRecursion}
-use Rattle.std.specs.Option.{option_map_or}
-use Rattle.std.proofs.lemmas.Bool.{both_ways, cases_eq, eqb-true, eq-eqb, or_cases, or_left, or_right}
-use Rattle.std.proofs.lemmas.Option.{none-some, same_Some}
+use Rattle.std.proofs.lemmas.Bool.{both_ways, eqb-true, eq-eqb, or_cases, or_left, or_right}
+use Rattle.std.proofs.lemmas.Option.{same_Some}
 use Rattle.pim_base.specs.declared.steps.Wait.{Wait}
 use Rattle.pim_base.specs.declared.steps.Waiter.{Waiter}
 use Rattle.pim_base.specs.Queues.{precedes}
 use Rattle.pim_queue.specs.Waiters.{is_of, IsOrdered}
 use Rattle.pim_queue.proofs.Order.{found, Found, all_both, told_before, Before}
-use Rattle.pim_chain.specs.Views.{Shows, IsQueue}
+use Rattle.pim_chain.specs.Views.{Shows}
 use Rattle.pim_chain.proofs.Queues.{others_behind}
 
 -- two waiters of one task show the same

@@ -1,8 +1,8 @@
 -- Whose local priority alone a single change may change.
-use Rattle.std.proofs.Common.{◌≡◌, ℕ, ◌≤◌, refl, sym, ◌∙◌, ap, subst, arith, Option, Some, None, option_and_then}
+use Rattle.std.proofs.Common.{◌≡◌, ℕ, sym, ◌∙◌, ap, arith, Option, Some, None, option_and_then}
 use Rattle.std.proofs.lemmas.Option.{none-some, same_Some}
 use Rattle.pim_base.specs.State.{State, IsState, IsTask, owner_of, wait_of, protocol_of, with_owner, with_wait, with_base}
-use Rattle.pim_base.specs.Chains.{blocker, heir, heir_of}
+use Rattle.pim_base.specs.Chains.{blocker, heir_of}
 use Rattle.pim_base.specs.declared.steps.Wait.{Wait}
 use Rattle.pim_base.proofs.Stored.{heir_in-owner, heir-blocker}
 use Rattle.pim_chain.specs.Settled.{SettledBut}

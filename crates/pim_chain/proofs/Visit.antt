@@ -1,25 +1,24 @@
 -- One visit.
-use Rattle.std.proofs.Common.{◌≡◌, ℕ, eqb, ◌≤◌, ◌==◌, Bool, cond, if◌then◌else◌, true, false, ◌⊎◌, inl, inr, refl, sym, ◌∙◌, ap, subst, Option, Some, None, List, [], length, unwrap_or, option_and_then}
+use Rattle.std.proofs.Common.{◌≡◌, ℕ, eqb, ◌≤◌, ◌==◌, Bool, cond, if◌then◌else◌, true, false, ◌⊎◌, inl, inr, refl, sym, ◌∙◌, ap, subst, Option, Some, None, List, length, unwrap_or, option_and_then}
 use Rattle.std.specs.List.{list_any}
 use Rattle.std.specs.Option.{option_map_or}
 use Rattle.std.proofs.lemmas.Bool.{cases_eq, eqb-true, eq-eqb, ne_eqb}
 use Rattle.std.proofs.lemmas.Option.{none-some, same_Some}
 use Rattle.pim_base.specs.Lists.{put, insert_by}
-use Rattle.pim_base.specs.State.{State, IsTask, IsMutex, wait_of}
+use Rattle.pim_base.specs.State.{IsTask, IsMutex, wait_of}
 use Rattle.pim_base.specs.Chains.{heir, heir_of}
 use Rattle.pim_base.specs.Priorities.{local_priority}
 use Rattle.pim_base.specs.Queues.{precedes}
 use Rattle.pim_base.specs.declared.steps.Wait.{Wait}
 use Rattle.pim_base.specs.declared.steps.Waiter.{Waiter}
 use Rattle.pim_base.proofs.Places.{nth-put_same, nth-put_other, length-put}
-use Rattle.pim_queue.specs.Line.{Line}
 use Rattle.pim_queue.specs.Waiters.{is_of, without, ticket_of, repositioned}
 use Rattle.pim_queue.proofs.Order.{Found, found}
-use Rattle.pim_chain.specs.Views.{View, stored_in, stored_at, queue_at, queue_in, line_in, put_queue, front_prio, waits_for, Shows, IsQueue, Ready}
-use Rattle.pim_chain.specs.Settled.{SettledBut, moved, restored, next_of, Visited}
-use Rattle.pim_chain.proofs.Local.{Mends, mended_onward, mended_stop, waits_for_from, heir_at, top}
-use Rattle.pim_chain.proofs.Queues.{queue_kept, queue_left, queue_joined, top_front, waiting_known}
-use Rattle.pim_chain.proofs.Changes.{queues_put, line_same, room_kept, not_waiting, waits_once}
+use Rattle.pim_chain.specs.Views.{View, stored_in, stored_at, queue_at, front_prio, Shows, IsQueue, Ready}
+use Rattle.pim_chain.specs.Settled.{SettledBut, moved, restored, Visited}
+use Rattle.pim_chain.proofs.Local.{Mends, mended_onward, mended_stop, waits_for_from, heir_at}
+use Rattle.pim_chain.proofs.Queues.{queue_kept, queue_left, queue_joined, top_front}
+use Rattle.pim_chain.proofs.Changes.{queues_put, room_kept, not_waiting, waits_once}
 
 -- ---- another stored priority
 pub stored_now : (v : View) (x p : ℕ) → Ready v → IsTask v.state x → stored_in (put v.stored x p) x ≡ p

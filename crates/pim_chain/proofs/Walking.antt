@@ -1,5 +1,5 @@
 -- The walk: where it stands after so many visits, and what it has changed.
-use Rattle.std.proofs.Common.{◌≡◌, ℕ, zero, suc, ◌+◌, ◌<◌, ◌≤◌, Bool, true, false, not, cond, ◌⊎◌, inl, inr, refl, sym, ◌∙◌, ap, subst, arith, Option, Some, None, eqb, length, add-one, zero-add, eq-or-lt_of_le}
+use Rattle.std.proofs.Common.{◌≡◌, ℕ, zero, suc, ◌+◌, ◌<◌, ◌≤◌, Bool, true, false, not, cond, ◌⊎◌, inl, inr, refl, sym, ◌∙◌, ap, subst, arith, Option, Some, None, eqb, length, add-one, eq-or-lt_of_le}
 use Rattle.std.proofs.lemmas.Bool.{cases_eq, eq-eqb, ne_eqb, eqb-true, not-false, both_ways}
 use Rattle.std.proofs.lemmas.Option.{none-some, same_Some}
 use Rattle.pim_base.specs.State.{State, IsTask, protocol_of, owner_of}
@@ -9,7 +9,7 @@ use Rattle.pim_base.specs.Counts.{count, differing}
 use Rattle.pim_base.specs.Laws.{IsSound}
 use Rattle.pim_base.proofs.Hops.{hops, hops_front, hops-add, first_hop, chain_is_short}
 use Rattle.pim_base.proofs.Stored.{none_inherits_back, only_known_inherit, stored_law, last_hop, heir_in-owner}
-use Rattle.pim_chain.proofs.Local.{Through, through}
+use Rattle.pim_chain.proofs.Local.{through}
 use Rattle.pim_chain.specs.Views.{View, stored_at, WaitsFit, Ready}
 use Rattle.pim_chain.specs.Settled.{SettledBut, Visited, changed}
 

@@ -1,16 +1,15 @@
 -- What the tables hold, and what always holds of it.
-use Rattle.std.specs.Prelude.{◌≡◌, ◌≤◌, ℕ, Bool, true, false, ◌==◌, List, [], Option, Some, None, length, replicate, unwrap_or}
+use Rattle.std.specs.Prelude.{◌≡◌, ◌≤◌, ℕ, Bool, true, false, ◌==◌, List, [], Option, Some, length, replicate, unwrap_or}
 use Rattle.std.specs.List.{list_any, AllByRecursion}
 use Rattle.std.specs.Option.{option_map_or}
-use Rattle.pim_base.specs.Lists.{nth, put, head_of, insert_by}
+use Rattle.pim_base.specs.Lists.{nth, put, head_of}
 use Rattle.pim_base.specs.State.{State, start, IsTask, IsMutex, wait_of, owner_of}
-use Rattle.pim_base.specs.Queues.{precedes}
 use Rattle.pim_base.specs.Laws.{IsSound}
 use Rattle.pim_base.specs.declared.steps.Protocol.{Protocol}
 use Rattle.pim_base.specs.declared.steps.Wait.{Wait}
 use Rattle.pim_base.specs.declared.steps.Waiter.{Waiter}
 use Rattle.pim_queue.specs.Line.{Line, with_waiters}
-use Rattle.pim_queue.specs.Waiters.{is_of, without, IsOrdered}
+use Rattle.pim_queue.specs.Waiters.{is_of, IsOrdered}
 
 -- the state, whose next ticket is not the tables', the stored priorities, and the queue of each mutex
 pub record View : Type 0 where

@@ -67,6 +67,14 @@ impl Tables {
         prio
     }
 
+    // whether this is the task's stored priority already: [2]
+    fn has_stored(&self, task: TaskNo, prio: Prio) -> bool
+        requires { IsTask self.now.state task }
+        ensures { result ≡ (stored_at self.now task == prio) }
+    {
+        self.known_stored(task).get() == prio.get()
+    }
+
     // where the walk goes on from the queue of a mutex, whose front had this priority before: [5] and [6]
     fn onward(&self, mutex: MutexNo, before: u16) -> Option<TaskNo>
         ensures { result ≡ (if before == front_prio (queue_at self.now mutex) then None else heir_of self.now.state mutex) }
@@ -91,9 +99,7 @@ impl Tables {
     {
         // [2]
         let prio = self.local(task, visits);
-        let stored = self.known_stored(task).get();
-        let level = prio.get();
-        if level == stored {
+        if self.has_stored(task, prio) {
             return None;
         }
         match self.waits_for(task) {

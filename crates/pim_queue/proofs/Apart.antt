@@ -1,5 +1,5 @@
 -- Waiters of different tasks with different tickets, and what keeps them so.
-use Rattle.std.proofs.Common.{◌≡◌, ◌≢◌, ℕ, suc, ◌<◌, ◌≤◌, Bool, true, false, ◌||◌, cond, refl, sym, ◌∙◌, ap, subst, arith, List, [], ◌∷◌, length, Some}
+use Rattle.std.proofs.Common.{◌≡◌, ◌≢◌, ℕ, suc, ◌<◌, ◌≤◌, Bool, true, false, ◌||◌, cond, refl, sym, ◌∙◌, ap, arith, List, [], ◌∷◌, length, Some}
 use Rattle.std.specs.List.{list_any, AllByRecursion, find}
 use Rattle.std.specs.Option.{option_map_or}
 use Rattle.std.proofs.lemmas.Bool.{both_ways, eqb-true, eq-eqb, or_parts, cond_both}
@@ -7,7 +7,7 @@ use Rattle.pim_base.specs.declared.steps.Waiter.{Waiter}
 use Rattle.pim_base.specs.Lists.{insert_by}
 use Rattle.pim_base.specs.Queues.{precedes}
 use Rattle.pim_queue.specs.Line.{IsLine}
-use Rattle.pim_queue.specs.Waiters.{is_of, has_ticket, without, ticket_of, repositioned, IsOrdered, Differs, IsApart}
+use Rattle.pim_queue.specs.Waiters.{is_of, has_ticket, without, ticket_of, repositioned, Differs, IsApart}
 use Rattle.pim_queue.proofs.Order.{all_each, all_both, all_without, all_place, ordered_without, ordered_place}
 
 -- ---- lengths

@@ -10,13 +10,13 @@ use Rattle.pim_chain.proofs.tables.Tables.new.Goals as goal
 pub invariant_of-result : goal.invariant_of-result
 invariant_of-result c = record {
   ready =
-    subst Ready
-    (sym (is_fresh c.args.bases.now c.args.protocols.now _ _ _ _ _ _ c.in_ok-base.ensures.items c.in_ok-protocol.ensures.items c.in_ok-owner.ensures c.in_ok-wait.ensures c.in_ok-stored.ensures.items c.in_ok-queues.ensures))
-    (ready_fresh c.args.bases.now c.args.protocols.now c.requires.tasks c.requires.mutexes);
+      subst Ready
+      (sym (is_fresh c.args.bases.now c.args.protocols.now _ _ _ _ _ _ c.in_ok-base.ensures.items c.in_ok-protocol.ensures.items c.in_ok-owner.ensures c.in_ok-wait.ensures c.in_ok-stored.ensures.items c.in_ok-queues.ensures))
+      (ready_fresh c.args.bases.now c.args.protocols.now c.requires.tasks c.requires.mutexes);
   owned =
-    subst (λ n. AreOwned n c.in_ok-owner.owner.items c.in_ok-owned.owned.items) (sym (ap length c.in_ok-base.ensures.items))
-    (subst (λ os. AreOwned (length c.args.bases.now) os c.in_ok-owned.owned.items) (sym c.in_ok-owner.ensures)
-    (none_owned (length c.args.bases.now) (length c.args.protocols.now) c.new.result c.in_ok-owned.owned.items c.new.ensures c.in_ok-owned.ensures));
+      subst (λ n. AreOwned n c.in_ok-owner.owner.items c.in_ok-owned.owned.items) (sym (ap length c.in_ok-base.ensures.items))
+      (subst (λ os. AreOwned (length c.args.bases.now) os c.in_ok-owned.owned.items) (sym c.in_ok-owner.ensures)
+      (none_owned (length c.args.bases.now) (length c.args.protocols.now) c.new.result c.in_ok-owned.owned.items c.new.ensures c.in_ok-owned.ensures));
 }
 
 pub returns-clause-settled : goal.returns-clause-settled

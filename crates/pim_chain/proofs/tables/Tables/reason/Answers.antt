@@ -1,10 +1,10 @@
-use Rattle.std.proofs.Common.{◌≡◌, ◌≤◌, ◌<◌, ◌==◌, ◌&&◌, ℕ, false, ◌∙◌, sym, subst, arith, Some, None}
+use Rattle.std.proofs.Common.{◌≡◌, ◌<◌, ◌==◌, ◌&&◌, ℕ, false, ◌∙◌, sym, subst, arith, Some, None}
 use Rattle.std.proofs.lemmas.Bool.{and_parts}
-use Rattle.pim_base.specs.State.{IsMutex, base_of}
+use Rattle.pim_base.specs.State.{IsMutex}
 use Rattle.pim_base.specs.Priorities.{ceiling_of}
 use Rattle.pim_chain.specs.Views.{stored_at}
 use Rattle.pim_chain.specs.Settled.{Calm}
-use Rattle.pim_chain.specs.Owned.{IsFirstAbove, IsNext, owns, lends_now}
+use Rattle.pim_chain.specs.Owned.{IsFirstAbove, owns, lends_now}
 use Rattle.pim_chain.proofs.Lent.{owned_known}
 use Rattle.pim_chain.proofs.Reasons.{reason_base, reason_ceiling, reason_waiter, waiter_here}
 use Rattle.pim_chain.proofs.tables.Tables.reason.Goals as goal
