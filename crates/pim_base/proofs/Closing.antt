@@ -112,7 +112,10 @@ cycle_from_returns hop (suc n) t k le e =
     let f = first_hop hop k t t e in
     rw f.1 (contains_from_reaches hop n f.0 t k (omega arith) f.2)
 
-pub returns_from_cycle : (hop : ℕ → Option ℕ) (n t : ℕ) → contains (drop 1 (chain hop n t)) t ≡ true → (k : ℕ) × (suc k ≤ n) × (hops hop (suc k) t ≡ Some t)
+pub returns_from_cycle :
+    (hop : ℕ → Option ℕ) (n t : ℕ)
+    → contains (drop 1 (chain hop n t)) t ≡ true
+    → (k : ℕ) × (suc k ≤ n) × (hops hop (suc k) t ≡ Some t)
 returns_from_cycle hop zero t h = cc
 returns_from_cycle hop (suc n) t h = go (hop t) refl h
   where
@@ -190,7 +193,8 @@ closing_law S t m ticket valid acyclic task idle = go (owner_of S m) refl
         let at_t : again t ≡ Some u = blocker_same S t (Some w) valid task ∙ owned in
         let acyclic_hop : NoneReturns hop (length S.base) = none_returns S acyclic in (
           (λ h.
-              let r = returns_from_reaches hop again (length S.base) t u acyclic_hop (only_known_hop S valid) task differs stays at_t (reaches_from_contains hop (length S.base) u t h) in
+              let r = returns_from_reaches hop again (length S.base) t u acyclic_hop (only_known_hop S valid) task differs stays at_t
+              (reaches_from_contains hop (length S.base) u t h) in
               (r.0, cycle_from_returns again (length S.base) r.0 r.1 r.2 r.3)),
           (λ (v, h).
               let r = returns_from_cycle again (length S.base) v h in

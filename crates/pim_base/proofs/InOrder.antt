@@ -85,7 +85,11 @@ is_in-insert_by : (xs : List Waiter) (w x : Waiter) → (x ≡ w) ⊎ IsIn w xs 
 is_in-insert_by [] w x h = h
 is_in-insert_by (v ∷ xs) w x h = go (precedes x v) h (is_in-insert_by xs w x)
   where
-    go : (b : Bool) → (x ≡ w) ⊎ IsIn w (v ∷ xs) → ((x ≡ w) ⊎ IsIn w xs → IsIn w (insert_by precedes xs x)) → IsIn w (cond b (x ∷ v ∷ xs) (v ∷ insert_by precedes xs x))
+    go :
+        (b : Bool)
+        → (x ≡ w) ⊎ IsIn w (v ∷ xs)
+        → ((x ≡ w) ⊎ IsIn w xs → IsIn w (insert_by precedes xs x))
+        → IsIn w (cond b (x ∷ v ∷ xs) (v ∷ insert_by precedes xs x))
     go true h rest = h
     go false (inl here) rest = inr (rest (inl here))
     go false (inr (inl first)) rest = inl first

@@ -124,7 +124,11 @@ first_lends S t m ok task heir_is (w ∷ q) same any = (to_t, at_m, le_antisymm 
     low : effective_priority S w.task ≤ effective_priority S t
     low = effective_priority-le_next S ok.sound w.task t task to_t
 
-    found : (b : Bool) → eqb w.prio (effective_priority S t) ≡ b → (b || list_any (λ v. eqb v.prio (effective_priority S t)) q) ≡ true → effective_priority S t ≤ w.prio
+    found :
+        (b : Bool)
+        → eqb w.prio (effective_priority S t) ≡ b
+        → (b || list_any (λ v. eqb v.prio (effective_priority S t)) q) ≡ true
+        → effective_priority S t ≤ w.prio
     found true here h = omega (arith, eqb-true w.prio (effective_priority S t) here)
     found false here h =
         let one = Any-from_list_any (λ (v : Waiter). eqb v.prio (effective_priority S t)) q h in
@@ -174,7 +178,9 @@ ceiling_or_lends :
     → IsTask S t
     → effective_priority S t ≢ base_of S t
     → IsReached (ceiling_of S) (λ m. holds (owner_of S m) t) (length S.protocol) (effective_priority S t) ⊎ Lends S t (effective_priority S t)
-ceiling_or_lends S t ok task other = go (greatest_of_reached (ceiling_of S) q (length S.protocol)) (greatest_of_reached (effective_priority S) r (length S.base))
+ceiling_or_lends S t ok task other =
+    go (greatest_of_reached (ceiling_of S) q (length S.protocol))
+    (greatest_of_reached (effective_priority S) r (length S.base))
   where
     q : ℕ → Bool
     q m = holds (owner_of S m) t
@@ -229,7 +235,12 @@ reason_law S t ok task = top (eqb e (base_of S t)) refl
 
     positive : e ≢ base_of S t → 1 ≤ e
     positive other =
-        omega (arith, other, own_priority-le-effective_priority S t t 0 task (omega arith) refl, greatest-cons (base_of S t) (map (ceiling_of S) (owned S t)))
+        omega (
+          arith,
+          other,
+          own_priority-le-effective_priority S t t 0 task (omega arith) refl,
+          greatest-cons (base_of S t) (map (ceiling_of S) (owned S t)),
+        )
 
     nothing : e ≢ base_of S t → find at_ceiling (owned S t) ≡ None → find (lends S e) (owned S t) ≡ None → ⊥
     nothing other no_ceiling no_lender = elim (ceiling_or_lends S t ok task other) [
@@ -238,7 +249,8 @@ reason_law S t ok task = top (eqb e (base_of S t)) refl
           (eq-eqb (ceiling_of S k.0) e k.4)
       | inr l ↦
           both_ways (lends S e l.mutex)
-          (none_passes (lends S e) q 1 (length S.protocol) l.mutex no_lender l.known.0 (omega (arith, l.known.1)) (holds_from (owner_of S l.mutex) t l.owner))
+          (none_passes (lends S e) q 1 (length S.protocol) l.mutex no_lender l.known.0 (omega (arith, l.known.1))
+          (holds_from (owner_of S l.mutex) t l.owner))
           l.lends
     ]
 

@@ -25,7 +25,10 @@ use Rattle.pim_base.proofs.NoCycle.{sound_kept, unwrap_or-put_same}
 use Rattle.pim_base.proofs.Places.{nth-put_same, nth-put_other, nth_within}
 
 -- a wait after one task's wait was changed is that one, or an old one
-wait_of-put : (S : State) (t x : ℕ) (o : Option Wait) (w : Wait) → wait_of (with_wait S t o) x ≡ Some w → ((t ≡ x) × (o ≡ Some w)) ⊎ (wait_of S x ≡ Some w)
+wait_of-put :
+    (S : State) (t x : ℕ) (o : Option Wait) (w : Wait)
+    → wait_of (with_wait S t o) x ≡ Some w
+    → ((t ≡ x) × (o ≡ Some w)) ⊎ (wait_of S x ≡ Some w)
 wait_of-put S t x o w e = elim (eqb_tells t x) [
   | inl same ↦ elim (unwrap_or-put_same S.wait t o) [
     | inl is_o ↦ inl (same.1, sym is_o ∙ ap (wait_of (with_wait S t o)) same.1 ∙ e)
