@@ -9,7 +9,7 @@ use Rattle.std.proofs.lemmas.Option.{none-some, same_Some}
 use Rattle.pim_base.specs.Lists.{holds, head_of, numbers}
 use Rattle.pim_base.specs.State.{State, IsTask, IsMutex, base_of, owner_of, protocol_of, wait_of, owned}
 use Rattle.pim_base.specs.Chains.{heir, heir_in, heir_of}
-use Rattle.pim_base.specs.Priorities.{ceiling, ceiling_of, own_priority, effective_priority}
+use Rattle.pim_base.specs.Priorities.{ceiling, ceiling_of, effective_priority}
 use Rattle.pim_base.specs.Queues.{Precedes, waiter_of, queue_of}
 use Rattle.pim_base.specs.Reasons.{is_inherit, lends, waiter_reason, owning_reason}
 use Rattle.pim_base.specs.Steady.{IsSteady}
@@ -19,7 +19,7 @@ use Rattle.pim_base.specs.declared.steps.Reason.{Reason}
 use Rattle.pim_base.specs.declared.steps.Waiter.{Waiter}
 use Rattle.pim_base.specs.declared.steps.Wait.{Wait}
 use Rattle.pim_base.proofs.Greatest.{greatest_of, greatest-cons, IsReached, greatest_of_reached}
-use Rattle.pim_base.proofs.Stored.{heir_in-owner, holds_from, own_priority-le-effective_priority, from_holds, local_is, stored_law, effective_priority-le_next}
+use Rattle.pim_base.proofs.Stored.{heir_in-owner, holds_from, from_holds, local_is, stored_law, effective_priority-le_next}
 use Rattle.pim_base.proofs.InOrder.{queue_law, precedes_prio, WaitsFor, waits_for, waiter_of-waits}
 use Rattle.pim_base.proofs.Effective.{known_from_owner}
 
@@ -171,55 +171,88 @@ lends_from_heir S u t ok task e = go (wait_of S u) refl e
           lends = and_from _ _ (inherit_from_heir (protocol_of S w.mutex) (owner_of S w.mutex) t h) (there w waits);
         }
 
+-- whether the task owns the mutex
+abbrev owns : State → ℕ → ℕ → Bool
+owns S t m = holds (owner_of S m) t
+
+-- whether the mutex has this ceiling
+abbrev at_ceiling : State → ℕ → ℕ → Bool
+at_ceiling S p m = eqb (ceiling_of S m) p
+
+-- the greatest ceiling of the mutexes that t owns
+abbrev ceilings : State → ℕ → ℕ
+ceilings S t = greatest_of (ceiling_of S) (owns S t) (length S.protocol)
+
+-- the greatest priority of the tasks whose heir t is
+abbrev lent : State → ℕ → ℕ
+lent S t = greatest_of (effective_priority S) (λ u. holds (heir S u) t) (length S.base)
+
+greatest_of_three : (S : State) (t : ℕ) → IsSteady S → IsTask S t → effective_priority S t ≡ max (max (base_of S t) (ceilings S t)) (lent S t)
+greatest_of_three S t ok task =
+    (stored_law S (effective_priority S) ok.sound).1 (λ u known. refl) t task
+    ∙ local_is S (effective_priority S) t
+    ∙ ap (λ n. max n (lent S t)) (greatest-cons (base_of S t) (map (ceiling_of S) (owned S t)))
+
+-- a mutex of t with this ceiling
+abbrev HasCeiling : State → ℕ → ℕ → Type 0
+HasCeiling S t p = IsReached (ceiling_of S) (owns S t) (length S.protocol) p
+
 -- a priority that isn't the base comes from a ceiling or from a waiter
 ceiling_or_lends :
     (S : State) (t : ℕ)
     → IsSteady S
     → IsTask S t
     → effective_priority S t ≢ base_of S t
-    → IsReached (ceiling_of S) (λ m. holds (owner_of S m) t) (length S.protocol) (effective_priority S t) ⊎ Lends S t (effective_priority S t)
+    → HasCeiling S t (effective_priority S t) ⊎ Lends S t (effective_priority S t)
 ceiling_or_lends S t ok task other =
-    go (greatest_of_reached (ceiling_of S) q (length S.protocol))
-    (greatest_of_reached (effective_priority S) r (length S.base))
+    go (greatest_of_reached (ceiling_of S) (owns S t) (length S.protocol))
+    (greatest_of_reached (effective_priority S) (λ u. holds (heir S u) t) (length S.base))
   where
-    q : ℕ → Bool
-    q m = holds (owner_of S m) t
-
-    r : ℕ → Bool
-    r u = holds (heir S u) t
-
-    ceilings : ℕ
-    ceilings = greatest_of (ceiling_of S) q (length S.protocol)
-
-    waiters : ℕ
-    waiters = greatest_of (effective_priority S) r (length S.base)
-
-    own : own_priority S t ≡ max (base_of S t) ceilings
-    own = greatest-cons (base_of S t) (map (ceiling_of S) (owned S t))
-
-    whole : effective_priority S t ≡ max (max (base_of S t) ceilings) waiters
-    whole =
-        (stored_law S (effective_priority S) ok.sound).1 (λ u known. refl) t task
-        ∙ local_is S (effective_priority S) t ∙ ap (λ n. max n waiters) own
+    whole : effective_priority S t ≡ max (max (base_of S t) (ceilings S t)) (lent S t)
+    whole = greatest_of_three S t ok task
 
     go :
-        (ceilings ≡ 0) ⊎ IsReached (ceiling_of S) q (length S.protocol) ceilings
-        → (waiters ≡ 0) ⊎ IsReached (effective_priority S) r (length S.base) waiters
-        → IsReached (ceiling_of S) q (length S.protocol) (effective_priority S t) ⊎ Lends S t (effective_priority S t)
-    go x y = elim (cases_lt waiters (effective_priority S t)) [
+        (ceilings S t ≡ 0) ⊎ HasCeiling S t (ceilings S t)
+        → (lent S t ≡ 0) ⊎ IsReached (effective_priority S) (λ u. holds (heir S u) t) (length S.base) (lent S t)
+        → HasCeiling S t (effective_priority S t) ⊎ Lends S t (effective_priority S t)
+    go x y = elim (cases_lt (lent S t) (effective_priority S t)) [
       | inl low ↦
-          let is : ceilings ≡ effective_priority S t = omega (arith, whole, low, other) in
+          let is : ceilings S t ≡ effective_priority S t = omega (arith, whole, low, other) in
           elim x [
             | inl none ↦ absurd (omega (arith, is, none, whole, other))
             | inr k ↦ inl (k.0, k.1, k.2, k.3, k.4 ∙ is)
           ]
       | inr high ↦
-          let is : waiters ≡ effective_priority S t = omega (arith, whole, high) in
+          let is : lent S t ≡ effective_priority S t = omega (arith, whole, high) in
           elim y [
             | inl none ↦ absurd (omega (arith, is, none, whole, other))
             | inr u ↦ inr (subst (Lends S t) (u.4 ∙ is) (lends_from_heir S u.0 t ok (u.1, u.2) (from_holds (heir S u.0) t u.3)))
           ]
     ]
+
+-- so one of the two searches finds a mutex
+one_is_found :
+    (S : State) (t : ℕ)
+    → IsSteady S
+    → IsTask S t
+    → effective_priority S t ≢ base_of S t
+    → find (at_ceiling S (effective_priority S t)) (owned S t) ≡ None
+    → find (lends S (effective_priority S t)) (owned S t) ≡ None
+    → ⊥
+one_is_found S t ok task other no_ceiling no_lender = elim (ceiling_or_lends S t ok task other) [
+  | inl k ↦
+      both_ways (at_ceiling S e k.0)
+      (none_passes (at_ceiling S e) (owns S t) 1 (length S.protocol) k.0 no_ceiling k.1 (omega (arith, k.2)) k.3)
+      (eq-eqb (ceiling_of S k.0) e k.4)
+  | inr l ↦
+      both_ways (lends S e l.mutex)
+      (none_passes (lends S e) (owns S t) 1 (length S.protocol) l.mutex no_lender l.known.0 (omega (arith, l.known.1))
+      (holds_from (owner_of S l.mutex) t l.owner))
+      l.lends
+]
+  where
+    e : ℕ
+    e = effective_priority S t
 
 pub reason_law : ReasonLaw
 reason_law S t ok task = top (eqb e (base_of S t)) refl
@@ -227,49 +260,29 @@ reason_law S t ok task = top (eqb e (base_of S t)) refl
     e : ℕ
     e = effective_priority S t
 
-    q : ℕ → Bool
-    q m = holds (owner_of S m) t
-
-    at_ceiling : ℕ → Bool
-    at_ceiling m = eqb (ceiling_of S m) e
-
-    positive : e ≢ base_of S t → 1 ≤ e
-    positive other =
-        omega (
-          arith,
-          other,
-          own_priority-le-effective_priority S t t 0 task (omega arith) refl,
-          greatest-cons (base_of S t) (map (ceiling_of S) (owned S t)),
-        )
-
-    nothing : e ≢ base_of S t → find at_ceiling (owned S t) ≡ None → find (lends S e) (owned S t) ≡ None → ⊥
-    nothing other no_ceiling no_lender = elim (ceiling_or_lends S t ok task other) [
-      | inl k ↦
-          both_ways (at_ceiling k.0) (none_passes at_ceiling q 1 (length S.protocol) k.0 no_ceiling k.1 (omega (arith, k.2)) k.3)
-          (eq-eqb (ceiling_of S k.0) e k.4)
-      | inr l ↦
-          both_ways (lends S e l.mutex)
-          (none_passes (lends S e) q 1 (length S.protocol) l.mutex no_lender l.known.0 (omega (arith, l.known.1))
-          (holds_from (owner_of S l.mutex) t l.owner))
-          l.lends
-    ]
-
-    waiter : (o : Option ℕ) → find (lends S e) (owned S t) ≡ o → e ≢ base_of S t → find at_ceiling (owned S t) ≡ None → Gives S t (waiter_reason S o)
-    waiter None no_lender other no_ceiling = absurd (nothing other no_ceiling no_lender)
+    waiter :
+        (o : Option ℕ)
+        → find (lends S e) (owned S t) ≡ o
+        → e ≢ base_of S t
+        → find (at_ceiling S e) (owned S t) ≡ None
+        → Gives S t (waiter_reason S o)
+    waiter None no_lender other no_ceiling = absurd (one_is_found S t ok task other no_ceiling no_lender)
     waiter (Some m) found other no_ceiling =
-        let passes = found_passes (lends S e) q (numbers (length S.protocol)) m found in
+        let passes = found_passes (lends S e) (owns S t) (numbers (length S.protocol)) m found in
         let parts = and_parts (is_inherit (protocol_of S m)) (list_any (λ (w : Waiter). eqb w.prio e) (queue_of S m)) passes.0 in
         first_lends S t m ok task
-        (heir_in-inherit (protocol_of S m) (owner_of S m) parts.0 ∙ from_holds (owner_of S m) t passes.1) (queue_of S m) refl parts.1
+        (heir_in-inherit (protocol_of S m) (owner_of S m) parts.0 ∙ from_holds (owner_of S m) t passes.1)
+        (queue_of S m) refl parts.1
 
-    ceiling_first : (o : Option ℕ) → find at_ceiling (owned S t) ≡ o → e ≢ base_of S t → Gives S t (owning_reason S t o)
+    ceiling_first : (o : Option ℕ) → find (at_ceiling S e) (owned S t) ≡ o → e ≢ base_of S t → Gives S t (owning_reason S t o)
     ceiling_first None no_ceiling other = waiter (find (lends S e) (owned S t)) refl other no_ceiling
     ceiling_first (Some m) found other =
-        let passes = found_passes at_ceiling q (numbers (length S.protocol)) m found in
-        (from_holds (owner_of S m) t passes.1, ceiling_from (ceiling (protocol_of S m)) e (eqb-true (ceiling_of S m) e passes.0) (positive other))
+        let passes = found_passes (at_ceiling S e) (owns S t) (numbers (length S.protocol)) m found in
+        let positive : 1 ≤ e = omega (arith, other, greatest_of_three S t ok task) in
+        (from_holds (owner_of S m) t passes.1, ceiling_from (ceiling (protocol_of S m)) e (eqb-true (ceiling_of S m) e passes.0) positive)
 
-    top : (b : Bool) → eqb e (base_of S t) ≡ b → Gives S t (if b then Reason.Base else owning_reason S t (find at_ceiling (owned S t)))
+    top : (b : Bool) → eqb e (base_of S t) ≡ b → Gives S t (if b then Reason.Base else owning_reason S t (find (at_ceiling S e) (owned S t)))
     top true same = eqb-true e (base_of S t) same
     top false apart =
-        ceiling_first (find at_ceiling (owned S t)) refl
+        ceiling_first (find (at_ceiling S e) (owned S t)) refl
         (λ same. both_ways (eqb e (base_of S t)) apart (eq-eqb e (base_of S t) same))
