@@ -10,6 +10,7 @@ use Rattle.pim_base.specs.Reasons.{reason_of}
 use Rattle.pim_base.specs.Steps.{after}
 pub use Rattle.pim_base.specs.Steady.{IsSound}
 use Rattle.pim_base.specs.Steady.{HasOwnTickets, IsSteady}
+use Rattle.pim_base.specs.declared.steps.Protocol.{Protocol}
 use Rattle.pim_base.specs.declared.steps.Reason.{Reason}
 use Rattle.pim_base.specs.declared.steps.Step.{Step}
 use Rattle.pim_base.specs.declared.steps.Wait.{Wait}
@@ -73,6 +74,15 @@ pub record IsQueueOfWaiters (S : State) (m : ℕ) : Type 0 where
 -- It is so wherever each waiting task has a ticket of its own.
 abbrev pub QueueLaw : Type 0
 QueueLaw = (S : State) (m : ℕ) → HasOwnTickets S → IsQueueOfWaiters S m
+
+-- all mutexes are PRIO_NONE
+abbrev pub IsNoneOnly : State → Type 0
+IsNoneOnly S = (m : ℕ) → protocol_of S m ≡ Protocol.None
+
+-- POSIX.1-2017, PRIO_NONE: owning the mutex doesn't affect the owner's priority. Where all mutexes are so, every task
+-- has its base priority, whoever owns and waits for what.
+abbrev pub NoneLaw : Type 0
+NoneLaw = (S : State) (t : ℕ) → IsNoneOnly S → effective_priority S t ≡ base_of S t
 
 -- What a reason says of t's priority: it is t's base; or the ceiling of m, which t owns; or that of u, which waits for the
 -- INHERIT mutex m of t.

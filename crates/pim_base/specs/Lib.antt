@@ -10,4 +10,7 @@ pub mod Reasons
 pub mod Counts
 pub mod Steady
 pub mod Laws
+pub mod Spelling
+pub mod Texts
+pub mod Reports
 pub mod RunLaws

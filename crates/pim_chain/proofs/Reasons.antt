@@ -1,0 +1,123 @@
+-- The reason of a settled priority.
+use Rattle.std.proofs.Common.{◌≡◌, ℕ, zero, suc, ◌<◌, ◌≤◌, ◌==◌, Bool, true, false, cond, ◌&&◌, ◌⊎◌, inl, inr, refl, sym, ◌∙◌, ap, subst, arith, le_trans, Option, Some, None, List, [], ◌∷◌, length, eqb, option_and_then, if◌then◌else◌}
+use Rattle.std.specs.List.{find, list_any, AllByRecursion}
+use Rattle.std.specs.Option.{option_map_or}
+use Rattle.std.proofs.lemmas.Bool.{both_ways, cases_eq, eqb-true, eq-eqb, ne_eqb, or_left, or_from, and_parts}
+use Rattle.std.proofs.lemmas.Option.{none-some}
+use Rattle.pim_base.specs.Lists.{holds, head_of}
+use Rattle.pim_base.specs.State.{State, IsTask, IsMutex, base_of, owner_of, wait_of, protocol_of, owned}
+use Rattle.pim_base.specs.Chains.{heir, heir_in, heir_of}
+use Rattle.pim_base.specs.Priorities.{ceiling_of, effective_priority}
+use Rattle.pim_base.specs.Queues.{precedes, queue_of}
+use Rattle.pim_base.specs.Reasons.{is_inherit, lends, waiter_reason, owning_reason, reason_of}
+use Rattle.pim_base.specs.declared.steps.Protocol.{Protocol}
+use Rattle.pim_base.specs.declared.steps.Reason.{Reason}
+use Rattle.pim_base.specs.declared.steps.Waiter.{Waiter}
+use Rattle.pim_base.proofs.Stored.{stored-le-local_priority, from_holds}
+use Rattle.pim_queue.specs.Waiters.{IsOrdered}
+use Rattle.pim_queue.proofs.Order.{all_each, before_prio}
+use Rattle.pim_chain.specs.Views.{View, stored_at, queue_at, front_prio, Shows, Ready}
+use Rattle.pim_chain.specs.Settled.{Calm}
+use Rattle.pim_chain.specs.Owned.{IsFirstAbove, IsNext, owns, lends_now, first_reason}
+use Rattle.pim_chain.proofs.Local.{heir_at, waits_for_from}
+use Rattle.pim_chain.proofs.Lent.{owned_known}
+use Rattle.pim_chain.proofs.Queues.{waiting_known}
+use Rattle.pim_chain.proofs.Walking.{settled_effective}
+use Rattle.pim_chain.proofs.Models.{queue_is}
+use Rattle.pim_chain.proofs.Finding.{find_none, find_some, next_same}
+
+-- ---- the first has the priority where anybody has
+behind_first : (p : ℕ) (w : Waiter) (ws : List Waiter) → w.prio < p → AllByRecursion (λ v. precedes w v ≡ true) ws → list_any (λ (v : Waiter). v.prio == p) ws ≡ false
+behind_first p w [] less h = refl
+behind_first p w (v ∷ vs) less h =
+    let le : v.prio ≤ w.prio = before_prio w v h.0 in
+    or_from _ _ (ne_eqb v.prio p (λ e. absurd (omega (arith, e, le, less)))) (behind_first p w vs less h.1)
+
+first_lends : (p : ℕ) (ws : List Waiter) → 1 ≤ p → IsOrdered ws → front_prio ws ≤ p → (front_prio ws == p) ≡ list_any (λ (v : Waiter). v.prio == p) ws
+first_lends p [] low ordered le = ne_eqb 0 p (λ e. absurd (omega (arith, e, low)))
+first_lends p (w ∷ ws) low ordered le = go (cases_eq w.prio p)
+  where
+    go : (w.prio ≡ p) ⊎ (w.prio ≡ p → ⊥) → eqb w.prio p ≡ list_any (λ (v : Waiter). v.prio == p) (w ∷ ws)
+    go (inl is) = eq-eqb w.prio p is ∙ sym (or_left _ _ (eq-eqb w.prio p is))
+    go (inr ne) = ne_eqb w.prio p ne ∙ sym (or_from _ _ (ne_eqb w.prio p ne) (behind_first p w ws (omega (arith, ne, le)) ordered.0))
+
+-- an owner of an INHERIT mutex is the heir
+inherits : (S : State) (m t : ℕ) → owner_of S m ≡ Some t → is_inherit (protocol_of S m) ≡ true → heir_of S m ≡ Some t
+inherits S m t owns h = go (protocol_of S m) h
+  where
+    go : (p : Protocol) → is_inherit p ≡ true → heir_in p (owner_of S m) ≡ Some t
+    go Protocol.Inherit e = owns
+    go Protocol.None e = absurd (both_ways false refl e)
+    go (Protocol.Protect c) e = absurd (both_ways false refl e)
+
+module _ (v : View) (t : ℕ) (calm : Calm v) (known : IsTask v.state t) where
+  -- no waiter lends more than the task has
+  front_le : (m : ℕ) → IsMutex v.state m → heir_of v.state m ≡ Some t → front_prio (queue_at v m) ≤ stored_at v t
+  front_le m isk leads = go (queue_at v m) (calm.ready.queues m isk).sound
+    where
+      go : (ws : List Waiter) → AllByRecursion (Shows (wait_of v.state) (stored_at v) m) ws → front_prio ws ≤ stored_at v t
+      go [] h = omega arith
+      go (w ∷ ws) h =
+          subst (λ p. p ≤ stored_at v t) (sym h.0.prio)
+          (subst (λ p. stored_at v w.task ≤ p) (sym (calm.settled t known (λ e. none-some t e)))
+          (stored-le-local_priority v.state (stored_at v) w.task t (waiting_known v.state calm.ready.sound.lists w.task _ h.0.waits)
+          (heir_at v.state m w.task (waits_for_from (wait_of v.state) w.task _ h.0.waits) ∙ leads)))
+
+  same_lends : 1 ≤ stored_at v t → (m : ℕ) → (owns v t m && lends_now v (stored_at v t) m) ≡ (owns v t m && lends v.state (stored_at v t) m)
+  same_lends low m = go (owns v t m) refl (is_inherit (protocol_of v.state m)) refl
+    where
+      go :
+          (a : Bool)
+          → owns v t m ≡ a
+          → (b : Bool)
+          → is_inherit (protocol_of v.state m) ≡ b
+          → (a && (b && (front_prio (queue_at v m) == stored_at v t))) ≡ (a && (b && list_any (λ w. w.prio == stored_at v t) (queue_of v.state m)))
+      go false _ b _ = refl
+      go true _ false _ = refl
+      go true mine true inherit =
+          let isk : IsMutex v.state m = owned_known v.state calm.ready.sound.lists m t mine in
+          first_lends (stored_at v t) (queue_at v m) low (calm.ready.queues m isk).ordered
+          (front_le m isk (inherits v.state m t (from_holds (owner_of v.state m) t mine) inherit))
+          ∙ ap (list_any (λ w. w.prio == stored_at v t)) (queue_is v m calm isk)
+
+  -- the stored priority is the effective one
+  now : effective_priority v.state t ≡ stored_at v t
+  now = sym (settled_effective v.state (stored_at v) calm.ready.sound calm.settled t known)
+
+  pub reason_base : stored_at v t ≡ base_of v.state t → Reason.Base ≡ reason_of v.state t
+  reason_base is =
+      sym (ap (λ b. if b then Reason.Base else owning_reason v.state t (find (λ m. ceiling_of v.state m == effective_priority v.state t) (owned v.state t))) (eq-eqb _ _ (now ∙ is)))
+
+  module _ (other : stored_at v t ≡ base_of v.state t → ⊥) where
+    -- it isn't the base
+    from_owned : (o : Option ℕ) → find (λ m. ceiling_of v.state m == stored_at v t) (owned v.state t) ≡ o → reason_of v.state t ≡ owning_reason v.state t o
+    from_owned o is =
+        ap (λ b. if b then Reason.Base else owning_reason v.state t (find (λ m. ceiling_of v.state m == effective_priority v.state t) (owned v.state t))) (ne_eqb _ _ (λ e. other (sym now ∙ e)))
+        ∙ ap (λ p. owning_reason v.state t (find (λ m. ceiling_of v.state m == p) (owned v.state t))) now
+        ∙ ap (owning_reason v.state t) is
+
+    pub reason_ceiling : (m : ℕ) → IsFirstAbove (λ k. owns v t k && (ceiling_of v.state k == stored_at v t)) 0 m → Reason.Ceiling m ≡ reason_of v.state t
+    reason_ceiling m first =
+        let isk : IsMutex v.state m = owned_known v.state calm.ready.sound.lists m t (and_parts _ _ first.passes).0 in
+        sym (from_owned (Some m) (find_some (λ k. ceiling_of v.state k == stored_at v t) (owns v t) (length v.state.protocol) m isk.1 first))
+
+    pub reason_waiter :
+        (o : Option ℕ)
+        → ((k : ℕ) → 0 < k → (owns v t k && (ceiling_of v.state k == stored_at v t)) ≡ false)
+        → IsNext (λ k. owns v t k && lends_now v (stored_at v t) k) 0 o
+        → 1 ≤ stored_at v t
+        → waiter_reason v.state o ≡ reason_of v.state t
+    reason_waiter o no_ceiling next low =
+        sym (from_owned None (find_none (λ k. ceiling_of v.state k == stored_at v t) (owns v t) (length v.state.protocol) (λ k above _. no_ceiling k above))
+        ∙ ap (λ p. waiter_reason v.state (find (lends v.state p) (owned v.state t))) now
+        ∙ ap (waiter_reason v.state) (found o (next_same _ _ 0 o (same_lends low) next)))
+      where
+        found : (o : Option ℕ) → IsNext (λ k. owns v t k && lends v.state (stored_at v t) k) 0 o → find (lends v.state (stored_at v t)) (owned v.state t) ≡ o
+        found None none = find_none (lends v.state (stored_at v t)) (owns v t) (length v.state.protocol) (λ k above _. none k above)
+        found (Some m) first =
+            find_some (lends v.state (stored_at v t)) (owns v t) (length v.state.protocol) m
+            (owned_known v.state calm.ready.sound.lists m t (and_parts _ _ first.passes).0).1 first
+
+-- the first waiter of the tables is the definitions'
+pub waiter_here : (v : View) (m : ℕ) → Calm v → IsMutex v.state m → first_reason v m ≡ waiter_reason v.state (Some m)
+waiter_here v m calm isk = ap (λ ws. option_map_or (λ (w : Waiter). Reason.Waiter w.task m) (head_of ws) Reason.Base) (queue_is v m calm isk)

@@ -1,0 +1,116 @@
+-- New tables: nothing is owned and nobody waits.
+use Rattle.std.proofs.Common.{◌≡◌, ℕ, zero, suc, ◌<◌, ◌≤◌, max, Bool, true, false, refl, sym, ◌∙◌, ap, subst, arith, le_antisymm, Option, Some, None, List, [], ◌∷◌, length, replicate, map, drop, unwrap_or, option_and_then, slice_get}
+use Rattle.std.specs.Option.{option_map_or}
+use Rattle.std.proofs.lemmas.Bool.{both_ways}
+use Rattle.std.proofs.lemmas.List.{length-replicate}
+use Rattle.std.proofs.lemmas.Option.{none-some}
+use Rattle.pim_base.specs.Lists.{nth, contains, holds}
+use Rattle.pim_base.specs.State.{State, start, IsTask, IsMutex, base_of, owner_of, wait_of, owned}
+use Rattle.pim_base.specs.Chains.{chain, blocker, heir, heir_of, HasCycle}
+use Rattle.pim_base.specs.Priorities.{own_priority, local_priority, ceiling_of}
+use Rattle.pim_base.specs.Laws.{IsSound}
+use Rattle.pim_base.specs.declared.steps.Protocol.{Protocol}
+use Rattle.pim_base.specs.declared.steps.Wait.{Wait}
+use Rattle.pim_base.proofs.Greatest.{greatest_of, greatest-cons, greatest_of-le}
+use Rattle.pim_base.proofs.Stored.{own_priority-le-local_priority, local_priority-le}
+use Rattle.pim_queue.specs.Line.{Line}
+use Rattle.pim_chain.specs.Views.{View, fresh, stored_at, line_in, queue_at, IsQueue, Ready}
+use Rattle.pim_chain.specs.Settled.{SettledBut}
+use Rattle.pim_chain.proofs.Changes.{not_waiting}
+
+-- ---- lists of one item
+nth-replicate_none : {X : Type 0} (n k : ℕ) → unwrap_or {T = Option X} (nth (replicate n None) k) None ≡ None
+nth-replicate_none n zero = refl
+nth-replicate_none {X} n (suc k) = at n k
+  where
+    at : (n k : ℕ) → unwrap_or {T = Option X} (slice_get (replicate n None) k) None ≡ None
+    at zero k = refl
+    at (suc n) zero = refl
+    at (suc n) (suc k) = at n k
+
+nth-replicate_within : {X : Type 0} (n k : ℕ) (x d : X) → 1 ≤ k → k ≤ n → unwrap_or (nth (replicate n x) k) d ≡ x
+nth-replicate_within n zero x d low high = absurd (omega arith)
+nth-replicate_within n (suc k) x d low high = at n k (omega arith)
+  where
+    at : (n k : ℕ) → k < n → unwrap_or (slice_get (replicate n x) k) d ≡ x
+    at zero k h = absurd (omega arith)
+    at (suc n) zero h = refl
+    at (suc n) (suc k) h = at n k (omega arith)
+
+module _ (bases : List ℕ) (protocols : List Protocol) where
+  free : (m : ℕ) → owner_of (start bases protocols 0) m ≡ None
+  free m = nth-replicate_none (length protocols) m
+
+  idle : (t : ℕ) → wait_of (start bases protocols 0) t ≡ None
+  idle t = nth-replicate_none (length bases) t
+
+  no_blocker : (t : ℕ) → blocker (start bases protocols 0) t ≡ None
+  no_blocker t = ap (option_and_then (λ (w : Wait). owner_of (start bases protocols 0) w.mutex)) (idle t)
+
+  no_heir : (t : ℕ) → heir (start bases protocols 0) t ≡ None
+  no_heir t = ap (option_and_then (λ (w : Wait). heir_of (start bases protocols 0) w.mutex)) (idle t)
+
+  alone : (n t : ℕ) → drop 1 (chain (blocker (start bases protocols 0)) n t) ≡ []
+  alone zero t = refl
+  alone (suc n) t = ap (λ o. option_map_or (chain (blocker (start bases protocols 0)) n) o []) (no_blocker t)
+
+  no_cycle : HasCycle (start bases protocols 0) → ⊥
+  no_cycle h = both_ways false refl (ap (λ ts. contains ts h.0) (sym (alone (length bases) h.0)) ∙ h.1)
+
+  sound : IsSound (start bases protocols 0)
+  sound = record {
+    lists = record { waits = length-replicate (length bases) None; owners = length-replicate (length protocols) None };
+    no_cycle = no_cycle;
+  }
+
+  pub ready_fresh : length bases ≤ 256 → length protocols ≤ 256 → Ready (fresh bases protocols)
+  ready_fresh tasks mutexes = record {
+    sound = sound;
+    few_tasks = tasks;
+    few_mutexes = mutexes;
+    stored_len = refl;
+    queues_len = length-replicate (length protocols) _;
+    waits = record {
+      owners = λ m t e. absurd (none-some t (sym (free m) ∙ e));
+      mutexes = λ t w e. absurd (none-some w (sym (idle t) ∙ e));
+      tickets = λ t u w e f. absurd (none-some w (sym (idle t) ∙ e));
+    };
+    queues = λ m known. subst (λ (q : Line). IsQueue (wait_of (start bases protocols 0)) (stored_at (fresh bases protocols)) m q.waiters) (sym (empty m known)) (record {
+      ordered = tt;
+      sound = tt;
+      complete = λ t h. absurd (not_waiting (wait_of (start bases protocols 0)) m t (idle t) h);
+    });
+    room = λ m known. subst (λ (q : Line). length bases ≤ q.room) (sym (empty m known)) (omega arith);
+  }
+    where
+      empty : (m : ℕ) → IsMutex (start bases protocols 0) m → line_in (fresh bases protocols).queues m ≡ record { waiters = []; room = length bases }
+      empty m known = nth-replicate_within (length protocols) m _ _ known.0 known.1
+
+  -- nobody lends anything
+  pub settled_fresh : SettledBut (start bases protocols 0) (stored_at (fresh bases protocols)) None
+  settled_fresh t known _ =
+      let whole : own_priority S t ≡ max (base_of S t) (greatest_of (ceiling_of S) (λ m. holds (owner_of S m) t) (length protocols)) =
+      greatest-cons (base_of S t) (map (ceiling_of S) (owned S t)) in
+      let none : greatest_of (ceiling_of S) (λ m. holds (owner_of S m) t) (length protocols) ≤ 0 =
+      greatest_of-le (ceiling_of S) (λ m. holds (owner_of S m) t) (length protocols) 0 (λ m _ _ h. absurd (both_ways false refl (ap (λ o. holds o t) (sym (free m)) ∙ h))) in
+      let least : own_priority S t ≤ local_priority S bases_of t = own_priority-le-local_priority S bases_of t in
+      le_antisymm (omega (arith, whole, least))
+      (local_priority-le S bases_of t (base_of S t) (omega (arith, whole, none)) (λ u task e. absurd (none-some t (sym (no_heir u) ∙ e))))
+    where
+      S : State
+      S = start bases protocols 0
+
+      bases_of : ℕ → ℕ
+      bases_of = stored_at (fresh bases protocols)
+
+pub is_fresh :
+    (bases : List ℕ) (protocols : List Protocol)
+    (b : List ℕ) (p : List Protocol) (o : List (Option ℕ)) (w : List (Option Wait)) (s : List ℕ) (q : List Line)
+    → b ≡ bases
+    → p ≡ protocols
+    → o ≡ replicate (length protocols) None
+    → w ≡ replicate (length bases) None
+    → s ≡ bases
+    → q ≡ replicate (length protocols) (record { waiters = []; room = length bases })
+    → record { state = record { base = b; protocol = p; owner = o; wait = w; next = 0 }; stored = s; queues = q } ≡ fresh bases protocols
+is_fresh bases protocols b p o w s q is_b is_p is_o is_w is_s is_q = cc

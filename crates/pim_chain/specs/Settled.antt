@@ -1,0 +1,69 @@
+-- Stored priorities that agree with their neighbours, and what a visit changes.
+use Rattle.std.specs.Prelude.{◌≡◌, ◌==◌, ℕ, List, length, Option, Some, None, if◌then◌else◌}
+use Rattle.std.specs.Option.{option_and_then}
+use Rattle.pim_base.specs.Counts.{differing}
+use Rattle.pim_base.specs.Lists.{put, insert_by}
+use Rattle.pim_base.specs.State.{State, IsTask, wait_of, with_wait}
+use Rattle.pim_base.specs.Chains.{heir, heir_of}
+use Rattle.pim_base.specs.Priorities.{local_priority}
+use Rattle.pim_base.specs.Queues.{precedes}
+use Rattle.pim_base.specs.declared.steps.Wait.{Wait}
+use Rattle.pim_queue.specs.Line.{Line}
+use Rattle.pim_queue.specs.Waiters.{without, repositioned}
+use Rattle.pim_chain.specs.Views.{View, Ready, stored_at, queue_at, front_prio, queue_in, put_queue}
+
+-- each task has the priority that it has locally, but perhaps the one that is named
+abbrev pub SettledBut : State → (ℕ → ℕ) → Option ℕ → Type 0
+SettledBut S stored except = (t : ℕ) → IsTask S t → (except ≡ Some t → ⊥) → stored t ≡ local_priority S stored t
+
+-- where all had it, all have it still, but perhaps the one that is named
+abbrev pub Unsettles : View → View → Option ℕ → Type 0
+Unsettles v w who = SettledBut v.state (stored_at v) None → SettledBut w.state (stored_at w) who
+
+-- the queues are in order, and each task has the priority that it has locally
+pub record Calm (v : View) : Type 0 where
+  pub ready : Ready v
+  pub settled : SettledBut v.state (stored_at v) None
+
+-- the lines, where the task is moved in the queue that it waits in
+abbrev pub moved : List Line → Option Wait → ℕ → ℕ → List Line
+moved lines None t p = lines
+moved lines (Some w) t p = put_queue lines w.mutex (repositioned t p (queue_in lines w.mutex))
+
+-- the task waits for the mutex, in its queue
+abbrev pub joined : View → ℕ → Wait → View
+joined v t w = record {
+  state = with_wait v.state t (Some w);
+  stored = v.stored;
+  queues = put_queue v.queues w.mutex (insert_by precedes (queue_at v w.mutex) (record { task = t; prio = stored_at v t; ticket = w.ticket }));
+}
+
+-- the task waits no more for the mutex, and has left its queue
+abbrev pub left : View → ℕ → ℕ → View
+left v t m = record {
+  state = with_wait v.state t None;
+  stored = v.stored;
+  queues = put_queue v.queues m (without t (queue_at v m));
+}
+
+-- another stored priority for the task
+abbrev pub restored : View → ℕ → ℕ → View
+restored v t p = record { state = v.state; stored = put v.stored t p; queues = moved v.queues (wait_of v.state t) t p }
+
+-- who is to be looked at after x: the heir of the mutex that it waits for, where the front of that queue has changed
+abbrev pub next_of : View → View → ℕ → Option ℕ
+next_of v w x =
+    option_and_then
+    (λ (u : Wait). if front_prio (queue_at v u.mutex) == front_prio (queue_at w u.mutex) then None else heir_of v.state u.mutex)
+    (wait_of v.state x)
+
+-- what the visit of x leaves, and who is next
+pub record Visited (v w : View) (x : ℕ) (next : Option ℕ) : Type 0 where
+  pub state : w.state ≡ v.state
+  pub settled : SettledBut w.state (stored_at w) next
+  pub others : (u : ℕ) → (u ≡ x → ⊥) → stored_at w u ≡ stored_at v u
+  pub onward : (y : ℕ) → next ≡ Some y → (heir v.state x ≡ Some y) × (stored_at w x ≡ stored_at v x → ⊥)
+
+-- how many tasks have another stored priority
+abbrev pub changed : View → View → ℕ
+changed v w = differing (length v.state.base) (stored_at v) (stored_at w)

@@ -1,0 +1,84 @@
+-- What the tables hold, and what always holds of it.
+use Rattle.std.specs.Prelude.{◌≡◌, ◌≤◌, ℕ, Bool, true, false, ◌==◌, List, [], Option, Some, None, length, replicate, unwrap_or}
+use Rattle.std.specs.List.{list_any, AllByRecursion}
+use Rattle.std.specs.Option.{option_map_or}
+use Rattle.pim_base.specs.Lists.{nth, put, head_of, insert_by}
+use Rattle.pim_base.specs.State.{State, start, IsTask, IsMutex, wait_of, owner_of}
+use Rattle.pim_base.specs.Queues.{precedes}
+use Rattle.pim_base.specs.Laws.{IsSound}
+use Rattle.pim_base.specs.declared.steps.Protocol.{Protocol}
+use Rattle.pim_base.specs.declared.steps.Wait.{Wait}
+use Rattle.pim_base.specs.declared.steps.Waiter.{Waiter}
+use Rattle.pim_queue.specs.Line.{Line, with_waiters}
+use Rattle.pim_queue.specs.Waiters.{is_of, without, IsOrdered}
+
+-- the state, whose next ticket is not the tables', the stored priorities, and the queue of each mutex
+pub record View : Type 0 where
+  pub state : State
+  pub stored : List ℕ
+  pub queues : List Line
+
+-- nothing is owned, nobody waits, each stored priority is the base, and each queue has room for all tasks
+abbrev pub fresh : List ℕ → List Protocol → View
+fresh bases protocols = record {
+  state = start bases protocols 0;
+  stored = bases;
+  queues = replicate (length protocols) (record { waiters = []; room = length bases });
+}
+
+abbrev pub with_state : View → State → View
+with_state v S = record v { state = S }
+
+abbrev pub stored_in : List ℕ → ℕ → ℕ
+stored_in stored t = unwrap_or (nth stored t) 0
+
+abbrev pub stored_at : View → ℕ → ℕ
+stored_at v t = stored_in v.stored t
+
+abbrev pub line_in : List Line → ℕ → Line
+line_in lines m = unwrap_or (nth lines m) (record { waiters = []; room = 0 })
+
+abbrev pub queue_in : List Line → ℕ → List Waiter
+queue_in lines m = (line_in lines m).waiters
+
+abbrev pub queue_at : View → ℕ → List Waiter
+queue_at v m = queue_in v.queues m
+
+-- the same lines with another queue at this mutex
+abbrev pub put_queue : List Line → ℕ → List Waiter → List Line
+put_queue lines m ws = put lines m (with_waiters (line_in lines m) ws)
+
+-- the priority of the first, and 0 where there is none
+abbrev pub front_prio : List Waiter → ℕ
+front_prio ws = option_map_or (λ (w : Waiter). w.prio) (head_of ws) 0
+
+abbrev pub waits_for : (ℕ → Option Wait) → ℕ → ℕ → Bool
+waits_for wait m t = option_map_or (λ (w : Wait). w.mutex == m) (wait t) false
+
+-- a waiter shows what its task waits for, and the stored priority
+pub record Shows (wait : ℕ → Option Wait) (stored : ℕ → ℕ) (m : ℕ) (w : Waiter) : Type 0 where
+  pub waits : wait w.task ≡ Some (record { mutex = m; ticket = w.ticket })
+  pub prio : w.prio ≡ stored w.task
+
+-- the list has all who wait for the mutex, and nobody else, in order
+pub record IsQueue (wait : ℕ → Option Wait) (stored : ℕ → ℕ) (m : ℕ) (ws : List Waiter) : Type 0 where
+  pub ordered : IsOrdered ws
+  pub sound : AllByRecursion (Shows wait stored m) ws
+  pub complete : (t : ℕ) → waits_for wait m t ≡ true → list_any (is_of t) ws ≡ true
+
+-- a known task waits for a known mutex, and its ticket there tells the task
+pub record WaitsFit (S : State) : Type 0 where
+  pub owners : (m t : ℕ) → owner_of S m ≡ Some t → IsTask S t
+  pub mutexes : (t : ℕ) (w : Wait) → wait_of S t ≡ Some w → IsMutex S w.mutex
+  pub tickets : (t u : ℕ) (w : Wait) → wait_of S t ≡ Some w → wait_of S u ≡ Some w → t ≡ u
+
+-- no cycle stands, the lists fit together, and each queue is in order by the stored priorities
+pub record Ready (v : View) : Type 0 where
+  pub sound : IsSound v.state
+  pub few_tasks : length v.state.base ≤ 256
+  pub few_mutexes : length v.state.protocol ≤ 256
+  pub stored_len : length v.stored ≡ length v.state.base
+  pub queues_len : length v.queues ≡ length v.state.protocol
+  pub waits : WaitsFit v.state
+  pub queues : (m : ℕ) → IsMutex v.state m → IsQueue (wait_of v.state) (stored_at v) m (queue_at v m)
+  pub room : (m : ℕ) → IsMutex v.state m → length v.state.base ≤ (line_in v.queues m).room

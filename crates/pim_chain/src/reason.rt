@@ -1,0 +1,96 @@
+// Why a task has its priority.
+
+ghost use Rattle.std.specs.Prelude.{◌≡◌, ◌==◌, ◌&&◌, None};
+ghost use Rattle.pim_base.specs.State.{IsTask, protocol_of};
+ghost use Rattle.pim_base.specs.Priorities.{ceiling_of};
+ghost use Rattle.pim_base.specs.Reasons.{is_inherit, reason_of};
+ghost use Rattle.pim_chain.specs.Views.{stored_at};
+ghost use Rattle.pim_chain.specs.Settled.{SettledBut};
+ghost use Rattle.pim_chain.specs.Owned.{IsNext, owns, lends_now, first_reason};
+
+use crate::tables::Tables;
+use pim_base::{MutexNo, Protocol, Reason, TaskNo};
+
+impl Tables {
+    /// Why the task, which is known, has its effective priority, where the stored priorities are settled.
+    ///
+    /// It is the base, where that is the priority; else the least owned PROTECT mutex with this ceiling; else the least
+    /// owned INHERIT mutex with a waiter of this priority, and its first waiter.
+    pub fn reason(&self, task: TaskNo) -> Reason
+        requires settled { SettledBut self.now.state (stored_at self.now) None }
+        requires known { IsTask self.now.state task }
+        ensures { result ≡ reason_of self.now.state task }
+    {
+        let _tasks = self.task_count();
+        let level = self.known_stored(task).get();
+        if level == self.known_base(task).get() {
+            return Reason::Base;
+        }
+        if let Some(mutex) = self.ceiling_at(task, level) {
+            return Reason::Ceiling(mutex);
+        }
+        match self.lender_at(task, level) {
+            Some(mutex) => self.first_waiter(mutex),
+            None => Reason::Base,
+        }
+    }
+
+    // the first of those who wait for the mutex, as a reason
+    fn first_waiter(&self, mutex: MutexNo) -> Reason
+        ensures { result ≡ first_reason self.now mutex }
+    {
+        match &self.front(mutex) {
+            Some(first) => Reason::Waiter(first.task, mutex),
+            None => Reason::Base,
+        }
+    }
+
+    // the least mutex of the task with this ceiling
+    fn ceiling_at(&self, task: TaskNo, level: u16) -> Option<MutexNo>
+        ensures { IsNext (λ m. owns self.now task m && (ceiling_of self.now.state m == level)) 0 result }
+    {
+        let _tasks = self.task_count();
+        let mut asked = 0;
+        while let Some(mutex) = self.next_owned(task, asked) {
+            asked = mutex.get();
+            if self.ceiling_level(mutex) == level {
+                return Some(mutex);
+            }
+        }
+        None
+    }
+
+    // the least INHERIT mutex of the task whose first waiter has this priority
+    fn lender_at(&self, task: TaskNo, level: u16) -> Option<MutexNo>
+        ensures { IsNext (λ m. owns self.now task m && lends_now self.now level m) 0 result }
+    {
+        let _tasks = self.task_count();
+        let mut asked = 0;
+        while let Some(mutex) = self.next_owned(task, asked) {
+            asked = mutex.get();
+            if self.is_inherit(mutex) && self.front_level(mutex) == level {
+                return Some(mutex);
+            }
+        }
+        None
+    }
+
+    // the ceiling of the mutex as a number, 0 where it has none
+    fn ceiling_level(&self, mutex: MutexNo) -> u16
+        ensures { result ≡ ceiling_of self.now.state mutex }
+    {
+        match self.ceiling(mutex) {
+            Some(prio) => prio.get(),
+            None => 0,
+        }
+    }
+
+    fn is_inherit(&self, mutex: MutexNo) -> bool
+        ensures { result ≡ is_inherit (protocol_of self.now.state mutex) }
+    {
+        match self.protocol(mutex) {
+            Some(Protocol::Inherit) => true,
+            _ => false,
+        }
+    }
+}

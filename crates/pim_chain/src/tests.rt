@@ -1,0 +1,398 @@
+// Scenarios over the calls of the tables, with every stored priority and the number of visits after each step worked out
+// from the definitions.
+
+ghost use Rattle.std.specs.Prelude.{None, IfOk};
+ghost use Rattle.pim_chain.specs.Views.{stored_at};
+ghost use Rattle.pim_chain.specs.Settled.{SettledBut};
+
+use crate::*;
+use pim_base::{MutexNo, Prio, Protocol, Reason, TaskNo};
+use std::alloc::{AllocError, Global};
+use std::process::Abort;
+use std::test::Fail;
+
+#[derive(Clone, Copy)]
+enum Event {
+    // the task locks the mutex, and gets it or waits for it
+    Lock(u16, u16),
+    // the task would close a cycle
+    Deadlock(u16, u16),
+    // the owner of the mutex unlocks it
+    Unlock(u16),
+    // the task waits no more
+    Cancel(u16),
+    // the task has another base
+    Base(u16, u16),
+}
+
+// what happens, how many visits that takes, and the stored priorities of all tasks then
+#[derive(Drop)]
+struct Row {
+    event: Event,
+    visits: u32,
+    after: &'static [u16],
+}
+
+fn step(event: Event, visits: u32, after: &'static [u16]) -> Row {
+    Row {
+        event,
+        visits,
+        after,
+    }
+}
+
+fn prio(rt: &impl Abort, level: u16) -> Prio {
+    Prio::new(level).expect(rt, "1 to 99")
+}
+
+fn tables(
+    rt: &impl Abort,
+    alloc: Global,
+    levels: &[u16],
+    protocols: &[Protocol],
+) -> Result<Tables, AllocError>
+    ensures { IfOk result (λ tables. SettledBut tables.state (stored_at tables) None) }
+{
+    let mut bases = Vec::new(alloc);
+    for level in levels {
+        bases.push(prio(rt, *level))?;
+    }
+    assert!(rt; bases.len() <= 256 && protocols.len() <= 256);
+    Tables::new(alloc, &bases, protocols)
+}
+
+fn lock(rt: &impl Abort, tables: &mut Tables, task: TaskNo, mutex: MutexNo, ticket: u64) -> u32
+    requires { SettledBut tables.old.state (stored_at tables.old) None }
+    ensures { SettledBut tables.new.state (stored_at tables.new) None }
+{
+    let mut visits = Visits::new();
+    assert!(rt; !tables.is_unknown_task(task));
+    assert!(rt; !tables.is_unknown_mutex(mutex));
+    assert!(rt; !tables.is_waiting(task));
+    match tables.owner(mutex) {
+        None => {
+            tables.bind(mutex, task);
+            tables.settle_from(task, &mut visits);
+        }
+        Some(owner) => {
+            assert!(rt; !tables.closes(task, mutex));
+            assert!(rt; !tables.has_ticket(mutex, ticket));
+            tables.join(task, mutex, ticket);
+            tables.settle_from(owner, &mut visits);
+        }
+    }
+    visits.get()
+}
+
+// the first part of a hand-over: the mutex is free, and may have waiters
+fn free(rt: &impl Abort, tables: &mut Tables, mutex: MutexNo) -> u32
+    requires { SettledBut tables.old.state (stored_at tables.old) None }
+    ensures { SettledBut tables.new.state (stored_at tables.new) None }
+{
+    let mut visits = Visits::new();
+    let owner = tables.owner(mutex);
+    assert!(rt; owner.is_some());
+    if let Some(owner) = owner {
+        tables.unbind(mutex);
+        assert!(rt; !tables.is_unknown_task(owner));
+        tables.settle_from(owner, &mut visits);
+    }
+    visits.get()
+}
+
+// the second part: the waiter owns the free mutex
+fn take(rt: &impl Abort, tables: &mut Tables, mutex: MutexNo, task: TaskNo) -> u32
+    requires { SettledBut tables.old.state (stored_at tables.old) None }
+    ensures { SettledBut tables.new.state (stored_at tables.new) None }
+{
+    let mut visits = Visits::new();
+    assert!(rt; tables.is_waiting(task));
+    assert!(rt; tables.blocker(task).is_none());
+    tables.leave(task);
+    assert!(rt; !tables.is_unknown_task(task));
+    assert!(rt; !tables.is_unknown_mutex(mutex));
+    assert!(rt; !tables.is_waiting(task));
+    assert!(rt; !tables.is_owned(mutex));
+    tables.bind(mutex, task);
+    assert!(rt; !tables.is_unknown_task(task));
+    tables.settle_from(task, &mut visits);
+    visits.get()
+}
+
+fn unlock(rt: &impl Abort, tables: &mut Tables, mutex: MutexNo) -> u32
+    requires { SettledBut tables.old.state (stored_at tables.old) None }
+    ensures { SettledBut tables.new.state (stored_at tables.new) None }
+{
+    let first = tables.front(mutex);
+    let freed = free(rt, tables, mutex);
+    match &first {
+        Some(waiter) => take(rt, tables, mutex, waiter.task).saturating_add(freed),
+        None => freed,
+    }
+}
+
+fn cancel(rt: &impl Abort, tables: &mut Tables, task: TaskNo) -> u32
+    requires { SettledBut tables.old.state (stored_at tables.old) None }
+    ensures { SettledBut tables.new.state (stored_at tables.new) None }
+{
+    let mut visits = Visits::new();
+    assert!(rt; tables.is_waiting(task));
+    let blocker = tables.blocker(task);
+    tables.leave(task);
+    if let Some(owner) = blocker {
+        assert!(rt; !tables.is_unknown_task(owner));
+        tables.settle_from(owner, &mut visits);
+    }
+    visits.get()
+}
+
+fn rebase(rt: &impl Abort, tables: &mut Tables, task: TaskNo, level: u16) -> u32
+    requires { SettledBut tables.old.state (stored_at tables.old) None }
+    ensures { SettledBut tables.new.state (stored_at tables.new) None }
+{
+    let mut visits = Visits::new();
+    assert!(rt; !tables.is_unknown_task(task));
+    tables.put_base(task, prio(rt, level));
+    assert!(rt; !tables.is_unknown_task(task));
+    tables.settle_from(task, &mut visits);
+    visits.get()
+}
+
+fn happen(rt: &impl Abort, tables: &mut Tables, event: Event, ticket: u64) -> u32
+    requires { SettledBut tables.old.state (stored_at tables.old) None }
+    ensures { SettledBut tables.new.state (stored_at tables.new) None }
+{
+    match event {
+        Event::Lock(task, mutex) => lock(rt, tables, TaskNo(task), MutexNo(mutex), ticket),
+        Event::Deadlock(task, mutex) => {
+            assert!(rt; tables.closes(TaskNo(task), MutexNo(mutex)));
+            0
+        }
+        Event::Unlock(mutex) => unlock(rt, tables, MutexNo(mutex)),
+        Event::Cancel(task) => cancel(rt, tables, TaskNo(task)),
+        Event::Base(task, level) => rebase(rt, tables, TaskNo(task), level),
+    }
+}
+
+// lets the events happen, and compares all stored priorities and the visits after each
+fn play(rt: &impl Abort, tables: &mut Tables, rows: &[Row])
+    requires { SettledBut tables.old.state (stored_at tables.old) None }
+    ensures { SettledBut tables.new.state (stored_at tables.new) None }
+{
+    let mut ticket = 1;
+    for row in rows {
+        let visits = happen(rt, tables, row.event, ticket);
+        assert_eq!(rt; visits, row.visits, "visits of step {ticket}");
+        let mut task = 1;
+        for level in row.after {
+            assert_eq!(rt;
+                tables.stored(TaskNo(task)),
+                Prio::new(*level),
+                "task {task} after step {ticket}"
+            );
+            task = task.saturating_add(1);
+        }
+        ticket = ticket.saturating_add(1);
+    }
+}
+
+const INHERIT: Protocol = Protocol::Inherit;
+
+#[test]
+fn lowered_through_an_owner_with_another_waiter(rt: HostRuntime) -> Result<(), Fail> {
+    let mut tables = tables(&rt, rt.alloc(), &[10, 20, 30, 60, 90], &[INHERIT; 4])?;
+    let rows = [
+        step(Event::Lock(1, 1), 1, &[10, 20, 30, 60, 90]),
+        step(Event::Lock(2, 2), 1, &[10, 20, 30, 60, 90]),
+        step(Event::Lock(2, 3), 1, &[10, 20, 30, 60, 90]),
+        step(Event::Lock(3, 4), 1, &[10, 20, 30, 60, 90]),
+        step(Event::Lock(3, 2), 1, &[10, 30, 30, 60, 90]),
+        step(Event::Lock(4, 3), 1, &[10, 60, 30, 60, 90]),
+        step(Event::Lock(2, 1), 1, &[60, 60, 30, 60, 90]),
+        step(Event::Lock(5, 4), 3, &[90, 90, 90, 60, 90]),
+        step(Event::Cancel(5), 3, &[60, 60, 30, 60, 90]),
+    ];
+    play(&rt, &mut tables, &rows);
+    Ok(())
+}
+
+#[test]
+fn refused_deadlock_leaves_priorities(rt: HostRuntime) -> Result<(), Fail> {
+    let mut tables = tables(&rt, rt.alloc(), &[10, 20, 30, 60, 90], &[INHERIT; 5])?;
+    let rows = [
+        step(Event::Lock(5, 5), 1, &[10, 20, 30, 60, 90]),
+        step(Event::Lock(1, 1), 1, &[10, 20, 30, 60, 90]),
+        step(Event::Lock(2, 2), 1, &[10, 20, 30, 60, 90]),
+        step(Event::Lock(2, 3), 1, &[10, 20, 30, 60, 90]),
+        step(Event::Lock(3, 4), 1, &[10, 20, 30, 60, 90]),
+        step(Event::Lock(3, 2), 1, &[10, 30, 30, 60, 90]),
+        step(Event::Lock(4, 3), 1, &[10, 60, 30, 60, 90]),
+        step(Event::Lock(2, 1), 1, &[60, 60, 30, 60, 90]),
+        step(Event::Lock(1, 5), 1, &[60, 60, 30, 60, 90]),
+        step(Event::Deadlock(5, 4), 0, &[60, 60, 30, 60, 90]),
+    ];
+    play(&rt, &mut tables, &rows);
+    Ok(())
+}
+
+#[test]
+fn new_owner_keeps_what_its_waiters_lend(rt: HostRuntime) -> Result<(), Fail> {
+    let mut tables = tables(&rt, rt.alloc(), &[10, 50, 40], &[INHERIT])?;
+    let rows = [
+        step(Event::Lock(1, 1), 1, &[10, 50, 40]),
+        step(Event::Lock(2, 1), 1, &[50, 50, 40]),
+        step(Event::Lock(3, 1), 1, &[50, 50, 40]),
+        step(Event::Unlock(1), 2, &[10, 50, 40]),
+        step(Event::Base(2, 20), 1, &[10, 40, 40]),
+        step(Event::Base(2, 21), 1, &[10, 40, 40]),
+    ];
+    play(&rt, &mut tables, &rows);
+    assert_eq!(rt; tables.owner(MutexNo(1)), Some(TaskNo(2)));
+    Ok(())
+}
+
+#[test]
+fn second_waiter_becomes_first_with_a_changed_priority(rt: HostRuntime) -> Result<(), Fail> {
+    let mut tables = tables(&rt, rt.alloc(), &[10, 20, 30, 50, 70, 90], &[INHERIT; 4])?;
+    let rows = [
+        step(Event::Lock(2, 1), 1, &[10, 20, 30, 50, 70, 90]),
+        step(Event::Lock(2, 2), 1, &[10, 20, 30, 50, 70, 90]),
+        step(Event::Lock(3, 3), 1, &[10, 20, 30, 50, 70, 90]),
+        step(Event::Lock(1, 4), 1, &[10, 20, 30, 50, 70, 90]),
+        step(Event::Lock(4, 2), 1, &[10, 50, 30, 50, 70, 90]),
+        step(Event::Lock(6, 1), 1, &[10, 90, 30, 50, 70, 90]),
+        step(Event::Lock(1, 3), 1, &[10, 90, 30, 50, 70, 90]),
+        step(Event::Lock(2, 3), 1, &[10, 90, 90, 50, 70, 90]),
+        step(Event::Lock(5, 4), 1, &[70, 90, 90, 50, 70, 90]),
+        step(Event::Unlock(3), 2, &[70, 90, 30, 50, 70, 90]),
+        step(Event::Unlock(1), 2, &[70, 70, 30, 50, 70, 90]),
+    ];
+    play(&rt, &mut tables, &rows);
+    assert_eq!(rt;
+        tables
+            .front(MutexNo(3))
+            .is_some_and(|first| first.task == TaskNo(1)),
+        true
+    );
+    Ok(())
+}
+
+// what each walk costs, and what the reasons are at the end
+#[test]
+fn walks_stop_early(rt: HostRuntime) -> Result<(), Fail> {
+    // a chain of three, a waiter who changes nothing at its end, and a lower base there
+    let mut chain = tables(&rt, rt.alloc(), &[10, 20, 30, 90, 40], &[INHERIT; 3])?;
+    let rows = [
+        step(Event::Lock(1, 1), 1, &[10, 20, 30, 90, 40]),
+        step(Event::Lock(2, 2), 1, &[10, 20, 30, 90, 40]),
+        step(Event::Lock(3, 3), 1, &[10, 20, 30, 90, 40]),
+        step(Event::Lock(2, 1), 1, &[20, 20, 30, 90, 40]),
+        step(Event::Lock(3, 2), 2, &[30, 30, 30, 90, 40]),
+        step(Event::Lock(4, 3), 3, &[90, 90, 90, 90, 40]),
+        step(Event::Lock(5, 3), 1, &[90, 90, 90, 90, 40]),
+        step(Event::Cancel(5), 1, &[90, 90, 90, 90, 40]),
+        step(Event::Base(4, 15), 4, &[30, 30, 30, 15, 40]),
+    ];
+    play(&rt, &mut chain, &rows);
+    // a ceiling hands nothing on
+    let protocols = [Protocol::Protect(prio(&rt, 50)), INHERIT];
+    let mut ceiling = tables(&rt, rt.alloc(), &[20, 40, 90], &protocols)?;
+    let rows = [
+        step(Event::Lock(1, 1), 1, &[50, 40, 90]),
+        step(Event::Lock(2, 2), 1, &[50, 40, 90]),
+        step(Event::Lock(2, 1), 1, &[50, 40, 90]),
+        step(Event::Lock(3, 2), 1, &[50, 90, 90]),
+        step(Event::Unlock(1), 2, &[20, 90, 90]),
+    ];
+    play(&rt, &mut ceiling, &rows);
+    // nor does a mutex without a protocol, but the raised waiter is the first there
+    let mut plain = tables(
+        &rt,
+        rt.alloc(),
+        &[10, 40, 30, 90],
+        &[Protocol::None, INHERIT],
+    )?;
+    let rows = [
+        step(Event::Lock(1, 1), 1, &[10, 40, 30, 90]),
+        step(Event::Lock(3, 2), 1, &[10, 40, 30, 90]),
+        step(Event::Lock(2, 1), 1, &[10, 40, 30, 90]),
+        step(Event::Lock(3, 1), 1, &[10, 40, 30, 90]),
+        step(Event::Lock(4, 2), 1, &[10, 40, 90, 90]),
+        step(Event::Unlock(1), 2, &[10, 40, 90, 90]),
+    ];
+    play(&rt, &mut plain, &rows);
+    assert_eq!(rt; plain.owner(MutexNo(1)), Some(TaskNo(3)));
+    // of two equal waiters one may go
+    let mut equal = tables(&rt, rt.alloc(), &[10, 50, 50], &[INHERIT])?;
+    let rows = [
+        step(Event::Lock(1, 1), 1, &[10, 50, 50]),
+        step(Event::Lock(2, 1), 1, &[50, 50, 50]),
+        step(Event::Lock(3, 1), 1, &[50, 50, 50]),
+        step(Event::Cancel(2), 1, &[50, 50, 50]),
+        step(Event::Cancel(3), 1, &[10, 50, 50]),
+    ];
+    play(&rt, &mut equal, &rows);
+    Ok(())
+}
+
+fn reason(rt: &impl Abort, tables: &Tables, task: u16) -> Reason
+    requires { SettledBut tables.now.state (stored_at tables.now) None }
+{
+    assert!(rt; !tables.is_unknown_task(TaskNo(task)));
+    tables.reason(TaskNo(task))
+}
+
+#[test]
+fn shows_what_stands(rt: HostRuntime) -> Result<(), Fail> {
+    let ceiling = Protocol::Protect(prio(&rt, 50));
+    let mut tables = tables(&rt, rt.alloc(), &[10, 20, 90], &[INHERIT, ceiling, INHERIT])?;
+    assert_eq!(rt; (tables.task_count(), tables.mutex_count()), (3, 3));
+    let rows = [
+        step(Event::Lock(1, 1), 1, &[10, 20, 90]),
+        step(Event::Lock(1, 2), 1, &[50, 20, 90]),
+        step(Event::Lock(2, 1), 1, &[50, 20, 90]),
+    ];
+    play(&rt, &mut tables, &rows);
+    assert_eq!(rt; reason(&rt, &tables, 1), Reason::Ceiling(MutexNo(2)));
+    let clone = tables.try_clone(rt.alloc())?;
+    // another ticket than those of the rows
+    assert_eq!(rt; lock(&rt, &mut tables, TaskNo(3), MutexNo(1), 9), 1);
+    assert_eq!(rt;
+        reason(&rt, &tables, 1),
+        Reason::Waiter(TaskNo(3), MutexNo(1))
+    );
+    assert_eq!(rt; reason(&rt, &tables, 2), Reason::Base);
+    assert_eq!(rt; reason(&rt, &clone, 1), Reason::Ceiling(MutexNo(2)));
+    assert_eq!(rt; clone.stored(TaskNo(1)), Prio::new(50));
+    assert_eq!(rt; tables.base(TaskNo(1)), Prio::new(10));
+    assert_eq!(rt; tables.base(TaskNo(4)), None);
+    assert_eq!(rt; tables.stored(TaskNo(0)), None);
+    assert_eq!(rt; tables.protocol(MutexNo(1)), Some(INHERIT));
+    assert_eq!(rt; tables.ceiling(MutexNo(2)), Prio::new(50));
+    assert_eq!(rt; tables.protocol(MutexNo(4)), None);
+    assert_eq!(rt; tables.owner(MutexNo(2)), Some(TaskNo(1)));
+    assert_eq!(rt; tables.owner(MutexNo(3)), None);
+    assert_eq!(rt;
+        tables
+            .waits_for(TaskNo(3))
+            .is_some_and(|wait| wait.mutex == MutexNo(1) && wait.ticket == 9),
+        true
+    );
+    assert_eq!(rt; tables.waits_for(TaskNo(1)).is_none(), true);
+    assert_eq!(rt;
+        tables
+            .queue(MutexNo(1))
+            .is_some_and(|queue| queue.as_slice().len() == 2),
+        true
+    );
+    assert_eq!(rt; tables.queue(MutexNo(4)).is_none(), true);
+    assert_eq!(rt; tables.next_owned(TaskNo(1), 0), Some(MutexNo(1)));
+    assert_eq!(rt; tables.next_owned(TaskNo(1), 1), Some(MutexNo(2)));
+    assert_eq!(rt; tables.next_owned(TaskNo(1), 2), None);
+    assert_eq!(rt; tables.on_chain(TaskNo(2), TaskNo(1)), true);
+    assert_eq!(rt; tables.on_chain(TaskNo(1), TaskNo(2)), false);
+    assert_eq!(rt; tables.is_above_ceiling(TaskNo(3), MutexNo(2)), true);
+    assert_eq!(rt; tables.has_ticket(MutexNo(1), 3), true);
+    assert_eq!(rt; tables.has_ticket(MutexNo(1), 4), false);
+    Ok(())
+}

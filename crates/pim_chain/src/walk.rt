@@ -1,0 +1,146 @@
+// The walk that mends the stored priorities, and stops early.
+
+ghost use Rattle.std.specs.Prelude.{◌≡◌, ◌≤◌, ◌<◌, ◌+◌, ◌-◌, ◌^◌, ◌==◌, if◌then◌else◌, None, unwrap_or, ℕ};
+ghost use Rattle.pim_base.specs.State.{IsTask, IsMutex};
+ghost use Rattle.pim_base.specs.Chains.{heir, heir_of};
+ghost use Rattle.pim_base.specs.Priorities.{local_priority, effective_priority};
+ghost use Rattle.pim_base.specs.Queues.{queue_of};
+ghost use Rattle.pim_chain.specs.Views.{Ready, stored_at, queue_at, front_prio};
+ghost use Rattle.pim_chain.specs.Owned.{worth};
+ghost use Rattle.pim_chain.specs.Settled.{SettledBut, Visited, next_of, changed};
+
+use crate::numbered::higher;
+use crate::tables::Tables;
+use crate::visits::Visits;
+use pim_base::{MutexNo, Prio, TaskNo};
+
+impl Tables {
+    // the priority at the front of the mutex's queue
+    fn front_prio(&self, mutex: MutexNo) -> Option<Prio>
+        ensures { unwrap_or result 0 ≡ front_prio (queue_at self.now mutex) }
+    {
+        match &self.front(mutex) {
+            Some(first) => Some(first.prio),
+            None => None,
+        }
+    }
+
+    // the same as a number, 0 where nobody waits
+    pub(crate) fn front_level(&self, mutex: MutexNo) -> u16
+        ensures { result ≡ front_prio (queue_at self.now mutex) }
+    {
+        match self.front_prio(mutex) {
+            Some(prio) => prio.get(),
+            None => 0,
+        }
+    }
+
+    // the priority that the mutex lends to its owner
+    fn lent(&self, mutex: MutexNo) -> Option<Prio>
+        ensures { unwrap_or result 0 ≡ worth self.now mutex }
+    {
+        match self.heir_of(mutex) {
+            Some(_heir) => self.front_prio(mutex),
+            None => self.ceiling(mutex),
+        }
+    }
+
+    /// The greatest of the task's base and what its mutexes lend it: the ceilings of the PROTECT mutexes and the
+    /// priorities at the front of the queues of the INHERIT mutexes. This is a visit, and counted.
+    pub fn local(&self, task: TaskNo, visits: &mut Visits) -> Prio
+        requires known { IsTask self.now.state task }
+        requires room { visits.old < 2 ^ 32 - 1 }
+        ensures value { result ≡ local_priority self.now.state (stored_at self.now) task }
+        ensures counted { visits.new ≡ visits.old + 1 }
+        ensures ready { Ready self.now }
+    {
+        visits.add();
+        let _tasks = self.task_count();
+        let mut prio = self.known_base(task);
+        let mut asked = 0;
+        while let Some(mutex) = self.next_owned(task, asked) {
+            asked = mutex.get();
+            if let Some(lent) = self.lent(mutex) {
+                prio = higher(prio, lent);
+            }
+        }
+        prio
+    }
+
+    // where the walk goes on from the queue of a mutex, whose front had this priority before: [5] and [6]
+    fn onward(&self, mutex: MutexNo, before: u16) -> Option<TaskNo>
+        ensures { result ≡ (if before == front_prio (queue_at self.now mutex) then None else heir_of self.now.state mutex) }
+    {
+        // [5]
+        if self.front_level(mutex) == before {
+            return None;
+        }
+        // [6]
+        self.heir_of(mutex)
+    }
+
+    // one turn of the walk, [2] to [6]: mends one task's priority, and answers who is to be looked at next
+    fn visit(&mut self, task: TaskNo, visits: &mut Visits) -> Option<TaskNo>
+        requires settled { SettledBut self.old.state (stored_at self.old) (Some task) }
+        requires known { IsTask self.old.state task }
+        requires room { visits.old < 2 ^ 32 - 1 }
+        ensures visited { Visited self.old self.new task result }
+        ensures next { result ≡ next_of self.old self.new task }
+        ensures counted { visits.new ≡ visits.old + 1 }
+        ensures ready { Ready self.new }
+    {
+        // [2]
+        let prio = self.local(task, visits);
+        let stored = self.known_stored(task).get();
+        let level = prio.get();
+        if level == stored {
+            return None;
+        }
+        match self.waits_for(task) {
+            // [3]
+            None => {
+                self.restore(task, prio);
+                None
+            }
+            // [4]
+            Some(wait) => {
+                let before = self.front_level(wait.mutex);
+                self.restore(task, prio);
+                self.onward(wait.mutex, before)
+            }
+        }
+    }
+
+    /// The walk, which mends the stored priorities and the queues after a change of one task's local priority.
+    ///
+    /// 1. `[1]` Look at the given task.
+    /// 2. `[2]` Visit it: compute its local priority. If that is the stored one, stop.
+    /// 3. `[3]` Store it. If the task waits for nothing, stop.
+    /// 4. `[4]` Move the task, with its ticket, to its place in the queue that it waits in.
+    /// 5. `[5]` If the priority at the front of that queue is what it was, stop.
+    /// 6. `[6]` If the mutex isn't an INHERIT one, or is free, stop. Else look at its owner: go to `[2]`.
+    ///
+    /// Before it, every task but the given one has the priority that it has locally. After it, each stored priority is
+    /// the effective one, each queue is the one of those priorities, and nothing else has changed. It visits each task
+    /// whose priority changes, and at most one more; a task that hands its priority on to nobody is one visit.
+    pub fn settle_from(&mut self, task: TaskNo, visits: &mut Visits)
+        requires settled { SettledBut self.old.state (stored_at self.old) (Some task) }
+        requires known { IsTask self.old.state task }
+        requires room { visits.old ≤ 2 ^ 32 - 1 - 256 }
+        ensures state { self.new.state ≡ self.old.state }
+        ensures settled { SettledBut self.new.state (stored_at self.new) None }
+        ensures effective { (t : ℕ) → IsTask self.new.state t → stored_at self.new t ≡ effective_priority self.new.state t }
+        ensures queues { (m : ℕ) → IsMutex self.new.state m → queue_at self.new m ≡ queue_of self.new.state m }
+        ensures ready { Ready self.new }
+        ensures single { heir self.old.state task ≡ None → visits.new ≡ visits.old + 1 }
+        ensures at_least { visits.old + changed self.old self.new ≤ visits.new }
+        ensures at_most { visits.new ≤ visits.old + changed self.old self.new + 1 }
+    {
+        let _tasks = self.task_count();
+        // [1]
+        let mut next = Some(task);
+        while let Some(current) = next {
+            next = self.visit(current, visits);
+        }
+    }
+}

@@ -1,0 +1,20 @@
+use Rattle.std.proofs.Common.{◌≡◌, ◌<◌, ◌≤◌, ◌+◌, ◌∙◌, ℕ, ap, sym, subst, arith, length}
+use Rattle.pim_base.specs.State.{State}
+use Rattle.pim_base.specs.Counts.{changed_tasks}
+use Rattle.pim_base.proofs.Places.{length-put}
+use Rattle.pim_chain.specs.Settled.{changed}
+use Rattle.pim_manager.proofs.Counted.{counted_as}
+use Rattle.pim_manager.proofs.manager.Manager.rebase.Goals as goal
+
+pub returns-clause-least : goal.returns-clause-least
+returns-clause-least c =
+    let bases = ap (λ (S : State). length S.base) c.rebase.ensures.state ∙ length-put c.self.inside.tables.state.base c.args.task c.args.prio in
+    let same = counted_as c.self.inside.tables c.rebase.new.tables c.self.inside.next c.self.inside.next c.args.self.now c.self.invariant.calm c.rebase.ensures.calm bases c.self.view_is in
+    subst (λ k. c.args.visits.now + k ≤ c.rebase.new.visits) same c.rebase.ensures.least
+
+pub returns-clause-most : goal.returns-clause-most
+returns-clause-most c =
+    let bases = ap (λ (S : State). length S.base) c.rebase.ensures.state ∙ length-put c.self.inside.tables.state.base c.args.task c.args.prio in
+    let same = counted_as c.self.inside.tables c.rebase.new.tables c.self.inside.next c.self.inside.next c.args.self.now c.self.invariant.calm c.rebase.ensures.calm bases c.self.view_is in
+    let most = c.rebase.ensures.most in
+    omega (arith, most, same)

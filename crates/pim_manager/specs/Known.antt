@@ -1,0 +1,12 @@
+-- What is shown of a known task or mutex.
+use Rattle.std.specs.Prelude.{ℕ, Bool, Option, Some, None, if◌then◌else◌}
+use Rattle.pim_base.specs.State.{State}
+use Rattle.pim_base.specs.Checks.{unknown_task, unknown_mutex}
+
+-- this of a known task, and nothing of an unknown one
+abbrev pub of_task : {X : Type 0} → State → ℕ → X → Option X
+of_task S t x = if unknown_task S t then None else Some x
+
+-- this of a known mutex, and nothing of an unknown one
+abbrev pub of_mutex : {X : Type 0} → State → ℕ → X → Option X
+of_mutex S m x = if unknown_mutex S m then None else Some x

@@ -1,0 +1,122 @@
+use Rattle.std.proofs.Common.{◌≡◌, ℕ, ◌<◌, ◌≤◌, Bool, true, false, cond, ◌&&◌, ◌||◌, ◌⊎◌, inl, inr, refl, sym, ◌∙◌, ap, arith, Some, List, [], ◌∷◌, eqb, ltb}
+use Rattle.std.specs.List.{list_any, find, AllByRecursion}
+use Rattle.std.proofs.lemmas.Bool.{both_ways, cases_order, ltb-true, lt-ltb, eqb-true, eq-eqb, or_cases, or_left, or_right, and_parts, and_from, cond_both}
+use Rattle.pim_base.specs.declared.steps.Waiter.{Waiter}
+use Rattle.pim_base.specs.Lists.{insert_by}
+use Rattle.pim_base.specs.Queues.{precedes}
+use Rattle.pim_queue.specs.Waiters.{is_of, without, IsOrdered}
+
+-- ---- facts of each element of a list
+pub all_both : {X : Type 0} (P Q R : X → Type 0) → ((x : X) → P x → Q x → R x) → (xs : List X) → AllByRecursion P xs → AllByRecursion Q xs → AllByRecursion R xs
+all_both P Q R f [] h k = tt
+all_both P Q R f (x ∷ xs) h k = (f x h.0 k.0, all_both P Q R f xs h.1 k.1)
+
+pub all_each : {X : Type 0} (P R : X → Type 0) → ((x : X) → P x → R x) → (xs : List X) → AllByRecursion P xs → AllByRecursion R xs
+all_each P R f xs h = all_both P P R (λ x p _. f x p) xs h h
+
+-- the first that passes, with what holds of it
+pub record Found {X : Type 0} (p : X → Bool) (P : X → Type 0) (xs : List X) : Type 0 where
+  pub one : X
+  pub is : find p xs ≡ Some one
+  pub passes : p one ≡ true
+  pub holds : P one
+
+pub found : {X : Type 0} (p : X → Bool) (P : X → Type 0) → (xs : List X) → list_any p xs ≡ true → AllByRecursion P xs → Found p P xs
+found p P [] h k = absurd (both_ways false refl h)
+found p P (x ∷ xs) h k = go (p x) refl (λ there. found p P xs there k.1) h
+  where
+    go : (b : Bool) → p x ≡ b → (list_any p xs ≡ true → Found p P xs) → (b || list_any p xs) ≡ true → Found p P (x ∷ xs)
+    go true here rest e = record { one = x; is = ap (λ b. cond b (Some x) (find p xs)) here; passes = here; holds = k.0 }
+    go false away rest e =
+        let it = rest e in
+        record { one = it.one; is = ap (λ b. cond b (Some x) (find p xs)) away ∙ it.is; passes = it.passes; holds = it.holds }
+
+-- ---- the order
+pub before_prio : (a b : Waiter) → precedes a b ≡ true → b.prio ≤ a.prio
+before_prio a b h = go (or_cases _ _ h)
+  where
+    go : (ltb b.prio a.prio ≡ true) ⊎ ((eqb a.prio b.prio && ltb a.ticket b.ticket) ≡ true) → b.prio ≤ a.prio
+    go (inl l) = let lt : b.prio < a.prio = ltb-true _ _ l in omega arith
+    go (inr e) = let same : a.prio ≡ b.prio = eqb-true _ _ (and_parts _ _ e).0 in omega arith
+
+-- the same, as a choice of facts
+abbrev pub Before : Waiter → Waiter → Type 0
+Before a b = (b.prio < a.prio) ⊎ ((a.prio ≡ b.prio) × (a.ticket < b.ticket))
+
+pub told_before : (a b : Waiter) → precedes a b ≡ true → Before a b
+told_before a b h = go (or_cases _ _ h)
+  where
+    go : (ltb b.prio a.prio ≡ true) ⊎ ((eqb a.prio b.prio && ltb a.ticket b.ticket) ≡ true) → Before a b
+    go (inl l) = inl (ltb-true _ _ l)
+    go (inr e) = let parts = and_parts _ _ e in inr (eqb-true _ _ parts.0, ltb-true _ _ parts.1)
+
+pub before_from : (a b : Waiter) → Before a b → precedes a b ≡ true
+before_from a b (inl l) = or_left _ _ (lt-ltb _ _ l)
+before_from a b (inr e) = or_right _ _ (and_from _ _ (eq-eqb _ _ e.0) (lt-ltb _ _ e.1))
+
+pub before_trans : (a b c : Waiter) → precedes a b ≡ true → precedes b c ≡ true → precedes a c ≡ true
+before_trans a b c h k = before_from a c (go (told_before a b h) (told_before b c k))
+  where
+    go : Before a b → Before b c → Before a c
+    go (inl l) (inl m) = inl (omega arith)
+    go (inl l) (inr e) = let same : b.prio ≡ c.prio = e.0 in inl (omega arith)
+    go (inr e) (inl m) = let same : a.prio ≡ b.prio = e.0 in inl (omega arith)
+    go (inr e) (inr f) = inr (e.0 ∙ f.0, omega arith)
+
+pub before_else : (a b : Waiter) → (b.ticket ≡ a.ticket → ⊥) → precedes a b ≡ false → precedes b a ≡ true
+before_else a b apart h = before_from b a (go (cases_order a.prio b.prio) (cases_order a.ticket b.ticket))
+  where
+    never : Before a b → ⊥
+    never k = both_ways _ h (before_from a b k)
+
+    go : (a.prio ≡ b.prio) ⊎ ((a.prio < b.prio) ⊎ (b.prio < a.prio)) → (a.ticket ≡ b.ticket) ⊎ ((a.ticket < b.ticket) ⊎ (b.ticket < a.ticket)) → Before b a
+    go (inr (inl l)) _ = inl l
+    go (inr (inr g)) _ = absurd (never (inl g))
+    go (inl e) (inl f) = absurd (apart (sym f))
+    go (inl e) (inr (inl l)) = absurd (never (inr (e, l)))
+    go (inl e) (inr (inr g)) = inr (sym e, g)
+
+-- ---- one taken out
+pub all_without : (P : Waiter → Type 0) (task : ℕ) (ws : List Waiter) → AllByRecursion P ws → AllByRecursion P (without task ws)
+all_without P task [] h = tt
+all_without P task (v ∷ vs) h = cond_both (is_of task v) vs (v ∷ without task vs) (AllByRecursion P) (λ _. h.1) (λ _. (h.0, all_without P task vs h.1))
+
+pub ordered_without : (task : ℕ) (ws : List Waiter) → IsOrdered ws → IsOrdered (without task ws)
+ordered_without task [] h = tt
+ordered_without task (v ∷ vs) h = cond_both (is_of task v) vs (v ∷ without task vs) IsOrdered (λ _. h.1) (λ _. (all_without _ task vs h.0, ordered_without task vs h.1))
+
+pub any_without : (task u : ℕ) (ws : List Waiter) → (u ≡ task → ⊥) → list_any (is_of u) ws ≡ true → list_any (is_of u) (without task ws) ≡ true
+any_without task u [] ne h = h
+any_without task u (v ∷ vs) ne h = cond_both (is_of task v) vs (v ∷ without task vs) (λ us. list_any (is_of u) us ≡ true) (λ here. there here (or_cases _ _ h)) (λ _. stays (any_without task u vs ne) (or_cases _ _ h))
+  where
+    there : is_of task v ≡ true → (is_of u v ≡ true) ⊎ (list_any (is_of u) vs ≡ true) → list_any (is_of u) vs ≡ true
+    there here (inl e) = absurd (ne (sym (eqb-true v.task u e) ∙ eqb-true v.task task here))
+    there here (inr k) = k
+
+    stays : (list_any (is_of u) vs ≡ true → list_any (is_of u) (without task vs) ≡ true) → (is_of u v ≡ true) ⊎ (list_any (is_of u) vs ≡ true) → list_any (is_of u) (v ∷ without task vs) ≡ true
+    stays rest (inl e) = or_left _ _ e
+    stays rest (inr k) = or_right _ _ (rest k)
+
+-- ---- one put in
+pub all_place : (P : Waiter → Type 0) (w : Waiter) (ws : List Waiter) → P w → AllByRecursion P ws → AllByRecursion P (insert_by precedes ws w)
+all_place P w [] p h = (p, tt)
+all_place P w (v ∷ vs) p h = cond_both (precedes w v) (w ∷ v ∷ vs) (v ∷ insert_by precedes vs w) (AllByRecursion P) (λ _. (p, (h.0, h.1))) (λ _. (h.0, all_place P w vs p h.1))
+
+pub ordered_place : (w : Waiter) (ws : List Waiter) → IsOrdered ws → AllByRecursion (λ v. v.ticket ≡ w.ticket → ⊥) ws → IsOrdered (insert_by precedes ws w)
+ordered_place w [] h apart = (tt, tt)
+ordered_place w (v ∷ vs) h apart =
+    cond_both (precedes w v) (w ∷ v ∷ vs) (v ∷ insert_by precedes vs w) IsOrdered
+    (λ first. ((first, all_each _ _ (λ u k. before_trans w v u first k) vs h.0), h))
+    (λ later. (all_place _ w vs (before_else w v apart.0 later) h.0, ordered_place w vs h.1 apart.1))
+
+pub any_place_new : (p : Waiter → Bool) (w : Waiter) (ws : List Waiter) → p w ≡ true → list_any p (insert_by precedes ws w) ≡ true
+any_place_new p w [] h = or_left _ _ h
+any_place_new p w (v ∷ vs) h = cond_both (precedes w v) (w ∷ v ∷ vs) (v ∷ insert_by precedes vs w) (λ us. list_any p us ≡ true) (λ _. or_left _ _ h) (λ _. or_right _ _ (any_place_new p w vs h))
+
+pub any_place : (p : Waiter → Bool) (w : Waiter) (ws : List Waiter) → list_any p ws ≡ true → list_any p (insert_by precedes ws w) ≡ true
+any_place p w [] h = absurd (both_ways false refl h)
+any_place p w (v ∷ vs) h = cond_both (precedes w v) (w ∷ v ∷ vs) (v ∷ insert_by precedes vs w) (λ us. list_any p us ≡ true) (λ _. or_right _ _ h) (λ _. go (any_place p w vs) (or_cases _ _ h))
+  where
+    go : (list_any p vs ≡ true → list_any p (insert_by precedes vs w) ≡ true) → (p v ≡ true) ⊎ (list_any p vs ≡ true) → list_any p (v ∷ insert_by precedes vs w) ≡ true
+    go rest (inl e) = or_left _ _ e
+    go rest (inr k) = or_right _ _ (rest k)
