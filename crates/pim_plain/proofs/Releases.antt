@@ -60,7 +60,12 @@ pub record IsReleasedTo (S T : State) (a n k : ℕ) : Type 0 where
   pub later : (m : ℕ) → n ≤ m → owner_of T m ≡ owner_of S m
 
 -- one more, which the actor owns
-pub released_more : (S T : State) (a n k : ℕ) → 1 ≤ n → holds (owner_of S n) a ≡ true → IsReleasedTo S T a n k → IsReleasedTo S (hand_over T n) a (n + 1) (k + 1)
+pub released_more :
+    (S T : State) (a n k : ℕ)
+    → 1 ≤ n
+    → holds (owner_of S n) a ≡ true
+    → IsReleasedTo S T a n k
+    → IsReleasedTo S (hand_over T n) a (n + 1) (k + 1)
 released_more S T a n k low owns before = record {
   state =
       ap (λ U. hand_over U n) before.state ∙ sym (fold_hand_over-pass S p n (n - 1) done owns)
