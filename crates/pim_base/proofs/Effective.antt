@@ -2,7 +2,7 @@
 use Rattle.std.proofs.Common.{◌≡◌, inl, inr, ℕ, zero, suc, ◌≤◌, Bool, true, [], ◌∷◌, map, length, Option, Some, None, refl, ◌∙◌, ap, subst, arith, option_and_then, unwrap_or, le_antisymm}
 use Rattle.std.proofs.lemmas.Option.{same_Some}
 use Rattle.pim_base.specs.Lists.{nth, contains, holds, greatest}
-use Rattle.pim_base.specs.State.{State, IsState, base_of, owner_of, wait_of, owned}
+use Rattle.pim_base.specs.State.{State, IsState, base_of, owner_of, wait_of, owned, IsMutex}
 use Rattle.pim_base.specs.Chains.{heir, inherit_chain}
 use Rattle.pim_base.specs.Priorities.{ceiling_of, own_priority, effective_priority}
 use Rattle.pim_base.specs.Laws.{EffectiveLaw, RisingLaw, BaseLaw}
@@ -41,23 +41,25 @@ rising_law S u t ok task_u task_t on =
     let r : Reaches (heir S) (length S.base) u t = reaches_from_contains (heir S) (length S.base) u t on in
     rises S (effective_priority S) ok ((stored_law S (effective_priority S) ok).1 (λ v task. refl)) r.0 u t task_u task_t r.2
 
+-- a mutex that has an owner is known
+pub known_from_owner : (S : State) (m t : ℕ) → IsState S → owner_of S m ≡ Some t → IsMutex S m
+known_from_owner S m t valid owner = go (nth S.owner m) refl owner
+  where
+    go : (o : Option (Option ℕ)) → nth S.owner m ≡ o → unwrap_or o None ≡ Some t → IsMutex S m
+    go None e h = cc
+    go (Some x) e h = let within = nth_within S.owner m x e in (within.0, omega (arith, within.1, valid.owners))
+
 -- who owns a mutex owns one of those with a number
 owned_not_empty : (S : State) (t m : ℕ) → IsState S → owner_of S m ≡ Some t → owned S t ≡ [] → ⊥
-owned_not_empty S t m valid owner none = go (nth S.owner m) refl owner
+owned_not_empty S t m valid owner none =
+    let known : IsMutex S m = known_from_owner S m t valid owner in
+    let counted : 1 ≤ greatest (map one (owned S t)) =
+    le-greatest_of one (λ k. holds (owner_of S k) t) (length S.protocol) m known.0 known.1 (holds_from (owner_of S m) t owner) in
+    let none_counted : 1 ≤ greatest [] = subst (λ ms. 1 ≤ greatest (map one ms)) none counted in
+    absurd (omega (arith, none_counted))
   where
     one : ℕ → ℕ
     one k = 1
-
-    counted : (1 ≤ m) × (m ≤ length S.owner) → 1 ≤ greatest (map one (owned S t))
-    counted within =
-        le-greatest_of one (λ k. holds (owner_of S k) t) (length S.protocol) m within.0 (omega (arith, within.1, valid.owners))
-        (holds_from (owner_of S m) t owner)
-
-    go : (o : Option (Option ℕ)) → nth S.owner m ≡ o → unwrap_or o None ≡ Some t → ⊥
-    go None e h = cc
-    go (Some x) e h =
-        let none_counted : 1 ≤ greatest [] = subst (λ ms. 1 ≤ greatest (map one ms)) none (counted (nth_within S.owner m x e)) in
-        absurd (omega (arith, none_counted))
 
 pub base_law : BaseLaw
 base_law S t valid task none = le_antisymm high low ∙ own

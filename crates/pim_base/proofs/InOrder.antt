@@ -38,6 +38,13 @@ precedes_trans a b c h k = precedes_from a c (go (told a b h) (told b c k))
     go (inr e) (inl m) = let same : a.prio ≡ b.prio = e.0 in inl (omega arith)
     go (inr e) (inr f) = inr (e.0 ∙ f.0, omega (arith, e.1, f.1))
 
+pub precedes_prio : (a b : Waiter) → Precedes a b → b.prio ≤ a.prio
+precedes_prio a b h = go (told a b h)
+  where
+    go : Comes a b → b.prio ≤ a.prio
+    go (inl l) = omega arith
+    go (inr e) = let same : a.prio ≡ b.prio = e.0 in omega arith
+
 -- of two waiters with different tickets one precedes the other
 precedes_or : (a b : Waiter) → a.ticket ≢ b.ticket → Precedes a b ⊎ Precedes b a
 precedes_or a b apart = elim (cases_lt b.prio a.prio) [
@@ -78,7 +85,11 @@ is_in-insert_by : (xs : List Waiter) (w x : Waiter) → (x ≡ w) ⊎ IsIn w xs 
 is_in-insert_by [] w x h = h
 is_in-insert_by (v ∷ xs) w x h = go (precedes x v) h (is_in-insert_by xs w x)
   where
-    go : (b : Bool) → (x ≡ w) ⊎ IsIn w (v ∷ xs) → ((x ≡ w) ⊎ IsIn w xs → IsIn w (insert_by precedes xs x)) → IsIn w (cond b (x ∷ v ∷ xs) (v ∷ insert_by precedes xs x))
+    go :
+        (b : Bool)
+        → (x ≡ w) ⊎ IsIn w (v ∷ xs)
+        → ((x ≡ w) ⊎ IsIn w xs → IsIn w (insert_by precedes xs x))
+        → IsIn w (cond b (x ∷ v ∷ xs) (v ∷ insert_by precedes xs x))
     go true h rest = h
     go false (inl here) rest = inr (rest (inl here))
     go false (inr (inl first)) rest = inl first
@@ -101,24 +112,33 @@ ordered-insert_by (v ∷ xs) w h apart = go (precedes w v) refl (ordered-insert_
     go true before rest = ((before, all_each (Precedes v) (Precedes w) (λ x p. precedes_trans w v x before p) xs h.0), h)
     go false not_before rest = (all-insert_by (Precedes v) xs w h.0 (behind (precedes_or w v apart.0) not_before), rest)
 
--- a task that waits for m, and its wait
-record WaitsFor (S : State) (m t : ℕ) (w : Waiter) : Type 0 where
-  wait : Wait
-  waits : wait_of S t ≡ Some wait
-  task : w.task ≡ t
-  ticket : w.ticket ≡ wait.ticket
+-- what a task that waits for m shows as a waiter
+pub record WaitsFor (S : State) (m t : ℕ) (w : Waiter) : Type 0 where
+  pub wait : Wait
+  pub waits : wait_of S t ≡ Some wait
+  pub mutex : wait.mutex ≡ m
+  pub task : w.task ≡ t
+  pub prio : w.prio ≡ effective_priority S t
+  pub ticket : w.ticket ≡ wait.ticket
 
-waits_for : (S : State) (m t : ℕ) (w : Waiter) → waiter_of S m t ≡ Some w → WaitsFor S m t w
+pub waits_for : (S : State) (m t : ℕ) (w : Waiter) → waiter_of S m t ≡ Some w → WaitsFor S m t w
 waits_for S m t w e = go (wait_of S t) refl e
   where
     made : Wait → Waiter
     made x = record { task = t; prio = effective_priority S t; ticket = x.ticket }
 
-    of : (x : Wait) (b : Bool) → wait_of S t ≡ Some x → (if b then Some (made x) else None) ≡ Some w → WaitsFor S m t w
-    of x false h e = cc
-    of x true h e =
+    of : (x : Wait) (b : Bool) → eqb x.mutex m ≡ b → wait_of S t ≡ Some x → (if b then Some (made x) else None) ≡ Some w → WaitsFor S m t w
+    of x false here h e = cc
+    of x true here h e =
         let same : made x ≡ w = same_Some _ _ e in
-        record { wait = x; waits = h; task = sym (ap (λ (v : Waiter). v.task) same); ticket = sym (ap (λ (v : Waiter). v.ticket) same) }
+        record {
+          wait = x;
+          waits = h;
+          mutex = eqb-true x.mutex m here;
+          task = sym (ap (λ (v : Waiter). v.task) same);
+          prio = sym (ap (λ (v : Waiter). v.prio) same);
+          ticket = sym (ap (λ (v : Waiter). v.ticket) same);
+        }
 
     go :
         (o : Option Wait)
@@ -126,7 +146,20 @@ waits_for S m t w e = go (wait_of S t) refl e
         → option_and_then (λ (x : Wait). if eqb x.mutex m then Some (made x) else None) o ≡ Some w
         → WaitsFor S m t w
     go None h e = cc
-    go (Some x) h e = of x (eqb x.mutex m) h e
+    go (Some x) h e = of x (eqb x.mutex m) refl h e
+
+-- and the other way round
+pub waiter_of-waits :
+    (S : State) (m t : ℕ) (w : Wait)
+    → wait_of S t ≡ Some w
+    → w.mutex ≡ m
+    → waiter_of S m t ≡ Some (record { task = t; prio = effective_priority S t; ticket = w.ticket })
+waiter_of-waits S m t w e here =
+    ap (option_and_then (λ (x : Wait). if eqb x.mutex m then Some (made x) else None)) e
+    ∙ ap (λ b. if b then Some (made w) else None) (eq-eqb w.mutex m here)
+  where
+    made : Wait → Waiter
+    made x = record { task = t; prio = effective_priority S t; ticket = x.ticket }
 
 -- a waiter for m, from among the first n tasks
 abbrev IsOf : State → ℕ → ℕ → Waiter → Type 0

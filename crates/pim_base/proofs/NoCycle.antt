@@ -62,12 +62,16 @@ no_cycle_still S S' bases change acyclic (t, h) =
     let r = returns_from_cycle (blocker S') (length S'.base) t h in
     none_returns_still (blocker S) (blocker S') (length S.base) (none_returns S acyclic) change t r.0 (omega (arith, r.1, bases)) r.2
 
-unwrap_or-set_same : {X : Type 0} (xs : List (Option X)) (i : ℕ) (o : Option X) → (unwrap_or (slice_get (set xs i o) i) None ≡ o) ⊎ (unwrap_or (slice_get (set xs i o) i) None ≡ None)
+unwrap_or-set_same :
+    {X : Type 0} (xs : List (Option X)) (i : ℕ) (o : Option X)
+    → (unwrap_or (slice_get (set xs i o) i) None ≡ o) ⊎ (unwrap_or (slice_get (set xs i o) i) None ≡ None)
 unwrap_or-set_same [] i o = inr refl
 unwrap_or-set_same (x ∷ xs) zero o = inl refl
 unwrap_or-set_same (x ∷ xs) (suc i) o = unwrap_or-set_same xs i o
 
-pub unwrap_or-put_same : {X : Type 0} (xs : List (Option X)) (n : ℕ) (o : Option X) → (unwrap_or (nth (put xs n o) n) None ≡ o) ⊎ (unwrap_or (nth (put xs n o) n) None ≡ None)
+pub unwrap_or-put_same :
+    {X : Type 0} (xs : List (Option X)) (n : ℕ) (o : Option X)
+    → (unwrap_or (nth (put xs n o) n) None ≡ o) ⊎ (unwrap_or (nth (put xs n o) n) None ≡ None)
 unwrap_or-put_same xs zero o = inr refl
 unwrap_or-put_same xs (suc i) o = unwrap_or-set_same xs i o
 
@@ -88,7 +92,10 @@ owner_sound S m o idle ok = record {
     hop_of : Option Wait → Option ℕ
     hop_of = option_and_then (λ (w : Wait). owner_of (with_owner S m o) w.mutex)
 
-    go : (x : ℕ) (v : Option Wait) → wait_of S x ≡ v → (hop_of v ≡ option_and_then (λ (w : Wait). owner_of S w.mutex) v) ⊎ Ends (blocker (with_owner S m o)) x
+    go :
+        (x : ℕ) (v : Option Wait)
+        → wait_of S x ≡ v
+        → (hop_of v ≡ option_and_then (λ (w : Wait). owner_of S w.mutex) v) ⊎ Ends (blocker (with_owner S m o)) x
     go x None e = inl refl
     go x (Some w) e = elim (eqb_tells m w.mutex) [
       | inl here ↦ inr (λ y h.

@@ -1,14 +1,14 @@
 -- Where all mutexes are PRIO_NONE, every task has its base priority.
-use Rattle.std.proofs.Common.{◌≡◌, ℕ, zero, suc, ◌≤◌, ◌||◌, ◌⊎◌, inl, inr, max, Bool, true, false, eqb, List, [], ◌∷◌, length, map, filter, Option, Some, None, refl, sym, ◌∙◌, ap, subst, arith, option_and_then, unwrap_or, le_antisymm}
+use Rattle.std.proofs.Common.{◌≡◌, ℕ, zero, suc, ◌≤◌, ◌⊎◌, inl, inr, Bool, true, false, eqb, List, [], ◌∷◌, length, map, Option, Some, None, refl, sym, ◌∙◌, ap, arith, option_and_then, unwrap_or, le_antisymm}
 use Rattle.std.specs.Option.{option_map_or}
 use Rattle.std.proofs.lemmas.Bool.{eqb-true, eq-eqb}
-use Rattle.pim_base.specs.Lists.{nth, numbers, contains, greatest}
-use Rattle.pim_base.specs.State.{State, base_of, protocol_of, owner_of, wait_of, owned}
+use Rattle.pim_base.specs.Lists.{nth, contains, greatest}
+use Rattle.pim_base.specs.State.{State, base_of, owner_of, wait_of, owned}
 use Rattle.pim_base.specs.Chains.{chain, heir, heir_in, heir_of, inherit_chain}
 use Rattle.pim_base.specs.Priorities.{ceiling, ceiling_of, own_priority, effective_priority}
 use Rattle.pim_base.specs.Laws.{IsNoneOnly, NoneLaw}
 use Rattle.pim_base.specs.declared.steps.Wait.{Wait}
-use Rattle.pim_base.proofs.Greatest.{greatest-cons, greatest_of, le-greatest_of, greatest_of-le}
+use Rattle.pim_base.proofs.Greatest.{greatest-cons, le-greatest_of, greatest_of-le}
 use Rattle.pim_base.proofs.Hops.{or_cases, or_left}
 use Rattle.pim_base.proofs.Places.{nth_within}
 

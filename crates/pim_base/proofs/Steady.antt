@@ -1,6 +1,5 @@
 -- What no step breaks: tickets of their own, and no free mutex with waiters.
-use Rattle.std.proofs.Common.{◌≡◌, ◌⊎◌, inl, inr, ℕ, zero, suc, ◌+◌, ◌<◌, true, List, [], ◌∷◌, length, map, replicate, Option, Some, None, is_some, IsSome, refl, sym, ◌∙◌, ap, subst, arith, unwrap_or, option_and_then, eqb, Contains, slice_get, if◌then◌else◌}
-use Rattle.std.proofs.lemmas.Bool.{eq-eqb}
+use Rattle.std.proofs.Common.{◌≡◌, ◌⊎◌, inl, inr, ℕ, zero, suc, ◌+◌, ◌<◌, true, List, [], ◌∷◌, length, map, replicate, Option, Some, None, is_some, IsSome, refl, sym, ◌∙◌, ap, subst, arith, unwrap_or, option_and_then, Contains, slice_get}
 use Rattle.std.proofs.lemmas.List.{length-replicate}
 use Rattle.std.proofs.lemmas.Bool.Decides.{eqb_tells}
 use Rattle.std.proofs.lemmas.Option.{none-some, same_Some}
@@ -8,7 +7,7 @@ use Rattle.pim_base.specs.Lists.{nth, put, head_of}
 use Rattle.pim_base.specs.State.{State, IsTask, start, owner_of, wait_of, with_owner, with_wait, with_base, queued}
 use Rattle.pim_base.specs.Chains.{blocker}
 use Rattle.pim_base.specs.Priorities.{effective_priority}
-use Rattle.pim_base.specs.Queues.{first_of, waiter_of, queue_of}
+use Rattle.pim_base.specs.Queues.{first_of, queue_of}
 use Rattle.pim_base.specs.Checks.{is_owned}
 use Rattle.pim_base.specs.Steps.{hand_over, hand_over_to, reply_of, after}
 use Rattle.pim_base.specs.Runs.{IsRun}
@@ -20,13 +19,16 @@ use Rattle.pim_base.specs.declared.steps.Wait.{Wait}
 use Rattle.pim_base.specs.declared.steps.Waiter.{Waiter}
 use Rattle.pim_base.proofs.Hops.{first_hop}
 use Rattle.pim_base.proofs.Closing.{returns_from_cycle}
-use Rattle.pim_base.proofs.InOrder.{queue_law}
+use Rattle.pim_base.proofs.InOrder.{queue_law, waiter_of-waits}
 use Rattle.pim_base.proofs.Kept.{IsKeptBySteps, kept_by_step}
 use Rattle.pim_base.proofs.NoCycle.{sound_kept, unwrap_or-put_same}
 use Rattle.pim_base.proofs.Places.{nth-put_same, nth-put_other, nth_within}
 
 -- a wait after one task's wait was changed is that one, or an old one
-wait_of-put : (S : State) (t x : ℕ) (o : Option Wait) (w : Wait) → wait_of (with_wait S t o) x ≡ Some w → ((t ≡ x) × (o ≡ Some w)) ⊎ (wait_of S x ≡ Some w)
+wait_of-put :
+    (S : State) (t x : ℕ) (o : Option Wait) (w : Wait)
+    → wait_of (with_wait S t o) x ≡ Some w
+    → ((t ≡ x) × (o ≡ Some w)) ⊎ (wait_of S x ≡ Some w)
 wait_of-put S t x o w e = elim (eqb_tells t x) [
   | inl same ↦ elim (unwrap_or-put_same S.wait t o) [
     | inl is_o ↦ inl (same.1, sym is_o ∙ ap (wait_of (with_wait S t o)) same.1 ∙ e)
@@ -119,17 +121,12 @@ first_not_none S m t w ok e here none = go (queue_of S m) none there
     it : Waiter
     it = record { task = t; prio = effective_priority S t; ticket = w.ticket }
 
-    shown : waiter_of S m t ≡ Some it
-    shown =
-        ap (option_and_then (λ (w : Wait). if eqb w.mutex m then Some (record { task = t; prio = effective_priority S t; ticket = w.ticket }) else None)) e
-        ∙ ap (λ b. if b then Some it else None) (eq-eqb w.mutex m here)
-
     known : (o : Option (Option Wait)) → nth S.wait t ≡ o → unwrap_or o None ≡ Some w → IsTask S t
     known None h f = cc
     known (Some v) h f = let within = nth_within S.wait t v h in (within.0, omega (arith, within.1, ok.sound.lists.waits))
 
     there : Contains (queue_of S m) it
-    there = (queue_law S m ok.tickets).all t it (known (nth S.wait t) refl e) shown
+    there = (queue_law S m ok.tickets).all t it (known (nth S.wait t) refl e) (waiter_of-waits S m t w e here)
 
     go : (q : List Waiter) → head_of q ≡ None → Contains q it → ⊥
     go [] h c = absurd (omega (arith, c.1))

@@ -1,15 +1,19 @@
 -- What the definitions have to do with one another.
 use Rattle.std.specs.Prelude.{◌≡◌, ◌≤◌, ℕ, [], ◌↔◌, IsTrue, Some, None, All, AllPairs, Contains}
 use Rattle.pim_base.specs.Lists.{contains}
-use Rattle.pim_base.specs.State.{State, IsState, IsTask, base_of, protocol_of, wait_of, owned, with_wait}
-use Rattle.pim_base.specs.Chains.{HasCycle, closes_cycle, inherit_chain}
-use Rattle.pim_base.specs.Priorities.{own_priority, local_priority, effective_priority}
+use Rattle.std.specs.Option.{option_map}
+use Rattle.pim_base.specs.State.{State, IsState, IsTask, base_of, protocol_of, owner_of, wait_of, owned, with_wait}
+use Rattle.pim_base.specs.Chains.{HasCycle, closes_cycle, heir, inherit_chain}
+use Rattle.pim_base.specs.Priorities.{ceiling, own_priority, local_priority, effective_priority}
 use Rattle.pim_base.specs.Queues.{Precedes, waiter_of, queue_of}
+use Rattle.pim_base.specs.Reasons.{reason_of}
 use Rattle.pim_base.specs.Steps.{after}
 pub use Rattle.pim_base.specs.Steady.{IsSound}
-use Rattle.pim_base.specs.Steady.{HasOwnTickets}
+use Rattle.pim_base.specs.Steady.{HasOwnTickets, IsSteady}
 use Rattle.pim_base.specs.declared.steps.Protocol.{Protocol}
+use Rattle.pim_base.specs.declared.steps.Reason.{Reason}
 use Rattle.pim_base.specs.declared.steps.Step.{Step}
+use Rattle.pim_base.specs.declared.steps.Wait.{Wait}
 use Rattle.pim_base.specs.declared.steps.Waiter.{Waiter}
 
 -- Where no cycle stands, the wait of a task that doesn't wait yet makes one exactly where `closes_cycle` says so.
@@ -79,3 +83,17 @@ IsNoneOnly S = (m : ℕ) → protocol_of S m ≡ Protocol.None
 -- has its base priority, whoever owns and waits for what.
 abbrev pub NoneLaw : Type 0
 NoneLaw = (S : State) (t : ℕ) → IsNoneOnly S → effective_priority S t ≡ base_of S t
+
+-- What a reason says of t's priority: it is t's base; or the ceiling of m, which t owns; or that of u, which waits for the
+-- INHERIT mutex m of t.
+abbrev pub Gives : State → ℕ → Reason → Type 0
+Gives S t Reason.Base = effective_priority S t ≡ base_of S t
+Gives S t (Reason.Ceiling m) = (owner_of S m ≡ Some t) × (ceiling (protocol_of S m) ≡ Some (effective_priority S t))
+Gives S t (Reason.Waiter u m) =
+    (heir S u ≡ Some t)
+    × (option_map (λ (w : Wait). w.mutex) (wait_of S u) ≡ Some m)
+    × (effective_priority S u ≡ effective_priority S t)
+
+-- The reason of a known task says the truth, in each state that a run from the start can reach.
+abbrev pub ReasonLaw : Type 0
+ReasonLaw = (S : State) (t : ℕ) → IsSteady S → IsTask S t → Gives S t (reason_of S t)

@@ -31,7 +31,11 @@ impl Model for Tables {
 
     ghost view = { λ t. record { base = t.base.items; protocol = t.protocol.items; owner = t.owner.items; wait = t.wait.items; next = t.next } };
 
-    ghost invariant = { λ t. (length t.base.items ≤ 256) × (length t.protocol.items ≤ 256) × (length t.wait.items ≡ length t.base.items) × (length t.owner.items ≡ length t.protocol.items) };
+    ghost invariant = { λ t.
+        (length t.base.items ≤ 256)
+        × (length t.protocol.items ≤ 256)
+        × (length t.wait.items ≡ length t.base.items)
+        × (length t.owner.items ≡ length t.protocol.items) };
 }
 
 impl Tables {

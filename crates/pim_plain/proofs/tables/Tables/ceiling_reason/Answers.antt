@@ -44,4 +44,5 @@ returns c =
     let S : State = c.args.self.now in
     let over : length S.protocol + 1 - c.loop-number.number ≡ 0 =
     omega (arith, c.loop-number-test.false, c.mutex_count-number-end.ensures.count) in
-    sym (c.loop-number.invariant ∙ find_filter-end (λ m. ceiling_of c.args.self.now m == c.args.prio) (λ m. holds (owner_of S m) c.args.task) _ _ over)
+    sym (c.loop-number.invariant
+    ∙ find_filter-end (λ m. ceiling_of c.args.self.now m == c.args.prio) (λ m. holds (owner_of S m) c.args.task) _ _ over)

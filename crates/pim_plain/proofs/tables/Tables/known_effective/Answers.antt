@@ -18,7 +18,14 @@ loop-number-preserved c =
     elim c.if-inherits.branch [
       | then-inherits w ↦
           let passes : p n ≡ true = sym c.inherits.ensures ∙ w.if-inherits.true in
-          rw next (omega (arith, w.prio-is, w.higher-prio.ensures, w.own_priority.ensures, c.loop-number.invariant, greatest_of-pass f p n (n - 1) done passes))
+          rw next (omega (
+            arith,
+            w.prio-is,
+            w.higher-prio.ensures,
+            w.own_priority.ensures,
+            c.loop-number.invariant,
+            greatest_of-pass f p n (n - 1) done passes,
+          ))
       | else-inherits w ↦
           let fails : p n ≡ false = sym c.inherits.ensures ∙ w.if-inherits.false in
           rw next (omega (arith, w.prio-is, c.loop-number.invariant, greatest_of-fail f p n (n - 1) done fails))
