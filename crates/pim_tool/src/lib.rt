@@ -2,6 +2,7 @@
 #![tactic(auto)]
 
 mod agreement;
+mod command_line;
 mod ends;
 mod fault;
 mod judging;
@@ -16,6 +17,7 @@ mod text;
 mod transfer;
 mod word;
 
+pub use command_line::{Job, command};
 pub use ends::{Failed, Sink, Source};
 pub use fault::Fault;
 pub use judging::{judge, status};
