@@ -5,12 +5,9 @@
 //! contract can say: the streams, the texts and the process.
 #![tactic(auto)]
 
-mod streams;
-
-use pim_tool::{Job, command, judge, status};
+use pim_tool::{Input, Job, Output, command, judge, status};
 use std::io;
 use std::process::ExitCode;
-use streams::{Input, Output};
 
 /// The exit status for a fault, of the command line too.
 const FAULT: u8 = 2;

@@ -1,5 +1,5 @@
 use Rattle.std.proofs.Common.{◌≡◌}
-use Rattle.pim.proofs.streams.OutputSink.write.Given as goal
+use Rattle.pim_tool.proofs.streams.OutputSink.write.Given as goal
 
 -- an interrupted write is no failure, and took nothing
 abbrev pub invariant-loop-attempt : goal.invariant-loop-attempt

@@ -1,7 +1,7 @@
-//! Standard streams as a source and a sink, which know no bytes.
+//! The readers and writers of std as ends that know no bytes.
 ghost use Rattle.std.specs.Prelude.{None};
 
-use pim_tool::{Failed, Sink, Source};
+use crate::ends::{Failed, Sink, Source};
 use std::io::{ErrorKind, Read, Write};
 
 /// A reader that counts its failures. A read that a signal interrupts is made again.
@@ -12,6 +12,7 @@ pub struct Input<R> {
 }
 
 impl<R: Read> Input<R> {
+    /// A reader of which no read has failed.
     pub fn new(reader: R) -> Input<R> {
         Input {
             reader,
@@ -47,12 +48,25 @@ pub struct Output<W> {
 }
 
 impl<W: Write> Output<W> {
+    /// A writer of which no write has failed or taken nothing.
     pub fn new(writer: W) -> Output<W> {
         Output {
             writer,
             failures: 0,
             stalls: 0,
         }
+    }
+}
+
+impl<W> Output<W> {
+    /// The writer.
+    pub fn into_inner(self) -> W {
+        let Output {
+            writer,
+            failures: _,
+            stalls: _,
+        } = self;
+        writer
     }
 }
 

@@ -1,5 +1,5 @@
 use Rattle.std.proofs.Common.{◌≡◌}
-use Rattle.pim.proofs.streams.InputSource.read.Given as goal
+use Rattle.pim_tool.proofs.streams.InputSource.read.Given as goal
 
 -- an interrupted read is no failure
 abbrev pub invariant-loop-attempt : goal.invariant-loop-attempt
