@@ -56,10 +56,10 @@ pub joined_fields :
     → waits ≡ put v.state.wait t (Some w)
     → lines ≡ put_queue v.queues w.mutex (insert_by precedes (queue_at v w.mutex) (record { task = t; prio = prio; ticket = w.ticket }))
     → Ready v
-    → Ready (record { state = record v.state { wait = waits }; stored = v.stored; queues = lines })
+    → Ready (record v { state = record v.state { wait = waits }; stored = v.stored; queues = lines })
 joined_fields v u t prio w waits lines same known mutex idle open' fresh is_prio is_waits is_lines ready =
-    subst (λ ws. Ready (record { state = record v.state { wait = ws }; stored = v.stored; queues = lines })) (sym is_waits)
-    (subst (λ ls. Ready (record { state = record v.state { wait = put v.state.wait t (Some w) }; stored = v.stored; queues = ls })) (sym (is_lines ∙ ap (λ p. put_queue v.queues w.mutex (insert_by precedes (queue_at v w.mutex) (record { task = t; prio = p; ticket = w.ticket }))) is_prio))
+    subst (λ ws. Ready (record v { state = record v.state { wait = ws }; stored = v.stored; queues = lines })) (sym is_waits)
+    (subst (λ ls. Ready (record v { state = record v.state { wait = put v.state.wait t (Some w) }; stored = v.stored; queues = ls })) (sym (is_lines ∙ ap (λ p. put_queue v.queues w.mutex (insert_by precedes (queue_at v w.mutex) (record { task = t; prio = p; ticket = w.ticket }))) is_prio))
     (ready_joined v t w
     (subst (λ (x : View). IsTask x.state t) (sym same) known)
     (subst (λ (x : View). IsMutex x.state w.mutex) (sym same) mutex)
@@ -73,13 +73,13 @@ pub left_fields :
     → waits ≡ put v.state.wait t None
     → lines ≡ put_queue v.queues w.mutex (without t (queue_at v w.mutex))
     → Ready v
-    → Ready (record { state = record v.state { wait = waits }; stored = v.stored; queues = lines })
+    → Ready (record v { state = record v.state { wait = waits }; stored = v.stored; queues = lines })
 left_fields v t w waits lines at is_waits is_lines ready =
-    subst (λ ws. Ready (record { state = record v.state { wait = ws }; stored = v.stored; queues = lines })) (sym is_waits)
-    (subst (λ ls. Ready (record { state = record v.state { wait = put v.state.wait t None }; stored = v.stored; queues = ls })) (sym is_lines) (ready_left v t w at ready))
+    subst (λ ws. Ready (record v { state = record v.state { wait = ws }; stored = v.stored; queues = lines })) (sym is_waits)
+    (subst (λ ls. Ready (record v { state = record v.state { wait = put v.state.wait t None }; stored = v.stored; queues = ls })) (sym is_lines) (ready_left v t w at ready))
 
-pub restored_field : (v : View) (t p : ℕ) (stored : List ℕ) → wait_of v.state t ≡ None → stored ≡ put v.stored t p → Ready v → Ready (record { state = v.state; stored = stored; queues = v.queues })
-restored_field v t p stored at is ready = subst (λ ss. Ready (record { state = v.state; stored = ss; queues = v.queues })) (sym is) (restored_free v t p at ready)
+pub restored_field : (v : View) (t p : ℕ) (stored : List ℕ) → wait_of v.state t ≡ None → stored ≡ put v.stored t p → Ready v → Ready (record v { state = v.state; stored = stored; queues = v.queues })
+restored_field v t p stored at is ready = subst (λ ss. Ready (record v { state = v.state; stored = ss; queues = v.queues })) (sym is) (restored_free v t p at ready)
 
 pub restored_fields :
     (v u : View) (t p : ℕ) (w : Wait) (stored : List ℕ) (lines : List Line)
@@ -89,15 +89,15 @@ pub restored_fields :
     → stored ≡ put v.stored t p
     → lines ≡ moved v.queues (Some w) t p
     → Ready v
-    → Ready (record { state = v.state; stored = stored; queues = lines })
+    → Ready (record v { state = v.state; stored = stored; queues = lines })
 restored_fields v u t p w stored lines same known at is is_lines ready =
-    subst (λ ss. Ready (record { state = v.state; stored = ss; queues = lines })) (sym is)
-    (subst (λ ls. Ready (record { state = v.state; stored = put v.stored t p; queues = ls })) (sym is_lines) (restored_waiting v t p w (subst (λ (x : View). IsTask x.state t) (sym same) known) at ready))
+    subst (λ ss. Ready (record v { state = v.state; stored = ss; queues = lines })) (sym is)
+    (subst (λ ls. Ready (record v { state = v.state; stored = put v.stored t p; queues = ls })) (sym is_lines) (restored_waiting v t p w (subst (λ (x : View). IsTask x.state t) (sym same) known) at ready))
 
-pub is_restored : (v : View) (t p : ℕ) (o : Option Wait) (stored : List ℕ) (lines : List Line) → wait_of v.state t ≡ o → stored ≡ put v.stored t p → lines ≡ moved v.queues o t p → record { state = v.state; stored = stored; queues = lines } ≡ restored v t p
+pub is_restored : (v : View) (t p : ℕ) (o : Option Wait) (stored : List ℕ) (lines : List Line) → wait_of v.state t ≡ o → stored ≡ put v.stored t p → lines ≡ moved v.queues o t p → record v { state = v.state; stored = stored; queues = lines } ≡ restored v t p
 is_restored v t p o stored lines at is is_lines =
-    ap (λ ss. record { state = v.state; stored = ss; queues = lines }) is
-    ∙ ap (λ ls. record { state = v.state; stored = put v.stored t p; queues = ls }) (is_lines ∙ ap (λ x. moved v.queues x t p) (sym at))
+    ap (λ ss. record v { state = v.state; stored = ss; queues = lines }) is
+    ∙ ap (λ ls. record v { state = v.state; stored = put v.stored t p; queues = ls }) (is_lines ∙ ap (λ x. moved v.queues x t p) (sym at))
 
 -- ---- what the calls on the lines ask for
 pub join_room : (v u : View) (t m : ℕ) → v ≡ u → IsTask u.state t → IsMutex u.state m → wait_of u.state t ≡ None → Ready v → length (queue_at v m) < (line_in v.queues m).room
@@ -193,10 +193,10 @@ pub is_joined :
     → prio ≡ stored_at v t
     → waits ≡ put v.state.wait t (Some w)
     → lines ≡ put_queue v.queues w.mutex (insert_by precedes (queue_at v w.mutex) (record { task = t; prio = prio; ticket = w.ticket }))
-    → record { state = record v.state { wait = waits }; stored = v.stored; queues = lines } ≡ joined u t w
+    → record v { state = record v.state { wait = waits }; stored = v.stored; queues = lines } ≡ joined u t w
 is_joined v u t prio w waits lines same is_prio is_waits is_lines =
-    ap (λ ws. record { state = record v.state { wait = ws }; stored = v.stored; queues = lines }) is_waits
-    ∙ ap (λ ls. record { state = record v.state { wait = put v.state.wait t (Some w) }; stored = v.stored; queues = ls })
+    ap (λ ws. record v { state = record v.state { wait = ws }; stored = v.stored; queues = lines }) is_waits
+    ∙ ap (λ ls. record v { state = record v.state { wait = put v.state.wait t (Some w) }; stored = v.stored; queues = ls })
     (is_lines ∙ ap (λ p. put_queue v.queues w.mutex (insert_by precedes (queue_at v w.mutex) (record { task = t; prio = p; ticket = w.ticket }))) is_prio)
     ∙ ap (λ x. joined x t w) same
 
@@ -205,8 +205,8 @@ pub is_left :
     → v ≡ u
     → waits ≡ put v.state.wait t None
     → lines ≡ put_queue v.queues m (without t (queue_at v m))
-    → record { state = record v.state { wait = waits }; stored = v.stored; queues = lines } ≡ left u t m
+    → record v { state = record v.state { wait = waits }; stored = v.stored; queues = lines } ≡ left u t m
 is_left v u t m waits lines same is_waits is_lines =
-    ap (λ ws. record { state = record v.state { wait = ws }; stored = v.stored; queues = lines }) is_waits
-    ∙ ap (λ ls. record { state = record v.state { wait = put v.state.wait t None }; stored = v.stored; queues = ls }) is_lines
+    ap (λ ws. record v { state = record v.state { wait = ws }; stored = v.stored; queues = lines }) is_waits
+    ∙ ap (λ ls. record v { state = record v.state { wait = put v.state.wait t None }; stored = v.stored; queues = ls }) is_lines
     ∙ ap (λ x. left x t m) same

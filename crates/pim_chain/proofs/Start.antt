@@ -87,12 +87,13 @@ module _ (bases : List ℕ) (protocols : List Protocol) where
 
 pub is_fresh :
     (bases : List ℕ) (protocols : List Protocol)
-    (b : List ℕ) (p : List Protocol) (o : List (Option ℕ)) (w : List (Option Wait)) (s : List ℕ) (q : List Line)
+    (b : List ℕ) (p : List Protocol) (o : List (Option ℕ)) (w : List (Option Wait)) (s k : List ℕ) (q : List Line)
     → b ≡ bases
     → p ≡ protocols
     → o ≡ replicate (length protocols) None
     → w ≡ replicate (length bases) None
     → s ≡ bases
+    → k ≡ bases
     → q ≡ replicate (length protocols) (record { waiters = []; room = length bases })
-    → record { state = record { base = b; protocol = p; owner = o; wait = w; next = 0 }; stored = s; queues = q } ≡ fresh bases protocols
-is_fresh bases protocols b p o w s q is_b is_p is_o is_w is_s is_q = cc
+    → record { state = record { base = b; protocol = p; owner = o; wait = w; next = 0 }; stored = s; marked = k; queues = q } ≡ fresh bases protocols
+is_fresh bases protocols b p o w s k q is_b is_p is_o is_w is_s is_k is_q = cc

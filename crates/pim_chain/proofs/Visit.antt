@@ -80,7 +80,7 @@ queue_moved v x p w ready known at =
     back : (u : ℕ) → (u ≡ x → ⊥) → wait_of v.state u ≡ away u
     back u ne = sym (ap (λ b. cond b None (wait_of v.state u)) (ne_eqb u x ne))
 
-pub restored_free : (v : View) (x p : ℕ) → wait_of v.state x ≡ None → Ready v → Ready (record { state = v.state; stored = put v.stored x p; queues = v.queues })
+pub restored_free : (v : View) (x p : ℕ) → wait_of v.state x ≡ None → Ready v → Ready (record v { state = v.state; stored = put v.stored x p; queues = v.queues })
 restored_free v x p at ready = record {
   sound = ready.sound;
   few_tasks = ready.few_tasks;
@@ -92,7 +92,7 @@ restored_free v x p at ready = record {
   room = ready.room;
 }
 
-pub restored_waiting : (v : View) (x p : ℕ) (w : Wait) → IsTask v.state x → wait_of v.state x ≡ Some w → Ready v → Ready (record { state = v.state; stored = put v.stored x p; queues = moved v.queues (Some w) x p })
+pub restored_waiting : (v : View) (x p : ℕ) (w : Wait) → IsTask v.state x → wait_of v.state x ≡ Some w → Ready v → Ready (record v { state = v.state; stored = put v.stored x p; queues = moved v.queues (Some w) x p })
 restored_waiting v x p w known at ready = record {
   sound = ready.sound;
   few_tasks = ready.few_tasks;
@@ -109,7 +109,7 @@ restored_waiting v x p w known at ready = record {
 pub ready_restored : (v : View) (x p : ℕ) → IsTask v.state x → Ready v → Ready (restored v x p)
 ready_restored v x p known ready = go (wait_of v.state x) refl
   where
-    go : (o : Option Wait) → wait_of v.state x ≡ o → Ready (record { state = v.state; stored = put v.stored x p; queues = moved v.queues o x p })
+    go : (o : Option Wait) → wait_of v.state x ≡ o → Ready (record v { state = v.state; stored = put v.stored x p; queues = moved v.queues o x p })
     go None at = restored_free v x p at ready
     go (Some w) at = restored_waiting v x p w known at ready
 
@@ -121,6 +121,7 @@ stands v x w ready at = (ready.queues w.mutex (ready.waits.mutexes x w at)).comp
 pub visited_same : (v : View) (x : ℕ) → SettledBut v.state (stored_at v) (Some x) → stored_at v x ≡ local_priority v.state (stored_at v) x → Visited v v x None
 visited_same v x settled right = record {
   state = refl;
+  marked = refl;
   settled = λ t task _. go t task (cases_eq t x);
   others = λ u _. refl;
   onward = λ y e. absurd (none-some y e);
@@ -141,6 +142,7 @@ module _ (v : View) (x p : ℕ) (ready : Ready v) (known : IsTask v.state x) (se
   pub visited_free : wait_of v.state x ≡ None → Visited v (restored v x p) x None
   visited_free free = record {
     state = refl;
+    marked = refl;
     settled = λ t task _. onward t task (λ e. none-some t (sym (ap (option_and_then (λ (w : Wait). heir_of v.state w.mutex)) free) ∙ e));
     others = stored_else v x p;
     onward = λ y e. absurd (none-some y e);
@@ -151,6 +153,7 @@ module _ (v : View) (x p : ℕ) (ready : Ready v) (known : IsTask v.state x) (se
     pub visited_stop : front_prio (queue_at v w.mutex) ≡ front_prio (queue_at (restored v x p) w.mutex) → Visited v (restored v x p) x None
     visited_stop same = record {
       state = refl;
+      marked = refl;
       settled = mended_stop v.state (stored_at v) (stored_at (restored v x p)) x w.mutex ready.sound known settled mends (waits_for_from (wait_of v.state) x w at)
           (top_front v.state (stored_at (restored v x p)) w.mutex (queue_at (restored v x p) w.mutex) ready.sound.lists ((ready_restored v x p known ready).queues w.mutex mutex)
           ∙ sym same
@@ -168,6 +171,7 @@ module _ (v : View) (x p : ℕ) (ready : Ready v) (known : IsTask v.state x) (se
         let hop : heir v.state x ≡ heir_of v.state w.mutex = heir_at v.state w.mutex x (waits_for_from (wait_of v.state) x w at) in
         record {
           state = refl;
+          marked = refl;
           settled = subst (SettledBut v.state (stored_at (restored v x p))) hop onward;
           others = stored_else v x p;
           onward = λ y e. (hop ∙ e, λ same. other (sym (stored_now v x p ready known) ∙ same));

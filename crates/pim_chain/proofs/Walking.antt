@@ -89,6 +89,7 @@ slack (Some u) = 0
 -- ---- after k visits, from v to w
 pub record Walking (v w : View) (x k : ℕ) (next : Option ℕ) : Type 0 where
   pub state : w.state ≡ v.state
+  pub marked : w.marked ≡ v.marked
   pub settled : SettledBut w.state (stored_at w) next
   pub place : (c : ℕ) → next ≡ Some c → hops (heir v.state) k x ≡ Some c
   pub least : changed v w ≤ k
@@ -102,6 +103,7 @@ walking_none v x settled =
     let none : changed v v ≡ 0 = count_none (length v.state.base) (λ u. not (eqb (stored_at v u) (stored_at v u))) (λ u. ap not (eq-eqb (stored_at v u) (stored_at v u) refl)) in
     record {
       state = refl;
+      marked = refl;
       settled = settled;
       place = λ c e. e;
       least = omega (arith, none);
@@ -186,6 +188,7 @@ module _ (v w z : View) (x k c : ℕ) (next : Option ℕ) (ready : Ready v) (kno
   pub walking_more : Walking v z x (k + 1) next
   walking_more = record {
     state = visited.state ∙ walking.state;
+    marked = visited.marked ∙ walking.marked;
     settled = visited.settled;
     place = λ y e. hops_last (heir v.state) k x c y (walking.place c refl) (next_hop y e);
     least = least_more;
