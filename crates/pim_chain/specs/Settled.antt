@@ -34,7 +34,8 @@ moved lines (Some w) t p = put_queue lines w.mutex (repositioned t p (queue_in l
 abbrev pub joined : View → ℕ → Wait → View
 joined v t w = record v {
   state = with_wait v.state t (Some w);
-  queues = put_queue v.queues w.mutex (insert_by precedes (queue_at v w.mutex) (record { task = t; prio = stored_at v t; ticket = w.ticket }));
+  queues =
+      put_queue v.queues w.mutex (insert_by precedes (queue_at v w.mutex) (record { task = t; prio = stored_at v t; ticket = w.ticket }));
 }
 
 -- the task waits no more for the mutex, and has left its queue

@@ -17,7 +17,8 @@ invariant_of-result c = record {
   owned =
       subst (λ n. AreOwned n c.in_ok-owner.owner.items c.in_ok-owned.owned.items) (sym (ap length c.in_ok-base.ensures.items))
       (subst (λ os. AreOwned (length c.args.bases.now) os c.in_ok-owned.owned.items) (sym c.in_ok-owner.ensures)
-      (none_owned (length c.args.bases.now) (length c.args.protocols.now) c.new.result c.in_ok-owned.owned.items c.new.ensures c.in_ok-owned.ensures));
+      (none_owned (length c.args.bases.now)
+      (length c.args.protocols.now) c.new.result c.in_ok-owned.owned.items c.new.ensures c.in_ok-owned.ensures));
   marks = record {
     len = ap length (c.in_ok-marked.ensures.items ∙ sym c.in_ok-stored.ensures.items);
     same = λ t _. ap (λ ss. stored_in ss t) (c.in_ok-marked.ensures.items ∙ sym c.in_ok-stored.ensures.items);
