@@ -227,7 +227,7 @@ ticket_told v m k q ready at = (
       found (has_ticket k) (Shows (wait_of v.state) (stored_at v) m) q.waiters h here.sound in
       (it.one.task, it.holds.waits ∙ ap (λ n. Some (record { mutex = m; ticket = n })) (eqb-true it.one.ticket k it.passes))),
   (λ h. ticket_there (wait_of v.state) (stored_at v) m k h.0 q.waiters h.1 here.sound
-  (here.complete h.0 (waits_for_from (wait_of v.state) h.0 _ h.1))),
+      (here.complete h.0 (waits_for_from (wait_of v.state) h.0 _ h.1))),
 )
   where
     isk : IsMutex v.state m

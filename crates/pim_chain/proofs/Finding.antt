@@ -3,7 +3,7 @@ use Rattle.std.proofs.Common.{◌≡◌, ℕ, zero, suc, ◌<◌, ◌≤◌, Boo
 use Rattle.std.specs.List.{find}
 use Rattle.std.specs.Option.{option_or}
 use Rattle.std.proofs.lemmas.List.Folds.{find-append}
-use Rattle.std.proofs.lemmas.Bool.{and_parts, and_from, cases_lt}
+use Rattle.std.proofs.lemmas.Bool.{and_parts}
 use Rattle.pim_base.specs.Lists.{numbers}
 use Rattle.pim_base.proofs.Greatest.{filter_numbers-more}
 use Rattle.pim_chain.specs.Owned.{IsFirstAbove, IsNext}

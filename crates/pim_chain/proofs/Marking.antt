@@ -1,5 +1,5 @@
 -- The tasks whose stored priority was touched since the priorities were marked.
-use Rattle.std.proofs.Common.{◌≡◌, ℕ, ◌<◌, ◌≤◌, ◌==◌, ◌||◌, not, Bool, true, false, ◌⊎◌, inl, inr, sym, ◌∙◌, ap, List, length, unwrap_or}
+use Rattle.std.proofs.Common.{◌≡◌, ℕ, ◌<◌, ◌≤◌, ◌==◌, ◌||◌, not, false, ◌⊎◌, inl, inr, sym, ◌∙◌, ap, List, length, unwrap_or}
 use Rattle.std.proofs.lemmas.Bool.{both_ways, cases_eq, cases_lt, eq-eqb, or_left, or_parts}
 use Rattle.pim_base.specs.Lists.{put}
 use Rattle.pim_base.proofs.Places.{nth-put_other, length-put}

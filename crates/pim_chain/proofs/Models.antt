@@ -169,9 +169,12 @@ queue_is v m calm known =
     (all_each (Shows (among v.state (length v.state.base)) (effective_priority v.state) m) (Shows (wait_of v.state) (stored_at v) m) (λ w k.
     let waits : wait_of v.state w.task ≡ Some (record { mutex = m; ticket = w.ticket }) =
     among_from v.state (length v.state.base) w.task (record { mutex = m; ticket = w.ticket }) k.waits in
-    record { waits = waits; prio = k.prio ∙ sym
-    (settled_effective v.state (stored_at v) calm.ready.sound calm.settled w.task
-    (waiting_known v.state calm.ready.sound.lists w.task _ waits)) }) (queue_of v.state m) theirs.sound)
+    record {
+      waits = waits;
+      prio = k.prio ∙ sym
+          (settled_effective v.state (stored_at v) calm.ready.sound calm.settled w.task
+          (waiting_known v.state calm.ready.sound.lists w.task _ waits));
+    }) (queue_of v.state m) theirs.sound)
     (λ t h. theirs.complete t
     (same_waits_for (wait_of v.state) (among v.state (length v.state.base)) m t (sym (among_all v.state calm.ready.sound.lists t))
     (listed_waits (wait_of v.state) (stored_at v) m t (queue_at v m) h mine.sound)))

@@ -246,12 +246,15 @@ unfolding IsDistinct
 room_for S stored m x ws lists known away q =
     let all : length (0 ∷ x ∷ map (λ (w : Waiter). w.task) ws) ≤ suc (length S.base) =
     length-le_from_distinct_below (0 ∷ x ∷ map (λ (w : Waiter). w.task) ws) (suc (length S.base)) (
-      (ne_eqb 0 x (λ e. absurd (omega (arith, e, known.0))), apart 0 ws
-      (all_each (Shows (wait_of S) stored m) (λ u. 0 ≡ u.task → ⊥)
-      (λ u k e. let task = waiting_known S lists u.task _ k.waits in absurd (omega (arith, e, task.0))) ws q.sound)),
+      (
+        ne_eqb 0 x (λ e. absurd (omega (arith, e, known.0))),
+        apart 0 ws
+            (all_each (Shows (wait_of S) stored m) (λ u. 0 ≡ u.task → ⊥)
+            (λ u k e. let task = waiting_known S lists u.task _ k.waits in absurd (omega (arith, e, task.0))) ws q.sound),
+      ),
       (
         apart x ws (all_each (Shows (wait_of S) stored m) (λ u. x ≡ u.task → ⊥)
-        (λ u k e. away (subst (λ t. waits_for (wait_of S) m t ≡ true) (sym e) (waits_for_from (wait_of S) u.task _ k.waits))) ws q.sound),
+            (λ u k e. away (subst (λ t. waits_for (wait_of S) m t ≡ true) (sym e) (waits_for_from (wait_of S) u.task _ k.waits))) ws q.sound),
         distinct_tasks (wait_of S) stored m ws q.ordered q.sound,
       ),
     )

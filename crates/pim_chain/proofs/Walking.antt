@@ -204,8 +204,11 @@ module _ (v w z : View) (x k c : ℕ) (next : Option ℕ) (ready : Ready v) (kno
       go (inl is) = record { count = 0; leads = hops_front (heir v.state) 0 t y (ap (heir v.state) is ∙ next_hop y e) }
       go (inr ne) =
           let so_far = walking.back c t refl (λ same. changes (same ∙ sym (visited.others t ne))) in
-          record { count = suc so_far.count; leads = subst (λ j. hops (heir v.state) j t ≡ Some y) (add-one (suc so_far.count))
-          (hops_last (heir v.state) (suc so_far.count) t c y so_far.leads (next_hop y e)) }
+          record {
+            count = suc so_far.count;
+            leads = subst (λ j. hops (heir v.state) j t ≡ Some y) (add-one (suc so_far.count))
+                (hops_last (heir v.state) (suc so_far.count) t c y so_far.leads (next_hop y e));
+          }
 
   single_more : heir v.state x ≡ None → k + 1 ≤ 1
   single_more h = go k (walking.place c refl)

@@ -1,4 +1,4 @@
-use Rattle.std.proofs.Common.{◌<◌, ◌≤◌, ◌∙◌, ap, sym, not, arith}
+use Rattle.std.proofs.Common.{◌<◌, ◌∙◌, ap, sym, not, arith}
 use Rattle.std.proofs.lemmas.Bool.{ne_eqb}
 use Rattle.pim_chain.proofs.Marking.{same_upto}
 use Rattle.pim_chain.proofs.sets.next_differing.Goals as goal
