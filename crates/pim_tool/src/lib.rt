@@ -22,3 +22,6 @@ pub use judging::{judge, status};
 pub use pim_base::{StepLine, Verdict};
 pub use reading::parse;
 pub use text::Text;
+
+#[cfg(test)]
+mod tests;
