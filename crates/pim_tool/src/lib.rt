@@ -26,3 +26,6 @@ pub use pim_base::{StepLine, Verdict};
 pub use reading::parse;
 pub use streams::{Input, Output};
 pub use text::Text;
+
+#[cfg(test)]
+mod tests;
