@@ -1,6 +1,6 @@
 -- A task that leaves a queue, and a mutex that passes from its owner to the first of its queue.
 use Rattle.std.proofs.Common.{◌≡◌, ℕ, zero, suc, inl, inr, ◌+◌, ◌≤◌, refl, sym, ◌∙◌, ap, subst, arith, Option, Some, None, List, [], ◌∷◌, length, option_and_then, set}
-use Rattle.std.proofs.lemmas.Option.{none-some, same_Some}
+use Rattle.std.proofs.lemmas.Option.{same_Some}
 use Rattle.pim_base.specs.Lists.{put, head_of}
 use Rattle.pim_base.specs.State.{State, IsTask, IsMutex, owner_of, wait_of, with_owner, with_wait}
 use Rattle.pim_base.specs.Chains.{heir, heir_of, blocker}

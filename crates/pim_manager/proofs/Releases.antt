@@ -2,7 +2,6 @@
 use Rattle.std.proofs.Common.{List, eqb, ◌≡◌, ◌≢◌, ◌<◌, ◌≤◌, ℕ, zero, suc, ◌+◌, ◌-◌, ◌*◌, Bool, true, false, cond, not, [], ◌∷◌, ◌++◌, filter, length, length-append, Option, Some, None, refl, sym, ◌∙◌, ap, subst, arith, fold, unwrap_or, ◌⊎◌, inl, inr}
 use Rattle.std.proofs.lemmas.Bool.{both_ways, cases_eq, cases_lt, eq-eqb, ne_eqb}
 use Rattle.std.proofs.lemmas.List.Elements.{filter-append}
-use Rattle.std.proofs.lemmas.Option.{none-some}
 use Rattle.pim_base.specs.Lists.{numbers, holds}
 use Rattle.pim_base.specs.State.{State, IsMutex, owned, owner_of, wait_of, with_owner, with_wait}
 use Rattle.pim_base.specs.Queues.{first_of}
@@ -13,7 +12,7 @@ use Rattle.pim_base.specs.declared.steps.Waiter.{Waiter}
 use Rattle.pim_base.proofs.Places.{nth-put_other}
 use Rattle.pim_base.proofs.Greatest.{numbers-more, append_nothing}
 use Rattle.pim_base.proofs.NoCycle.{idle_now}
-use Rattle.pim_base.proofs.Stored.{from_holds, holds_from}
+use Rattle.pim_base.proofs.Stored.{from_holds}
 use Rattle.pim_chain.specs.Owned.{IsFirstAbove}
 use Rattle.pim_chain.proofs.Changes.{wait_other}
 use Rattle.pim_chain.proofs.Walking.{differing_over}

@@ -1,21 +1,19 @@
 -- What the tables show of known tasks and mutexes.
-use Rattle.std.proofs.Common.{◌≡◌, ◌≢◌, ◌<◌, ◌≤◌, ◌+◌, ℕ, zero, suc, Bool, true, false, cond, ◌||◌, eqb, ltb, length, List, [], Option, Some, None, refl, sym, ◌∙◌, ap, subst, arith, unwrap_or, replicate, ◌⊎◌, inl, inr, get_or, slice_get}
+use Rattle.std.proofs.Common.{◌≡◌, ◌<◌, ◌≤◌, ℕ, zero, suc, Bool, true, false, cond, ◌||◌, eqb, ltb, length, List, [], Option, Some, None, refl, sym, ◌∙◌, ap, arith, unwrap_or, replicate, ◌⊎◌, inl, inr, get_or, slice_get}
 use Rattle.std.specs.Option.{option_map}
 use Rattle.std.proofs.lemmas.Bool.{cases_lt, lt-ltb, le-ltb, ne_eqb}
 use Rattle.std.proofs.lemmas.Bool.Decides.{nat_tests}
-use Rattle.std.proofs.lemmas.Option.{none-some, slice_get_past}
+use Rattle.std.proofs.lemmas.Option.{slice_get_past}
 use Rattle.pim_base.specs.Lists.{nth}
-use Rattle.pim_base.specs.State.{State, IsTask, IsMutex, wait_of}
+use Rattle.pim_base.specs.State.{State, IsTask, IsMutex}
 use Rattle.pim_base.specs.Checks.{unknown_task, unknown_mutex}
 use Rattle.pim_base.specs.Priorities.{effective_priority}
 use Rattle.pim_base.specs.Queues.{queue_of}
 use Rattle.pim_base.specs.declared.steps.Wait.{Wait}
-use Rattle.pim_base.specs.declared.steps.Protocol.{Protocol}
-use Rattle.pim_base.proofs.Hops.{or_cases}
 use Rattle.pim_base.proofs.NoCycle.{known_from_tests}
 use Rattle.pim_base.proofs.Places.{nth-get_or}
 use Rattle.pim_queue.specs.Line.{Line}
-use Rattle.pim_chain.specs.Views.{View, stored_at, queue_at, line_in, fresh}
+use Rattle.pim_chain.specs.Views.{View, stored_at, line_in}
 use Rattle.pim_chain.specs.Settled.{Calm}
 use Rattle.pim_chain.proofs.Walking.{settled_effective}
 use Rattle.pim_chain.proofs.Models.{queue_is}

@@ -1,5 +1,5 @@
 -- Whole runs keep what each step keeps.
-use Rattle.std.proofs.Common.{◌≡◌, List, [], ◌∷◌, ◌++◌, length, fold, sym, ap, zero, suc, arith}
+use Rattle.std.proofs.Common.{◌≡◌, List, [], ◌∷◌, ◌++◌, length, fold, ap, arith}
 use Rattle.std.proofs.Common.{ℕ, ◌<◌, take}
 use Rattle.std.proofs.lemmas.Grind.{common_steps}
 use Rattle.pim_base.specs.State.{State}

@@ -81,7 +81,12 @@ pub fn rebase(tables: &mut Tables, target: TaskNo, prio: Prio, visits: &mut Visi
 }
 
 /// The mutex goes from its owner, who waits for nothing, to the first of its queue, or is free.
-pub fn hand_over(tables: &mut Tables, mutex: MutexNo, owner: TaskNo, visits: &mut Visits) -> Option<Waiter>
+pub fn hand_over(
+    tables: &mut Tables,
+    mutex: MutexNo,
+    owner: TaskNo,
+    visits: &mut Visits,
+) -> Option<Waiter>
     requires calm { Calm tables.old }
     requires mutex { IsMutex tables.old.state mutex }
     requires owned { owner_of tables.old.state mutex ≡ Some owner }
@@ -99,7 +104,13 @@ pub fn hand_over(tables: &mut Tables, mutex: MutexNo, owner: TaskNo, visits: &mu
 }
 
 // the mutex goes from its owner, who waits for nothing, to the first of its queue, who is given, or is free
-fn pass_on(tables: &mut Tables, mutex: MutexNo, owner: TaskNo, first: &Option<Waiter>, visits: &mut Visits)
+fn pass_on(
+    tables: &mut Tables,
+    mutex: MutexNo,
+    owner: TaskNo,
+    first: &Option<Waiter>,
+    visits: &mut Visits,
+)
     requires calm { Calm tables.old }
     requires mutex { IsMutex tables.old.state mutex }
     requires owned { owner_of tables.old.state mutex ≡ Some owner }

@@ -23,7 +23,11 @@ use pim_chain::{Tables, Visits};
 use std::alloc::{AllocError, Global};
 use std::marker::Model;
 
-/// The manager of mutexes.
+/// The owners, the waiters and the priorities in force.
+///
+/// Its value in contracts is the state of the definitions: what is declared, owned and waited for, and the next ticket.
+/// So equal managers answer alike and stay equal. Between two calls each stored priority is the effective one, each
+/// queue is in order, no cycle of waits stands, and every ticket that waits is below the next one.
 #[derive(Drop)]
 pub struct Manager {
     tables: Tables,

@@ -12,7 +12,10 @@ use pim_base::{MutexNo, Op, Prio, Refusal, Reply, Step, TaskNo};
 use pim_chain::Visits;
 
 impl Manager {
-    /// Makes one step. It is always answered, and a refused step changes nothing.
+    /// Makes one step, which is always answered. A refused step changes nothing at all, and no step takes memory.
+    ///
+    /// The visits are at least the tasks whose effective priority differs then, and at most one more and two for each
+    /// mutex whose owner differs.
     pub fn step(&mut self, step: Step) -> Done
         ensures reply { result.reply ≡ reply_of self.old step }
         ensures state { self.new ≡ after self.old step }

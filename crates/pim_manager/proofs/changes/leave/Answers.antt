@@ -1,4 +1,3 @@
-use Rattle.std.proofs.Common.{◌≡◌}
 use Rattle.pim_manager.proofs.Passing.{has_left}
 use Rattle.pim_manager.proofs.changes.leave.Goals as goal
 

@@ -1,5 +1,5 @@
-use Rattle.std.proofs.Common.{◌≡◌, ◌≤◌, ◌+◌, ◌∙◌, ap, sym, subst, Some, None, arith}
-use Rattle.pim_base.specs.State.{State, wait_of}
+use Rattle.std.proofs.Common.{◌≡◌, ◌≤◌, ◌+◌, ◌∙◌, ap, sym, subst, None, arith}
+use Rattle.pim_base.specs.State.{wait_of}
 use Rattle.pim_base.specs.Steps.{hand_over_to}
 use Rattle.pim_chain.specs.Views.{View}
 use Rattle.pim_chain.specs.Settled.{changed}

@@ -1,4 +1,4 @@
-use Rattle.std.proofs.Common.{◌≡◌, ◌∙◌, ap}
+use Rattle.std.proofs.Common.{◌∙◌, ap}
 use Rattle.pim_base.specs.State.{State}
 use Rattle.pim_base.specs.Priorities.{effective_priority}
 use Rattle.pim_manager.specs.Known.{of_task}

@@ -1,11 +1,8 @@
-use Rattle.std.proofs.Common.{◌≡◌, ◌≤◌, ◌+◌, ◌∙◌, ap, sym, subst, arith, ℕ, Some, None, false, length}
+use Rattle.std.proofs.Common.{◌≡◌, ◌≤◌, ◌+◌, ◌∙◌, ap, sym, subst, arith, Some, None, false, length}
 use Rattle.pim_base.specs.State.{State, IsTask, IsMutex, wait_of, owner_of}
 use Rattle.pim_base.specs.Chains.{closes_cycle}
-use Rattle.pim_base.specs.State.{with_wait, queued}
+use Rattle.pim_base.specs.State.{queued}
 use Rattle.pim_base.specs.Counts.{changed_tasks}
-use Rattle.pim_base.specs.declared.steps.Wait.{Wait}
-use Rattle.pim_chain.specs.Settled.{changed}
-use Rattle.pim_manager.specs.Kept.{Kept}
 use Rattle.pim_manager.proofs.Counted.{counted, given_more, fresh_ticket}
 use Rattle.pim_manager.proofs.manager.Manager.enqueue.Goals as goal
 

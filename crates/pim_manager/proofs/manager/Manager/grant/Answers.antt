@@ -2,8 +2,6 @@ use Rattle.std.proofs.Common.{◌≡◌, ◌≤◌, ◌+◌, ◌∙◌, ap, sym,
 use Rattle.pim_base.specs.State.{State, IsTask, wait_of, owner_of}
 use Rattle.pim_base.specs.State.{with_owner}
 use Rattle.pim_base.specs.Counts.{changed_tasks}
-use Rattle.pim_base.specs.declared.steps.Wait.{Wait}
-use Rattle.pim_manager.specs.Kept.{Kept}
 use Rattle.pim_manager.proofs.Counted.{counted}
 use Rattle.pim_manager.proofs.manager.Manager.grant.Goals as goal
 

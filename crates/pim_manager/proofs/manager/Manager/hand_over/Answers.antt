@@ -1,11 +1,9 @@
-use Rattle.std.proofs.Common.{◌≡◌, ◌<◌, ◌≤◌, ◌+◌, ◌∙◌, ℕ, ap, sym, subst, Option, Some, None, length}
+use Rattle.std.proofs.Common.{◌≡◌, ◌≤◌, ◌+◌, ◌∙◌, ap, sym, subst, Some, None, length}
 use Rattle.pim_base.specs.Lists.{head_of}
 use Rattle.pim_base.specs.State.{State, IsMutex, wait_of, owner_of}
 use Rattle.pim_base.specs.Queues.{first_of}
 use Rattle.pim_base.specs.Steps.{hand_over, hand_over_to}
 use Rattle.pim_base.specs.Counts.{changed_tasks, handed_mutexes}
-use Rattle.pim_base.specs.declared.steps.Wait.{Wait}
-use Rattle.pim_base.specs.declared.steps.Waiter.{Waiter}
 use Rattle.pim_manager.proofs.Counted.{counted, given_handed, bases_handed, next_handed, handed_once}
 use Rattle.pim_chain.proofs.Models.{queue_is}
 use Rattle.pim_manager.proofs.manager.Manager.hand_over.Goals as goal

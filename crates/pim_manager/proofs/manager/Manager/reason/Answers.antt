@@ -1,4 +1,4 @@
-use Rattle.std.proofs.Common.{◌≡◌, ◌∙◌, ap, sym, Some}
+use Rattle.std.proofs.Common.{◌∙◌, ap, sym, Some}
 use Rattle.pim_base.specs.State.{State}
 use Rattle.pim_base.specs.Reasons.{reason_of}
 use Rattle.pim_manager.specs.Known.{of_task}

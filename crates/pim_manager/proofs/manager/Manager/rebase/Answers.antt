@@ -1,8 +1,6 @@
-use Rattle.std.proofs.Common.{◌≡◌, ◌<◌, ◌≤◌, ◌+◌, ◌∙◌, ℕ, ap, sym, subst, arith, length}
+use Rattle.std.proofs.Common.{◌≤◌, ◌+◌, ◌∙◌, ap, subst, arith, length}
 use Rattle.pim_base.specs.State.{State}
-use Rattle.pim_base.specs.Counts.{changed_tasks}
 use Rattle.pim_base.proofs.Places.{length-put}
-use Rattle.pim_chain.specs.Settled.{changed}
 use Rattle.pim_manager.proofs.Counted.{counted_as}
 use Rattle.pim_manager.proofs.manager.Manager.rebase.Goals as goal
 

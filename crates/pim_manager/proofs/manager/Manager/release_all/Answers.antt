@@ -1,9 +1,5 @@
-use Rattle.std.proofs.Common.{◌≡◌, ◌<◌, ◌≤◌, ◌+◌, ◌*◌, ◌∙◌, ℕ, false, None, Some, ap, sym, subst, arith, length}
-use Rattle.pim_base.specs.Lists.{holds}
-use Rattle.pim_base.specs.State.{owner_of, owned}
+use Rattle.std.proofs.Common.{◌≤◌, ◌+◌, ap, sym, subst, arith}
 use Rattle.pim_base.specs.declared.steps.Reply.{Reply}
-use Rattle.pim_chain.specs.Owned.{IsNext}
-use Rattle.pim_base.proofs.Stored.{from_holds}
 use Rattle.pim_manager.proofs.Counted.{unchanged}
 use Rattle.pim_manager.proofs.Releases.{ReleasedTo, Released, released_none, released_next, released_all}
 use Rattle.pim_manager.proofs.manager.Manager.release_all.Goals as goal

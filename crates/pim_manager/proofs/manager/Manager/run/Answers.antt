@@ -1,4 +1,4 @@
-use Rattle.std.proofs.Common.{◌≡◌, sym, subst, take}
+use Rattle.std.proofs.Common.{sym, subst, take}
 use Rattle.pim_base.specs.Laws.{IsSound}
 use Rattle.pim_manager.proofs.WholeRuns.{runs_sound}
 use Rattle.pim_manager.proofs.manager.Manager.run.Goals as goal

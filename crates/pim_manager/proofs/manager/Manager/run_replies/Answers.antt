@@ -1,11 +1,8 @@
-use Rattle.std.proofs.Common.{◌≡◌, ◌≤◌, ◌<◌, ◌+◌, ◌++◌, [], ◌∷◌, ◌∙◌, ap, sym, subst, arith, length, length-append, take, List, cond, is_ok}
+use Rattle.std.proofs.Common.{◌≡◌, ◌<◌, ◌+◌, ◌++◌, [], ◌∷◌, ◌∙◌, ap, sym, subst, arith, length, length-append, take, cond, is_ok}
 use Rattle.std.proofs.lemmas.List.{take_more}
 use Rattle.pim_manager.proofs.WholeRuns.{length-take_below}
-use Rattle.pim_base.specs.State.{State}
 use Rattle.pim_base.specs.Runs.{IsRun}
-use Rattle.pim_base.specs.Steps.{reply_of, after}
-use Rattle.pim_base.specs.declared.steps.Step.{Step}
-use Rattle.pim_base.specs.declared.steps.Reply.{Reply}
+use Rattle.pim_base.specs.Steps.{reply_of}
 use Rattle.pim_manager.specs.Entries.{entries}
 use Rattle.pim_manager.proofs.WholeRuns.{run_more}
 use Rattle.pim_manager.proofs.manager.Manager.run_replies.Goals as goal

@@ -1,4 +1,4 @@
-use Rattle.std.proofs.Common.{◌≡◌, ◌∙◌, ap, sym, length, None}
+use Rattle.std.proofs.Common.{◌∙◌, ap, sym, length}
 use Rattle.std.proofs.lemmas.Option.{none-some}
 use Rattle.pim_base.specs.State.{wait_of}
 use Rattle.pim_chain.specs.Views.{View}

@@ -1,8 +1,5 @@
-use Rattle.std.proofs.Common.{◌≡◌, ◌<◌, ◌≤◌, ◌+◌, ◌∙◌, ℕ, ap, sym, subst, arith, Option, Some, None, length}
-use Rattle.pim_base.specs.State.{State, wait_of, with_wait}
-use Rattle.pim_base.specs.Counts.{changed_tasks}
-use Rattle.pim_base.specs.declared.steps.Wait.{Wait}
-use Rattle.pim_chain.specs.Settled.{changed}
+use Rattle.std.proofs.Common.{◌≡◌, ◌≤◌, ◌+◌, ap, subst, arith, Some, length}
+use Rattle.pim_base.specs.State.{State, wait_of}
 use Rattle.pim_manager.proofs.Counted.{counted_as, given_left}
 use Rattle.pim_manager.proofs.manager.Manager.withdraw.Goals as goal
 
