@@ -1,11 +1,10 @@
 -- The law of closing a cycle.
-use Rattle.std.proofs.Common.{◌≡◌, ◌≢◌, ◌↔◌, ℕ, zero, suc, ◌+◌, ◌-◌, ◌<◌, ◌≤◌, Bool, true, false, ◌||◌, ◌⊎◌, inl, inr, eqb, List, [], ◌∷◌, drop, length, Option, Some, None, refl, sym, ◌∙◌, ap, subst, arith, option_and_then, unwrap_or, IsTrue, true≢false}
+use Rattle.std.proofs.Common.{◌≡◌, ◌≢◌, ◌↔◌, ℕ, zero, suc, ◌+◌, ◌-◌, ◌≤◌, true, false, ◌⊎◌, inl, inr, [], drop, length, Option, Some, None, refl, sym, ◌∙◌, ap, arith, option_and_then, unwrap_or, IsTrue, true≢false}
 use Rattle.std.specs.Option.{option_map_or}
-use Rattle.std.proofs.lemmas.Bool.Decides.{nat_tests, eqb_tells}
-use Rattle.std.proofs.lemmas.Bool.{eqb-true, eq-eqb}
-use Rattle.pim_base.specs.Lists.{contains, nth, put}
-use Rattle.pim_base.specs.State.{State, IsState, IsTask, owner_of, wait_of, with_wait}
-use Rattle.pim_base.specs.Chains.{chain, blocker, waits_chain, HasCycle, closes_cycle}
+use Rattle.std.proofs.lemmas.Bool.Decides.{eqb_tells}
+use Rattle.pim_base.specs.Lists.{contains, nth}
+use Rattle.pim_base.specs.State.{State, IsState, IsTask, owner_of, with_wait}
+use Rattle.pim_base.specs.Chains.{chain, blocker, waits_chain, HasCycle}
 use Rattle.pim_base.specs.Laws.{ClosingLaw}
 use Rattle.pim_base.specs.declared.steps.Wait.{Wait}
 use Rattle.pim_base.proofs.Hops.{hops, Reaches, reaches_from_contains, contains_from_reaches, first_hop, hops_front, hops-add, hops_rest, NoneReturns, OnlyKnownHop, chain_is_short}
@@ -113,7 +112,10 @@ cycle_from_returns hop (suc n) t k le e =
     let f = first_hop hop k t t e in
     rw f.1 (contains_from_reaches hop n f.0 t k (omega arith) f.2)
 
-pub returns_from_cycle : (hop : ℕ → Option ℕ) (n t : ℕ) → contains (drop 1 (chain hop n t)) t ≡ true → (k : ℕ) × (suc k ≤ n) × (hops hop (suc k) t ≡ Some t)
+pub returns_from_cycle :
+    (hop : ℕ → Option ℕ) (n t : ℕ)
+    → contains (drop 1 (chain hop n t)) t ≡ true
+    → (k : ℕ) × (suc k ≤ n) × (hops hop (suc k) t ≡ Some t)
 returns_from_cycle hop zero t h = cc
 returns_from_cycle hop (suc n) t h = go (hop t) refl h
   where
@@ -154,47 +156,76 @@ blocker_other S t w x other = ap (blocked_by S) (nth-put_other S.wait t x w (λ 
 pub blocker_same : (S : State) (t : ℕ) (w : Option Wait) → IsState S → IsTask S t → blocker (with_wait S t w) t ≡ blocked_by S (Some w)
 blocker_same S t w valid task = ap (blocked_by S) (nth-put_same S.wait t w task.0 (omega (arith, task.1, valid.waits)))
 
+-- a wait for a free mutex makes no cycle
+no_cycle_for_free :
+    (S : State) (t : ℕ) (w : Wait)
+    → IsState S
+    → ¬ HasCycle S
+    → IsTask S t
+    → blocker S t ≡ None
+    → owner_of S w.mutex ≡ None
+    → ¬ HasCycle (with_wait S t (Some w))
+no_cycle_for_free S t w valid acyclic task stays free (v, h) =
+    let r = returns_from_cycle again (length S.base) v h in
+    none_returns S acyclic v r.0 r.1 (hops_same (blocker S) again same (suc r.0) v v r.2)
+  where
+    again : ℕ → Option ℕ
+    again = blocker (with_wait S t (Some w))
+
+    same : (x : ℕ) → again x ≡ blocker S x
+    same x = elim (eqb_tells x t) [
+      | inl here ↦ ap again here.1 ∙ blocker_same S t (Some w) valid task ∙ free ∙ sym stays ∙ ap (blocker S) (sym here.1)
+      | inr other ↦ blocker_other S t (Some w) x other.1
+    ]
+
+-- a wait for a mutex with an owner makes one exactly where the owner's chain leads back
+cycle_for_owned :
+    (S : State) (t u : ℕ) (w : Wait)
+    → IsState S
+    → ¬ HasCycle S
+    → IsTask S t
+    → blocker S t ≡ None
+    → owner_of S w.mutex ≡ Some u
+    → IsTrue (contains (waits_chain S u) t) ↔ HasCycle (with_wait S t (Some w))
+cycle_for_owned S t u w valid acyclic task stays owned = (there, back)
+  where
+    n : ℕ
+    n = length S.base
+
+    again : ℕ → Option ℕ
+    again = blocker (with_wait S t (Some w))
+
+    at_t : again t ≡ Some u
+    at_t = blocker_same S t (Some w) valid task ∙ owned
+
+    there : IsTrue (contains (waits_chain S u) t) → HasCycle (with_wait S t (Some w))
+    there h =
+        let r = returns_from_reaches (blocker S) again n t u (none_returns S acyclic) (only_known_hop S valid) task
+        (blocker_other S t (Some w)) stays at_t (reaches_from_contains (blocker S) n u t h) in
+        (r.0, cycle_from_returns again n r.0 r.1 r.2 r.3)
+
+    back : HasCycle (with_wait S t (Some w)) → IsTrue (contains (waits_chain S u) t)
+    back (v, h) =
+        let r = returns_from_cycle again n v h in
+        let b = reaches_from_returns (blocker S) again n t u (none_returns S acyclic)
+        (blocker_other S t (Some w)) stays at_t (v, r.0, r.1, r.2) in
+        contains_from_reaches (blocker S) n u t b.0 b.1 b.2
+
 pub closing_law : ClosingLaw
 closing_law S t m ticket valid acyclic task idle = go (owner_of S m) refl
   where
     w : Wait
     w = record { mutex = m; ticket = ticket }
 
-    hop : ℕ → Option ℕ
-    hop = blocker S
-
-    again : ℕ → Option ℕ
-    again = blocker (with_wait S t (Some w))
-
-    stays : hop t ≡ None
+    stays : blocker S t ≡ None
     stays = ap (option_and_then (λ (w : Wait). owner_of S w.mutex)) idle
 
     go :
         (o : Option ℕ)
         → owner_of S m ≡ o
         → IsTrue (option_map_or (λ u. contains (waits_chain S u) t) o false) ↔ HasCycle (with_wait S t (Some w))
-    go None free =
-        let differs : DiffersAt hop again t = blocker_other S t (Some w) in
-        let at_t : again t ≡ None = blocker_same S t (Some w) valid task ∙ free in
-        let same : (x : ℕ) → again x ≡ hop x =
-        λ x. elim (eqb_tells x t) [
-          | inl here ↦ ap again here.1 ∙ at_t ∙ sym stays ∙ ap hop (sym here.1)
-          | inr other ↦ differs x other.1
-        ] in (
-          (λ h. absurd (true≢false (sym h))),
-          (λ (v, h).
-              let r = returns_from_cycle again (length S.base) v h in
-              absurd (none_returns S acyclic v r.0 r.1 (hops_same hop again same (suc r.0) v v r.2))),
-        )
-    go (Some u) owned =
-        let differs : DiffersAt hop again t = blocker_other S t (Some w) in
-        let at_t : again t ≡ Some u = blocker_same S t (Some w) valid task ∙ owned in
-        let acyclic_hop : NoneReturns hop (length S.base) = none_returns S acyclic in (
-          (λ h.
-              let r = returns_from_reaches hop again (length S.base) t u acyclic_hop (only_known_hop S valid) task differs stays at_t (reaches_from_contains hop (length S.base) u t h) in
-              (r.0, cycle_from_returns again (length S.base) r.0 r.1 r.2 r.3)),
-          (λ (v, h).
-              let r = returns_from_cycle again (length S.base) v h in
-              let back = reaches_from_returns hop again (length S.base) t u acyclic_hop differs stays at_t (v, r.0, r.1, r.2) in
-              contains_from_reaches hop (length S.base) u t back.0 back.1 back.2),
-        )
+    go None free = (
+      (λ h. absurd (true≢false (sym h))),
+      (λ h. absurd (no_cycle_for_free S t w valid acyclic task stays free h)),
+    )
+    go (Some u) owned = cycle_for_owned S t u w valid acyclic task stays owned

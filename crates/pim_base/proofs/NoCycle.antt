@@ -1,20 +1,17 @@
 -- No step makes a cycle of waits.
-use Rattle.std.proofs.Common.{◌≡◌, ◌≢◌, ℕ, zero, suc, ◌+◌, ◌<◌, ◌≤◌, Bool, true, false, not, ◌&&◌, ◌||◌, ◌⊎◌, inl, inr, eqb, ltb, List, [], ◌∷◌, length, Option, Some, None, is_some, refl, sym, ◌∙◌, ap, subst, arith, option_and_then, unwrap_or, set, slice_get, fold, true≢false, if◌then◌else◌}
-use Rattle.std.proofs.lemmas.Bool.Decides.{nat_tests, eqb_tells}
+use Rattle.std.proofs.Common.{◌≡◌, ℕ, zero, suc, false, ◌⊎◌, inl, inr, List, [], ◌∷◌, length, Option, Some, None, refl, sym, ◌∙◌, ap, arith, option_and_then, unwrap_or, set, slice_get, true≢false}
+use Rattle.std.proofs.lemmas.Bool.Decides.{eqb_tells}
 use Rattle.pim_base.specs.Lists.{nth, put}
-use Rattle.pim_base.specs.State.{State, IsState, IsTask, owner_of, wait_of, owned, with_owner, with_wait, with_base, queued}
+use Rattle.pim_base.specs.State.{State, IsTask, owner_of, wait_of, with_owner, with_wait, with_base, queued}
 use Rattle.pim_base.specs.Chains.{blocker, HasCycle, closes_cycle}
 use Rattle.pim_base.specs.Queues.{first_of}
-use Rattle.pim_base.specs.Checks.{unknown_task, is_waiting, is_owned, checks, withdraws_itself}
-use Rattle.pim_base.specs.Steps.{unless, hand_over, hand_over_to, handed, served, answer, reply_of, changed, after}
+use Rattle.pim_base.specs.Steps.{hand_over, hand_over_to}
 use Rattle.pim_base.specs.Laws.{IsSound, NoCycleLaw}
-use Rattle.pim_base.specs.declared.steps.Op.{Op}
-use Rattle.pim_base.specs.declared.steps.Step.{Step}
-use Rattle.pim_base.specs.declared.steps.Refusal.{Refusal}
-use Rattle.pim_base.specs.declared.steps.Reply.{Reply}
 use Rattle.pim_base.specs.declared.steps.Wait.{Wait}
 use Rattle.pim_base.specs.declared.steps.Waiter.{Waiter}
 use Rattle.pim_base.proofs.Hops.{hops, first_hop, hops_front, NoneReturns}
+pub use Rattle.pim_base.proofs.Kept.{idle_from_tests, known_from_tests}
+use Rattle.pim_base.proofs.Kept.{IsKeptBySteps, kept_by_step}
 use Rattle.pim_base.proofs.Places.{nth-put_other, length-put}
 use Rattle.pim_base.proofs.Closing.{none_returns, returns_from_cycle, closing_law}
 
@@ -65,12 +62,16 @@ no_cycle_still S S' bases change acyclic (t, h) =
     let r = returns_from_cycle (blocker S') (length S'.base) t h in
     none_returns_still (blocker S) (blocker S') (length S.base) (none_returns S acyclic) change t r.0 (omega (arith, r.1, bases)) r.2
 
-unwrap_or-set_same : {X : Type 0} (xs : List (Option X)) (i : ℕ) (o : Option X) → (unwrap_or (slice_get (set xs i o) i) None ≡ o) ⊎ (unwrap_or (slice_get (set xs i o) i) None ≡ None)
+unwrap_or-set_same :
+    {X : Type 0} (xs : List (Option X)) (i : ℕ) (o : Option X)
+    → (unwrap_or (slice_get (set xs i o) i) None ≡ o) ⊎ (unwrap_or (slice_get (set xs i o) i) None ≡ None)
 unwrap_or-set_same [] i o = inr refl
 unwrap_or-set_same (x ∷ xs) zero o = inl refl
 unwrap_or-set_same (x ∷ xs) (suc i) o = unwrap_or-set_same xs i o
 
-pub unwrap_or-put_same : {X : Type 0} (xs : List (Option X)) (n : ℕ) (o : Option X) → (unwrap_or (nth (put xs n o) n) None ≡ o) ⊎ (unwrap_or (nth (put xs n o) n) None ≡ None)
+pub unwrap_or-put_same :
+    {X : Type 0} (xs : List (Option X)) (n : ℕ) (o : Option X)
+    → (unwrap_or (nth (put xs n o) n) None ≡ o) ⊎ (unwrap_or (nth (put xs n o) n) None ≡ None)
 unwrap_or-put_same xs zero o = inr refl
 unwrap_or-put_same xs (suc i) o = unwrap_or-set_same xs i o
 
@@ -91,7 +92,10 @@ owner_sound S m o idle ok = record {
     hop_of : Option Wait → Option ℕ
     hop_of = option_and_then (λ (w : Wait). owner_of (with_owner S m o) w.mutex)
 
-    go : (x : ℕ) (v : Option Wait) → wait_of S x ≡ v → (hop_of v ≡ option_and_then (λ (w : Wait). owner_of S w.mutex) v) ⊎ Ends (blocker (with_owner S m o)) x
+    go :
+        (x : ℕ) (v : Option Wait)
+        → wait_of S x ≡ v
+        → (hop_of v ≡ option_and_then (λ (w : Wait). owner_of S w.mutex) v) ⊎ Ends (blocker (with_owner S m o)) x
     go x None e = inl refl
     go x (Some w) e = elim (eqb_tells m w.mutex) [
       | inl here ↦ inr (λ y h.
@@ -139,95 +143,14 @@ hand_sound S m ok = go (first_of S m)
         (λ t e. let same : w.task ≡ t = cc in ap (wait_of (with_wait S w.task None)) (sym same) ∙ idle_now S w.task)
         (idle_sound S w.task ok)
 
-hands_sound : (ms : List ℕ) (S : State) → IsSound S → IsSound (fold hand_over S ms)
-hands_sound [] S ok = ok
-hands_sound (m ∷ ms) S ok = hands_sound ms (hand_over S m) (hand_sound S m ok)
-
--- each test fails
-abbrev AllFail : List (Bool × Refusal) → Type 0
-AllFail [] = Unit {0}
-AllFail (check ∷ checks) = (check.0 ≡ false) × AllFail checks
-
--- it is refused, or each test fails
-unless_cases :
-    (checks : List (Bool × Refusal)) (a : Reply)
-    → ((r : Refusal) × (unless checks a ≡ Reply.Refused r)) ⊎ (AllFail checks × (unless checks a ≡ a))
-unless_cases [] a = inr (tt, refl)
-unless_cases (check ∷ checks) a = go check.0 refl (unless_cases checks a)
-  where
-    go :
-        (b : Bool)
-        → check.0 ≡ b
-        → ((r : Refusal) × (unless checks a ≡ Reply.Refused r)) ⊎ (AllFail checks × (unless checks a ≡ a))
-        → ((r : Refusal) × ((if b then Reply.Refused check.1 else unless checks a) ≡ Reply.Refused r))
-        ⊎ (((check.0 ≡ false) × AllFail checks) × ((if b then Reply.Refused check.1 else unless checks a) ≡ a))
-    go true e rest = inl (check.1, refl)
-    go false e (inl r) = inl r
-    go false e (inr h) = inr ((e, h.0), h.1)
-
-changed-refused : (S : State) (a : ℕ) (op : Op) (r : Refusal) → changed S a op (Reply.Refused r) ≡ S
-changed-refused S a (Op.Lock m) r = refl
-changed-refused S a (Op.Try m) r = refl
-changed-refused S a (Op.Unlock m) r = refl
-changed-refused S a Op.ReleaseAll r = refl
-changed-refused S a (Op.Cancel t) r = refl
-changed-refused S a (Op.SetBase t p) r = refl
-
--- a refusal changes nothing, so what the reply of a served step does is what counts
-by_reply :
-    (S : State) (a : ℕ) (op : Op) (tests : List (Bool × Refusal)) (r : Reply)
-    → IsSound S
-    → (AllFail tests → IsSound (changed S a op r))
-    → IsSound (changed S a op (unless tests r))
-by_reply S a op tests r ok served = elim (unless_cases tests r) [
-  | inl refused ↦ subst (λ x. IsSound (changed S a op x)) (sym refused.1) (subst IsSound (sym (changed-refused S a op refused.0)) ok)
-  | inr h ↦ subst (λ x. IsSound (changed S a op x)) (sym h.1) (served h.0)
-]
-
-pub idle_from_tests : (S : State) (a : ℕ) → (is_waiting S a && not false) ≡ false → wait_of S a ≡ None
-idle_from_tests S a h = go (wait_of S a) refl h
-  where
-    go : (w : Option Wait) → wait_of S a ≡ w → (is_some w && not false) ≡ false → wait_of S a ≡ None
-    go None e h = e
-    go (Some w) e h = absurd (true≢false h)
-
-served_sound :
-    (S : State) (a : ℕ) (op : Op)
-    → IsTask S a
-    → (is_waiting S a && not (withdraws_itself a op)) ≡ false
-    → IsSound S
-    → AllFail (checks S a op)
-    → IsSound (changed S a op (served S a op))
-served_sound S a (Op.Lock m) task h ok f = go (is_owned S m)
-  where
-    idle : wait_of S a ≡ None
-    idle = idle_from_tests S a h
-
-    go : (b : Bool) → IsSound (changed S a (Op.Lock m) (if b then Reply.Queued else Reply.Granted))
-    go true = queued_sound S a m task idle f.1.0 ok
-    go false = owner_sound S m (Some a) (λ t e. let same : a ≡ t = cc in ap (wait_of S) (sym same) ∙ idle) ok
-served_sound S a (Op.Try m) task h ok f =
-    owner_sound S m (Some a) (λ t e. let same : a ≡ t = cc in ap (wait_of S) (sym same) ∙ idle_from_tests S a h) ok
-served_sound S a (Op.Unlock m) task h ok f = go (first_of S m)
-  where
-    go : (o : Option Waiter) → IsSound (changed S a (Op.Unlock m) (handed o))
-    go None = hand_sound S m ok
-    go (Some w) = hand_sound S m ok
-served_sound S a Op.ReleaseAll task h ok f = hands_sound (owned S a) S ok
-served_sound S a (Op.Cancel t) task h ok f = idle_sound S t ok
-served_sound S a (Op.SetBase t p) task h ok f = base_sound S t p ok
-
-pub known_from_tests : (S : State) (a : ℕ) → unknown_task S a ≡ false → IsTask S a
-known_from_tests S a h = grind (arith, nat_tests)
+pub sound_kept : IsKeptBySteps IsSound
+sound_kept = record {
+  grant = λ S a m ok idle. owner_sound S m (Some a) (λ t e. let same : a ≡ t = cc in ap (wait_of S) (sym same) ∙ idle) ok;
+  enqueue = λ S a m ok task idle open' owned. queued_sound S a m task idle open' ok;
+  hand = λ S m ok. hand_sound S m ok;
+  withdraw = λ S t ok. idle_sound S t ok;
+  set_base = λ S t p ok. base_sound S t p ok;
+}
 
 pub no_cycle_law : NoCycleLaw
-no_cycle_law S step ok =
-    by_reply S step.actor step.op
-    ((unknown_task S step.actor, Refusal.NoTask)
-    ∷ (is_waiting S step.actor && not (withdraws_itself step.actor step.op), Refusal.Waiting)
-    ∷ [])
-    (answer S step.actor step.op)
-    ok
-    (λ h.
-    by_reply S step.actor step.op (checks S step.actor step.op) (served S step.actor step.op) ok
-    (served_sound S step.actor step.op (known_from_tests S step.actor h.0) h.1.0 ok))
+no_cycle_law S step ok = kept_by_step IsSound sound_kept S step ok

@@ -1,5 +1,6 @@
--- Runs whose replies, priorities and reasons were worked out by hand, computed by the definitions.
-use Rattle.std.specs.Prelude.{◌≡◌, ℕ, List, [], ◌∷◌, ◌++◌, map, Option, Some, None, refl, ◌==◌, if◌then◌else◌}
+-- Runs whose replies, priorities and reasons were worked out by hand, computed by the definitions alone. Nothing
+-- cites these theorems: they are checked with the crate, and show that the definitions say what is meant.
+use Rattle.std.specs.Prelude.{◌≡◌, ℕ, ◌^◌, ◌-◌, List, [], ◌∷◌, ◌++◌, Option, Some, None, refl, ◌==◌, if◌then◌else◌}
 use Rattle.std.specs.List.{filter_map}
 use Rattle.pim_base.specs.State.{State, start, tasks}
 use Rattle.pim_base.specs.Priorities.{effective_priority}
@@ -20,9 +21,11 @@ data Line : Type 0 where
   says : Reply → Line
   at : ℕ → ℕ → Reason → Line
 
+-- the line of a task whose effective priority is another
 abbrev changed_line : State → State → ℕ → Option Line
 changed_line S S' t = if effective_priority S t == effective_priority S' t then None else Some (at t (effective_priority S' t) (reason_of S' t))
 
+-- the replies to the steps, each with the tasks that it changed
 abbrev report : State → List (ℕ × Op) → List Line
 report S [] = []
 report S (x ∷ xs) =
@@ -39,86 +42,193 @@ none = Protocol.None
 abbrev protect : ℕ → Protocol
 protect c = Protocol.Protect c
 
-row3 :
+boost_and_its_end :
     report (start (10 ∷ 50 ∷ 90 ∷ []) (inherit ∷ []) 1) ((1, Lock 1) ∷ (3, Lock 1) ∷ (1, Unlock 1) ∷ [])
     ≡ says Granted ∷ says Queued ∷ at 1 90 (Waiter 3 1) ∷ says (Handed 3) ∷ at 1 10 Base ∷ []
-row3 = refl
+boost_and_its_end = refl
 
-abbrev bases4 : State
-bases4 = start (10 ∷ 20 ∷ 30 ∷ 90 ∷ 40 ∷ []) (inherit ∷ inherit ∷ inherit ∷ []) 1
+-- tasks 1 to 3 for a chain, and two more that wait for its end
+abbrev four_and_one : State
+four_and_one = start (10 ∷ 20 ∷ 30 ∷ 90 ∷ 40 ∷ []) (inherit ∷ inherit ∷ inherit ∷ []) 1
 
-abbrev steps4 : List (ℕ × Op)
-steps4 = (1, Lock 1) ∷ (2, Lock 2) ∷ (3, Lock 3) ∷ (2, Lock 1) ∷ (3, Lock 2) ∷ (4, Lock 3) ∷ []
+-- task 2 waits for 1, 3 for 2, and 4 for 3
+abbrev chain_of_three : List (ℕ × Op)
+chain_of_three = (1, Lock 1) ∷ (2, Lock 2) ∷ (3, Lock 3) ∷ (2, Lock 1) ∷ (3, Lock 2) ∷ (4, Lock 3) ∷ []
 
-abbrev lines4 : List Line
-lines4 =
+-- each boost goes down to task 1
+abbrev boosted_chain : List Line
+boosted_chain =
     says Granted ∷ says Granted ∷ says Granted
     ∷ says Queued ∷ at 1 20 (Waiter 2 1)
     ∷ says Queued ∷ at 1 30 (Waiter 2 1) ∷ at 2 30 (Waiter 3 2)
     ∷ says Queued ∷ at 1 90 (Waiter 2 1) ∷ at 2 90 (Waiter 3 2) ∷ at 3 90 (Waiter 4 3)
     ∷ []
 
-row4 : report bases4 steps4 ≡ lines4
-row4 = refl
+boost_through_a_chain_of_three : report four_and_one chain_of_three ≡ boosted_chain
+boost_through_a_chain_of_three = refl
 
-row5 : report bases4 (steps4 ++ (5, Lock 3) ∷ []) ≡ lines4 ++ says Queued ∷ []
-row5 = refl
+lower_waiter_behind_changes_nothing : report four_and_one (chain_of_three ++ (5, Lock 3) ∷ []) ≡ boosted_chain ++ says Queued ∷ []
+lower_waiter_behind_changes_nothing = refl
 
-row6 :
+deadlock_of_two_and_of_an_owner :
     report (start (10 ∷ 20 ∷ []) (inherit ∷ inherit ∷ []) 1)
     ((1, Lock 1) ∷ (2, Lock 2) ∷ (2, Lock 1) ∷ (1, Lock 2) ∷ (1, Lock 1) ∷ [])
     ≡ says Granted ∷ says Granted ∷ says Queued ∷ at 1 20 (Waiter 2 1)
     ∷ says (Refused Refusal.Deadlock) ∷ says (Refused Refusal.Deadlock) ∷ []
-row6 = refl
+deadlock_of_two_and_of_an_owner = refl
 
-row7 :
+no_boost_through_a_protect_mutex :
     report (start (20 ∷ 40 ∷ 90 ∷ []) (protect 50 ∷ inherit ∷ []) 1)
     ((1, Lock 1) ∷ (2, Lock 2) ∷ (2, Lock 1) ∷ (3, Lock 2) ∷ (1, Unlock 1) ∷ [])
     ≡ says Granted ∷ at 1 50 (Ceiling 1) ∷ says Granted ∷ says Queued
     ∷ says Queued ∷ at 2 90 (Waiter 3 2) ∷ says (Handed 2) ∷ at 1 20 Base ∷ []
-row7 = refl
+no_boost_through_a_protect_mutex = refl
 
-row8 :
+raised_waiter_is_first_of_a_none_mutex :
     report (start (10 ∷ 40 ∷ 30 ∷ 90 ∷ []) (none ∷ inherit ∷ []) 1)
     ((1, Lock 1) ∷ (3, Lock 2) ∷ (2, Lock 1) ∷ (3, Lock 1) ∷ (4, Lock 2) ∷ (1, Unlock 1) ∷ [])
     ≡ says Granted ∷ says Granted ∷ says Queued ∷ says Queued
     ∷ says Queued ∷ at 3 90 (Waiter 4 2) ∷ says (Handed 3) ∷ []
-row8 = refl
+raised_waiter_is_first_of_a_none_mutex = refl
 
-row9 :
+deadlock_through_none_and_protect_mutexes :
     report (start (10 ∷ 20 ∷ []) (none ∷ protect 30 ∷ []) 1)
     ((1, Lock 1) ∷ (2, Lock 2) ∷ (2, Lock 1) ∷ (1, Lock 2) ∷ [])
     ≡ says Granted ∷ says Granted ∷ at 2 30 (Ceiling 2) ∷ says Queued ∷ says (Refused Refusal.Deadlock) ∷ []
-row9 = refl
+deadlock_through_none_and_protect_mutexes = refl
 
-row10 :
+withdrawals_end_the_boost :
     report (start (10 ∷ 50 ∷ 50 ∷ []) (inherit ∷ []) 1)
     ((1, Lock 1) ∷ (2, Lock 1) ∷ (3, Lock 1) ∷ (2, Cancel 2) ∷ (3, Cancel 3) ∷ [])
     ≡ says Granted ∷ says Queued ∷ at 1 50 (Waiter 2 1) ∷ says Queued ∷ says Withdrawn
     ∷ says Withdrawn ∷ at 1 10 Base ∷ []
-row10 = refl
+withdrawals_end_the_boost = refl
 
-row11 :
+ceiling_compared_with_the_base :
     report (start (60 ∷ []) (protect 59 ∷ protect 60 ∷ []) 1)
     ((1, Lock 1) ∷ (1, Lock 2) ∷ (1, SetBase 1 99) ∷ (1, SetBase 1 100) ∷ [])
     ≡ says (Refused Refusal.Ceiling) ∷ says Granted ∷ says Set ∷ at 1 99 Base ∷ says (Refused Refusal.Priority) ∷ []
-row11 = refl
+ceiling_compared_with_the_base = refl
 
-row16 :
+release_hands_all_mutexes_over :
     report (start (10 ∷ 20 ∷ 30 ∷ []) (protect 40 ∷ protect 50 ∷ none ∷ []) 1)
     ((1, Lock 2) ∷ (1, Lock 1) ∷ (1, Lock 3) ∷ (2, Lock 1) ∷ (3, Lock 2) ∷ (1, ReleaseAll) ∷ (1, ReleaseAll) ∷ [])
     ≡ says Granted ∷ at 1 50 (Ceiling 2) ∷ says Granted ∷ says Granted ∷ says Queued ∷ says Queued
     ∷ says (Released 3) ∷ at 1 10 Base ∷ at 2 40 (Ceiling 1) ∷ at 3 50 (Ceiling 2) ∷ says (Released 0) ∷ []
-row16 = refl
+release_hands_all_mutexes_over = refl
 
-row18 :
-    report bases4 (steps4 ++ (1, SetBase 4 15) ∷ [])
-    ≡ lines4 ++ says Set ∷ at 1 30 (Waiter 2 1) ∷ at 2 30 (Waiter 3 2) ∷ at 3 30 Base ∷ at 4 15 Base ∷ []
-row18 = refl
+lowered_base_lowers_the_chain_above :
+    report four_and_one (chain_of_three ++ (1, SetBase 4 15) ∷ [])
+    ≡ boosted_chain ++ says Set ∷ at 1 30 (Waiter 2 1) ∷ at 2 30 (Waiter 3 2) ∷ at 3 30 Base ∷ at 4 15 Base ∷ []
+lowered_base_lowers_the_chain_above = refl
 
-row19 :
+who_may_unlock_try_and_cancel :
     report (start (10 ∷ 20 ∷ []) (none ∷ none ∷ []) 1)
     ((1, Lock 1) ∷ (2, Unlock 1) ∷ (2, Lock 1) ∷ (2, Try 2) ∷ (1, Cancel 1) ∷ (1, Unlock 1) ∷ (2, Unlock 1) ∷ [])
     ≡ says Granted ∷ says (Refused Refusal.NotOwner) ∷ says Queued ∷ says (Refused Refusal.Waiting)
     ∷ says (Refused Refusal.NotWaiting) ∷ says (Handed 2) ∷ says Freed ∷ []
-row19 = refl
+who_may_unlock_try_and_cancel = refl
+
+unknown_numbers_are_refused :
+    report (start (10 ∷ []) (none ∷ []) 1) ((2, Lock 1) ∷ (0, Lock 1) ∷ (1, Lock 9) ∷ (1, Unlock 0) ∷ [])
+    ≡ says (Refused Refusal.NoTask) ∷ says (Refused Refusal.NoTask) ∷ says (Refused Refusal.NoMutex) ∷ says (Refused Refusal.NoMutex) ∷ []
+unknown_numbers_are_refused = refl
+
+highest_waiter_first_on_a_none_mutex :
+    report (start (10 ∷ 30 ∷ 20 ∷ []) (none ∷ []) 1)
+    ((1, Lock 1) ∷ (3, Lock 1) ∷ (2, Lock 1) ∷ (2, Unlock 1) ∷ (1, Unlock 1) ∷ (2, Unlock 1) ∷ (3, Unlock 1) ∷ (3, Unlock 1) ∷ [])
+    ≡ says Granted ∷ says Queued ∷ says Queued ∷ says (Refused Refusal.Waiting) ∷ says (Handed 2) ∷ says (Handed 3)
+    ∷ says Freed ∷ says (Refused Refusal.NotOwner) ∷ []
+highest_waiter_first_on_a_none_mutex = refl
+
+deadlock_of_three_is_busy_for_a_try :
+    report (start (10 ∷ 20 ∷ 30 ∷ []) (inherit ∷ none ∷ inherit ∷ []) 1)
+    ((1, Lock 1) ∷ (2, Lock 2) ∷ (3, Lock 3) ∷ (2, Lock 1) ∷ (3, Lock 2) ∷ (1, Lock 3) ∷ (1, Try 3) ∷ (1, Try 1) ∷ [])
+    ≡ says Granted ∷ says Granted ∷ says Granted ∷ says Queued ∷ at 1 20 (Waiter 2 1) ∷ says Queued
+    ∷ says (Refused Refusal.Deadlock) ∷ says (Refused Refusal.Busy) ∷ says (Refused Refusal.Busy) ∷ []
+deadlock_of_three_is_busy_for_a_try = refl
+
+highest_of_all_protocols :
+    report (start (10 ∷ 40 ∷ []) (protect 30 ∷ protect 50 ∷ inherit ∷ []) 1)
+    ((1, Lock 1) ∷ (1, Lock 3) ∷ (2, Lock 3) ∷ (1, Lock 2) ∷ (1, Unlock 2) ∷ (1, Unlock 3) ∷ [])
+    ≡ says Granted ∷ at 1 30 (Ceiling 1) ∷ says Granted ∷ says Queued ∷ at 1 40 (Waiter 2 3)
+    ∷ says Granted ∷ at 1 50 (Ceiling 2) ∷ says Freed ∷ at 1 40 (Waiter 2 3) ∷ says (Handed 2) ∷ at 1 30 (Ceiling 1) ∷ []
+highest_of_all_protocols = refl
+
+withdrawal_lowers_the_chain_above :
+    report four_and_one (chain_of_three ++ (1, Cancel 3) ∷ (5, Cancel 9) ∷ [])
+    ≡ boosted_chain ++ says Withdrawn ∷ at 1 20 (Waiter 2 1) ∷ at 2 20 Base ∷ says (Refused Refusal.NoTask) ∷ []
+withdrawal_lowers_the_chain_above = refl
+
+hand_over_ignores_the_ceiling :
+    report (start (10 ∷ 20 ∷ 30 ∷ []) (protect 40 ∷ []) 1)
+    ((1, Lock 1) ∷ (2, Lock 1) ∷ (3, Lock 1) ∷ (1, SetBase 3 50) ∷ (1, SetBase 2 50) ∷ (1, Unlock 1) ∷ (2, Unlock 1) ∷ [])
+    ≡ says Granted ∷ at 1 40 (Ceiling 1) ∷ says Queued ∷ says Queued ∷ says Set ∷ at 3 50 Base
+    ∷ says Set ∷ at 2 50 Base ∷ says (Handed 2) ∷ at 1 10 Base ∷ says (Handed 3) ∷ []
+hand_over_ignores_the_ceiling = refl
+
+-- a task with a ceiling of 50, and a waiter that lends 50
+abbrev ceiling_and_waiter : State
+ceiling_and_waiter = start (10 ∷ 50 ∷ []) (protect 50 ∷ inherit ∷ []) 1
+
+ceiling_beside_a_waiter :
+    report ceiling_and_waiter ((1, Lock 2) ∷ (2, Lock 2) ∷ (1, Lock 1) ∷ (1, Unlock 2) ∷ (1, Unlock 1) ∷ [])
+    ≡ says Granted ∷ says Queued ∷ at 1 50 (Waiter 2 2) ∷ says Granted ∷ says (Handed 2) ∷ says Freed ∷ at 1 10 Base ∷ []
+ceiling_beside_a_waiter = refl
+
+-- the state after these steps
+abbrev state_after : State → List (ℕ × Op) → State
+state_after S [] = S
+state_after S (x ∷ xs) = state_after (after S (record { actor = x.0; op = x.1 })) xs
+
+ceiling_is_a_reason_before_a_waiter :
+    reason_of (state_after ceiling_and_waiter ((1, Lock 2) ∷ (2, Lock 2) ∷ (1, Lock 1) ∷ [])) 1 ≡ Ceiling 1
+ceiling_is_a_reason_before_a_waiter = refl
+
+last_ticket :
+    report (start (10 ∷ 20 ∷ 30 ∷ []) (inherit ∷ []) (2 ^ 64 - 2)) ((1, Lock 1) ∷ (2, Lock 1) ∷ (3, Lock 1) ∷ (3, Try 1) ∷ [])
+    ≡ says Granted ∷ says Queued ∷ at 1 20 (Waiter 2 1) ∷ says (Refused Refusal.Tickets) ∷ says (Refused Refusal.Busy) ∷ []
+last_ticket = refl
+
+lowered_through_an_owner_with_another_waiter :
+    report (start (10 ∷ 20 ∷ 30 ∷ 60 ∷ 90 ∷ []) (inherit ∷ inherit ∷ inherit ∷ inherit ∷ []) 1)
+    ((1, Lock 1) ∷ (2, Lock 2) ∷ (2, Lock 3) ∷ (3, Lock 4) ∷ (3, Lock 2) ∷ (4, Lock 3) ∷ (2, Lock 1) ∷ (5, Lock 4) ∷ (5, Cancel 5) ∷ [])
+    ≡ says Granted ∷ says Granted ∷ says Granted ∷ says Granted
+    ∷ says Queued ∷ at 2 30 (Waiter 3 2) ∷ says Queued ∷ at 2 60 (Waiter 4 3) ∷ says Queued ∷ at 1 60 (Waiter 2 1)
+    ∷ says Queued ∷ at 1 90 (Waiter 2 1) ∷ at 2 90 (Waiter 3 2) ∷ at 3 90 (Waiter 5 4)
+    ∷ says Withdrawn ∷ at 1 60 (Waiter 2 1) ∷ at 2 60 (Waiter 4 3) ∷ at 3 30 Base ∷ []
+lowered_through_an_owner_with_another_waiter = refl
+
+refused_deadlock_leaves_priorities :
+    report (start (10 ∷ 20 ∷ 30 ∷ 60 ∷ 90 ∷ []) (inherit ∷ inherit ∷ inherit ∷ inherit ∷ inherit ∷ []) 1)
+    ((5, Lock 5) ∷ (1, Lock 1) ∷ (2, Lock 2) ∷ (2, Lock 3) ∷ (3, Lock 4)
+    ∷ (3, Lock 2) ∷ (4, Lock 3) ∷ (2, Lock 1) ∷ (1, Lock 5) ∷ (5, Lock 4) ∷ [])
+    ≡ says Granted ∷ says Granted ∷ says Granted ∷ says Granted ∷ says Granted
+    ∷ says Queued ∷ at 2 30 (Waiter 3 2) ∷ says Queued ∷ at 2 60 (Waiter 4 3) ∷ says Queued ∷ at 1 60 (Waiter 2 1)
+    ∷ says Queued ∷ says (Refused Refusal.Deadlock) ∷ []
+refused_deadlock_leaves_priorities = refl
+
+new_owner_keeps_what_its_waiters_lend :
+    report (start (10 ∷ 50 ∷ 40 ∷ []) (inherit ∷ []) 1)
+    ((1, Lock 1) ∷ (2, Lock 1) ∷ (3, Lock 1) ∷ (1, Unlock 1) ∷ (1, SetBase 2 20) ∷ (1, SetBase 2 21) ∷ [])
+    ≡ says Granted ∷ says Queued ∷ at 1 50 (Waiter 2 1) ∷ says Queued ∷ says (Handed 2) ∷ at 1 10 Base
+    ∷ says Set ∷ at 2 40 (Waiter 3 1) ∷ says Set ∷ []
+new_owner_keeps_what_its_waiters_lend = refl
+
+second_waiter_becomes_first_with_a_changed_priority :
+    report (start (10 ∷ 20 ∷ 30 ∷ 50 ∷ 70 ∷ 90 ∷ []) (inherit ∷ inherit ∷ inherit ∷ inherit ∷ []) 1)
+    ((2, Lock 1) ∷ (2, Lock 2) ∷ (3, Lock 3) ∷ (1, Lock 4) ∷ (4, Lock 2) ∷ (6, Lock 1)
+    ∷ (1, Lock 3) ∷ (2, Lock 3) ∷ (5, Lock 4) ∷ (3, Unlock 3) ∷ (2, Unlock 1) ∷ [])
+    ≡ says Granted ∷ says Granted ∷ says Granted ∷ says Granted
+    ∷ says Queued ∷ at 2 50 (Waiter 4 2) ∷ says Queued ∷ at 2 90 (Waiter 6 1) ∷ says Queued
+    ∷ says Queued ∷ at 3 90 (Waiter 2 3) ∷ says Queued ∷ at 1 70 (Waiter 5 4)
+    ∷ says (Handed 2) ∷ at 3 30 Base ∷ says (Handed 6) ∷ at 2 70 (Waiter 1 3) ∷ []
+second_waiter_becomes_first_with_a_changed_priority = refl
+
+worked_story :
+    report (start (10 ∷ 20 ∷ 30 ∷ 90 ∷ []) (inherit ∷ inherit ∷ inherit ∷ []) 1)
+    (chain_of_three ++ (1, Lock 3) ∷ (1, SetBase 4 15) ∷ (1, Unlock 1) ∷ [])
+    ≡ boosted_chain ++ says (Refused Refusal.Deadlock)
+    ∷ says Set ∷ at 1 30 (Waiter 2 1) ∷ at 2 30 (Waiter 3 2) ∷ at 3 30 Base ∷ at 4 15 Base
+    ∷ says (Handed 2) ∷ at 1 10 Base ∷ []
+worked_story = refl

@@ -1,9 +1,9 @@
 -- Priorities that agree with their neighbours are the effective ones.
-use Rattle.std.proofs.Common.{◌≡◌, ◌↔◌, ℕ, zero, suc, ◌+◌, ◌-◌, ◌<◌, ◌≤◌, max, Bool, true, false, eqb, List, [], ◌∷◌, length, map, filter, Option, Some, None, refl, sym, ◌∙◌, ap, arith, option_and_then, le_trans, le_antisymm}
+use Rattle.std.proofs.Common.{◌≡◌, ℕ, zero, suc, ◌+◌, ◌≤◌, max, true, length, map, filter, Option, Some, None, refl, ◌∙◌, ap, arith, option_and_then, le_trans, le_antisymm}
 use Rattle.std.proofs.lemmas.Bool.{eqb-true, eq-eqb}
-use Rattle.pim_base.specs.Lists.{contains, holds, numbers}
+use Rattle.pim_base.specs.Lists.{contains, holds}
 use Rattle.pim_base.specs.State.{State, IsTask, tasks, wait_of, owner_of, protocol_of}
-use Rattle.pim_base.specs.Chains.{chain, blocker, heir, heir_in, heir_of, inherit_chain}
+use Rattle.pim_base.specs.Chains.{blocker, heir, heir_in, heir_of, inherit_chain}
 use Rattle.pim_base.specs.Priorities.{own_priority, effective_priority, local_priority}
 use Rattle.pim_base.specs.Laws.{IsSound, StoredLaw}
 use Rattle.pim_base.specs.declared.steps.Protocol.{Protocol}
@@ -56,18 +56,30 @@ from_holds None t e = cc
 from_holds (Some u) t e = ap Some (eqb-true u t e)
 
 -- a task's own priority counts where its chain leads
-own_priority-le-effective_priority : (S : State) (u t k : ℕ) → IsTask S u → k ≤ length S.base → hops (heir S) k u ≡ Some t → own_priority S u ≤ effective_priority S t
+pub own_priority-le-effective_priority :
+    (S : State) (u t k : ℕ)
+    → IsTask S u
+    → k ≤ length S.base
+    → hops (heir S) k u ≡ Some t
+    → own_priority S u ≤ effective_priority S t
 own_priority-le-effective_priority S u t k task le e =
     le-greatest_of (own_priority S) (λ v. contains (inherit_chain S v) t) (length S.base) u task.0 task.1
     (contains_from_reaches (heir S) (length S.base) u t k le e)
 
 -- and nothing else does
-effective_priority-le : (S : State) (t b : ℕ) → ((u k : ℕ) → IsTask S u → k ≤ length S.base → hops (heir S) k u ≡ Some t → own_priority S u ≤ b) → effective_priority S t ≤ b
+pub effective_priority-le :
+    (S : State) (t b : ℕ)
+    → ((u k : ℕ) → IsTask S u → k ≤ length S.base → hops (heir S) k u ≡ Some t → own_priority S u ≤ b)
+    → effective_priority S t ≤ b
 effective_priority-le S t b h =
     greatest_of-le (own_priority S) (λ v. contains (inherit_chain S v) t) (length S.base) b
-    (λ u low high on. let r : Reaches (heir S) (length S.base) u t = reaches_from_contains (heir S) (length S.base) u t on in h u r.0 (low, high) r.1 r.2)
+    (λ u low high on.
+    let r : Reaches (heir S) (length S.base) u t = reaches_from_contains (heir S) (length S.base) u t on in
+    h u r.0 (low, high) r.1 r.2)
 
-pub local_is : (S : State) (stored : ℕ → ℕ) (t : ℕ) → local_priority S stored t ≡ max (own_priority S t) (greatest_of stored (λ u. holds (heir S u) t) (length S.base))
+pub local_is :
+    (S : State) (stored : ℕ → ℕ) (t : ℕ)
+    → local_priority S stored t ≡ max (own_priority S t) (greatest_of stored (λ u. holds (heir S u) t) (length S.base))
 local_is S stored t = greatest-cons (own_priority S t) (map stored (filter (λ u. holds (heir S u) t) (tasks S)))
 
 pub own_priority-le-local_priority : (S : State) (stored : ℕ → ℕ) (t : ℕ) → own_priority S t ≤ local_priority S stored t
@@ -77,7 +89,11 @@ pub stored-le-local_priority : (S : State) (stored : ℕ → ℕ) (u t : ℕ) �
 stored-le-local_priority S stored u t task e =
     omega (arith, local_is S stored t, le-greatest_of stored (λ u. holds (heir S u) t) (length S.base) u task.0 task.1 (holds_from (heir S u) t e))
 
-pub local_priority-le : (S : State) (stored : ℕ → ℕ) (t b : ℕ) → own_priority S t ≤ b → ((u : ℕ) → IsTask S u → heir S u ≡ Some t → stored u ≤ b) → local_priority S stored t ≤ b
+pub local_priority-le :
+    (S : State) (stored : ℕ → ℕ) (t b : ℕ)
+    → own_priority S t ≤ b
+    → ((u : ℕ) → IsTask S u → heir S u ≡ Some t → stored u ≤ b)
+    → local_priority S stored t ≤ b
 local_priority-le S stored t b low h =
     omega (
       arith,
@@ -91,7 +107,7 @@ abbrev pub Agree : State → (ℕ → ℕ) → Type 0
 Agree S stored = (t : ℕ) → IsTask S t → stored t ≡ local_priority S stored t
 
 -- .. don't fall along a chain
-rises :
+pub rises :
     (S : State) (stored : ℕ → ℕ)
     → IsSound S
     → Agree S stored
@@ -132,7 +148,8 @@ bounded S stored ok agree zero j v t full task e = absurd (too_long j refl full 
         let l = last_hop (heir S) i v t e in
         let size : i ≡ n = omega arith in
         let short : suc i ≤ n =
-        chain_is_short (heir S) n (none_inherits_back S ok) (only_known_inherit S ok) i v l.0 (omega (arith, size)) l.1 (only_known_inherit S ok l.0 t l.2) in
+        chain_is_short (heir S) n (none_inherits_back S ok) (only_known_inherit S ok) i v l.0 (omega (arith, size)) l.1
+        (only_known_inherit S ok l.0 t l.2) in
         omega (arith, short, size)
 bounded S stored ok agree (suc fuel) j v t full task e =
     let le : j ≤ length S.base = omega arith in
@@ -142,7 +159,13 @@ bounded S stored ok agree (suc fuel) j v t full task e =
     omega (arith, bound, agree v task)
 
 -- what reaches a task's neighbour reaches the task
-effective_priority-le_next : (S : State) → IsSound S → (u t : ℕ) → IsTask S t → heir S u ≡ Some t → effective_priority S u ≤ effective_priority S t
+pub effective_priority-le_next :
+    (S : State)
+    → IsSound S
+    → (u t : ℕ)
+    → IsTask S t
+    → heir S u ≡ Some t
+    → effective_priority S u ≤ effective_priority S t
 effective_priority-le_next S ok u t task h =
     effective_priority-le S u (effective_priority S t)
     (λ w k task_w le e.
@@ -169,15 +192,23 @@ stored_law S stored ok = (to_eff, from_eff)
         let low : local_priority S stored t ≤ effective_priority S t =
         local_priority-le S stored t (effective_priority S t) (own_priority-le-effective_priority S t t 0 task (omega arith) refl)
         (λ u task_u h. omega (arith, same u task_u, effective_priority-le_next S ok u t task h)) in
-        let high : effective_priority S t ≤ local_priority S stored t = effective_priority-le S t (local_priority S stored t) (λ w k task_w le e. reach k w task_w le e) in
+        let high : effective_priority S t ≤ local_priority S stored t =
+        effective_priority-le S t (local_priority S stored t) (λ w k task_w le e. reach k w task_w le e) in
         same t task ∙ le_antisymm high low
       where
         reach : (k w : ℕ) → IsTask S w → k ≤ length S.base → hops (heir S) k w ≡ Some t → own_priority S w ≤ local_priority S stored t
-        reach zero w task_w le e = let here : own_priority S w ≡ own_priority S t = ap (own_priority S) (some_parts e) in omega (arith, here, own_priority-le-local_priority S stored t)
+        reach zero w task_w le e =
+            let here : own_priority S w ≡ own_priority S t = ap (own_priority S) (some_parts e) in
+            omega (arith, here, own_priority-le-local_priority S stored t)
           where
             some_parts : {x y : ℕ} → Some x ≡ Some y → x ≡ y
             some_parts e = cc
         reach (suc k) w task_w le e =
             let l = last_hop (heir S) k w t e in
             let task_v : IsTask S l.0 = only_known_inherit S ok l.0 t l.2 in
-            omega (arith, same l.0 task_v, own_priority-le-effective_priority S w l.0 k task_w (omega arith) l.1, stored-le-local_priority S stored l.0 t task_v l.2)
+            omega (
+              arith,
+              same l.0 task_v,
+              own_priority-le-effective_priority S w l.0 k task_w (omega arith) l.1,
+              stored-le-local_priority S stored l.0 t task_v l.2,
+            )

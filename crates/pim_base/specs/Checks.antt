@@ -1,5 +1,6 @@
--- What refuses a step: the tests, and their order.
-use Rattle.std.specs.Prelude.{ℕ, ◌==◌, ◌^◌, ◌-◌, nat_lt, nat_le, ◌&&◌, ◌||◌, not, is_some, Bool, true, false, List, [], ◌∷◌, length}
+-- What refuses a step: the tests, and their order. (POSIX.1-2017: the errors of pthread_mutex_lock,
+-- pthread_mutex_trylock, pthread_mutex_unlock and pthread_setschedprio)
+use Rattle.std.specs.Prelude.{ℕ, ◌==◌, ◌^◌, ◌-◌, nat_lt, nat_le, ◌&&◌, ◌||◌, not, is_some, Bool, false, List, [], ◌∷◌, length}
 use Rattle.std.specs.Option.{option_map_or}
 use Rattle.pim_base.specs.Lists.{holds}
 use Rattle.pim_base.specs.State.{State, base_of, owner_of, wait_of, protocol_of}
@@ -9,23 +10,28 @@ use Rattle.pim_base.specs.declared.steps.Op.{Op}
 use Rattle.pim_base.specs.declared.steps.Step.{Step}
 use Rattle.pim_base.specs.declared.steps.Refusal.{Refusal}
 
+-- no task has this number
 abbrev pub unknown_task : State → ℕ → Bool
 unknown_task S t = t == 0 || nat_lt (length S.base) t
 
+-- no mutex has this number
 abbrev pub unknown_mutex : State → ℕ → Bool
 unknown_mutex S m = m == 0 || nat_lt (length S.protocol) m
 
+-- the task waits
 abbrev pub is_waiting : State → ℕ → Bool
 is_waiting S t = is_some (wait_of S t)
 
+-- the mutex has an owner
 abbrev pub is_owned : State → ℕ → Bool
 is_owned S m = is_some (owner_of S m)
 
--- POSIX.1-2017, pthread_mutex_lock, EINVAL: the caller's priority, here always its base, is higher than the ceiling
+-- m is a PROTECT mutex, and t's base is above its ceiling. (pthread_mutex_lock, EINVAL: the caller's priority is above
+-- the ceiling; which priority that is, POSIX leaves open, and here it is the base)
 abbrev pub above_ceiling : State → ℕ → ℕ → Bool
 above_ceiling S t m = option_map_or (λ c. nat_lt c (base_of S t)) (ceiling (protocol_of S m)) false
 
--- the tickets 1 to 2^64 - 2 are given out
+-- no ticket is left: the last one that is given out is 2^64 - 2
 abbrev pub no_tickets : State → Bool
 no_tickets S = S.next == 2 ^ 64 - 1
 

@@ -1,4 +1,4 @@
--- How much a step changes.
+-- How much a step changes: what the work of a walk is measured by.
 use Rattle.std.specs.Prelude.{ℕ, zero, suc, ◌+◌, ◌==◌, Bool, true, false, not, cond, length, Option, Some, None}
 use Rattle.pim_base.specs.State.{State, owner_of}
 use Rattle.pim_base.specs.Priorities.{effective_priority}
@@ -12,6 +12,7 @@ count (suc n) test = count n test + cond (test (suc n)) 1 0
 abbrev pub differing : ℕ → (ℕ → ℕ) → (ℕ → ℕ) → ℕ
 differing n f g = count n (λ t. not (f t == g t))
 
+-- the two owners are one, or both are none
 abbrev pub same_owner : Option ℕ → Option ℕ → Bool
 same_owner None None = true
 same_owner (Some t) (Some u) = t == u

@@ -8,4 +8,9 @@ pub mod Steps
 pub mod Runs
 pub mod Reasons
 pub mod Counts
+pub mod Steady
 pub mod Laws
+pub mod Spelling
+pub mod Texts
+pub mod Reports
+pub mod RunLaws

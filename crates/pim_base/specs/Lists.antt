@@ -1,5 +1,5 @@
 -- Words on lists, options and tests that the definitions use.
-use Rattle.std.specs.Prelude.{ℕ, zero, suc, max, ◌==◌, Bool, true, false, List, [], ◌∷◌, length, slice_get, slice_set, if◌then◌else◌, Option, Some, None}
+use Rattle.std.specs.Prelude.{ℕ, zero, suc, max, ◌==◌, Bool, false, List, [], ◌∷◌, slice_get, slice_set, if◌then◌else◌, Option, Some, None}
 use Rattle.std.specs.List.{fold, range_with_len, list_any}
 
 -- the item with this number, counted from 1

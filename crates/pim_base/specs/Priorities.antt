@@ -1,5 +1,5 @@
--- The priorities at which tasks execute.
-use Rattle.std.specs.Prelude.{ℕ, ◌==◌, Bool, List, [], ◌∷◌, map, Option, Some, None, unwrap_or}
+-- The priorities at which tasks execute. (POSIX.1-2017, pthread_mutexattr_getprotocol)
+use Rattle.std.specs.Prelude.{ℕ, List, ◌∷◌, map, Option, Some, None, unwrap_or}
 use Rattle.std.specs.List.{filter}
 use Rattle.pim_base.specs.Lists.{contains, greatest, holds}
 use Rattle.pim_base.specs.State.{State, tasks, base_of, protocol_of, owned}
@@ -15,18 +15,21 @@ ceiling _ = None
 abbrev pub ceiling_of : State → ℕ → ℕ
 ceiling_of S m = unwrap_or (ceiling (protocol_of S m)) 0
 
--- the greatest of the task's base and the ceilings of the mutexes that it owns
+-- the task's base or the highest ceiling of the PROTECT mutexes that it owns, whichever is the higher, whether or not
+-- anybody waits for these. (PTHREAD_PRIO_PROTECT)
 abbrev pub own_priority : State → ℕ → ℕ
 own_priority S t = greatest (base_of S t ∷ map (ceiling_of S) (owned S t))
 
--- the tasks whose inherit chain contains t
+-- the tasks from which t inherits: t is on their inherit chain, as it is on its own
 abbrev pub heirs_of : State → ℕ → List ℕ
 heirs_of S t = filter (λ u. contains (inherit_chain S u) t) (tasks S)
 
--- the effective priority: the greatest own priority among them
+-- the priority at which t executes: the greatest own priority among the tasks from which it inherits.
+-- (PTHREAD_PRIO_INHERIT; Sha, Rajkumar and Lehoczky 1990: priority inheritance is transitive)
 abbrev pub effective_priority : State → ℕ → ℕ
 effective_priority S t = greatest (map (own_priority S) (heirs_of S t))
 
--- what the task's own priority and a map of the others' priorities give it
+-- what t's own priority and the others' priorities in this map give it: the greatest of its own and those of the tasks
+-- that wait for its INHERIT mutexes. It alone is given a map: it says what one visit of a walk computes.
 abbrev pub local_priority : State → (ℕ → ℕ) → ℕ → ℕ
 local_priority S stored t = greatest (own_priority S t ∷ map stored (filter (λ u. holds (heir S u) t) (tasks S)))

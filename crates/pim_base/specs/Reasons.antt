@@ -1,4 +1,5 @@
--- Why a task has its effective priority.
+-- Why a task has its effective priority: the first of its base, a ceiling and a waiter that gives it. (This project's
+-- choice of words; POSIX.1-2017 has the three causes)
 use Rattle.std.specs.Prelude.{ℕ, ◌==◌, ◌&&◌, Bool, true, false, Option, Some, None, if◌then◌else◌}
 use Rattle.std.specs.List.{find, list_any}
 use Rattle.std.specs.Option.{option_map_or}
@@ -7,8 +8,8 @@ use Rattle.pim_base.specs.Priorities.{ceiling_of, effective_priority}
 use Rattle.pim_base.specs.Queues.{queue_of, first_of}
 use Rattle.pim_base.specs.declared.steps.Protocol.{Protocol}
 use Rattle.pim_base.specs.declared.steps.Reason.{Reason}
-use Rattle.pim_base.specs.declared.steps.Waiter.{Waiter}
 
+-- it is PTHREAD_PRIO_INHERIT
 abbrev pub is_inherit : Protocol → Bool
 is_inherit Protocol.Inherit = true
 is_inherit _ = false

@@ -10,12 +10,12 @@ use Rattle.pim_base.specs.declared.steps.Refusal.{Refusal}
 use Rattle.pim_base.specs.declared.steps.Reply.{Reply}
 use Rattle.pim_base.specs.declared.steps.Waiter.{Waiter}
 
--- the first refusal whose test holds, or else the answer
+-- the first refusal whose test holds, or the answer where none does
 abbrev pub unless : List (Bool × Refusal) → Reply → Reply
 unless [] answer = answer
 unless (check ∷ checks) answer = if check.0 then Reply.Refused check.1 else unless checks answer
 
--- the reply to an unlock, by who is the first of the queue
+-- the reply to an unlock, by who is the first of the queue: who gets the mutex at once. (POSIX.1-2017, pthread_mutex_unlock)
 abbrev pub handed : Option Waiter → Reply
 handed None = Reply.Freed
 handed (Some w) = Reply.Handed w.task

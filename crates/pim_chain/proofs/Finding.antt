@@ -1,9 +1,9 @@
 -- The least number that passes two tests, where those that pass the first are asked one after another.
-use Rattle.std.proofs.Common.{◌≡◌, ℕ, zero, suc, ◌+◌, ◌<◌, ◌≤◌, Bool, true, false, cond, ◌&&◌, ◌⊎◌, inl, inr, refl, sym, ◌∙◌, ap, subst, arith, List, [], ◌∷◌, ◌++◌, Option, Some, None, filter, eq-or-lt_of_le, add-one}
+use Rattle.std.proofs.Common.{◌≡◌, ℕ, zero, suc, ◌<◌, ◌≤◌, Bool, true, false, cond, ◌&&◌, ◌⊎◌, inl, inr, refl, sym, ◌∙◌, ap, subst, arith, List, [], ◌∷◌, ◌++◌, Option, Some, None, filter, eq-or-lt_of_le, add-one}
 use Rattle.std.specs.List.{find}
 use Rattle.std.specs.Option.{option_or}
 use Rattle.std.proofs.lemmas.List.Folds.{find-append}
-use Rattle.std.proofs.lemmas.Bool.{both_ways, and_parts, and_from, cases_lt}
+use Rattle.std.proofs.lemmas.Bool.{and_parts}
 use Rattle.pim_base.specs.Lists.{numbers}
 use Rattle.pim_base.proofs.Greatest.{filter_numbers-more}
 use Rattle.pim_chain.specs.Owned.{IsFirstAbove, IsNext}
@@ -11,39 +11,6 @@ use Rattle.pim_chain.specs.Owned.{IsFirstAbove, IsNext}
 -- none of the numbers 1 to n passes both
 abbrev pub NoneUpto : (ℕ → Bool) → (ℕ → Bool) → ℕ → Type 0
 NoneUpto q p n = (k : ℕ) → 0 < k → k ≤ n → (q k && p k) ≡ false
-
-left_false : (a b : Bool) → a ≡ false → (a && b) ≡ false
-left_false a b h = ap (λ x. x && b) h
-
-right_false : (a b : Bool) → b ≡ false → (a && b) ≡ false
-right_false true b h = h
-right_false false b h = refl
-
-pub asked_more : (q p : ℕ → Bool) (n m : ℕ) → IsFirstAbove q n m → p m ≡ false → NoneUpto q p n → NoneUpto q p m
-asked_more q p n m next fails none k low high = go (cases_lt n k) (eq-or-lt_of_le high)
-  where
-    go : (n < k) ⊎ (k ≤ n) → (k ≡ m) ⊎ (k < m) → (q k && p k) ≡ false
-    go (inr le) _ = none k low le
-    go (inl above) (inr less) = left_false (q k) (p k) (next.none_between k above less)
-    go (inl above) (inl is) = right_false (q k) (p k) (ap p is ∙ fails)
-
-pub asked_found : (q p : ℕ → Bool) (n m : ℕ) → IsFirstAbove q n m → p m ≡ true → NoneUpto q p n → IsFirstAbove (λ k. q k && p k) 0 m
-asked_found q p n m next holds none = record {
-  above = (let above : n < m = next.above in omega (arith, above));
-  passes = and_from (q m) (p m) next.passes holds;
-  none_between = λ k low high. go k low high (cases_lt n k);
-}
-  where
-    go : (k : ℕ) → 0 < k → k < m → (n < k) ⊎ (k ≤ n) → (q k && p k) ≡ false
-    go k low high (inl above) = left_false (q k) (p k) (next.none_between k above high)
-    go k low high (inr le) = none k low le
-
-pub asked_all : (q p : ℕ → Bool) (n : ℕ) → ((k : ℕ) → n < k → q k ≡ false) → NoneUpto q p n → (k : ℕ) → 0 < k → (q k && p k) ≡ false
-asked_all q p n past none k low = go (cases_lt n k)
-  where
-    go : (n < k) ⊎ (k ≤ n) → (q k && p k) ≡ false
-    go (inl above) = left_false (q k) (p k) (past k above)
-    go (inr le) = none k low le
 
 -- ---- as the definitions look for it
 find_past : (p : ℕ → Bool) (xs ys : List ℕ) → find p xs ≡ None → find p (xs ++ ys) ≡ find p ys
@@ -53,7 +20,8 @@ find_here : (p : ℕ → Bool) (xs ys : List ℕ) (x : ℕ) → find p xs ≡ So
 find_here p xs ys x h = find-append p xs ys ∙ ap (λ o. option_or o (find p ys)) h
 
 filter_numbers-suc : (q : ℕ → Bool) (n : ℕ) → filter q (numbers (suc n)) ≡ filter q (numbers n) ++ cond (q (suc n)) (suc n ∷ []) []
-filter_numbers-suc q n = subst (λ k. filter q (numbers k) ≡ filter q (numbers n) ++ cond (q k) (k ∷ []) []) (add-one n) (filter_numbers-more q n)
+filter_numbers-suc q n =
+    subst (λ k. filter q (numbers k) ≡ filter q (numbers n) ++ cond (q k) (k ∷ []) []) (add-one n) (filter_numbers-more q n)
 
 find_one : (p : ℕ → Bool) (b : Bool) (x : ℕ) → (b && p x) ≡ false → find p (cond b (x ∷ []) []) ≡ None
 find_one p false x h = refl
@@ -70,7 +38,10 @@ pub find_some : (p q : ℕ → Bool) (n m : ℕ) → m ≤ n → IsFirstAbove (�
 find_some p q zero m le first = let above : 0 < m = first.above in absurd (omega (arith, above))
 find_some p q (suc n) m le first = go (eq-or-lt_of_le le) (find_some p q n m)
   where
-    go : (m ≡ suc n) ⊎ (m < suc n) → (m ≤ n → IsFirstAbove (λ k. q k && p k) 0 m → find p (filter q (numbers n)) ≡ Some m) → find p (filter q (numbers (suc n))) ≡ Some m
+    go :
+        (m ≡ suc n) ⊎ (m < suc n)
+        → (m ≤ n → IsFirstAbove (λ k. q k && p k) 0 m → find p (filter q (numbers n)) ≡ Some m)
+        → find p (filter q (numbers (suc n))) ≡ Some m
     go (inr less) rest = ap (find p) (filter_numbers-suc q n) ∙ find_here p (filter q (numbers n)) _ m (rest (omega arith) first)
     go (inl is) rest =
         let both : (q (suc n) ≡ true) × (p (suc n) ≡ true) = and_parts _ _ (subst (λ k. (q k && p k) ≡ true) is first.passes) in

@@ -67,6 +67,14 @@ impl Tables {
         prio
     }
 
+    // whether this is the task's stored priority already: [2]
+    fn has_stored(&self, task: TaskNo, prio: Prio) -> bool
+        requires { IsTask self.now.state task }
+        ensures { result ≡ (stored_at self.now task == prio) }
+    {
+        self.known_stored(task).get() == prio.get()
+    }
+
     // where the walk goes on from the queue of a mutex, whose front had this priority before: [5] and [6]
     fn onward(&self, mutex: MutexNo, before: u16) -> Option<TaskNo>
         ensures { result ≡ (if before == front_prio (queue_at self.now mutex) then None else heir_of self.now.state mutex) }
@@ -91,9 +99,7 @@ impl Tables {
     {
         // [2]
         let prio = self.local(task, visits);
-        let stored = self.known_stored(task).get();
-        let level = prio.get();
-        if level == stored {
+        if self.has_stored(task, prio) {
             return None;
         }
         match self.waits_for(task) {
@@ -128,6 +134,7 @@ impl Tables {
         requires known { IsTask self.old.state task }
         requires room { visits.old ≤ 2 ^ 32 - 1 - 256 }
         ensures state { self.new.state ≡ self.old.state }
+        ensures marked { self.new.marked ≡ self.old.marked }
         ensures settled { SettledBut self.new.state (stored_at self.new) None }
         ensures effective { (t : ℕ) → IsTask self.new.state t → stored_at self.new t ≡ effective_priority self.new.state t }
         ensures queues { (m : ℕ) → IsMutex self.new.state m → queue_at self.new m ≡ queue_of self.new.state m }

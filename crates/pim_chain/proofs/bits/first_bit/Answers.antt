@@ -1,4 +1,4 @@
-use Rattle.std.proofs.Common.{◌≡◌, ◌≢◌, ◌<◌, ◌≤◌, ◌^◌, arith}
+use Rattle.std.proofs.Common.{◌≢◌, ◌<◌, ◌≤◌, ◌^◌, arith}
 use Rattle.std.proofs.lemmas.Nat.{and_le_l}
 use Rattle.pim_chain.proofs.Masks.{rest_of, none_from, lowest_from}
 use Rattle.pim_chain.proofs.bits.first_bit.Goals as goal

@@ -1,5 +1,4 @@
-use Rattle.std.proofs.Common.{◌+◌}
-use Rattle.pim_chain.proofs.Masks.{first_found, none_found}
+use Rattle.pim_chain.proofs.Masks.{first_found}
 use Rattle.pim_chain.proofs.number_set.NumberSet.next_above.Goals as goal
 
 pub returns-in-Some : goal.returns-in-Some

@@ -1,4 +1,4 @@
-use Rattle.std.proofs.Common.{◌-◌, ◌==◌, length}
+use Rattle.std.proofs.Common.{◌-◌, length}
 use Rattle.pim_chain.specs.Owned.{owns, lends_now}
 use Rattle.pim_chain.proofs.Finding.{NoneUpto}
 use Rattle.pim_chain.proofs.tables.Tables.lender_at.Given as goal

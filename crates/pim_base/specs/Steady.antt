@@ -1,0 +1,25 @@
+-- What holds at the start and no step breaks.
+use Rattle.std.specs.Prelude.{◌≡◌, ◌<◌, ℕ, Some, IsSome}
+use Rattle.pim_base.specs.State.{State, IsState, owner_of, wait_of}
+use Rattle.pim_base.specs.Chains.{HasCycle}
+use Rattle.pim_base.specs.declared.steps.Wait.{Wait}
+
+-- no wait leads back to its task, and the lists fit together
+pub record IsSound (S : State) : Type 0 where
+  pub lists : IsState S
+  pub no_cycle : ¬ HasCycle S
+
+-- each task that waits has a ticket of its own, which was given out
+pub record HasOwnTickets (S : State) : Type 0 where
+  pub given : (t : ℕ) (w : Wait) → wait_of S t ≡ Some w → w.ticket < S.next
+  pub own : (t u : ℕ) (v w : Wait) → wait_of S t ≡ Some v → wait_of S u ≡ Some w → v.ticket ≡ w.ticket → t ≡ u
+
+-- no free mutex has waiters
+abbrev pub WaitsAreForOwned : State → Type 0
+WaitsAreForOwned S = (t : ℕ) (w : Wait) → wait_of S t ≡ Some w → IsSome (owner_of S w.mutex)
+
+-- all of these
+pub record IsSteady (S : State) : Type 0 where
+  pub sound : IsSound S
+  pub tickets : HasOwnTickets S
+  pub owned : WaitsAreForOwned S

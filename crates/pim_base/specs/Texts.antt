@@ -1,0 +1,59 @@
+-- Which lists of lines are traces, and which line is the first that can't stand.
+use Rattle.std.specs.Prelude.{ℕ, ◌≡◌, ◌+◌, ◌-◌, ◌≤◌, ◌<◌, List, [], ◌∷◌, ◌++◌, map, length, take, ◌⊎◌, ◌==◌}
+use Rattle.std.specs.List.{AllByRecursion, slice_split}
+use Rattle.pim_base.specs.declared.steps.Protocol.{Protocol}
+use Rattle.pim_base.specs.declared.lines.StepLine.{StepLine}
+use Rattle.pim_base.specs.declared.lines.Line.{Line}
+use Rattle.pim_base.specs.declared.lines.Line.TheVariants as lines
+use Rattle.pim_base.specs.Spelling.{NEWLINE, version_line, IsLine, spelled}
+
+-- what a text declares, and its step lines, in order
+pub record Trace : Type 0 where
+  pub bases : List ℕ
+  pub protocols : List Protocol
+  pub steps : List StepLine
+
+-- the lines of the tasks, numbered from n on
+abbrev pub task_lines : ℕ → List ℕ → List Line
+task_lines n [] = []
+task_lines n (base ∷ bases) = lines.Task n base ∷ task_lines (n + 1) bases
+
+-- the lines of the mutexes, numbered from n on
+abbrev pub mutex_lines : ℕ → List Protocol → List Line
+mutex_lines n [] = []
+mutex_lines n (protocol ∷ protocols) = lines.Mutex n protocol ∷ mutex_lines (n + 1) protocols
+
+-- below the version: the tasks, the mutexes, the steps
+abbrev pub declared : Trace → List Line
+declared t = task_lines 1 t.bases ++ (mutex_lines 1 t.protocols ++ map lines.Step t.steps)
+
+-- a text within the limits on numbers and on how many lines each part has
+pub record IsWithinLimits (t : Trace) : Type 0 where
+  pub tasks : length t.bases ≤ 256
+  pub mutexes : length t.protocols ≤ 256
+  pub steps : length t.steps ≤ 65536
+  pub each : AllByRecursion IsLine (declared t)
+
+-- the lines are the one spelling of the text
+abbrev pub Spells : List (List ℕ) → Trace → Type 0
+Spells ls t = IsWithinLimits t × (ls ≡ version_line ∷ map spelled (declared t))
+
+-- the lines are those of a trace
+abbrev pub IsTrace : List (List ℕ) → Type 0
+IsTrace ls = (t : Trace) × Spells ls t
+
+-- lines 1 to n - 1 are those of a trace, and lines 1 to n are not; n is 1 where there is no line, or the first alone
+-- is no trace
+abbrev pub FirstBadLine : List (List ℕ) → ℕ → Type 0
+FirstBadLine ls n = ((n ≡ 1) ⊎ IsTrace (take (n - 1) ls)) × (0 < n) × (IsTrace (take n ls) → ⊥)
+
+-- the parts between newlines, without the last where that is empty
+abbrev pub without_empty_last : List (List ℕ) → List (List ℕ)
+without_empty_last [] = []
+without_empty_last ([] ∷ []) = []
+without_empty_last ((b ∷ bytes) ∷ []) = (b ∷ bytes) ∷ []
+without_empty_last (part ∷ next ∷ parts) = part ∷ without_empty_last (next ∷ parts)
+
+-- the lines of the bytes
+abbrev pub lines_of : List ℕ → List (List ℕ)
+lines_of bytes = without_empty_last (slice_split (λ b. b == NEWLINE) bytes)

@@ -1,0 +1,31 @@
+//! What the lines of a text say, and what a report says in the end.
+
+use crate::numbers::{MutexNo, Prio, TaskNo};
+use crate::steps::{Protocol, Reply, Step};
+
+/// What a line of a text says, below the first line, which names the version.
+#[derive(Clone, Copy, Debug, PartialEq, Eq)]
+pub enum Line {
+    /// The declaration of a task with its base priority.
+    Task { number: TaskNo, base: Prio },
+    /// The declaration of a mutex with its protocol.
+    Mutex { number: MutexNo, protocol: Protocol },
+    /// A step, perhaps with the reply that was recorded for it.
+    Step(StepLine),
+}
+
+/// A step of a text, with the reply that was recorded for it, if any was.
+#[derive(Clone, Copy, Debug, PartialEq, Eq)]
+pub struct StepLine {
+    pub step: Step,
+    pub recorded: Option<Reply>,
+}
+
+/// What a report says in its last line.
+#[derive(Clone, Copy, Debug, PartialEq, Eq)]
+pub enum Verdict {
+    /// No recorded reply differs from the model's; the number of step lines, at most 65,536.
+    Accepted(u32),
+    /// The number of the first step, counted from 1, whose recorded reply differs from the model's.
+    Rejected(u32),
+}

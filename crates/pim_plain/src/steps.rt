@@ -1,0 +1,153 @@
+// One step: what it is answered, and what it changes.
+
+ghost use Rattle.std.specs.Prelude.{◌≡◌};
+ghost use Rattle.pim_base.specs.Queues.{first_of};
+ghost use Rattle.pim_base.specs.Steps.{answer, changed, hand_over, reply_of, after};
+
+use crate::checks::withdraws_itself;
+use crate::tables::Tables;
+use pim_base::{MutexNo, Op, Prio, Refusal, Reply, Step, TaskNo, Waiter};
+
+impl Tables {
+    /// Makes one step and gives its reply; a refused step changes nothing.
+    pub fn step(&mut self, step: Step) -> Reply
+        ensures reply { result ≡ reply_of self.old step }
+        ensures state { self.new ≡ after self.old step }
+    {
+        let Step { actor, op } = step;
+        if self.is_unknown_task(actor) {
+            return Reply::Refused(Refusal::NoTask);
+        }
+        if self.is_waiting(actor) && !withdraws_itself(actor, &op) {
+            return Reply::Refused(Refusal::Waiting);
+        }
+        match op {
+            Op::Lock(mutex) => self.lock(actor, mutex),
+            Op::Try(mutex) => self.try_lock(actor, mutex),
+            Op::Unlock(mutex) => self.unlock(actor, mutex),
+            Op::ReleaseAll => self.release_all(actor),
+            Op::Cancel(task) => self.cancel(actor, task),
+            Op::SetBase(task, level) => self.change_base(actor, task, level),
+        }
+    }
+
+    fn lock(&mut self, actor: TaskNo, mutex: MutexNo) -> Reply
+        ensures reply { result ≡ answer self.old actor (Op.Lock mutex) }
+        ensures state { self.new ≡ changed self.old actor (Op.Lock mutex) result }
+    {
+        if self.is_unknown_mutex(mutex) {
+            return Reply::Refused(Refusal::NoMutex);
+        }
+        if self.closes_cycle(actor, mutex) {
+            return Reply::Refused(Refusal::Deadlock);
+        }
+        if self.is_above_ceiling(actor, mutex) {
+            return Reply::Refused(Refusal::Ceiling);
+        }
+        if !self.is_owned(mutex) {
+            self.set_owner(mutex, Some(actor));
+            return Reply::Granted;
+        }
+        if self.next_ticket() == u64::MAX {
+            return Reply::Refused(Refusal::Tickets);
+        }
+        self.enqueue(actor, mutex);
+        Reply::Queued
+    }
+
+    fn try_lock(&mut self, actor: TaskNo, mutex: MutexNo) -> Reply
+        ensures reply { result ≡ answer self.old actor (Op.Try mutex) }
+        ensures state { self.new ≡ changed self.old actor (Op.Try mutex) result }
+    {
+        if self.is_unknown_mutex(mutex) {
+            return Reply::Refused(Refusal::NoMutex);
+        }
+        if self.is_above_ceiling(actor, mutex) {
+            return Reply::Refused(Refusal::Ceiling);
+        }
+        if self.is_owned(mutex) {
+            return Reply::Refused(Refusal::Busy);
+        }
+        self.set_owner(mutex, Some(actor));
+        Reply::Granted
+    }
+
+    fn unlock(&mut self, actor: TaskNo, mutex: MutexNo) -> Reply
+        ensures reply { result ≡ answer self.old actor (Op.Unlock mutex) }
+        ensures state { self.new ≡ changed self.old actor (Op.Unlock mutex) result }
+    {
+        if self.is_unknown_mutex(mutex) {
+            return Reply::Refused(Refusal::NoMutex);
+        }
+        if !self.owns(actor, mutex) {
+            return Reply::Refused(Refusal::NotOwner);
+        }
+        match self.hand_over(mutex) {
+            Some(waiter) => Reply::Handed(waiter.task),
+            None => Reply::Freed,
+        }
+    }
+
+    /// Unlocks all mutexes of the actor, in rising number.
+    fn release_all(&mut self, actor: TaskNo) -> Reply
+        ensures reply { result ≡ answer self.old actor Op.ReleaseAll }
+        ensures state { self.new ≡ changed self.old actor Op.ReleaseAll result }
+    {
+        let mut released = 0;
+        for number in 1..self.mutex_count() + 1 {
+            let mutex = MutexNo(number);
+            if self.owns(actor, mutex) {
+                self.hand_over(mutex);
+                released += 1;
+            }
+        }
+        Reply::Released(released)
+    }
+
+    fn cancel(&mut self, actor: TaskNo, task: TaskNo) -> Reply
+        ensures reply { result ≡ answer self.old actor (Op.Cancel task) }
+        ensures state { self.new ≡ changed self.old actor (Op.Cancel task) result }
+    {
+        if self.is_unknown_task(task) {
+            return Reply::Refused(Refusal::NoTask);
+        }
+        if !self.is_waiting(task) {
+            return Reply::Refused(Refusal::NotWaiting);
+        }
+        self.end_wait(task);
+        Reply::Withdrawn
+    }
+
+    fn change_base(&mut self, actor: TaskNo, task: TaskNo, level: u16) -> Reply
+        ensures reply { result ≡ answer self.old actor (Op.SetBase task level) }
+        ensures state { self.new ≡ changed self.old actor (Op.SetBase task level) result }
+    {
+        if self.is_unknown_task(task) {
+            return Reply::Refused(Refusal::NoTask);
+        }
+        match Prio::new(level) {
+            Some(prio) => {
+                self.set_base(task, prio);
+                Reply::Set
+            }
+            None => Reply::Refused(Refusal::Priority),
+        }
+    }
+
+    /// The mutex goes to the first of its queue, who waits no more, or is free; the answer is the new owner.
+    fn hand_over(&mut self, mutex: MutexNo) -> Option<Waiter>
+        ensures first { result ≡ first_of self.old mutex }
+        ensures state { self.new ≡ hand_over self.old mutex }
+    {
+        let first = self.first(mutex);
+        match &first {
+            Some(waiter) => {
+                let task = waiter.task;
+                self.set_owner(mutex, Some(task));
+                self.end_wait(task);
+            }
+            None => self.set_owner(mutex, None),
+        }
+        first
+    }
+}

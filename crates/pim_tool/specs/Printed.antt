@@ -1,0 +1,13 @@
+-- The line of a task whose priority changed, by what stands in it.
+use Rattle.std.specs.Prelude.{ℕ, List, ◌++◌, codes, decimal}
+use Rattle.std.specs.List.{join_with_byte}
+use Rattle.pim_base.specs.Spelling.{SPACE}
+use Rattle.pim_base.specs.Reports.{reason_words}
+use Rattle.pim_base.specs.declared.steps.Reason.{Reason}
+
+abbrev pub reason_text : Reason → List ℕ
+reason_text r = join_with_byte SPACE (reason_words r)
+
+-- "  task <t> at <p> <reason>"
+unfoldable pub changed_line : ℕ → ℕ → Reason → List ℕ
+changed_line t p r = codes "  task " ++ decimal t ++ codes " at " ++ decimal p ++ codes " " ++ reason_text r ++ codes "\n"

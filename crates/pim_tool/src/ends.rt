@@ -1,0 +1,41 @@
+//! Readers and writers that may fail.
+ghost use Rattle.std.specs.Prelude.{◌≡◌, ℕ, ◌<◌, ◌≤◌, List, length, take, Option, IfOk, OnOk, OnErr, Ok};
+ghost use Rattle.pim_tool.specs.Ends.{Told, one_more, TakesOff, IsAtEnd, Appends};
+
+/// A read or a write failed.
+#[derive(Clone, Copy, Debug, PartialEq, Eq)]
+pub struct Failed;
+
+/// Where bytes come from.
+pub trait Source {
+    /// The bytes that are left, where they are known.
+    ghost remaining: { Self → Option (List ℕ) };
+
+    /// How many reads have failed.
+    ghost failures: { Self → ℕ };
+
+    /// Hands over the next bytes: none only at the end, or where the buffer has no room.
+    fn read(&mut self, buffer: &mut [u8]) -> Result<usize, Failed>
+        ensures count { IfOk result (λ count. count ≤ length buffer.old) }
+        ensures bytes { IfOk result (λ count. TakesOff (remaining self.old) (remaining self.new) (take count buffer.new)) }
+        ensures end { result ≡ Ok 0 → 0 < length buffer.old → IsAtEnd (remaining self.old) }
+        ensures ok { OnOk result (failures self.new ≡ failures self.old) }
+        ensures err { OnErr result (failures self.new ≡ one_more (failures self.old)) }
+        ensures left { OnErr result (remaining self.new ≡ remaining self.old) };
+}
+
+/// Where bytes go.
+pub trait Sink {
+    /// The bytes that were written, where they are known, and how many writes failed or took nothing.
+    ghost told: { Self → Told };
+
+    /// Takes the first bytes of the piece, and says how many.
+    fn write(&mut self, piece: &[u8]) -> Result<usize, Failed>
+        ensures count { IfOk result (λ count. count ≤ length piece.now) }
+        ensures bytes { IfOk result (λ count. Appends (told self.old).contents (told self.new).contents (take count piece.now)) }
+        ensures ok { OnOk result ((told self.new).failures ≡ (told self.old).failures) }
+        ensures some { IfOk result (λ count. 0 < count → (told self.new).stalls ≡ (told self.old).stalls) }
+        ensures none { result ≡ Ok 0 → 0 < length piece.now → (told self.new).stalls ≡ one_more (told self.old).stalls }
+        ensures err { OnErr result ((told self.new).failures ≡ one_more (told self.old).failures) }
+        ensures unchanged { OnErr result ((told self.new).contents ≡ (told self.old).contents) };
+}

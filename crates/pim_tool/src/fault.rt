@@ -1,0 +1,38 @@
+ghost use Rattle.std.specs.Prelude.{◌≡◌};
+ghost use Rattle.pim_tool.specs.declared.fault.Fault.TheVariants.{Memory};
+
+use std::alloc::{AllocError, AllocFailed};
+use thiserror::Error;
+
+/// Why there is no report, or only a beginning of it.
+#[derive(Clone, Copy, Debug, PartialEq, Eq, Error)]
+pub enum Fault {
+    /// This line, counted from 1, is the first that can't stand. Nothing was written.
+    #[error("line {0}")]
+    Line(u32),
+    /// A read failed. Nothing was written.
+    #[error("read")]
+    Read,
+    /// A write failed, or took no byte of a piece that wasn't empty. A beginning of the report was written.
+    #[error("write")]
+    Write,
+    /// Memory was refused. A beginning of the report was written, perhaps an empty one.
+    #[error("memory")]
+    Memory,
+}
+
+impl From<AllocError> for Fault {
+    ghost from_gives = { λ _ fault. fault ≡ Memory };
+
+    fn from(_error: AllocError) -> Fault {
+        Fault::Memory
+    }
+}
+
+impl<T: Drop> From<AllocFailed<T>> for Fault {
+    ghost from_gives = { λ _ fault. fault ≡ Memory };
+
+    fn from(_error: AllocFailed<T>) -> Fault {
+        Fault::Memory
+    }
+}

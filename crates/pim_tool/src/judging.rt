@@ -1,0 +1,104 @@
+//! From a reader to a writer.
+ghost use Rattle.std.specs.Prelude.{◌≡◌, ℕ, ◌⊎◌, [], IfOk, IfSome, Err, MatchResult};
+ghost use Rattle.pim_base.specs.State.{start};
+ghost use Rattle.pim_base.specs.Texts.{Trace, lines_of, Spells, IsWithinLimits, FirstBadLine};
+ghost use Rattle.pim_base.specs.Reports.{report_of, verdict_of};
+ghost use Rattle.pim_tool.specs.Ends.{Happened, Fails, Appends, AppendsFront, Prints};
+ghost use Rattle.pim_tool.specs.Reading.{trace_of};
+ghost use Rattle.pim_tool.specs.Status.{status_of};
+
+use crate::ends::{Sink, Source};
+use crate::fault::Fault;
+use crate::page::Page;
+use crate::printing::print_report;
+use crate::reading::parse;
+use crate::shown::priorities_of;
+use crate::text::Text;
+use crate::transfer::read_all;
+use pim_base::Verdict;
+use pim_manager::Manager;
+use std::alloc::Global;
+
+/// Reads a trace to its end, and writes its report.
+///
+/// The clauses speak of the bytes of a reader and a writer that tell them. Nothing is written before the whole text was
+/// read and found valid. `Fault::Memory` is answered only where memory was refused.
+#[tactic(auto, using(crate::proofs::PrintingLemmas::puts_whole, crate::proofs::PrintingLemmas::stops_front))]
+pub fn judge<R: Source, W: Sink>(
+    alloc: Global,
+    reader: &mut R,
+    writer: &mut W,
+) -> Result<Verdict, Fault>
+    // What was read is a trace, its report was written and nothing else, and the verdict is the report's.
+    ensures ok { IfOk result (λ verdict. IfSome (R.remaining reader.old) (λ bytes. (t : Trace) × Spells (lines_of bytes) t
+        × Appends (W.told writer.old).contents (W.told writer.new).contents (report_of t) × (verdict ≡ verdict_of t))) }
+
+    // Line n is the first that can't stand, and nothing was written.
+    ensures line { (n : ℕ) → result ≡ Err (Fault.Line n) → IfSome (R.remaining reader.old) (λ bytes. FirstBadLine (lines_of bytes) n) }
+    ensures line_unwritten { (n : ℕ) → result ≡ Err (Fault.Line n) → (W.told writer.new).contents ≡ (W.told writer.old).contents }
+
+    // A read failed in this call, and nothing was written.
+    ensures read { result ≡ Err Fault.Read → Happened (R.failures reader.old) (R.failures reader.new) }
+    ensures read_unwritten { result ≡ Err Fault.Read → (W.told writer.new).contents ≡ (W.told writer.old).contents }
+
+    // A write failed in this call, or took no byte of a piece that wasn't empty, and a beginning of the report was written.
+    ensures write { result ≡ Err Fault.Write → Fails (W.told writer.old) (W.told writer.new) }
+    ensures write_front { result ≡ Err Fault.Write → IfSome (R.remaining reader.old) (λ bytes. (t : Trace) × Spells (lines_of bytes) t
+        × AppendsFront (W.told writer.old).contents (W.told writer.new).contents (report_of t)) }
+
+    // Nothing was written, or a beginning of the report.
+    ensures memory { result ≡ Err Fault.Memory → ((W.told writer.new).contents ≡ (W.told writer.old).contents)
+        ⊎ IfSome (R.remaining reader.old) (λ bytes. (t : Trace) × Spells (lines_of bytes) t
+        × AppendsFront (W.told writer.old).contents (W.told writer.new).contents (report_of t)) }
+{
+    let text = read_text(alloc, reader)?;
+    print_text(alloc, writer, &text)
+}
+
+/// The text that a reader has, of which only what it declares is kept.
+fn read_text<R: Source>(alloc: Global, reader: &mut R) -> Result<Text, Fault>
+    ensures ok { IfOk result (λ text. IfSome (R.remaining reader.old) (λ bytes. Spells (lines_of bytes) (trace_of text))) }
+    ensures limits { IfOk result (λ text. IsWithinLimits (trace_of text)) }
+    ensures line { (n : ℕ) → result ≡ Err (Fault.Line n) → IfSome (R.remaining reader.old) (λ bytes. FirstBadLine (lines_of bytes) n) }
+    ensures read { result ≡ Err Fault.Read → Happened (R.failures reader.old) (R.failures reader.new) }
+    ensures write { result ≡ Err Fault.Write → ⊥ }
+{
+    let bytes = read_all(alloc, reader)?;
+    parse(alloc, &bytes)
+}
+
+/// Writes the report of a text.
+fn print_text<W: Sink>(alloc: Global, writer: &mut W, text: &Text) -> Result<Verdict, Fault>
+    requires limits { IsWithinLimits (trace_of text.now) }
+    ensures prints { Prints (W.told writer.old) (W.told writer.new) (report_of (trace_of text.now)) [] result }
+    ensures verdict { IfOk result (λ verdict. verdict ≡ verdict_of (trace_of text.now)) }
+{
+    let mut page = Page::new(alloc)?;
+    let mut manager = manager_of(alloc, text)?;
+    let mut shown = priorities_of(alloc, &manager)?;
+    print_report(&mut page, writer, &mut manager, &mut shown, &text.lines)
+}
+
+/// The manager of what a text declares, in which all mutexes are free.
+fn manager_of(alloc: Global, text: &Text) -> Result<Manager, Fault>
+    requires limits { IsWithinLimits (trace_of text.now) }
+    ensures { MatchResult result
+        (λ manager. manager ≡ start text.now.bases.items text.now.protocols.items 1)
+        (λ fault. fault ≡ Fault.Memory) }
+{
+    match Manager::new(alloc, &text.bases, &text.protocols) {
+        Ok(manager) => Ok(manager),
+        Err(_) => Err(Fault::Memory),
+    }
+}
+
+/// The exit status for an answer of `judge`: 0 where the trace was accepted, 1 where it was rejected, 2 for a fault.
+pub fn status(answer: &Result<Verdict, Fault>) -> u8
+    ensures { result ≡ status_of answer.now }
+{
+    match answer {
+        Ok(Verdict::Accepted(_)) => 0,
+        Ok(Verdict::Rejected(_)) => 1,
+        Err(_) => 2,
+    }
+}

@@ -1,0 +1,172 @@
+//! The report, line by line through a page.
+ghost use Rattle.std.specs.Prelude.{◌≡◌, ◌++◌, ◌^◌, ◌<◌, ◌≤◌, [], length, flat_map, true, IfOk};
+ghost use Rattle.pim_base.specs.State.{IsTask};
+ghost use Rattle.pim_base.specs.Steps.{reply_of, after};
+ghost use Rattle.pim_base.specs.Reports.{agrees, reply_line, change_line, rejection_lines, step_lines, accepted, report_from, verdict_from};
+ghost use Rattle.pim_tool.specs.Ends.{Prints};
+ghost use Rattle.pim_tool.specs.Shown.{Shows, changed_since};
+
+use crate::agreement::agrees;
+use crate::ends::Sink;
+use crate::fault::Fault;
+use crate::page::Page;
+use crate::shown::{next_changed, show};
+use crate::transfer::write_all;
+use pim_base::{Prio, Reply, StepLine, TaskNo, Verdict};
+use pim_manager::Manager;
+
+/// Writes the page, and empties it.
+fn flush<W: Sink>(page: &mut Page, writer: &mut W) -> Result<(), Fault>
+    ensures prints { Prints (W.told writer.old) (W.told writer.new) page.old.bytes.items page.new.bytes.items result }
+    ensures empty { page.new.bytes.items ≡ [] }
+{
+    let written = write_all(writer, page.bytes.as_slice());
+    page.bytes.clear();
+    written
+}
+
+/// Makes room for one more line.
+#[inline]
+fn make_room<W: Sink>(page: &mut Page, writer: &mut W) -> Result<(), Fault>
+    ensures { Prints (W.told writer.old) (W.told writer.new) page.old.bytes.items page.new.bytes.items result }
+{
+    if page.is_full() {
+        flush(page, writer)
+    } else {
+        Ok(())
+    }
+}
+
+/// The line of a task whose priority changed.
+fn print_change<W: Sink>(
+    page: &mut Page,
+    writer: &mut W,
+    manager: &Manager,
+    task: TaskNo,
+) -> Result<(), Fault>
+    requires { IsTask manager.now task }
+    ensures { Prints (W.told writer.old) (W.told writer.new) (page.old.bytes.items ++ change_line manager.now task) page.new.bytes.items result }
+{
+    make_room(page, writer)?;
+    let prio = manager.effective(task).unwrap();
+    let reason = manager.reason(task).unwrap();
+    page.change(task, prio, reason)?;
+    Ok(())
+}
+
+/// The lines of all tasks of which another priority was shown, which is taken down.
+fn print_changes<W: Sink>(
+    page: &mut Page,
+    writer: &mut W,
+    manager: &Manager,
+    shown: &mut Vec<Prio>,
+) -> Result<(), Fault>
+    requires { length shown.old.items ≡ length manager.now.base }
+    ensures prints { Prints (W.told writer.old) (W.told writer.new)
+        (page.old.bytes.items ++ flat_map (change_line manager.now) (changed_since shown.old.items manager.now)) page.new.bytes.items result }
+    ensures shows { IfOk result (λ _. Shows shown.new.items manager.now) }
+{
+    let mut above = 0;
+    while let Some(task) = next_changed(manager, shown, above) {
+        print_change(page, writer, manager, task)?;
+        show(shown, task, manager.effective(task).unwrap());
+        above = task.get();
+    }
+    Ok(())
+}
+
+/// The lines of a step whose recorded reply differs.
+fn print_rejection<W: Sink>(
+    page: &mut Page,
+    writer: &mut W,
+    number: u32,
+    reply: &Reply,
+    line: &StepLine,
+) -> Result<(), Fault>
+    ensures { Prints (W.told writer.old) (W.told writer.new) (page.old.bytes.items ++ rejection_lines number reply.now line.now.recorded) page.new.bytes.items result }
+{
+    make_room(page, writer)?;
+    if let Some(recorded) = &line.recorded {
+        page.rejection(number, reply, recorded)?;
+    }
+    Ok(())
+}
+
+/// The line of a step, and those of the tasks that it changed.
+fn print_answer<W: Sink>(
+    page: &mut Page,
+    writer: &mut W,
+    manager: &Manager,
+    shown: &mut Vec<Prio>,
+    number: u32,
+    reply: &Reply,
+) -> Result<(), Fault>
+    requires { length shown.old.items ≡ length manager.now.base }
+    ensures prints { Prints (W.told writer.old) (W.told writer.new)
+        (page.old.bytes.items ++ (reply_line number reply.now ++ flat_map (change_line manager.now) (changed_since shown.old.items manager.now))) page.new.bytes.items result }
+    ensures shows { IfOk result (λ _. Shows shown.new.items manager.now) }
+{
+    make_room(page, writer)?;
+    page.answer(number, reply)?;
+    print_changes(page, writer, manager, shown)
+}
+
+/// Makes a step, and prints its lines. It says whether the reply agrees with the recorded one.
+fn print_step<W: Sink>(
+    page: &mut Page,
+    writer: &mut W,
+    manager: &mut Manager,
+    shown: &mut Vec<Prio>,
+    number: u32,
+    line: &StepLine,
+) -> Result<bool, Fault>
+    requires { Shows shown.old.items manager.old }
+    ensures prints { Prints (W.told writer.old) (W.told writer.new) (page.old.bytes.items ++ step_lines number manager.old line.now) page.new.bytes.items result }
+    ensures agrees { IfOk result (λ goes_on. goes_on ≡ agrees line.now.recorded (reply_of manager.old line.now.step)) }
+    ensures after { manager.new ≡ after manager.old line.now.step }
+    ensures shows { IfOk result (λ goes_on. goes_on ≡ true → Shows shown.new.items manager.new) }
+{
+    let reply = manager.step(line.step).reply;
+    let goes_on = agrees(line, &reply);
+    if goes_on {
+        print_answer(page, writer, manager, shown, number, &reply)?;
+    } else {
+        print_rejection(page, writer, number, &reply, line)?;
+    }
+    Ok(goes_on)
+}
+
+/// The last line, and all that is still in the page.
+fn print_end<W: Sink>(page: &mut Page, writer: &mut W, count: u32) -> Result<(), Fault>
+    ensures { Prints (W.told writer.old) (W.told writer.new) (page.old.bytes.items ++ accepted count) [] result }
+{
+    make_room(page, writer)?;
+    page.accepted(count)?;
+    flush(page, writer)
+}
+
+/// The whole report, and its verdict.
+pub(crate) fn print_report<W: Sink>(
+    page: &mut Page,
+    writer: &mut W,
+    manager: &mut Manager,
+    shown: &mut Vec<Prio>,
+    lines: &[StepLine],
+) -> Result<Verdict, Fault>
+    requires few { length lines.now < 2 ^ 32 }
+    requires empty { page.old.bytes.items ≡ [] }
+    requires shows { Shows shown.old.items manager.old }
+    ensures prints { Prints (W.told writer.old) (W.told writer.new) (report_from 1 manager.old lines.now) [] result }
+    ensures verdict { IfOk result (λ verdict. verdict ≡ verdict_from 1 manager.old lines.now) }
+{
+    for (index, line) in lines.iter().enumerate() {
+        let number = index as u32 + 1;
+        if !print_step(page, writer, manager, shown, number, line)? {
+            flush(page, writer)?;
+            return Ok(Verdict::Rejected(number));
+        }
+    }
+    let count = lines.len() as u32;
+    print_end(page, writer, count)?;
+    Ok(Verdict::Accepted(count))
+}

@@ -1,0 +1,90 @@
+// Ends of one byte a call, and ends of which each call in turn goes wrong.
+
+use crate::tests::memory_ends::{Input, Output, Trouble};
+use crate::{Fault, Verdict, judge};
+use std::alloc::AllocGlobal;
+use std::process::Abort;
+
+const TEXT: &str = "\
+pim 1
+task 1 10
+task 2 50
+task 3 90
+mutex 1 inherit
+1 lock 1
+3 lock 1
+1 unlock 1
+";
+
+const REPORT: &str = "\
+1 granted
+2 queued
+  task 1 at 90 waiter 3 mutex 1
+3 handed 3
+  task 1 at 10 base
+accepted 3
+";
+
+/// The report is written whole by ends that take so many bytes a call.
+fn expect_whole(rt: &(impl Abort + AllocGlobal), read: usize, written: usize) {
+    let mut input = Input::piecewise(TEXT.as_bytes(), read, 0);
+    let mut output = Output::piecewise(rt.alloc(), written, Trouble::Fails, 0);
+    let answer = judge(rt.alloc(), &mut input, &mut output);
+    assert_eq!(rt; answer, Ok(Verdict::Accepted(3)), "{read} {written}");
+    assert_eq!(rt; output.text(), Some(REPORT), "{read} {written}");
+}
+
+#[test]
+fn report_is_the_same_by_pieces(rt: HostRuntime) {
+    for most in [1, 2, 3, 7, 1000] {
+        expect_whole(&rt, most, usize::MAX);
+        expect_whole(&rt, usize::MAX, most);
+        expect_whole(&rt, most, most);
+    }
+}
+
+#[test]
+fn each_failed_read_is_answered_and_nothing_is_written(rt: HostRuntime) {
+    let calls = TEXT.len() as u64 + 1;
+    for call in 1..calls + 1 {
+        let mut input = Input::piecewise(TEXT.as_bytes(), 1, call);
+        let mut output = Output::new(rt.alloc());
+        let answer = judge(rt.alloc(), &mut input, &mut output);
+        assert_eq!(rt; answer, Err(Fault::Read), "at call {call}");
+        assert_eq!(rt; output.bytes().len(), 0, "at call {call}");
+    }
+}
+
+#[test]
+fn read_behind_the_end_is_not_made(rt: HostRuntime) {
+    let mut input = Input::piecewise(TEXT.as_bytes(), 1, TEXT.len() as u64 + 2);
+    let mut output = Output::new(rt.alloc());
+    let answer = judge(rt.alloc(), &mut input, &mut output);
+    assert_eq!(rt; answer, Ok(Verdict::Accepted(3)));
+    assert_eq!(rt; output.text(), Some(REPORT));
+}
+
+/// Each write in turn goes wrong: what was written before is a beginning of the report.
+fn expect_beginnings(rt: &(impl Abort + AllocGlobal), trouble: Trouble) {
+    for written in 0..REPORT.len() {
+        let mut input = Input::new(TEXT.as_bytes());
+        let mut output = Output::piecewise(rt.alloc(), 1, trouble, written as u64 + 1);
+        let answer = judge(rt.alloc(), &mut input, &mut output);
+        assert_eq!(rt; answer, Err(Fault::Write), "{trouble:?} after {written}");
+        assert_eq!(rt;
+            output.text(),
+            REPORT.get(..written),
+            "{trouble:?} after {written}"
+        );
+    }
+}
+
+#[test]
+fn each_failed_write_leaves_a_beginning(rt: HostRuntime) {
+    expect_beginnings(&rt, Trouble::Fails);
+}
+
+#[test]
+fn each_write_of_no_byte_leaves_a_beginning(rt: HostRuntime) {
+    expect_beginnings(&rt, Trouble::Stalls);
+}

@@ -1,0 +1,129 @@
+// Ends in memory: of a few bytes a call, and with one call that fails.
+ghost use Rattle.std.specs.Prelude.{Some};
+
+use crate::{Failed, Sink, Source};
+use std::alloc::Global;
+
+/// A reader over bytes.
+#[derive(Drop)]
+pub struct Input<'a> {
+    left: &'a [u8],
+    /// The most bytes that a call hands over; 0 counts as 1.
+    most: usize,
+    /// The number of the call that fails, counted from 1; none where this is 0.
+    fails_at: u64,
+    calls: u64,
+    failures: u64,
+}
+
+impl Input<'_> {
+    /// A reader that hands over as many bytes as are asked for.
+    pub fn new(bytes: &[u8]) -> Input<'_> {
+        Input::piecewise(bytes, usize::MAX, 0)
+    }
+
+    /// A reader that hands over so many bytes a call at most, and fails at this call.
+    pub fn piecewise(bytes: &[u8], most: usize, fails_at: u64) -> Input<'_> {
+        Input {
+            left: bytes,
+            most,
+            fails_at,
+            calls: 0,
+            failures: 0,
+        }
+    }
+}
+
+impl Source for Input<'_> {
+    ghost remaining = { λ input. Some input.left.now };
+
+    ghost failures = { λ input. input.failures };
+
+    fn read(&mut self, buffer: &mut [u8]) -> Result<usize, Failed> {
+        self.calls = self.calls.saturating_add(1);
+        if self.calls == self.fails_at {
+            self.failures = self.failures.saturating_add(1);
+            return Err(Failed);
+        }
+        let count = self.left.len().min(buffer.len()).min(self.most.max(1));
+        let (front, rest) = self.left.split_at(count);
+        buffer[..count].copy_from_slice(front);
+        self.left = rest;
+        Ok(count)
+    }
+}
+
+/// What a writer does at the call that goes wrong.
+#[derive(Clone, Copy, Debug, PartialEq, Eq)]
+pub enum Trouble {
+    /// It fails.
+    Fails,
+    /// It takes no byte.
+    Stalls,
+}
+
+/// A writer into memory.
+#[derive(Drop)]
+pub struct Output {
+    bytes: Vec<u8>,
+    /// The most bytes that a call takes.
+    most: usize,
+    trouble: Trouble,
+    /// The number of the call that goes wrong, counted from 1; none where this is 0.
+    at: u64,
+    calls: u64,
+    failures: u64,
+    stalls: u64,
+}
+
+impl Output {
+    /// A writer that takes each piece whole.
+    pub fn new(alloc: Global) -> Output {
+        Output::piecewise(alloc, usize::MAX, Trouble::Fails, 0)
+    }
+
+    /// A writer that takes so many bytes a call at most, and goes wrong at this call.
+    pub fn piecewise(alloc: Global, most: usize, trouble: Trouble, at: u64) -> Output {
+        Output {
+            bytes: Vec::new(alloc),
+            most,
+            trouble,
+            at,
+            calls: 0,
+            failures: 0,
+            stalls: 0,
+        }
+    }
+
+    /// What was written.
+    pub fn bytes(&self) -> &[u8] {
+        self.bytes.as_slice()
+    }
+
+    /// What was written, as text.
+    pub fn text(&self) -> Option<&str> {
+        std::str::from_utf8(self.bytes.as_slice()).ok()
+    }
+}
+
+impl Sink for Output {
+    ghost told = { λ output. record { contents = Some output.bytes.items; failures = output.failures; stalls = output.stalls } };
+
+    fn write(&mut self, piece: &[u8]) -> Result<usize, Failed> {
+        self.calls = self.calls.saturating_add(1);
+        let goes_wrong = self.calls == self.at;
+        if goes_wrong && self.trouble == Trouble::Stalls {
+            self.stalls = self.stalls.saturating_add(1);
+            return Ok(0);
+        }
+        let count = piece.len().min(self.most);
+        if goes_wrong || self.bytes.extend_from_slice(&piece[..count]).is_err() {
+            self.failures = self.failures.saturating_add(1);
+            return Err(Failed);
+        }
+        if count == 0 {
+            self.stalls = self.stalls.saturating_add(1);
+        }
+        Ok(count)
+    }
+}

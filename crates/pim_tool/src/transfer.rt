@@ -1,0 +1,43 @@
+//! Reads to the end, and writes all.
+ghost use Rattle.std.specs.Prelude.{◌≡◌, ◌⊎◌, [], IfOk, IfErr, Err};
+ghost use Rattle.pim_tool.specs.Ends.{Happened, ReadsAll, Prints};
+
+use crate::ends::{Sink, Source};
+use crate::fault::Fault;
+use std::alloc::Global;
+
+/// How many bytes are asked for at once.
+const PIECE: usize = 16_384;
+
+/// All the bytes that are left.
+pub(crate) fn read_all<R: Source>(alloc: Global, reader: &mut R) -> Result<Vec<u8>, Fault>
+    ensures ok { IfOk result (λ bytes. ReadsAll (R.remaining reader.old) bytes.items) }
+    ensures read { result ≡ Err Fault.Read → Happened (R.failures reader.old) (R.failures reader.new) }
+    ensures others { IfErr result (λ fault. (fault ≡ Fault.Read) ⊎ (fault ≡ Fault.Memory)) }
+{
+    let mut bytes = Vec::new(alloc);
+    let mut piece = [0u8; PIECE];
+    loop {
+        let Ok(count) = reader.read(&mut piece) else {
+            return Err(Fault::Read);
+        };
+        if count == 0 {
+            return Ok(bytes);
+        }
+        bytes.extend_from_slice(&piece[..count])?;
+    }
+}
+
+/// Writes all the bytes.
+pub(crate) fn write_all<W: Sink>(writer: &mut W, bytes: &[u8]) -> Result<(), Fault>
+    ensures { Prints (W.told writer.old) (W.told writer.new) bytes.now [] result }
+{
+    let mut rest = bytes;
+    while !rest.is_empty() {
+        match writer.write(rest) {
+            Ok(count) if count > 0 => rest = &rest[count..],
+            _ => return Err(Fault::Write),
+        }
+    }
+    Ok(())
+}
