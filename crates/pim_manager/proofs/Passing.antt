@@ -24,13 +24,14 @@ changed_from v w z bases same =
 pub record HasLeft (v x : View) (t : ℕ) : Type 0 where
   pub state : x.state ≡ with_wait v.state t None
   pub stored : x.stored ≡ v.stored
+  pub marked : x.marked ≡ v.marked
 
 pub has_left : (v x : View) (t : ℕ) → (wait_of v.state t ≡ None → ⊥) → ((w : Wait) → wait_of v.state t ≡ Some w → x ≡ left v t w.mutex) → HasLeft v x t
 has_left v x t waits is = go (wait_of v.state t) refl
   where
     go : (o : Option Wait) → wait_of v.state t ≡ o → HasLeft v x t
     go None e = absurd (waits e)
-    go (Some w) e = record { state = ap (λ (y : View). y.state) (is w e); stored = ap (λ (y : View). y.stored) (is w e) }
+    go (Some w) e = record { state = ap (λ (y : View). y.state) (is w e); stored = ap (λ (y : View). y.stored) (is w e); marked = ap (λ (y : View). y.marked) (is w e) }
 
 -- ---- a mutex that passes on
 pub heir_idle : (S : State) (t : ℕ) → wait_of S t ≡ None → heir S t ≡ None

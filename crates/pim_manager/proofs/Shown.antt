@@ -10,10 +10,10 @@ use Rattle.pim_base.specs.Checks.{unknown_task, unknown_mutex}
 use Rattle.pim_base.specs.Priorities.{effective_priority}
 use Rattle.pim_base.specs.Queues.{queue_of}
 use Rattle.pim_base.specs.declared.steps.Wait.{Wait}
-use Rattle.pim_base.proofs.NoCycle.{known_from_tests}
+use Rattle.pim_base.proofs.Kept.{known_from_tests}
 use Rattle.pim_base.proofs.Places.{nth-get_or}
 use Rattle.pim_queue.specs.Line.{Line}
-use Rattle.pim_chain.specs.Views.{View, stored_at, line_in}
+use Rattle.pim_chain.specs.Views.{View, stored_in, stored_at, line_in}
 use Rattle.pim_chain.specs.Settled.{Calm}
 use Rattle.pim_chain.proofs.Walking.{settled_effective}
 use Rattle.pim_chain.proofs.Models.{queue_is}
@@ -73,3 +73,8 @@ idle_at_start n (suc t) = at n t
     at zero t = refl
     at (suc n) zero = refl
     at (suc n) (suc t) = at n t
+
+-- an unknown task's priority is shown as 0
+pub stored_past : (xs : List ℕ) (S : State) (t : ℕ) → length xs ≡ length S.base → unknown_task S t ≡ true → stored_in xs t ≡ 0
+stored_past xs S t same unknown =
+    ap (λ o. unwrap_or o 0) (at_number xs (length S.base) t 0 same ∙ ap (λ b. cond b None (Some (unwrap_or (nth xs t) 0))) unknown)

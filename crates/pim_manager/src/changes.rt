@@ -23,6 +23,7 @@ pub fn grant(tables: &mut Tables, mutex: MutexNo, task: TaskNo, visits: &mut Vis
     ensures calm { Calm tables.new }
     ensures least { visits.old + changed tables.old tables.new ≤ visits.new }
     ensures most { visits.new ≡ visits.old + 1 }
+    ensures marked { tables.new.marked ≡ tables.old.marked }
 {
     tables.bind(mutex, task);
     tables.settle_from(task, visits);
@@ -42,6 +43,7 @@ pub fn enqueue(tables: &mut Tables, task: TaskNo, mutex: MutexNo, ticket: u64, v
     ensures calm { Calm tables.new }
     ensures least { visits.old + changed tables.old tables.new ≤ visits.new }
     ensures most { visits.new ≤ visits.old + changed tables.old tables.new + 1 }
+    ensures marked { tables.new.marked ≡ tables.old.marked }
 {
     let owner = tables.owner(mutex);
     tables.join(task, mutex, ticket);
@@ -60,6 +62,7 @@ pub fn withdraw(tables: &mut Tables, task: TaskNo, visits: &mut Visits)
     ensures calm { Calm tables.new }
     ensures least { visits.old + changed tables.old tables.new ≤ visits.new }
     ensures most { visits.new ≤ visits.old + changed tables.old tables.new + 1 }
+    ensures marked { tables.new.marked ≡ tables.old.marked }
 {
     if let Some(blocker) = leave(tables, task) {
         tables.settle_from(blocker, visits);
@@ -75,6 +78,7 @@ pub fn rebase(tables: &mut Tables, target: TaskNo, prio: Prio, visits: &mut Visi
     ensures calm { Calm tables.new }
     ensures least { visits.old + changed tables.old tables.new ≤ visits.new }
     ensures most { visits.new ≤ visits.old + changed tables.old tables.new + 1 }
+    ensures marked { tables.new.marked ≡ tables.old.marked }
 {
     tables.put_base(target, prio);
     tables.settle_from(target, visits);
@@ -97,6 +101,7 @@ pub fn hand_over(
     ensures calm { Calm tables.new }
     ensures least { visits.old + changed tables.old tables.new ≤ visits.new }
     ensures most { visits.new ≤ visits.old + 2 }
+    ensures marked { tables.new.marked ≡ tables.old.marked }
 {
     let first = tables.front(mutex);
     pass_on(tables, mutex, owner, &first, visits);
@@ -121,6 +126,7 @@ fn pass_on(
     ensures calm { Calm tables.new }
     ensures least { visits.old + changed tables.old tables.new ≤ visits.new }
     ensures most { visits.new ≤ visits.old + 2 }
+    ensures marked { tables.new.marked ≡ tables.old.marked }
 {
     tables.unbind(mutex);
     tables.settle_from(owner, visits);
@@ -139,6 +145,7 @@ fn leave(tables: &mut Tables, task: TaskNo) -> Option<TaskNo>
     ensures stored { tables.new.stored ≡ tables.old.stored }
     ensures unsettles { Unsettles tables.old tables.new result }
     ensures ready { Ready tables.new }
+    ensures marked { tables.new.marked ≡ tables.old.marked }
 {
     let blocker = tables.blocker(task);
     tables.leave(task);

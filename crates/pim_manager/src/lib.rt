@@ -21,9 +21,11 @@
 //! ```
 #![tactic(auto)]
 
+mod changed_tasks;
 mod changes;
 mod checks;
 mod done;
+mod inner;
 mod make_fault;
 mod manager;
 mod runs;
@@ -37,6 +39,7 @@ mod tests;
 #[cfg(test)]
 mod walks;
 
+pub use changed_tasks::ChangedTasks;
 pub use done::Done;
 pub use make_fault::MakeFault;
 pub use manager::Manager;

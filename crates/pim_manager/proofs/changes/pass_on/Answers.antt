@@ -11,7 +11,7 @@ grant-requires c =
     let v = c.args.tables.now in
     let u = c.settle_from.new.self in
     let x = c.leave-blocker.new.tables in
-    let gone : HasLeft u x c.in-Some.waiter.task = record { state = c.leave-blocker.ensures.state; stored = c.leave-blocker.ensures.stored } in
+    let gone : HasLeft u x c.in-Some.waiter.task = record { state = c.leave-blocker.ensures.state; stored = c.leave-blocker.ensures.stored; marked = c.leave-blocker.ensures.marked } in
     let p : Passing v u x c.args.mutex c.in-Some.waiter =
     passing v u x c.args.mutex c.in-Some.waiter c.leave-blocker.result c.requires.calm c.requires.mutex (sym c.requires.first ∙ c.in-Some.is)
     (c.settle_from.ensures.state ∙ ap (λ (v : View). v.state) c.unbind.ensures.state) c.settle_from.ensures.settled gone c.leave-blocker.ensures.blocker c.leave-blocker.ensures.unsettles c.leave-blocker.ensures.ready in
@@ -24,7 +24,7 @@ returns-in-Some c =
     let v = c.args.tables.now in
     let u = c.settle_from.new.self in
     let x = c.leave-blocker.new.tables in
-    let gone : HasLeft u x c.in-Some.waiter.task = record { state = c.leave-blocker.ensures.state; stored = c.leave-blocker.ensures.stored } in
+    let gone : HasLeft u x c.in-Some.waiter.task = record { state = c.leave-blocker.ensures.state; stored = c.leave-blocker.ensures.stored; marked = c.leave-blocker.ensures.marked } in
     let p : Passing v u x c.args.mutex c.in-Some.waiter =
     passing v u x c.args.mutex c.in-Some.waiter c.leave-blocker.result c.requires.calm c.requires.mutex (sym c.requires.first ∙ c.in-Some.is)
     (c.settle_from.ensures.state ∙ ap (λ (v : View). v.state) c.unbind.ensures.state) c.settle_from.ensures.settled gone c.leave-blocker.ensures.blocker c.leave-blocker.ensures.unsettles c.leave-blocker.ensures.ready in
@@ -37,5 +37,6 @@ returns-in-Some c =
           passed_changes v u x c.grant.new.tables c.args.mutex c.in-Some.waiter c.args.visits.now c.settle_from.new.visits c.grant.new.visits p
           (subst (λ (v : View). c.args.visits.now + changed v u ≤ c.settle_from.new.visits) c.unbind.ensures.state c.settle_from.ensures.at_least)
           c.grant.ensures.least;
+      marked = c.grant.ensures.marked ∙ c.leave-blocker.ensures.marked ∙ c.settle_from.ensures.marked ∙ ap (λ (v : View). v.marked) c.unbind.ensures.state;
       most = (let two = c.grant.ensures.most in omega (arith, one, two));
     }
