@@ -40,19 +40,33 @@ marked_settled v n calm = record {
 }
 
 -- what the tables find is what has changed
-pub found_changed : (v : View) (n : ℕ) → Calm v → length v.marked ≡ length v.state.base → (t : ℕ) → has_changed v t ≡ is_changed (record { state = record v.state { next = n }; marked = v.marked }) t
+pub found_changed :
+    (v : View) (n : ℕ)
+    → Calm v
+    → length v.marked ≡ length v.state.base
+    → (t : ℕ)
+    → has_changed v t ≡ is_changed (record { state = record v.state { next = n }; marked = v.marked }) t
 found_changed v n calm len t = go (unknown_task v.state t) refl
   where
-    go : (b : Bool) → unknown_task v.state t ≡ b → has_changed v t ≡ (not b && not (eqb (stored_in v.marked t) (effective_priority v.state t)))
+    go :
+        (b : Bool)
+        → unknown_task v.state t ≡ b
+        → has_changed v t ≡ (not b && not (eqb (stored_in v.marked t) (effective_priority v.state t)))
     go true e =
         ap not (eq-eqb (stored_in v.marked t) (stored_in v.stored t)
         (stored_past v.marked v.state t len e ∙ sym (stored_past v.stored v.state t calm.ready.stored_len e)))
-    go false e = ap (λ p. not (eqb (stored_in v.marked t) p)) (settled_effective v.state (stored_at v) calm.ready.sound calm.settled t (known_from_tests v.state t e))
+    go false e =
+        ap (λ p. not (eqb (stored_in v.marked t) p))
+        (settled_effective v.state (stored_at v) calm.ready.sound calm.settled t (known_from_tests v.state t e))
 
 changed_known : (h : Held) (t : ℕ) → is_changed h t ≡ true → IsTask h.state t
 changed_known h t e = go (unknown_task h.state t) refl e
   where
-    go : (b : Bool) → unknown_task h.state t ≡ b → (not b && not (eqb (stored_in h.marked t) (effective_priority h.state t))) ≡ true → IsTask h.state t
+    go :
+        (b : Bool)
+        → unknown_task h.state t ≡ b
+        → (not b && not (eqb (stored_in h.marked t) (effective_priority h.state t))) ≡ true
+        → IsTask h.state t
     go true is k = absurd (cc)
     go false is k = known_from_tests h.state t is
 
@@ -78,23 +92,41 @@ pub record ListedTo (h : Held) (changed : List ℕ) (n : ℕ) : Type 0 where
 pub listed_none : (h : Held) → ListedTo h [] 0
 listed_none h = record { list = refl; few = omega arith; within = omega arith }
 
-pub listed_next : (h : Held) (changed : List ℕ) (n t : ℕ) → ListedTo h changed n → IsFirstAbove (is_changed h) n t → IsTask h.state t → ListedTo h (changed ++ t ∷ []) t
+pub listed_next :
+    (h : Held) (changed : List ℕ) (n t : ℕ)
+    → ListedTo h changed n
+    → IsFirstAbove (is_changed h) n t
+    → IsTask h.state t
+    → ListedTo h (changed ++ t ∷ []) t
 listed_next h changed n t before next known = record {
   list = ap (λ xs. xs ++ t ∷ []) before.list ∙ sym (filter-next (is_changed h) n t next);
   few = (let few = before.few in let above = next.above in let more = length-append changed (t ∷ []) in omega (arith, few, above, more));
   within = known.1;
 }
 
-pub listed_all : (h : Held) (changed : List ℕ) (n : ℕ) → ListedTo h changed n → ((k : ℕ) → n < k → is_changed h k ≡ false) → changed ≡ changed_since h
+pub listed_all :
+    (h : Held) (changed : List ℕ) (n : ℕ)
+    → ListedTo h changed n
+    → ((k : ℕ) → n < k → is_changed h k ≡ false)
+    → changed ≡ changed_since h
 listed_all h changed n done none = done.list ∙ sym (filter-until (is_changed h) n (length h.state.base) done.within (λ k low _. none k low))
 
 -- ---- after a step: what differs from the marked priorities differs from those before it
-pub changed_by_step : (S T : State) (marked : List ℕ) → AreMarked S marked → length T.base ≡ length S.base → changed_since (record { state = T; marked = marked }) ≡ changed_between S T
+pub changed_by_step :
+    (S T : State) (marked : List ℕ)
+    → AreMarked S marked
+    → length T.base ≡ length S.base
+    → changed_since (record { state = T; marked = marked }) ≡ changed_between S T
 changed_by_step S T marked are same =
     ap (λ n. filter (is_changed (record { state = T; marked = marked })) (numbers n)) same
-    ∙ filter-same (is_changed (record { state = T; marked = marked })) (λ t. not (eqb (effective_priority S t) (effective_priority T t))) (length S.base) each
+    ∙ filter-same (is_changed (record { state = T; marked = marked })) (λ t. not (eqb (effective_priority S t) (effective_priority T t)))
+    (length S.base) each
   where
-    each : (t : ℕ) → 1 ≤ t → t ≤ length S.base → is_changed (record { state = T; marked = marked }) t ≡ not (eqb (effective_priority S t) (effective_priority T t))
+    each :
+        (t : ℕ)
+        → 1 ≤ t
+        → t ≤ length S.base
+        → is_changed (record { state = T; marked = marked }) t ≡ not (eqb (effective_priority S t) (effective_priority T t))
     each t low high =
         ap (λ b. not b && not (eqb (stored_in marked t) (effective_priority T t))) (known_task T t low (subst (λ n. t ≤ n) (sym same) high))
         ∙ ap (λ p. not (eqb p (effective_priority T t))) (are.same t (low, high))

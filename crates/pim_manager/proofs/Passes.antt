@@ -41,7 +41,8 @@ pub filter-next : (p : ℕ → Bool) (n m : ℕ) → IsFirstAbove p n m → filt
 filter-next p n m next =
     let above : n < m = next.above in
     filter-pass p m (m - 1) (omega (arith, above)) next.passes
-    ∙ ap (λ xs. xs ++ m ∷ []) (filter-until p n (m - 1) (omega (arith, above)) (λ k low high. next.none_between k low (omega (arith, high, above))))
+    ∙ ap (λ xs. xs ++ m ∷ [])
+    (filter-until p n (m - 1) (omega (arith, above)) (λ k low high. next.none_between k low (omega (arith, high, above))))
 
 -- where the one test holds the other does too, as many pass at least
 pub length-le-count : (p q : ℕ → Bool) (n : ℕ) → ((k : ℕ) → p k ≡ true → q k ≡ true) → length (filter p (numbers n)) ≤ count n q
@@ -49,13 +50,19 @@ unfolding count
 length-le-count p q zero over = omega arith
 length-le-count p q (suc n) over = go (p (suc n)) refl (length-le-count p q n over)
   where
-    go : (b : Bool) → p (suc n) ≡ b → length (filter p (numbers n)) ≤ count n q → length (filter p (numbers (suc n))) ≤ count n q + cond {A = ℕ} (q (suc n)) 1 0
+    go :
+        (b : Bool)
+        → p (suc n) ≡ b
+        → length (filter p (numbers n)) ≤ count n q
+        → length (filter p (numbers (suc n))) ≤ count n q + cond {A = ℕ} (q (suc n)) 1 0
     go true e le =
         let one : cond {A = ℕ} (q (suc n)) 1 0 ≡ 1 = ap {B = ℕ} (λ (b : Bool). cond {A = ℕ} b 1 0) (over (suc n) e) in
-        let more : length (filter p (numbers (suc n))) ≡ length (filter p (numbers n)) + 1 = ap length (filter-pass p (suc n) n (omega arith) e) ∙ length-append (filter p (numbers n)) (suc n ∷ []) in
+        let more : length (filter p (numbers (suc n))) ≡ length (filter p (numbers n)) + 1 =
+        ap length (filter-pass p (suc n) n (omega arith) e) ∙ length-append (filter p (numbers n)) (suc n ∷ []) in
         omega (arith, one, more, le)
     go false e le =
-        let same : length (filter p (numbers (suc n))) ≡ length (filter p (numbers n)) = ap length (filter-fail p (suc n) n (omega arith) e) in
+        let same : length (filter p (numbers (suc n))) ≡ length (filter p (numbers n)) =
+        ap length (filter-fail p (suc n) n (omega arith) e) in
         omega (arith, same, le)
 
 -- tests that agree pass the same numbers
@@ -67,5 +74,6 @@ filter-same p q (suc n) same = go (q (suc n)) refl (filter-same p q n (λ k low 
     here = same (suc n) (omega arith) (omega arith)
 
     go : (b : Bool) → q (suc n) ≡ b → filter p (numbers n) ≡ filter q (numbers n) → filter p (numbers (suc n)) ≡ filter q (numbers (suc n))
-    go true e rest = filter-pass p (suc n) n (omega arith) (here ∙ e) ∙ ap (λ xs. xs ++ suc n ∷ []) rest ∙ sym (filter-pass q (suc n) n (omega arith) e)
+    go true e rest =
+        filter-pass p (suc n) n (omega arith) (here ∙ e) ∙ ap (λ xs. xs ++ suc n ∷ []) rest ∙ sym (filter-pass q (suc n) n (omega arith) e)
     go false e rest = filter-fail p (suc n) n (omega arith) (here ∙ e) ∙ rest ∙ sym (filter-fail q (suc n) n (omega arith) e)

@@ -50,7 +50,8 @@ idle-hand_over S m t idle = go (first_of S m)
     go (Some w) = at (cases_eq t w.task)
       where
         at : (t ≡ w.task) ⊎ (t ≡ w.task → ⊥) → wait_of (with_wait (with_owner S m (Some w.task)) w.task None) t ≡ None
-        at (inl is) = ap (wait_of (with_wait (with_owner S m (Some w.task)) w.task None)) is ∙ idle_now (with_owner S m (Some w.task)) w.task
+        at (inl is) =
+            ap (wait_of (with_wait (with_owner S m (Some w.task)) w.task None)) is ∙ idle_now (with_owner S m (Some w.task)) w.task
         at (inr ne) = wait_other (with_owner S m (Some w.task)) w.task None t ne ∙ idle
 
 -- ---- all of them: as far as the number n
@@ -98,7 +99,9 @@ pub released_next :
     → k ≤ v + 2
     → ReleasedTo S U a m (r + 1) k
 released_next S T U a n m r v k before next known is gone least most = record {
-  state = is ∙ ap (λ X. hand_over X m) before.state ∙ sym (fold-append_one hand_over S (filter p (numbers n)) m) ∙ ap (fold hand_over S) (sym more);
+  state =
+      is ∙ ap (λ X. hand_over X m) before.state ∙ sym (fold-append_one hand_over S (filter p (numbers n)) m) ∙ ap (fold hand_over S)
+      (sym more);
   counted = ap (λ j. j + 1) before.counted ∙ sym (length-append (filter p (numbers n)) (m ∷ [])) ∙ ap length (sym more);
   few = (let few = before.few in let above = next.above in omega (arith, few, above));
   within = (let high = known.1 in let same = before.mutexes in omega (arith, high, same));
@@ -154,7 +157,11 @@ lost_differs o (Some u) a is h = ap (λ x. not (same_owner x (Some u))) is ∙ a
     flip : (a u : ℕ) → eqb u a ≡ false → eqb a u ≡ false
     flip a u h = ne_eqb a u (λ e. absurd (both_ways (eqb u a) h (eq-eqb u a (sym e))))
 
-pub released_all : (S T : State) (a n r v : ℕ) → ReleasedTo S T a n r v → ((k : ℕ) → n < k → holds (owner_of T k) a ≡ false) → Released S T a r v
+pub released_all :
+    (S T : State) (a n r v : ℕ)
+    → ReleasedTo S T a n r v
+    → ((k : ℕ) → n < k → holds (owner_of T k) a ≡ false)
+    → Released S T a r v
 released_all S T a n r v done none = record {
   state = done.state ∙ ap (fold hand_over S) (sym all);
   counted = done.counted ∙ ap length (sym all);

@@ -20,11 +20,15 @@ use Rattle.pim_chain.proofs.Models.{queue_is}
 use Rattle.pim_manager.specs.Known.{of_task, of_mutex}
 
 -- an item by its number, where there is one
-at_number : {X : Type 0} (xs : List X) (n k : ℕ) (d : X) → length xs ≡ n → nth xs k ≡ cond (eqb k 0 || ltb n k) None (Some (unwrap_or (nth xs k) d))
+at_number :
+    {X : Type 0} (xs : List X) (n k : ℕ) (d : X)
+    → length xs ≡ n
+    → nth xs k ≡ cond (eqb k 0 || ltb n k) None (Some (unwrap_or (nth xs k) d))
 at_number xs n zero d same = refl
 at_number xs n (suc k) d same =
     go (cases_lt n (suc k))
-    ∙ ap (λ b. cond (b || ltb n (suc k)) None (Some (unwrap_or (nth xs (suc k)) d))) (sym (ne_eqb (suc k) 0 (λ e. absurd (omega (arith, e)))))
+    ∙ ap (λ b. cond (b || ltb n (suc k)) None (Some (unwrap_or (nth xs (suc k)) d)))
+    (sym (ne_eqb (suc k) 0 (λ e. absurd (omega (arith, e)))))
   where
     go : (n < suc k) ⊎ (suc k ≤ n) → nth xs (suc k) ≡ cond (ltb n (suc k)) None (Some (unwrap_or (nth xs (suc k)) d))
     go (inl past) =
@@ -50,17 +54,25 @@ same_shown S t x y same = go (unknown_task S t) refl
 pub stored_shown : (v : View) (t : ℕ) → Calm v → nth v.stored t ≡ of_task v.state t (effective_priority v.state t)
 stored_shown v t calm =
     at_number v.stored (length v.state.base) t 0 calm.ready.stored_len
-    ∙ same_shown v.state t (stored_at v t) (effective_priority v.state t) (settled_effective v.state (stored_at v) calm.ready.sound calm.settled t)
+    ∙ same_shown v.state t (stored_at v t) (effective_priority v.state t)
+    (settled_effective v.state (stored_at v) calm.ready.sound calm.settled t)
 
 known_mutex : (S : State) (m : ℕ) → unknown_mutex S m ≡ false → IsMutex S m
 known_mutex S m h = grind (arith, nat_tests)
 
-pub queue_shown : (v : View) (m : ℕ) → Calm v → option_map (λ (q : Line). q.waiters) (nth v.queues m) ≡ of_mutex v.state m (queue_of v.state m)
+pub queue_shown :
+    (v : View) (m : ℕ)
+    → Calm v
+    → option_map (λ (q : Line). q.waiters) (nth v.queues m) ≡ of_mutex v.state m (queue_of v.state m)
 queue_shown v m calm =
-    ap (option_map (λ (q : Line). q.waiters)) (at_number v.queues (length v.state.protocol) m (record { waiters = []; room = 0 }) calm.ready.queues_len)
+    ap (option_map (λ (q : Line). q.waiters))
+    (at_number v.queues (length v.state.protocol) m (record { waiters = []; room = 0 }) calm.ready.queues_len)
     ∙ go (unknown_mutex v.state m) refl
   where
-    go : (b : Bool) → unknown_mutex v.state m ≡ b → option_map (λ (q : Line). q.waiters) (cond b None (Some (line_in v.queues m))) ≡ cond b None (Some (queue_of v.state m))
+    go :
+        (b : Bool)
+        → unknown_mutex v.state m ≡ b
+        → option_map (λ (q : Line). q.waiters) (cond b None (Some (line_in v.queues m))) ≡ cond b None (Some (queue_of v.state m))
     go true e = refl
     go false e = ap Some (queue_is v m calm (known_mutex v.state m e))
 

@@ -11,16 +11,21 @@ pub enqueue-requires-clause-calm : goal.enqueue-requires-clause-calm
 enqueue-requires-clause-calm c = c.self.invariant.calm
 
 pub enqueue-requires-clause-known : goal.enqueue-requires-clause-known
-enqueue-requires-clause-known c = subst (λ (S : State). IsTask S c.args.task) (sym (ap (λ (h : Held). h.state) c.self.view_is)) c.requires.known
+enqueue-requires-clause-known c =
+    subst (λ (S : State). IsTask S c.args.task) (sym (ap (λ (h : Held). h.state) c.self.view_is)) c.requires.known
 
 pub enqueue-requires-clause-mutex : goal.enqueue-requires-clause-mutex
-enqueue-requires-clause-mutex c = subst (λ (S : State). IsMutex S c.args.mutex) (sym (ap (λ (h : Held). h.state) c.self.view_is)) c.requires.mutex
+enqueue-requires-clause-mutex c =
+    subst (λ (S : State). IsMutex S c.args.mutex) (sym (ap (λ (h : Held). h.state) c.self.view_is)) c.requires.mutex
 
 pub enqueue-requires-clause-idle : goal.enqueue-requires-clause-idle
-enqueue-requires-clause-idle c = subst (λ (S : State). wait_of S c.args.task ≡ None) (sym (ap (λ (h : Held). h.state) c.self.view_is)) c.requires.idle
+enqueue-requires-clause-idle c =
+    subst (λ (S : State). wait_of S c.args.task ≡ None) (sym (ap (λ (h : Held). h.state) c.self.view_is)) c.requires.idle
 
 pub enqueue-requires-clause-closes_none : goal.enqueue-requires-clause-closes_none
-enqueue-requires-clause-closes_none c = subst (λ (S : State). closes_cycle S c.args.task c.args.mutex ≡ false) (sym (ap (λ (h : Held). h.state) c.self.view_is)) c.requires.closes_none
+enqueue-requires-clause-closes_none c =
+    subst (λ (S : State). closes_cycle S c.args.task c.args.mutex ≡ false)
+    (sym (ap (λ (h : Held). h.state) c.self.view_is)) c.requires.closes_none
 
 pub enqueue-requires-clause-fresh : goal.enqueue-requires-clause-fresh
 enqueue-requires-clause-fresh c = fresh_ticket c.self.inside.tables.state c.args.mutex c.self.inside.next c.self.invariant.given
@@ -42,12 +47,19 @@ returns-clause-state c =
 
 pub returns-clause-least : goal.returns-clause-least
 returns-clause-least c =
-    let same = counted c.self.inside.tables c.enqueue.new.tables c.self.inside.next (c.self.inside.next + 1) c.self.invariant.calm c.enqueue.ensures.calm (ap (λ (S : State). length S.base) c.enqueue.ensures.state) in
-    subst (λ (S : State). c.args.visits.now + changed_tasks S (record c.enqueue.new.tables.state { next = c.self.inside.next + 1 }) ≤ c.enqueue.new.visits) (ap (λ (h : Held). h.state) c.self.view_is)
+    let same =
+    counted c.self.inside.tables c.enqueue.new.tables c.self.inside.next
+    (c.self.inside.next + 1) c.self.invariant.calm c.enqueue.ensures.calm (ap (λ (S : State). length S.base) c.enqueue.ensures.state) in
+    subst (λ (S : State). c.args.visits.now + changed_tasks S
+    (record c.enqueue.new.tables.state { next = c.self.inside.next + 1 }) ≤ c.enqueue.new.visits)
+    (ap (λ (h : Held). h.state) c.self.view_is)
     (subst (λ k. c.args.visits.now + k ≤ c.enqueue.new.visits) same c.enqueue.ensures.least)
 
 pub returns-clause-most : goal.returns-clause-most
 returns-clause-most c =
-    let same = counted c.self.inside.tables c.enqueue.new.tables c.self.inside.next (c.self.inside.next + 1) c.self.invariant.calm c.enqueue.ensures.calm (ap (λ (S : State). length S.base) c.enqueue.ensures.state) in
-    subst (λ (S : State). c.enqueue.new.visits ≤ c.args.visits.now + 1 + changed_tasks S (record c.enqueue.new.tables.state { next = c.self.inside.next + 1 })) (ap (λ (h : Held). h.state) c.self.view_is)
+    let same =
+    counted c.self.inside.tables c.enqueue.new.tables c.self.inside.next
+    (c.self.inside.next + 1) c.self.invariant.calm c.enqueue.ensures.calm (ap (λ (S : State). length S.base) c.enqueue.ensures.state) in
+    subst (λ (S : State). c.enqueue.new.visits ≤ c.args.visits.now + 1 + changed_tasks S
+    (record c.enqueue.new.tables.state { next = c.self.inside.next + 1 })) (ap (λ (h : Held). h.state) c.self.view_is)
     (subst (λ k. c.enqueue.new.visits ≤ c.args.visits.now + 1 + k) same (let most = c.enqueue.ensures.most in omega (arith, most)))

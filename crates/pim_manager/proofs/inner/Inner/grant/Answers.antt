@@ -10,13 +10,16 @@ pub grant-requires-clause-calm : goal.grant-requires-clause-calm
 grant-requires-clause-calm c = c.self.invariant.calm
 
 pub grant-requires-clause-known : goal.grant-requires-clause-known
-grant-requires-clause-known c = subst (λ (S : State). IsTask S c.args.task) (sym (ap (λ (h : Held). h.state) c.self.view_is)) c.requires.known
+grant-requires-clause-known c =
+    subst (λ (S : State). IsTask S c.args.task) (sym (ap (λ (h : Held). h.state) c.self.view_is)) c.requires.known
 
 pub grant-requires-clause-idle : goal.grant-requires-clause-idle
-grant-requires-clause-idle c = subst (λ (S : State). wait_of S c.args.task ≡ None) (sym (ap (λ (h : Held). h.state) c.self.view_is)) c.requires.idle
+grant-requires-clause-idle c =
+    subst (λ (S : State). wait_of S c.args.task ≡ None) (sym (ap (λ (h : Held). h.state) c.self.view_is)) c.requires.idle
 
 pub grant-requires-clause-free : goal.grant-requires-clause-free
-grant-requires-clause-free c = subst (λ (S : State). owner_of S c.args.mutex ≡ None) (sym (ap (λ (h : Held). h.state) c.self.view_is)) c.requires.free
+grant-requires-clause-free c =
+    subst (λ (S : State). owner_of S c.args.mutex ≡ None) (sym (ap (λ (h : Held). h.state) c.self.view_is)) c.requires.free
 
 pub invariant_of-self : goal.invariant_of-self
 invariant_of-self c = record {
@@ -31,6 +34,9 @@ returns-clause-state c =
 
 pub returns-clause-least : goal.returns-clause-least
 returns-clause-least c =
-    let same = counted c.self.inside.tables c.grant.new.tables c.self.inside.next c.self.inside.next c.self.invariant.calm c.grant.ensures.calm (ap (λ (S : State). length S.base) c.grant.ensures.state) in
-    subst (λ (S : State). c.args.visits.now + changed_tasks S (record c.grant.new.tables.state { next = c.self.inside.next }) ≤ c.grant.new.visits) (ap (λ (h : Held). h.state) c.self.view_is)
+    let same =
+    counted c.self.inside.tables c.grant.new.tables c.self.inside.next c.self.inside.next c.self.invariant.calm c.grant.ensures.calm
+    (ap (λ (S : State). length S.base) c.grant.ensures.state) in
+    subst (λ (S : State). c.args.visits.now + changed_tasks S
+    (record c.grant.new.tables.state { next = c.self.inside.next }) ≤ c.grant.new.visits) (ap (λ (h : Held). h.state) c.self.view_is)
     (subst (λ k. c.args.visits.now + k ≤ c.grant.new.visits) same c.grant.ensures.least)

@@ -5,4 +5,5 @@ use Rattle.pim_manager.specs.Held.{Held}
 use Rattle.pim_manager.proofs.inner.Inner.is_above_ceiling.Goals as goal
 
 pub returns : goal.returns
-returns c = c.is_above_ceiling.ensures ∙ ap (λ (S : State). above_ceiling S c.args.task c.args.mutex) (ap (λ (h : Held). h.state) c.self.view_is)
+returns c =
+    c.is_above_ceiling.ensures ∙ ap (λ (S : State). above_ceiling S c.args.task c.args.mutex) (ap (λ (h : Held). h.state) c.self.view_is)

@@ -16,4 +16,5 @@ invariant_of-self c =
 pub returns-clause-marked : goal.returns-clause-marked
 returns-clause-marked c =
     subst (λ (v : View). AreMarked c.args.self.now.state v.marked) (sym c.mark.ensures.marked)
-    (subst (λ (h : Held). AreMarked h.state c.self.inside.tables.stored) c.self.view_is (marked_settled c.self.inside.tables c.self.inside.next c.self.invariant.calm))
+    (subst (λ (h : Held). AreMarked h.state c.self.inside.tables.stored) c.self.view_is
+    (marked_settled c.self.inside.tables c.self.inside.next c.self.invariant.calm))

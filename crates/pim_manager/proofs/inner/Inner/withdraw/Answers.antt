@@ -12,11 +12,13 @@ invariant_of-self c = record {
 
 pub returns-clause-least : goal.returns-clause-least
 returns-clause-least c =
-    let same = counted_as c.self.inside.tables c.withdraw.new.tables c.self.inside.next c.self.inside.next c.args.self.now.state c.self.invariant.calm c.withdraw.ensures.calm (ap (λ (S : State). length S.base) c.withdraw.ensures.state) (ap (λ (h : Held). h.state) c.self.view_is) in
+    let same =
+    counted_as c.self.inside.tables c.withdraw.new.tables c.self.inside.next c.self.inside.next c.args.self.now.state c.self.invariant.calm c.withdraw.ensures.calm (ap (λ (S : State). length S.base) c.withdraw.ensures.state) (ap (λ (h : Held). h.state) c.self.view_is) in
     subst (λ k. c.args.visits.now + k ≤ c.withdraw.new.visits) same c.withdraw.ensures.least
 
 pub returns-clause-most : goal.returns-clause-most
 returns-clause-most c =
-    let same = counted_as c.self.inside.tables c.withdraw.new.tables c.self.inside.next c.self.inside.next c.args.self.now.state c.self.invariant.calm c.withdraw.ensures.calm (ap (λ (S : State). length S.base) c.withdraw.ensures.state) (ap (λ (h : Held). h.state) c.self.view_is) in
+    let same =
+    counted_as c.self.inside.tables c.withdraw.new.tables c.self.inside.next c.self.inside.next c.args.self.now.state c.self.invariant.calm c.withdraw.ensures.calm (ap (λ (S : State). length S.base) c.withdraw.ensures.state) (ap (λ (h : Held). h.state) c.self.view_is) in
     let most = c.withdraw.ensures.most in
     omega (arith, most, same)

@@ -16,7 +16,8 @@ returns-clause-changed c =
     let S : State = c.self.inside.inner.state in
     let T : State = c.step-done.new.self.state in
     let same : length T.base ≡ length S.base =
-    ap (λ (S : State). length S.base) c.step-done.ensures.state ∙ bases_after c.mark.new.self.state c.args.step ∙ ap (λ (S : State). length S.base) c.mark.ensures.state in
+    ap (λ (S : State). length S.base) c.step-done.ensures.state ∙ bases_after c.mark.new.self.state c.args.step ∙ ap
+    (λ (S : State). length S.base) c.mark.ensures.state in
     c.list_changed.ensures
     ∙ ap (λ marked. changed_since (record { state = T; marked = marked })) c.step-done.ensures.marked
     ∙ changed_by_step S T c.mark.new.self.marked c.mark.ensures.marked same
