@@ -89,9 +89,6 @@ pub record ListedTo (h : Held) (changed : List ℕ) (n : ℕ) : Type 0 where
   pub few : length changed ≤ n
   pub within : n ≤ length h.state.base
 
-pub listed_none : (h : Held) → ListedTo h [] 0
-listed_none h = record { list = refl; few = omega arith; within = omega arith }
-
 pub listed_next :
     (h : Held) (changed : List ℕ) (n t : ℕ)
     → ListedTo h changed n

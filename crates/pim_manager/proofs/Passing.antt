@@ -14,12 +14,6 @@ use Rattle.pim_chain.specs.Settled.{SettledBut, Unsettles, Calm, changed, left}
 use Rattle.pim_chain.proofs.Queues.{waiting_known}
 use Rattle.pim_chain.proofs.Walking.{differing_over}
 
--- changes are counted from any tables with as many tasks and the same stored priorities
-pub changed_from : (v w z : View) → w.state.base ≡ v.state.base → w.stored ≡ v.stored → changed w z ≡ changed v z
-changed_from v w z bases same =
-    ap (λ bs. differing (length bs) (stored_at w) (stored_at z)) bases
-    ∙ ap (λ ss. differing (length v.state.base) (stored_in ss) (stored_at z)) same
-
 -- ---- a task that leaves its queue
 pub record HasLeft (v x : View) (t : ℕ) : Type 0 where
   pub state : x.state ≡ with_wait v.state t None
