@@ -20,14 +20,25 @@ use Rattle.pim_chain.proofs.Walking.{differing_same, count_none, settled_effecti
 use Rattle.pim_chain.proofs.Changes.{wait_other, wait_now}
 use Rattle.pim_chain.specs.Settled.{Calm}
 
-pub counted : (v w : View) (n k : ℕ) → Calm v → Calm w → length w.state.base ≡ length v.state.base → changed v w ≡ changed_tasks (record v.state { next = n }) (record w.state { next = k })
+pub counted :
+    (v w : View) (n k : ℕ)
+    → Calm v
+    → Calm w
+    → length w.state.base ≡ length v.state.base
+    → changed v w ≡ changed_tasks (record v.state { next = n }) (record w.state { next = k })
 counted v w n k calm after same =
     differing_same (length v.state.base) (stored_at v) (effective_priority v.state) (stored_at w) (effective_priority w.state)
-    (λ u low high. (settled_effective v.state (stored_at v) calm.ready.sound calm.settled u (low, high), settled_effective w.state (stored_at w) after.ready.sound after.settled u (low, subst (λ b. u ≤ b) (sym same) high)))
+    (λ u low high. (
+      settled_effective v.state (stored_at v) calm.ready.sound calm.settled u (low, high),
+      settled_effective w.state
+          (stored_at w) after.ready.sound after.settled u (low, subst (λ b. u ≤ b) (sym same) high),
+    ))
 
 -- nothing changes from a state to itself
 pub unchanged : (S : State) → changed_tasks S S ≡ 0
-unchanged S = count_none (length S.base) (λ t. not (eqb (effective_priority S t) (effective_priority S t))) (λ t. ap not (eq-eqb (effective_priority S t) (effective_priority S t) refl))
+unchanged S =
+    count_none (length S.base) (λ t. not (eqb (effective_priority S t) (effective_priority S t)))
+    (λ t. ap not (eq-eqb (effective_priority S t) (effective_priority S t) refl))
 
 -- the tickets after one more was given out
 pub given_more :
@@ -43,15 +54,28 @@ given_more S t m n lists known given u w e = go (cases_eq u t)
     go : (u ≡ t) ⊎ (u ≡ t → ⊥) → w.ticket < n + 1
     go (inr ne) = let old : w.ticket < n = given u w (sym (wait_other S t (Some (record { mutex = m; ticket = n })) u ne) ∙ e) in omega (arith, old)
     go (inl is) =
-        let same : w ≡ record { mutex = m; ticket = n } = same_Some w (record { mutex = m; ticket = n }) (sym e ∙ ap (wait_of (with_wait S t (Some (record { mutex = m; ticket = n })))) is ∙ wait_now S t (Some (record { mutex = m; ticket = n })) lists known) in
+        let same : w ≡ record { mutex = m; ticket = n } =
+        same_Some w (record { mutex = m; ticket = n })
+        (sym e ∙ ap (wait_of (with_wait S t (Some (record { mutex = m; ticket = n })))) is ∙ wait_now S t
+        (Some (record { mutex = m; ticket = n })) lists known) in
         let ticket : w.ticket ≡ n = ap (λ (x : Wait). x.ticket) same in
         omega (arith, ticket)
 
-pub fresh_ticket : (S : State) (m n : ℕ) → ((u : ℕ) (w : Wait) → wait_of S u ≡ Some w → w.ticket < n) → (u : ℕ) → wait_of S u ≡ Some (record { mutex = m; ticket = n }) → ⊥
+pub fresh_ticket :
+    (S : State) (m n : ℕ)
+    → ((u : ℕ) (w : Wait) → wait_of S u ≡ Some w → w.ticket < n)
+    → (u : ℕ)
+    → wait_of S u ≡ Some (record { mutex = m; ticket = n })
+    → ⊥
 fresh_ticket S m n given u e = let less : n < n = given u (record { mutex = m; ticket = n }) e in omega (arith, less)
 
 -- who has ceased to wait has no ticket
-pub given_left : (S : State) (t n : ℕ) → ((u : ℕ) (w : Wait) → wait_of S u ≡ Some w → w.ticket < n) → (u : ℕ) (w : Wait) → wait_of (with_wait S t None) u ≡ Some w → w.ticket < n
+pub given_left :
+    (S : State) (t n : ℕ)
+    → ((u : ℕ) (w : Wait) → wait_of S u ≡ Some w → w.ticket < n)
+    → (u : ℕ) (w : Wait)
+    → wait_of (with_wait S t None) u ≡ Some w
+    → w.ticket < n
 given_left S t n given u w e = go (cases_eq u t)
   where
     go : (u ≡ t) ⊎ (u ≡ t → ⊥) → w.ticket < n
@@ -59,7 +83,9 @@ given_left S t n given u w e = go (cases_eq u t)
     go (inl is) = absurd (none-some w (sym (idle_now S t) ∙ ap (wait_of (with_wait S t None)) (sym is) ∙ e))
 
 -- ---- a hand-over
-pub next_handed : (S : State) (m : ℕ) (o : Option Waiter) (n : ℕ) → record (hand_over_to S m o) { next = n } ≡ hand_over_to (record S { next = n }) m o
+pub next_handed :
+    (S : State) (m : ℕ) (o : Option Waiter) (n : ℕ)
+    → record (hand_over_to S m o) { next = n } ≡ hand_over_to (record S { next = n }) m o
 next_handed S m None n = refl
 next_handed S m (Some w) n = refl
 
@@ -67,7 +93,12 @@ pub bases_handed : (S : State) (m : ℕ) (o : Option Waiter) → length (hand_ov
 bases_handed S m None = refl
 bases_handed S m (Some w) = refl
 
-pub given_handed : (S : State) (m : ℕ) (o : Option Waiter) (n : ℕ) → ((u : ℕ) (w : Wait) → wait_of S u ≡ Some w → w.ticket < n) → (u : ℕ) (w : Wait) → wait_of (hand_over_to S m o) u ≡ Some w → w.ticket < n
+pub given_handed :
+    (S : State) (m : ℕ) (o : Option Waiter) (n : ℕ)
+    → ((u : ℕ) (w : Wait) → wait_of S u ≡ Some w → w.ticket < n)
+    → (u : ℕ) (w : Wait)
+    → wait_of (hand_over_to S m o) u ≡ Some w
+    → w.ticket < n
 given_handed S m None n given u w e = given u w e
 given_handed S m (Some x) n given u w e = given_left (with_owner S m (Some x.task)) x.task n given u w e
 
@@ -91,8 +122,10 @@ pub handed_once :
     → 1 ≤ handed_mutexes (record v.state { next = n }) (record S { next = n })
 handed_once v S m t o n calm known owned idle is same =
     subst (λ (T : State). 1 ≤ handed_mutexes (record v.state { next = n }) (record T { next = n })) (sym same)
-    (count_one (length v.state.protocol) (λ k. not (same_owner (owner_of v.state k) (owner_of (hand_over_to v.state m o) k))) m known.0 known.1
-    (ap (λ x. not (same_owner x (owner_of (hand_over_to v.state m o) m))) owned ∙ differ_by (owner_of (hand_over_to v.state m o) m) t (go o is)))
+    (count_one (length v.state.protocol)
+    (λ k. not (same_owner (owner_of v.state k) (owner_of (hand_over_to v.state m o) k))) m known.0 known.1
+    (ap (λ x. not (same_owner x (owner_of (hand_over_to v.state m o) m))) owned ∙ differ_by (owner_of (hand_over_to v.state m o) m) t
+    (go o is)))
   where
     go : (o : Option Waiter) → o ≡ head_of (queue_at v m) → owner_of (hand_over_to v.state m o) m ≡ Some t → ⊥
     go None e h = none-some t (sym (freed_owner v.state m) ∙ h)
@@ -100,18 +133,28 @@ handed_once v S m t o n calm known owned idle is same =
       where
         at : (owner_of (with_owner v.state m (Some w.task)) m ≡ Some w.task) ⊎ (owner_of (with_owner v.state m (Some w.task)) m ≡ None) → ⊥
         at (inr none) = none-some t (sym none ∙ h)
-        at (inl it) = none-some (record { mutex = m; ticket = w.ticket }) (sym idle ∙ ap (wait_of v.state) (same_Some t w.task (sym h ∙ it)) ∙ first_waits v m w calm.ready known (sym e))
+        at (inl it) =
+            none-some (record { mutex = m; ticket = w.ticket })
+            (sym idle ∙ ap (wait_of v.state) (same_Some t w.task (sym h ∙ it)) ∙ first_waits v m w calm.ready known (sym e))
 
 -- so any count is enough for it
 pub unchanged_least : (S : State) (n : ℕ) → changed_tasks S S ≤ n
 unchanged_least S n = omega (arith, unchanged S)
 
 -- changes of stored priorities, where the state shown is this one
-pub counted_as : (v w : View) (n k : ℕ) (S : State) → Calm v → Calm w → length w.state.base ≡ length v.state.base → record v.state { next = n } ≡ S → changed v w ≡ changed_tasks S (record w.state { next = k })
-counted_as v w n k S calm after same is = counted v w n k calm after same ∙ ap (λ (T : State). changed_tasks T (record w.state { next = k })) is
+pub counted_as :
+    (v w : View) (n k : ℕ) (S : State)
+    → Calm v
+    → Calm w
+    → length w.state.base ≡ length v.state.base
+    → record v.state { next = n } ≡ S
+    → changed v w ≡ changed_tasks S (record w.state { next = k })
+counted_as v w n k S calm after same is =
+    counted v w n k calm after same ∙ ap (λ (T : State). changed_tasks T (record w.state { next = k })) is
 
 -- the same stored priorities are no change
 pub unchanged_stored : (v w : View) → w.stored ≡ v.stored → changed v w ≡ 0
 unchanged_stored v w same =
     ap (λ ss. differing (length v.state.base) (stored_at v) (stored_in ss)) same
-    ∙ count_none (length v.state.base) (λ t. not (eqb (stored_at v t) (stored_at v t))) (λ t. ap not (eq-eqb (stored_at v t) (stored_at v t) refl))
+    ∙ count_none (length v.state.base) (λ t. not (eqb (stored_at v t) (stored_at v t)))
+    (λ t. ap not (eq-eqb (stored_at v t) (stored_at v t) refl))

@@ -1,6 +1,6 @@
 -- A task that leaves a queue, and a mutex that passes from its owner to the first of its queue.
 use Rattle.std.proofs.Common.{◌≡◌, ℕ, zero, suc, inl, inr, ◌+◌, ◌≤◌, refl, sym, ◌∙◌, ap, subst, arith, Option, Some, None, List, [], ◌∷◌, length, option_and_then, set}
-use Rattle.std.proofs.lemmas.Option.{none-some, same_Some}
+use Rattle.std.proofs.lemmas.Option.{same_Some}
 use Rattle.pim_base.specs.Lists.{put, head_of}
 use Rattle.pim_base.specs.State.{State, IsTask, IsMutex, owner_of, wait_of, with_owner, with_wait}
 use Rattle.pim_base.specs.Chains.{heir, heir_of, blocker}
@@ -14,23 +14,22 @@ use Rattle.pim_chain.specs.Settled.{SettledBut, Unsettles, Calm, changed, left}
 use Rattle.pim_chain.proofs.Queues.{waiting_known}
 use Rattle.pim_chain.proofs.Walking.{differing_over}
 
--- changes are counted from any tables with as many tasks and the same stored priorities
-pub changed_from : (v w z : View) → w.state.base ≡ v.state.base → w.stored ≡ v.stored → changed w z ≡ changed v z
-changed_from v w z bases same =
-    ap (λ bs. differing (length bs) (stored_at w) (stored_at z)) bases
-    ∙ ap (λ ss. differing (length v.state.base) (stored_in ss) (stored_at z)) same
-
 -- ---- a task that leaves its queue
 pub record HasLeft (v x : View) (t : ℕ) : Type 0 where
   pub state : x.state ≡ with_wait v.state t None
   pub stored : x.stored ≡ v.stored
+  pub marked : x.marked ≡ v.marked
 
-pub has_left : (v x : View) (t : ℕ) → (wait_of v.state t ≡ None → ⊥) → ((w : Wait) → wait_of v.state t ≡ Some w → x ≡ left v t w.mutex) → HasLeft v x t
+pub has_left :
+    (v x : View) (t : ℕ)
+    → (wait_of v.state t ≡ None → ⊥)
+    → ((w : Wait) → wait_of v.state t ≡ Some w → x ≡ left v t w.mutex)
+    → HasLeft v x t
 has_left v x t waits is = go (wait_of v.state t) refl
   where
     go : (o : Option Wait) → wait_of v.state t ≡ o → HasLeft v x t
     go None e = absurd (waits e)
-    go (Some w) e = record { state = ap (λ (y : View). y.state) (is w e); stored = ap (λ (y : View). y.stored) (is w e) }
+    go (Some w) e = record { state = ap (λ (y : View). y.state) (is w e); stored = ap (λ (y : View). y.stored) (is w e); marked = ap (λ (y : View). y.marked) (is w e) }
 
 -- ---- a mutex that passes on
 pub heir_idle : (S : State) (t : ℕ) → wait_of S t ≡ None → heir S t ≡ None
@@ -49,12 +48,22 @@ pub freed_owner : (S : State) (m : ℕ) → owner_of (with_owner S m None) m ≡
 freed_owner S m = elim (unwrap_or-put_same S.owner m None) [ inl h ↦ h | inr h ↦ h ]
 
 -- the first of a queue waits
-pub first_waits : (v : View) (m : ℕ) (w : Waiter) → Ready v → IsMutex v.state m → head_of (queue_at v m) ≡ Some w → wait_of v.state w.task ≡ Some (record { mutex = m; ticket = w.ticket })
+pub first_waits :
+    (v : View) (m : ℕ) (w : Waiter)
+    → Ready v
+    → IsMutex v.state m
+    → head_of (queue_at v m) ≡ Some w
+    → wait_of v.state w.task ≡ Some (record { mutex = m; ticket = w.ticket })
 first_waits v m w ready known e = go (queue_at v m) (ready.queues m known) e
   where
-    go : (ws : List Waiter) → IsQueue (wait_of v.state) (stored_at v) m ws → head_of ws ≡ Some w → wait_of v.state w.task ≡ Some (record { mutex = m; ticket = w.ticket })
+    go :
+        (ws : List Waiter)
+        → IsQueue (wait_of v.state) (stored_at v) m ws
+        → head_of ws ≡ Some w
+        → wait_of v.state w.task ≡ Some (record { mutex = m; ticket = w.ticket })
     go [] q h = cc
-    go (x ∷ xs) q h = subst (λ (y : Waiter). wait_of v.state y.task ≡ Some (record { mutex = m; ticket = y.ticket })) (same_Some x w h) q.sound.0.waits
+    go (x ∷ xs) q h =
+        subst (λ (y : Waiter). wait_of v.state y.task ≡ Some (record { mutex = m; ticket = y.ticket })) (same_Some x w h) q.sound.0.waits
 
 -- The tables are v, then u once the owner has lost the mutex and is settled, then x once the first of the queue has left.
 pub record Passing (v u x : View) (m : ℕ) (w : Waiter) : Type 0 where
@@ -81,7 +90,9 @@ passing v u x m w o calm known first freed settled gone blocks unsettles ready =
   stored = gone.stored;
   calm = record { ready = ready; settled = subst (SettledBut x.state (stored_at x)) (blocks ∙ blocked) (unsettles settled) };
   mutex = subst (λ (S : State). IsMutex S m) (sym is) known;
-  known = subst (λ (S : State). IsTask S w.task) (sym is) (waiting_known v.state calm.ready.sound.lists w.task (record { mutex = m; ticket = w.ticket }) waits);
+  known =
+      subst (λ (S : State). IsTask S w.task) (sym is)
+      (waiting_known v.state calm.ready.sound.lists w.task (record { mutex = m; ticket = w.ticket }) waits);
   idle = ap (λ S. wait_of S w.task) is ∙ idle_now (with_owner v.state m None) w.task;
   free = ap (λ S. owner_of S m) is ∙ freed_owner v.state m;
 }
@@ -99,7 +110,10 @@ passing v u x m w o calm known first freed settled gone blocks unsettles ready =
     is = gone.state ∙ ap (λ S. with_wait S w.task None) freed
 
 -- the state that it makes
-pub passed_state : (v u x : View) (m : ℕ) (w : Waiter) → Passing v u x m w → with_owner x.state m (Some w.task) ≡ hand_over_to v.state m (Some w)
+pub passed_state :
+    (v u x : View) (m : ℕ) (w : Waiter)
+    → Passing v u x m w
+    → with_owner x.state m (Some w.task) ≡ hand_over_to v.state m (Some w)
 passed_state v u x m w p =
     ap (λ S. with_owner S m (Some w.task)) p.state
     ∙ ap (λ os. record v.state { owner = os; wait = put v.state.wait w.task None }) (put-put v.state.owner m None (Some w.task))
@@ -113,7 +127,9 @@ pub passed_changes :
     → a + changed v z ≤ c
 passed_changes v u x z m w a b c p one two =
     let n : ℕ = length v.state.base in
-    let over : differing n (stored_at v) (stored_at z) ≤ differing n (stored_at v) (stored_at u) + differing n (stored_at u) (stored_at z) = differing_over n (stored_at v) (stored_at u) (stored_at z) in
+    let over : differing n (stored_at v) (stored_at z) ≤ differing n (stored_at v) (stored_at u) + differing n (stored_at u) (stored_at z) =
+    differing_over n (stored_at v) (stored_at u) (stored_at z) in
     let second : changed x z ≡ differing n (stored_at u) (stored_at z) =
-    ap (λ (S : State). differing (length S.base) (stored_at x) (stored_at z)) p.state ∙ ap (λ ss. differing n (stored_in ss) (stored_at z)) p.stored in
+    ap (λ (S : State). differing (length S.base) (stored_at x) (stored_at z)) p.state ∙ ap
+    (λ ss. differing n (stored_in ss) (stored_at z)) p.stored in
     omega (arith, over, second, one, two)

@@ -1,79 +1,24 @@
 -- Mutexes handed over one after another.
-use Rattle.std.proofs.Common.{List, eqb, ◌≡◌, ◌≢◌, ◌<◌, ◌≤◌, ℕ, zero, suc, ◌+◌, ◌-◌, ◌*◌, Bool, true, false, cond, not, [], ◌∷◌, ◌++◌, filter, length, length-append, Option, Some, None, refl, sym, ◌∙◌, ap, subst, arith, fold, unwrap_or, ◌⊎◌, inl, inr}
+use Rattle.std.proofs.Common.{List, eqb, ◌≡◌, ◌≢◌, ◌<◌, ◌≤◌, ℕ, zero, suc, ◌+◌, ◌*◌, Bool, true, false, not, [], ◌∷◌, ◌++◌, filter, length, length-append, Option, Some, None, refl, sym, ◌∙◌, ap, subst, arith, fold, unwrap_or, ◌⊎◌, inl, inr}
 use Rattle.std.proofs.lemmas.Bool.{both_ways, cases_eq, cases_lt, eq-eqb, ne_eqb}
-use Rattle.std.proofs.lemmas.List.Elements.{filter-append}
-use Rattle.std.proofs.lemmas.Option.{none-some}
 use Rattle.pim_base.specs.Lists.{numbers, holds}
 use Rattle.pim_base.specs.State.{State, IsMutex, owned, owner_of, wait_of, with_owner, with_wait}
 use Rattle.pim_base.specs.Queues.{first_of}
 use Rattle.pim_base.specs.Steps.{hand_over, hand_over_to}
-use Rattle.pim_base.specs.Counts.{count, differing, same_owner, changed_tasks, handed_mutexes}
+use Rattle.pim_base.specs.Counts.{differing, same_owner, changed_tasks, handed_mutexes}
 use Rattle.pim_base.specs.Priorities.{effective_priority}
 use Rattle.pim_base.specs.declared.steps.Waiter.{Waiter}
 use Rattle.pim_base.proofs.Places.{nth-put_other}
-use Rattle.pim_base.proofs.Greatest.{numbers-more, append_nothing}
 use Rattle.pim_base.proofs.NoCycle.{idle_now}
-use Rattle.pim_base.proofs.Stored.{from_holds, holds_from}
+use Rattle.pim_base.proofs.Stored.{from_holds}
 use Rattle.pim_chain.specs.Owned.{IsFirstAbove}
 use Rattle.pim_chain.proofs.Changes.{wait_other}
 use Rattle.pim_chain.proofs.Walking.{differing_over}
+use Rattle.pim_manager.proofs.Passes.{filter-until, filter-next, length-le-count}
 
 fold-append_one : {A B : Type 0} (f : B → A → B) (a : B) (xs : List A) (x : A) → fold f a (xs ++ x ∷ []) ≡ f (fold f a xs) x
 fold-append_one f a [] x = refl
 fold-append_one f a (y ∷ ys) x = fold-append_one f (f a y) ys x
-
--- ---- the numbers that pass a test
-filter-pass : (p : ℕ → Bool) (n m : ℕ) → m + 1 ≡ n → p n ≡ true → filter p (numbers n) ≡ filter p (numbers m) ++ n ∷ []
-filter-pass p n m e h = rw (← e) (go (rw (← e) at h))
-  where
-    go : p (m + 1) ≡ true → filter p (numbers (m + 1)) ≡ filter p (numbers m) ++ (m + 1) ∷ []
-    go h =
-        ap (filter p) (numbers-more m) ∙ filter-append p (numbers m) ((m + 1) ∷ [])
-        ∙ ap (λ b. filter p (numbers m) ++ cond b ((m + 1) ∷ []) []) h
-
-filter-fail : (p : ℕ → Bool) (n m : ℕ) → m + 1 ≡ n → p n ≡ false → filter p (numbers n) ≡ filter p (numbers m)
-filter-fail p n m e h = rw (← e) (go (rw (← e) at h))
-  where
-    go : p (m + 1) ≡ false → filter p (numbers (m + 1)) ≡ filter p (numbers m)
-    go h =
-        ap (filter p) (numbers-more m) ∙ filter-append p (numbers m) ((m + 1) ∷ [])
-        ∙ ap (λ b. filter p (numbers m) ++ cond b ((m + 1) ∷ []) []) h
-        ∙ append_nothing (filter p (numbers m))
-
--- numbers that fail are left out
-filter-skip : (p : ℕ → Bool) (n d : ℕ) → ((k : ℕ) → n < k → k ≤ n + d → p k ≡ false) → filter p (numbers (n + d)) ≡ filter p (numbers n)
-filter-skip p n zero none = let e : n + 0 ≡ n = omega arith in rw e refl
-filter-skip p n (suc d) none =
-    filter-fail p (n + suc d) (n + d) (omega arith) (none (n + suc d) (omega arith) (omega arith))
-    ∙ filter-skip p n d (λ k low high. none k low (omega (arith, high)))
-
-pub filter-until : (p : ℕ → Bool) (n m : ℕ) → n ≤ m → ((k : ℕ) → n < k → k ≤ m → p k ≡ false) → filter p (numbers m) ≡ filter p (numbers n)
-filter-until p n m le none =
-    let is : n + (m - n) ≡ m = omega (arith, le) in
-    ap (λ k. filter p (numbers k)) (sym is)
-    ∙ filter-skip p n (m - n) (λ k low high. none k low (omega (arith, high, le)))
-
--- the next number that passes is one more
-pub filter-next : (p : ℕ → Bool) (n m : ℕ) → IsFirstAbove p n m → filter p (numbers m) ≡ filter p (numbers n) ++ m ∷ []
-filter-next p n m next =
-    let above : n < m = next.above in
-    filter-pass p m (m - 1) (omega (arith, above)) next.passes
-    ∙ ap (λ xs. xs ++ m ∷ []) (filter-until p n (m - 1) (omega (arith, above)) (λ k low high. next.none_between k low (omega (arith, high, above))))
-
--- where the one test holds the other does too, as many pass at least
-pub length-le-count : (p q : ℕ → Bool) (n : ℕ) → ((k : ℕ) → p k ≡ true → q k ≡ true) → length (filter p (numbers n)) ≤ count n q
-unfolding count
-length-le-count p q zero over = omega arith
-length-le-count p q (suc n) over = go (p (suc n)) refl (length-le-count p q n over)
-  where
-    go : (b : Bool) → p (suc n) ≡ b → length (filter p (numbers n)) ≤ count n q → length (filter p (numbers (suc n))) ≤ count n q + cond {A = ℕ} (q (suc n)) 1 0
-    go true e le =
-        let one : cond {A = ℕ} (q (suc n)) 1 0 ≡ 1 = ap {B = ℕ} (λ (b : Bool). cond {A = ℕ} b 1 0) (over (suc n) e) in
-        let more : length (filter p (numbers (suc n))) ≡ length (filter p (numbers n)) + 1 = ap length (filter-pass p (suc n) n (omega arith) e) ∙ length-append (filter p (numbers n)) (suc n ∷ []) in
-        omega (arith, one, more, le)
-    go false e le =
-        let same : length (filter p (numbers (suc n))) ≡ length (filter p (numbers n)) = ap length (filter-fail p (suc n) n (omega arith) e) in
-        omega (arith, same, le)
 
 -- ---- one hand-over
 pub owner_of-hand_over_other : (S : State) (m k : ℕ) → m ≢ k → owner_of (hand_over S m) k ≡ owner_of S k
@@ -105,7 +50,8 @@ idle-hand_over S m t idle = go (first_of S m)
     go (Some w) = at (cases_eq t w.task)
       where
         at : (t ≡ w.task) ⊎ (t ≡ w.task → ⊥) → wait_of (with_wait (with_owner S m (Some w.task)) w.task None) t ≡ None
-        at (inl is) = ap (wait_of (with_wait (with_owner S m (Some w.task)) w.task None)) is ∙ idle_now (with_owner S m (Some w.task)) w.task
+        at (inl is) =
+            ap (wait_of (with_wait (with_owner S m (Some w.task)) w.task None)) is ∙ idle_now (with_owner S m (Some w.task)) w.task
         at (inr ne) = wait_other (with_owner S m (Some w.task)) w.task None t ne ∙ idle
 
 -- ---- all of them: as far as the number n
@@ -153,7 +99,9 @@ pub released_next :
     → k ≤ v + 2
     → ReleasedTo S U a m (r + 1) k
 released_next S T U a n m r v k before next known is gone least most = record {
-  state = is ∙ ap (λ X. hand_over X m) before.state ∙ sym (fold-append_one hand_over S (filter p (numbers n)) m) ∙ ap (fold hand_over S) (sym more);
+  state =
+      is ∙ ap (λ X. hand_over X m) before.state ∙ sym (fold-append_one hand_over S (filter p (numbers n)) m) ∙ ap (fold hand_over S)
+      (sym more);
   counted = ap (λ j. j + 1) before.counted ∙ sym (length-append (filter p (numbers n)) (m ∷ [])) ∙ ap length (sym more);
   few = (let few = before.few in let above = next.above in omega (arith, few, above));
   within = (let high = known.1 in let same = before.mutexes in omega (arith, high, same));
@@ -209,7 +157,11 @@ lost_differs o (Some u) a is h = ap (λ x. not (same_owner x (Some u))) is ∙ a
     flip : (a u : ℕ) → eqb u a ≡ false → eqb a u ≡ false
     flip a u h = ne_eqb a u (λ e. absurd (both_ways (eqb u a) h (eq-eqb u a (sym e))))
 
-pub released_all : (S T : State) (a n r v : ℕ) → ReleasedTo S T a n r v → ((k : ℕ) → n < k → holds (owner_of T k) a ≡ false) → Released S T a r v
+pub released_all :
+    (S T : State) (a n r v : ℕ)
+    → ReleasedTo S T a n r v
+    → ((k : ℕ) → n < k → holds (owner_of T k) a ≡ false)
+    → Released S T a r v
 released_all S T a n r v done none = record {
   state = done.state ∙ ap (fold hand_over S) (sym all);
   counted = done.counted ∙ ap length (sym all);

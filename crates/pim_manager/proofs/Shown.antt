@@ -1,32 +1,34 @@
 -- What the tables show of known tasks and mutexes.
-use Rattle.std.proofs.Common.{◌≡◌, ◌≢◌, ◌<◌, ◌≤◌, ◌+◌, ℕ, zero, suc, Bool, true, false, cond, ◌||◌, eqb, ltb, length, List, [], Option, Some, None, refl, sym, ◌∙◌, ap, subst, arith, unwrap_or, replicate, ◌⊎◌, inl, inr, get_or, slice_get}
+use Rattle.std.proofs.Common.{◌≡◌, ◌<◌, ◌≤◌, ℕ, zero, suc, Bool, true, false, cond, ◌||◌, eqb, ltb, length, List, [], Option, Some, None, refl, sym, ◌∙◌, ap, arith, unwrap_or, replicate, ◌⊎◌, inl, inr, get_or, slice_get}
 use Rattle.std.specs.Option.{option_map}
 use Rattle.std.proofs.lemmas.Bool.{cases_lt, lt-ltb, le-ltb, ne_eqb}
 use Rattle.std.proofs.lemmas.Bool.Decides.{nat_tests}
-use Rattle.std.proofs.lemmas.Option.{none-some, slice_get_past}
+use Rattle.std.proofs.lemmas.Option.{slice_get_past}
 use Rattle.pim_base.specs.Lists.{nth}
-use Rattle.pim_base.specs.State.{State, IsTask, IsMutex, wait_of}
+use Rattle.pim_base.specs.State.{State, IsTask, IsMutex}
 use Rattle.pim_base.specs.Checks.{unknown_task, unknown_mutex}
 use Rattle.pim_base.specs.Priorities.{effective_priority}
 use Rattle.pim_base.specs.Queues.{queue_of}
 use Rattle.pim_base.specs.declared.steps.Wait.{Wait}
-use Rattle.pim_base.specs.declared.steps.Protocol.{Protocol}
-use Rattle.pim_base.proofs.Hops.{or_cases}
-use Rattle.pim_base.proofs.NoCycle.{known_from_tests}
+use Rattle.pim_base.proofs.Kept.{known_from_tests}
 use Rattle.pim_base.proofs.Places.{nth-get_or}
 use Rattle.pim_queue.specs.Line.{Line}
-use Rattle.pim_chain.specs.Views.{View, stored_at, queue_at, line_in, fresh}
+use Rattle.pim_chain.specs.Views.{View, stored_in, stored_at, line_in}
 use Rattle.pim_chain.specs.Settled.{Calm}
 use Rattle.pim_chain.proofs.Walking.{settled_effective}
 use Rattle.pim_chain.proofs.Models.{queue_is}
 use Rattle.pim_manager.specs.Known.{of_task, of_mutex}
 
 -- an item by its number, where there is one
-at_number : {X : Type 0} (xs : List X) (n k : ℕ) (d : X) → length xs ≡ n → nth xs k ≡ cond (eqb k 0 || ltb n k) None (Some (unwrap_or (nth xs k) d))
+at_number :
+    {X : Type 0} (xs : List X) (n k : ℕ) (d : X)
+    → length xs ≡ n
+    → nth xs k ≡ cond (eqb k 0 || ltb n k) None (Some (unwrap_or (nth xs k) d))
 at_number xs n zero d same = refl
 at_number xs n (suc k) d same =
     go (cases_lt n (suc k))
-    ∙ ap (λ b. cond (b || ltb n (suc k)) None (Some (unwrap_or (nth xs (suc k)) d))) (sym (ne_eqb (suc k) 0 (λ e. absurd (omega (arith, e)))))
+    ∙ ap (λ b. cond (b || ltb n (suc k)) None (Some (unwrap_or (nth xs (suc k)) d)))
+    (sym (ne_eqb (suc k) 0 (λ e. absurd (omega (arith, e)))))
   where
     go : (n < suc k) ⊎ (suc k ≤ n) → nth xs (suc k) ≡ cond (ltb n (suc k)) None (Some (unwrap_or (nth xs (suc k)) d))
     go (inl past) =
@@ -52,17 +54,25 @@ same_shown S t x y same = go (unknown_task S t) refl
 pub stored_shown : (v : View) (t : ℕ) → Calm v → nth v.stored t ≡ of_task v.state t (effective_priority v.state t)
 stored_shown v t calm =
     at_number v.stored (length v.state.base) t 0 calm.ready.stored_len
-    ∙ same_shown v.state t (stored_at v t) (effective_priority v.state t) (settled_effective v.state (stored_at v) calm.ready.sound calm.settled t)
+    ∙ same_shown v.state t (stored_at v t) (effective_priority v.state t)
+    (settled_effective v.state (stored_at v) calm.ready.sound calm.settled t)
 
 known_mutex : (S : State) (m : ℕ) → unknown_mutex S m ≡ false → IsMutex S m
 known_mutex S m h = grind (arith, nat_tests)
 
-pub queue_shown : (v : View) (m : ℕ) → Calm v → option_map (λ (q : Line). q.waiters) (nth v.queues m) ≡ of_mutex v.state m (queue_of v.state m)
+pub queue_shown :
+    (v : View) (m : ℕ)
+    → Calm v
+    → option_map (λ (q : Line). q.waiters) (nth v.queues m) ≡ of_mutex v.state m (queue_of v.state m)
 queue_shown v m calm =
-    ap (option_map (λ (q : Line). q.waiters)) (at_number v.queues (length v.state.protocol) m (record { waiters = []; room = 0 }) calm.ready.queues_len)
+    ap (option_map (λ (q : Line). q.waiters))
+    (at_number v.queues (length v.state.protocol) m (record { waiters = []; room = 0 }) calm.ready.queues_len)
     ∙ go (unknown_mutex v.state m) refl
   where
-    go : (b : Bool) → unknown_mutex v.state m ≡ b → option_map (λ (q : Line). q.waiters) (cond b None (Some (line_in v.queues m))) ≡ cond b None (Some (queue_of v.state m))
+    go :
+        (b : Bool)
+        → unknown_mutex v.state m ≡ b
+        → option_map (λ (q : Line). q.waiters) (cond b None (Some (line_in v.queues m))) ≡ cond b None (Some (queue_of v.state m))
     go true e = refl
     go false e = ap Some (queue_is v m calm (known_mutex v.state m e))
 
@@ -75,3 +85,8 @@ idle_at_start n (suc t) = at n t
     at zero t = refl
     at (suc n) zero = refl
     at (suc n) (suc t) = at n t
+
+-- an unknown task's priority is shown as 0
+pub stored_past : (xs : List ℕ) (S : State) (t : ℕ) → length xs ≡ length S.base → unknown_task S t ≡ true → stored_in xs t ≡ 0
+stored_past xs S t same unknown =
+    ap (λ o. unwrap_or o 0) (at_number xs (length S.base) t 0 same ∙ ap (λ b. cond b None (Some (unwrap_or (nth xs t) 0))) unknown)

@@ -1,5 +1,5 @@
 -- Whole runs keep what each step keeps.
-use Rattle.std.proofs.Common.{◌≡◌, List, [], ◌∷◌, ◌++◌, length, fold, sym, ap, zero, suc, arith}
+use Rattle.std.proofs.Common.{◌≡◌, List, [], ◌∷◌, ◌++◌, length, fold, ap, arith}
 use Rattle.std.proofs.Common.{ℕ, ◌<◌, take}
 use Rattle.std.proofs.lemmas.Grind.{common_steps}
 use Rattle.pim_base.specs.State.{State}
@@ -16,7 +16,11 @@ runs_sound [] S ok = ok
 runs_sound (step ∷ steps) S ok = runs_sound steps (after S step) (no_cycle_law S step ok)
 
 -- a run may go on with one step more
-pub run_more : (steps : List Step) (replies : List Reply) (S T : State) (step : Step) → length replies ≡ length steps → IsRun S (entries steps replies) T → IsRun S (entries (steps ++ step ∷ []) (replies ++ reply_of T step ∷ [])) (after T step)
+pub run_more :
+    (steps : List Step) (replies : List Reply) (S T : State) (step : Step)
+    → length replies ≡ length steps
+    → IsRun S (entries steps replies) T
+    → IsRun S (entries (steps ++ step ∷ []) (replies ++ reply_of T step ∷ [])) (after T step)
 run_more [] [] S T step same run = (ap (λ X. reply_of X step) run, ap (λ X. after X step) run)
 run_more [] (r ∷ rs) S T step same run = absurd (omega (arith, same))
 run_more (s ∷ ss) [] S T step same run = absurd (omega (arith, same))

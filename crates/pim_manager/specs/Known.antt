@@ -1,5 +1,5 @@
 -- What is shown of a known task or mutex.
-use Rattle.std.specs.Prelude.{ℕ, Bool, Option, Some, None, if◌then◌else◌}
+use Rattle.std.specs.Prelude.{ℕ, Option, Some, None, if◌then◌else◌}
 use Rattle.pim_base.specs.State.{State}
 use Rattle.pim_base.specs.Checks.{unknown_task, unknown_mutex}
 

@@ -23,6 +23,7 @@ pub fn grant(tables: &mut Tables, mutex: MutexNo, task: TaskNo, visits: &mut Vis
     ensures calm { Calm tables.new }
     ensures least { visits.old + changed tables.old tables.new ≤ visits.new }
     ensures most { visits.new ≡ visits.old + 1 }
+    ensures marked { tables.new.marked ≡ tables.old.marked }
 {
     tables.bind(mutex, task);
     tables.settle_from(task, visits);
@@ -42,6 +43,7 @@ pub fn enqueue(tables: &mut Tables, task: TaskNo, mutex: MutexNo, ticket: u64, v
     ensures calm { Calm tables.new }
     ensures least { visits.old + changed tables.old tables.new ≤ visits.new }
     ensures most { visits.new ≤ visits.old + changed tables.old tables.new + 1 }
+    ensures marked { tables.new.marked ≡ tables.old.marked }
 {
     let owner = tables.owner(mutex);
     tables.join(task, mutex, ticket);
@@ -60,6 +62,7 @@ pub fn withdraw(tables: &mut Tables, task: TaskNo, visits: &mut Visits)
     ensures calm { Calm tables.new }
     ensures least { visits.old + changed tables.old tables.new ≤ visits.new }
     ensures most { visits.new ≤ visits.old + changed tables.old tables.new + 1 }
+    ensures marked { tables.new.marked ≡ tables.old.marked }
 {
     if let Some(blocker) = leave(tables, task) {
         tables.settle_from(blocker, visits);
@@ -75,13 +78,19 @@ pub fn rebase(tables: &mut Tables, target: TaskNo, prio: Prio, visits: &mut Visi
     ensures calm { Calm tables.new }
     ensures least { visits.old + changed tables.old tables.new ≤ visits.new }
     ensures most { visits.new ≤ visits.old + changed tables.old tables.new + 1 }
+    ensures marked { tables.new.marked ≡ tables.old.marked }
 {
     tables.put_base(target, prio);
     tables.settle_from(target, visits);
 }
 
 /// The mutex goes from its owner, who waits for nothing, to the first of its queue, or is free.
-pub fn hand_over(tables: &mut Tables, mutex: MutexNo, owner: TaskNo, visits: &mut Visits) -> Option<Waiter>
+pub fn hand_over(
+    tables: &mut Tables,
+    mutex: MutexNo,
+    owner: TaskNo,
+    visits: &mut Visits,
+) -> Option<Waiter>
     requires calm { Calm tables.old }
     requires mutex { IsMutex tables.old.state mutex }
     requires owned { owner_of tables.old.state mutex ≡ Some owner }
@@ -92,6 +101,7 @@ pub fn hand_over(tables: &mut Tables, mutex: MutexNo, owner: TaskNo, visits: &mu
     ensures calm { Calm tables.new }
     ensures least { visits.old + changed tables.old tables.new ≤ visits.new }
     ensures most { visits.new ≤ visits.old + 2 }
+    ensures marked { tables.new.marked ≡ tables.old.marked }
 {
     let first = tables.front(mutex);
     pass_on(tables, mutex, owner, &first, visits);
@@ -99,7 +109,13 @@ pub fn hand_over(tables: &mut Tables, mutex: MutexNo, owner: TaskNo, visits: &mu
 }
 
 // the mutex goes from its owner, who waits for nothing, to the first of its queue, who is given, or is free
-fn pass_on(tables: &mut Tables, mutex: MutexNo, owner: TaskNo, first: &Option<Waiter>, visits: &mut Visits)
+fn pass_on(
+    tables: &mut Tables,
+    mutex: MutexNo,
+    owner: TaskNo,
+    first: &Option<Waiter>,
+    visits: &mut Visits,
+)
     requires calm { Calm tables.old }
     requires mutex { IsMutex tables.old.state mutex }
     requires owned { owner_of tables.old.state mutex ≡ Some owner }
@@ -110,6 +126,7 @@ fn pass_on(tables: &mut Tables, mutex: MutexNo, owner: TaskNo, first: &Option<Wa
     ensures calm { Calm tables.new }
     ensures least { visits.old + changed tables.old tables.new ≤ visits.new }
     ensures most { visits.new ≤ visits.old + 2 }
+    ensures marked { tables.new.marked ≡ tables.old.marked }
 {
     tables.unbind(mutex);
     tables.settle_from(owner, visits);
@@ -128,6 +145,7 @@ fn leave(tables: &mut Tables, task: TaskNo) -> Option<TaskNo>
     ensures stored { tables.new.stored ≡ tables.old.stored }
     ensures unsettles { Unsettles tables.old tables.new result }
     ensures ready { Ready tables.new }
+    ensures marked { tables.new.marked ≡ tables.old.marked }
 {
     let blocker = tables.blocker(task);
     tables.leave(task);

@@ -1,9 +1,31 @@
-//! The manager of mutexes.
+//! A manager that grants mutexes to tasks, with the three protocols of POSIX.1-2017, as one thread uses it.
+//!
+//! A [`Manager`] keeps who owns and who waits, each queue in order, and the priority at which each task would execute.
+//! One [`Manager::step`] answers one request: the reply and the state after it are those of the definitions, and only
+//! the priorities that it may change are computed ([`Done::visits`] counts them). No step takes memory, and between two
+//! calls no cycle of waits stands.
+//!
+//! A low task owns what a high one asks for, so it executes at the high priority, and a medium one can't delay it:
+//!
+//! ```text
+//! let mut manager = Manager::new(alloc, &[low, medium, high], &[Protocol::Inherit])?;
+//! let lock = Op::Lock(MutexNo(1));
+//! manager.step(Step { actor: TaskNo(1), op: lock }); // Granted
+//! manager.step(Step { actor: TaskNo(3), op: lock }); // Queued
+//! manager.effective(TaskNo(1)); // Some(high), which is above medium
+//! manager.reason(TaskNo(1)); // Some(Reason::Waiter(TaskNo(3), MutexNo(1)))
+//! manager.waits_for(TaskNo(3)); // Some(Some(MutexNo(1)))
+//! let unlock = Op::Unlock(MutexNo(1));
+//! manager.step(Step { actor: TaskNo(1), op: unlock }); // Handed(TaskNo(3))
+//! manager.effective(TaskNo(1)); // Some(low)
+//! ```
 #![tactic(auto)]
 
+mod changed_tasks;
 mod changes;
 mod checks;
 mod done;
+mod inner;
 mod make_fault;
 mod manager;
 mod runs;
@@ -17,6 +39,7 @@ mod tests;
 #[cfg(test)]
 mod walks;
 
+pub use changed_tasks::ChangedTasks;
 pub use done::Done;
 pub use make_fault::MakeFault;
 pub use manager::Manager;

@@ -1,44 +1,43 @@
-// The manager of mutexes: its tables, and the next ticket.
+// The manager of mutexes.
 
-ghost use Rattle.std.specs.Prelude.{◌≡◌, ◌≢◌, ◌≤◌, ◌<◌, ◌+◌, ◌-◌, ◌^◌, ◌↔◌, length, Some, None, false, IfSome, IfOk, IsErrOf};
+ghost use Rattle.std.specs.Prelude.{◌≡◌, ◌≤◌, ◌<◌, ◌+◌, ◌*◌, ◌↔◌, length, IfOk, IsErrOf};
 ghost use Rattle.std.specs.Option.{option_map, option_copied};
-ghost use Rattle.pim_base.specs.Lists.{holds};
-ghost use Rattle.pim_base.specs.State.{start, IsTask, IsMutex, base_of, protocol_of, owner_of, wait_of, with_owner, with_wait, with_base, queued};
-ghost use Rattle.pim_base.specs.Chains.{HasCycle, closes_cycle};
-ghost use Rattle.pim_base.specs.Queues.{first_of, queue_of};
+ghost use Rattle.pim_base.specs.State.{start, base_of, protocol_of, owner_of, wait_of};
+ghost use Rattle.pim_base.specs.Chains.{HasCycle};
+ghost use Rattle.pim_base.specs.Queues.{queue_of};
 ghost use Rattle.pim_base.specs.Priorities.{effective_priority};
 ghost use Rattle.pim_base.specs.Reasons.{reason_of};
 ghost use Rattle.pim_base.specs.Laws.{IsSound};
+ghost use Rattle.pim_base.specs.Counts.{changed_tasks, handed_mutexes};
+ghost use Rattle.pim_base.specs.Steps.{reply_of, after};
+ghost use Rattle.pim_base.specs.Reports.{changed_between};
 ghost use Rattle.pim_base.specs.declared.steps.Wait.{Wait};
 ghost use Rattle.pim_manager.specs.Known.{of_task, of_mutex};
-ghost use Rattle.pim_base.specs.Counts.{changed_tasks, handed_mutexes};
-ghost use Rattle.pim_base.specs.Checks.{unknown_task, unknown_mutex, is_owned, is_waiting, above_ceiling};
-ghost use Rattle.pim_base.specs.Steps.{hand_over};
-ghost use Rattle.pim_chain.specs.Owned.{IsNext};
 
-use crate::changes;
+use crate::changed_tasks::ChangedTasks;
+use crate::done::Done;
+use crate::inner::Inner;
 use crate::make_fault::MakeFault;
-use pim_base::{MutexNo, Prio, Protocol, Reason, TaskNo, Waiter};
-use pim_chain::{Tables, Visits};
+use pim_base::{MutexNo, Prio, Protocol, Reason, Step, TaskNo, Waiter};
 use std::alloc::{AllocError, Global};
 use std::marker::Model;
 
-/// The manager of mutexes.
+/// The owners, the waiters and the priorities in force.
+///
+/// Its value in contracts is the state of the definitions: what is declared, owned and waited for, and the next ticket.
+/// So equal managers answer alike and stay equal. Between two calls each stored priority is the effective one, each
+/// queue is in order, no cycle of waits stands, and every ticket that waits is below the next one.
 #[derive(Drop)]
 pub struct Manager {
-    tables: Tables,
-    next: u64,
+    inner: Inner,
 }
 
 impl Model for Manager {
     ghost use Rattle.pim_base.specs.State.{State};
-    ghost use Rattle.pim_manager.specs.Kept.{Kept};
 
     ghost Value = { State };
 
-    ghost view = { λ m. record m.tables.state { next = m.next } };
-
-    ghost invariant = { λ m. Kept m.tables m.next };
+    ghost view = { λ m. m.inner.state };
 }
 
 impl Manager {
@@ -64,25 +63,17 @@ impl Manager {
         ensures tasks { IsErrOf result MakeFault.TooManyTasks ↔ (256 < length bases.now) }
         ensures mutexes { IsErrOf result MakeFault.TooManyMutexes ↔ ((length bases.now ≤ 256) × (256 < length protocols.now)) }
     {
-        if 256 < bases.len() {
-            return Err(MakeFault::TooManyTasks);
-        }
-        if 256 < protocols.len() {
-            return Err(MakeFault::TooManyMutexes);
-        }
-        let tables = Tables::new(alloc, bases, protocols)?;
-        let _tasks = tables.task_count();
-        Ok(Manager { tables, next })
+        Ok(Manager {
+            inner: Inner::new(alloc, bases, protocols, next)?,
+        })
     }
 
     /// An equal manager. The only error is that memory was refused.
     pub fn try_clone(&self, alloc: Global) -> Result<Manager, AllocError>
         ensures { IfOk result (λ manager. manager ≡ self.now) }
     {
-        let tables = self.tables.try_clone(alloc)?;
         Ok(Manager {
-            tables,
-            next: self.next,
+            inner: self.inner.try_clone(alloc)?,
         })
     }
 
@@ -92,7 +83,7 @@ impl Manager {
         ensures few { result ≤ 256 }
         ensures sound { IsSound self.now }
     {
-        self.tables.task_count()
+        self.inner.tasks()
     }
 
     /// How many mutexes there are, 0 to 256. They have the numbers from 1 on.
@@ -100,39 +91,35 @@ impl Manager {
         ensures count { result ≡ length self.now.protocol }
         ensures few { result ≤ 256 }
     {
-        self.tables.mutex_count()
+        self.inner.mutexes()
     }
 
     /// The ticket that the next waiter gets.
     pub fn next_ticket(&self) -> u64
         ensures { result ≡ self.now.next }
     {
-        self.next
+        self.inner.next_ticket()
     }
 
     /// The priority at which the task would execute, None for an unknown one.
     pub fn effective(&self, task: TaskNo) -> Option<Prio>
         ensures { result ≡ of_task self.now task (effective_priority self.now task) }
     {
-        self.tables.stored(task)
+        self.inner.effective(task)
     }
 
     /// The base priority of the task, None for an unknown one.
     pub fn base(&self, task: TaskNo) -> Option<Prio>
         ensures { result ≡ of_task self.now task (base_of self.now task) }
     {
-        self.tables.base(task)
+        self.inner.base(task)
     }
 
     /// Why the task has its effective priority, None for an unknown one.
     pub fn reason(&self, task: TaskNo) -> Option<Reason>
         ensures { result ≡ of_task self.now task (reason_of self.now task) }
     {
-        if self.tables.is_unknown_task(task) {
-            None
-        } else {
-            Some(self.tables.reason(task))
-        }
+        self.inner.reason(task)
     }
 
     /// The mutex that the task waits for, or that it waits for none; None for an unknown one.
@@ -140,29 +127,21 @@ impl Manager {
         ensures waits { result ≡ of_task self.now task (option_map (λ (w : Wait). w.mutex) (wait_of self.now task)) }
         ensures no_cycle { ¬ HasCycle self.now }
     {
-        if self.tables.is_unknown_task(task) {
-            None
-        } else {
-            Some(self.tables.waits_for(task).map(|wait| wait.mutex))
-        }
+        self.inner.waits_for(task)
     }
 
     /// The owner of the mutex, or that it is free; None for an unknown one.
     pub fn owner(&self, mutex: MutexNo) -> Option<Option<TaskNo>>
         ensures { result ≡ of_mutex self.now mutex (owner_of self.now mutex) }
     {
-        if self.tables.is_unknown_mutex(mutex) {
-            None
-        } else {
-            Some(self.tables.owner(mutex))
-        }
+        self.inner.owner(mutex)
     }
 
     /// The protocol of the mutex, None for an unknown one.
     pub fn protocol(&self, mutex: MutexNo) -> Option<Protocol>
         ensures { result ≡ of_mutex self.now mutex (protocol_of self.now mutex) }
     {
-        self.tables.protocol(mutex)
+        self.inner.protocol(mutex)
     }
 
     /// Those who wait for the mutex, each with its effective priority and its ticket, the first in front: the higher
@@ -170,143 +149,34 @@ impl Manager {
     pub fn waiters(&self, mutex: MutexNo) -> Option<&[Waiter]>
         ensures { option_copied result ≡ of_mutex self.now mutex (queue_of self.now mutex) }
     {
-        match self.tables.queue(mutex) {
-            Some(queue) => Some(queue.as_slice()),
-            None => None,
-        }
+        self.inner.waiters(mutex)
     }
 
-    // whether no task has this number
-    pub(crate) fn is_unknown_task(&self, task: TaskNo) -> bool
-        ensures { result ≡ unknown_task self.now task }
+    /// Makes one step, which is always answered. A refused step changes nothing at all, and no step takes memory.
+    ///
+    /// The visits are at least the tasks whose effective priority differs then, and at most one more and two for each
+    /// mutex whose owner differs.
+    pub fn step(&mut self, step: Step) -> Done
+        ensures reply { result.reply ≡ reply_of self.old step }
+        ensures state { self.new ≡ after self.old step }
+        ensures least { changed_tasks self.old self.new ≤ result.visits }
+        ensures most { result.visits ≤ 1 + changed_tasks self.old self.new + 2 * handed_mutexes self.old self.new }
     {
-        self.tables.is_unknown_task(task)
+        self.inner.step(step)
     }
 
-    // whether no mutex has this number
-    pub(crate) fn is_unknown_mutex(&self, mutex: MutexNo) -> bool
-        ensures { result ≡ unknown_mutex self.now mutex }
+    /// Makes one step as `step` does, and lists the tasks whose effective priority differs then, in rising number. This
+    /// takes no memory either.
+    pub fn step_with_changes(&mut self, step: Step, changed: &mut ChangedTasks) -> Done
+        ensures reply { result.reply ≡ reply_of self.old step }
+        ensures state { self.new ≡ after self.old step }
+        ensures least { changed_tasks self.old self.new ≤ result.visits }
+        ensures most { result.visits ≤ 1 + changed_tasks self.old self.new + 2 * handed_mutexes self.old self.new }
+        ensures changed { changed.new ≡ changed_between self.old self.new }
     {
-        self.tables.is_unknown_mutex(mutex)
-    }
-
-    // whether somebody owns the mutex
-    pub(crate) fn is_owned(&self, mutex: MutexNo) -> bool
-        ensures { result ≡ is_owned self.now mutex }
-    {
-        self.tables.is_owned(mutex)
-    }
-
-    // whether the task owns the mutex
-    pub(crate) fn owns(&self, task: TaskNo, mutex: MutexNo) -> bool
-        ensures { result ≡ holds (owner_of self.now mutex) task }
-    {
-        self.tables.owns(task, mutex)
-    }
-
-    // whether the task waits
-    pub(crate) fn is_waiting(&self, task: TaskNo) -> bool
-        ensures { result ≡ is_waiting self.now task }
-    {
-        self.tables.waits_for(task).is_some()
-    }
-
-    // whether the wait of the task for the mutex would close a cycle
-    pub(crate) fn closes(&self, task: TaskNo, mutex: MutexNo) -> bool
-        ensures { result ≡ closes_cycle self.now task mutex }
-    {
-        self.tables.closes(task, mutex)
-    }
-
-    // whether the base of the task is above the ceiling of the mutex
-    pub(crate) fn is_above_ceiling(&self, task: TaskNo, mutex: MutexNo) -> bool
-        ensures { result ≡ above_ceiling self.now task mutex }
-    {
-        self.tables.is_above_ceiling(task, mutex)
-    }
-
-    // the least mutex above this number that the task owns
-    pub(crate) fn next_owned(&self, task: TaskNo, above: u16) -> Option<MutexNo>
-        ensures next { IsNext (λ m. holds (owner_of self.now m) task) above result }
-        ensures known { IfSome result (IsMutex self.now) }
-        ensures few { IfSome result (λ m. m ≤ 256) }
-    {
-        let _mutexes = self.tables.mutex_count();
-        self.tables.next_owned(task, above)
-    }
-
-    // the task, which waits for nothing, owns the mutex, which was free
-    pub(crate) fn grant(&mut self, mutex: MutexNo, task: TaskNo, visits: &mut Visits)
-        requires mutex { IsMutex self.old mutex }
-        requires known { IsTask self.old task }
-        requires idle { wait_of self.old task ≡ None }
-        requires free { owner_of self.old mutex ≡ None }
-        requires room { visits.old ≤ 2 ^ 32 - 1 - 256 }
-        ensures state { self.new ≡ with_owner self.old mutex (Some task) }
-        ensures least { visits.old + changed_tasks self.old self.new ≤ visits.new }
-        ensures most { visits.new ≡ visits.old + 1 }
-    {
-        changes::grant(&mut self.tables, mutex, task, visits);
-    }
-
-    // the task, which waits for nothing, waits for the mutex with the next ticket
-    pub(crate) fn enqueue(&mut self, task: TaskNo, mutex: MutexNo, visits: &mut Visits)
-        requires known { IsTask self.old task }
-        requires mutex { IsMutex self.old mutex }
-        requires idle { wait_of self.old task ≡ None }
-        requires closes_none { closes_cycle self.old task mutex ≡ false }
-        requires owned { owner_of self.old mutex ≢ None }
-        requires tickets { self.old.next < 2 ^ 64 - 1 }
-        requires room { visits.old ≤ 2 ^ 32 - 1 - 256 }
-        ensures state { self.new ≡ queued self.old task mutex }
-        ensures least { visits.old + changed_tasks self.old self.new ≤ visits.new }
-        ensures most { visits.new ≤ visits.old + 1 + changed_tasks self.old self.new }
-    {
-        let ticket = self.next;
-        changes::enqueue(&mut self.tables, task, mutex, ticket, visits);
-        self.next += 1;
-    }
-
-    // the task, which waits, waits no more
-    pub(crate) fn withdraw(&mut self, task: TaskNo, visits: &mut Visits)
-        requires waits { wait_of self.old task ≢ None }
-        requires room { visits.old ≤ 2 ^ 32 - 1 - 256 }
-        ensures state { self.new ≡ with_wait self.old task None }
-        ensures least { visits.old + changed_tasks self.old self.new ≤ visits.new }
-        ensures most { visits.new ≤ visits.old + 1 + changed_tasks self.old self.new }
-    {
-        changes::withdraw(&mut self.tables, task, visits);
-    }
-
-    // the task has another base priority
-    pub(crate) fn rebase(&mut self, task: TaskNo, prio: Prio, visits: &mut Visits)
-        requires known { IsTask self.old task }
-        requires room { visits.old ≤ 2 ^ 32 - 1 - 256 }
-        ensures state { self.new ≡ with_base self.old task prio }
-        ensures least { visits.old + changed_tasks self.old self.new ≤ visits.new }
-        ensures most { visits.new ≤ visits.old + 1 + changed_tasks self.old self.new }
-    {
-        changes::rebase(&mut self.tables, task, prio, visits);
-    }
-
-    // the mutex goes from its owner, who waits for nothing, to the first that waits for it, or is free
-    pub(crate) fn hand_over(
-        &mut self,
-        mutex: MutexNo,
-        owner: TaskNo,
-        visits: &mut Visits,
-    ) -> Option<Waiter>
-        requires mutex { IsMutex self.old mutex }
-        requires owned { owner_of self.old mutex ≡ Some owner }
-        requires idle { wait_of self.old owner ≡ None }
-        requires room { visits.old ≤ 2 ^ 32 - 1 - 257 }
-        ensures first { result ≡ first_of self.old mutex }
-        ensures state { self.new ≡ hand_over self.old mutex }
-        ensures least { visits.old + changed_tasks self.old self.new ≤ visits.new }
-        ensures most { visits.new ≤ visits.old + 2 }
-        ensures lost { holds (owner_of self.new mutex) owner ≡ false }
-        ensures handed { 1 ≤ handed_mutexes self.old self.new }
-    {
-        changes::hand_over(&mut self.tables, mutex, owner, visits)
+        self.inner.mark();
+        let done = self.inner.step(step);
+        self.inner.list_changed(changed);
+        done
     }
 }

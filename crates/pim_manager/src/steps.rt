@@ -7,17 +7,21 @@ ghost use Rattle.pim_base.specs.Steps.{answer, changed, reply_of, after};
 
 use crate::checks::withdraws_itself;
 use crate::done::Done;
-use crate::manager::Manager;
+use crate::inner::Inner;
 use pim_base::{MutexNo, Op, Prio, Refusal, Reply, Step, TaskNo};
 use pim_chain::Visits;
 
-impl Manager {
-    /// Makes one step. It is always answered, and a refused step changes nothing.
+impl Inner {
+    /// Makes one step, which is always answered. A refused step changes nothing at all, and no step takes memory.
+    ///
+    /// The visits are at least the tasks whose effective priority differs then, and at most one more and two for each
+    /// mutex whose owner differs.
     pub fn step(&mut self, step: Step) -> Done
-        ensures reply { result.reply ≡ reply_of self.old step }
-        ensures state { self.new ≡ after self.old step }
-        ensures least { changed_tasks self.old self.new ≤ result.visits }
-        ensures most { result.visits ≤ 1 + changed_tasks self.old self.new + 2 * handed_mutexes self.old self.new }
+        ensures reply { result.reply ≡ reply_of self.old.state step }
+        ensures state { self.new.state ≡ after self.old.state step }
+        ensures least { changed_tasks self.old.state self.new.state ≤ result.visits }
+        ensures most { result.visits ≤ 1 + changed_tasks self.old.state self.new.state + 2 * handed_mutexes self.old.state self.new.state }
+        ensures marked { self.new.marked ≡ self.old.marked }
     {
         let mut visits = Visits::new();
         let reply = self.reply_to(step, &mut visits);
@@ -31,10 +35,11 @@ impl Manager {
     #[tactic(auto, using(crate::proofs::Counted::unchanged_least))]
     fn reply_to(&mut self, step: Step, visits: &mut Visits) -> Reply
         requires { visits.old ≡ 0 }
-        ensures reply { result ≡ reply_of self.old step }
-        ensures state { self.new ≡ after self.old step }
-        ensures least { changed_tasks self.old self.new ≤ visits.new }
-        ensures most { visits.new ≤ 1 + changed_tasks self.old self.new + 2 * handed_mutexes self.old self.new }
+        ensures reply { result ≡ reply_of self.old.state step }
+        ensures state { self.new.state ≡ after self.old.state step }
+        ensures least { changed_tasks self.old.state self.new.state ≤ visits.new }
+        ensures most { visits.new ≤ 1 + changed_tasks self.old.state self.new.state + 2 * handed_mutexes self.old.state self.new.state }
+        ensures marked { self.new.marked ≡ self.old.marked }
     {
         let Step { actor, op } = step;
         if self.is_unknown_task(actor) {
@@ -55,13 +60,14 @@ impl Manager {
 
     #[tactic(auto, using(crate::proofs::Counted::unchanged_least))]
     fn lock(&mut self, actor: TaskNo, mutex: MutexNo, visits: &mut Visits) -> Reply
-        requires known { IsTask self.old actor }
-        requires idle { wait_of self.old actor ≡ None }
+        requires known { IsTask self.old.state actor }
+        requires idle { wait_of self.old.state actor ≡ None }
         requires fresh { visits.old ≡ 0 }
-        ensures reply { result ≡ answer self.old actor (Op.Lock mutex) }
-        ensures state { self.new ≡ changed self.old actor (Op.Lock mutex) result }
-        ensures least { changed_tasks self.old self.new ≤ visits.new }
-        ensures most { visits.new ≤ 1 + changed_tasks self.old self.new }
+        ensures reply { result ≡ answer self.old.state actor (Op.Lock mutex) }
+        ensures state { self.new.state ≡ changed self.old.state actor (Op.Lock mutex) result }
+        ensures least { changed_tasks self.old.state self.new.state ≤ visits.new }
+        ensures most { visits.new ≤ 1 + changed_tasks self.old.state self.new.state }
+        ensures marked { self.new.marked ≡ self.old.marked }
     {
         if self.is_unknown_mutex(mutex) {
             return Reply::Refused(Refusal::NoMutex);
@@ -85,13 +91,14 @@ impl Manager {
 
     #[tactic(auto, using(crate::proofs::Counted::unchanged_least))]
     fn try_lock(&mut self, actor: TaskNo, mutex: MutexNo, visits: &mut Visits) -> Reply
-        requires known { IsTask self.old actor }
-        requires idle { wait_of self.old actor ≡ None }
+        requires known { IsTask self.old.state actor }
+        requires idle { wait_of self.old.state actor ≡ None }
         requires fresh { visits.old ≡ 0 }
-        ensures reply { result ≡ answer self.old actor (Op.Try mutex) }
-        ensures state { self.new ≡ changed self.old actor (Op.Try mutex) result }
-        ensures least { changed_tasks self.old self.new ≤ visits.new }
-        ensures most { visits.new ≤ 1 + changed_tasks self.old self.new }
+        ensures reply { result ≡ answer self.old.state actor (Op.Try mutex) }
+        ensures state { self.new.state ≡ changed self.old.state actor (Op.Try mutex) result }
+        ensures least { changed_tasks self.old.state self.new.state ≤ visits.new }
+        ensures most { visits.new ≤ 1 + changed_tasks self.old.state self.new.state }
+        ensures marked { self.new.marked ≡ self.old.marked }
     {
         if self.is_unknown_mutex(mutex) {
             return Reply::Refused(Refusal::NoMutex);
@@ -108,12 +115,13 @@ impl Manager {
 
     #[tactic(auto, using(crate::proofs::Counted::unchanged_least))]
     fn unlock(&mut self, actor: TaskNo, mutex: MutexNo, visits: &mut Visits) -> Reply
-        requires idle { wait_of self.old actor ≡ None }
+        requires idle { wait_of self.old.state actor ≡ None }
         requires fresh { visits.old ≡ 0 }
-        ensures reply { result ≡ answer self.old actor (Op.Unlock mutex) }
-        ensures state { self.new ≡ changed self.old actor (Op.Unlock mutex) result }
-        ensures least { changed_tasks self.old self.new ≤ visits.new }
-        ensures most { visits.new ≤ 2 * handed_mutexes self.old self.new }
+        ensures reply { result ≡ answer self.old.state actor (Op.Unlock mutex) }
+        ensures state { self.new.state ≡ changed self.old.state actor (Op.Unlock mutex) result }
+        ensures least { changed_tasks self.old.state self.new.state ≤ visits.new }
+        ensures most { visits.new ≤ 2 * handed_mutexes self.old.state self.new.state }
+        ensures marked { self.new.marked ≡ self.old.marked }
     {
         if self.is_unknown_mutex(mutex) {
             return Reply::Refused(Refusal::NoMutex);
@@ -129,12 +137,13 @@ impl Manager {
 
     // all mutexes of the actor are handed over, in rising number
     fn release_all(&mut self, actor: TaskNo, visits: &mut Visits) -> Reply
-        requires idle { wait_of self.old actor ≡ None }
+        requires idle { wait_of self.old.state actor ≡ None }
         requires fresh { visits.old ≡ 0 }
-        ensures reply { result ≡ answer self.old actor Op.ReleaseAll }
-        ensures state { self.new ≡ changed self.old actor Op.ReleaseAll result }
-        ensures least { changed_tasks self.old self.new ≤ visits.new }
-        ensures most { visits.new ≤ 2 * handed_mutexes self.old self.new }
+        ensures reply { result ≡ answer self.old.state actor Op.ReleaseAll }
+        ensures state { self.new.state ≡ changed self.old.state actor Op.ReleaseAll result }
+        ensures least { changed_tasks self.old.state self.new.state ≤ visits.new }
+        ensures most { visits.new ≤ 2 * handed_mutexes self.old.state self.new.state }
+        ensures marked { self.new.marked ≡ self.old.marked }
     {
         let mut released = 0;
         let mut asked = 0;
@@ -149,10 +158,11 @@ impl Manager {
     #[tactic(auto, using(crate::proofs::Counted::unchanged_least))]
     fn cancel(&mut self, actor: TaskNo, task: TaskNo, visits: &mut Visits) -> Reply
         requires { visits.old ≡ 0 }
-        ensures reply { result ≡ answer self.old actor (Op.Cancel task) }
-        ensures state { self.new ≡ changed self.old actor (Op.Cancel task) result }
-        ensures least { changed_tasks self.old self.new ≤ visits.new }
-        ensures most { visits.new ≤ 1 + changed_tasks self.old self.new }
+        ensures reply { result ≡ answer self.old.state actor (Op.Cancel task) }
+        ensures state { self.new.state ≡ changed self.old.state actor (Op.Cancel task) result }
+        ensures least { changed_tasks self.old.state self.new.state ≤ visits.new }
+        ensures most { visits.new ≤ 1 + changed_tasks self.old.state self.new.state }
+        ensures marked { self.new.marked ≡ self.old.marked }
     {
         if self.is_unknown_task(task) {
             return Reply::Refused(Refusal::NoTask);
@@ -167,10 +177,11 @@ impl Manager {
     #[tactic(auto, using(crate::proofs::Counted::unchanged_least))]
     fn set_base(&mut self, actor: TaskNo, task: TaskNo, level: u16, visits: &mut Visits) -> Reply
         requires { visits.old ≡ 0 }
-        ensures reply { result ≡ answer self.old actor (Op.SetBase task level) }
-        ensures state { self.new ≡ changed self.old actor (Op.SetBase task level) result }
-        ensures least { changed_tasks self.old self.new ≤ visits.new }
-        ensures most { visits.new ≤ 1 + changed_tasks self.old self.new }
+        ensures reply { result ≡ answer self.old.state actor (Op.SetBase task level) }
+        ensures state { self.new.state ≡ changed self.old.state actor (Op.SetBase task level) result }
+        ensures least { changed_tasks self.old.state self.new.state ≤ visits.new }
+        ensures most { visits.new ≤ 1 + changed_tasks self.old.state self.new.state }
+        ensures marked { self.new.marked ≡ self.old.marked }
     {
         if self.is_unknown_task(task) {
             return Reply::Refused(Refusal::NoTask);

@@ -1,9 +1,9 @@
 // What no scenario shows: the making of a manager, its getters, its ticket, its copy, and runs.
 
 use crate::scene::{
-    INHERIT, NONE, cancel, handed, lock, made, prios, protect, set_base, try_lock, unlock,
+    INHERIT, NONE, cancel, handed, lock, made, prios, protect, release, set_base, try_lock, unlock,
 };
-use crate::{Done, MakeFault, Manager};
+use crate::{ChangedTasks, Done, MakeFault, Manager};
 use pim_base::{MutexNo, Prio, Reason, Refusal, Reply, TaskNo, Waiter};
 use std::test::Fail;
 
@@ -157,5 +157,48 @@ fn a_copy_goes_its_own_way(rt: HostRuntime) -> Result<(), Fail> {
     assert_eq!(rt; copy.owner(MutexNo(1)), Some(Some(TaskNo(2))));
     assert_eq!(rt; copy.effective(TaskNo(1)), Prio::new(10));
     assert_eq!(rt; copy.next_ticket(), 2);
+    Ok(())
+}
+
+#[test]
+fn changed_tasks_in_rising_number(rt: HostRuntime) -> Result<(), Fail> {
+    let mut manager = made(rt.alloc(), &[10, 20, 30, 90, 40], &[INHERIT; 3])?;
+    let mut changed = ChangedTasks::new(rt.alloc())?;
+    assert!(rt; changed.as_slice().is_empty());
+    let tasks = [TaskNo(1), TaskNo(2), TaskNo(3), TaskNo(4)];
+    for (step, reply, visits, count) in [
+        (lock(1, 1), Reply::Granted, 1, 0),
+        (lock(2, 2), Reply::Granted, 1, 0),
+        (lock(3, 3), Reply::Granted, 1, 0),
+        (lock(2, 1), Reply::Queued, 1, 1),
+        (lock(3, 2), Reply::Queued, 2, 2),
+        (lock(4, 3), Reply::Queued, 3, 3),
+        (lock(5, 3), Reply::Queued, 1, 0),
+        (set_base(1, 4, 15), Reply::Set, 4, 4),
+        (lock(1, 1), Reply::Refused(Refusal::Deadlock), 0, 0),
+    ] {
+        let done = manager.step_with_changes(step, &mut changed);
+        assert_eq!(rt; done, Done { reply, visits }, "{step:?}");
+        let expected = tasks.get(..count).ok_or("at most four")?;
+        assert!(rt; changed.as_slice() == expected, "{step:?}");
+    }
+    Ok(())
+}
+
+#[test]
+fn changed_tasks_of_a_release(rt: HostRuntime) -> Result<(), Fail> {
+    let protocols = [protect(&rt, 40), protect(&rt, 50), NONE];
+    let mut manager = made(rt.alloc(), &[10, 20, 30, 35], &protocols)?;
+    manager.run(&[lock(1, 2), lock(1, 1), lock(2, 1), lock(3, 2), lock(4, 3)]);
+    let mut changed = ChangedTasks::new(rt.alloc())?;
+    let done = manager.step_with_changes(release(1), &mut changed);
+    assert_eq!(rt;
+        done,
+        Done {
+            reply: Reply::Released(2),
+            visits: 4
+        }
+    );
+    assert!(rt; changed.as_slice() == &[TaskNo(1), TaskNo(2), TaskNo(3)][..]);
     Ok(())
 }

@@ -76,13 +76,19 @@ fn new_owner_keeps_what_its_waiters_lend(rt: HostRuntime) -> Result<(), Fail> {
 fn second_waiter_becomes_first_with_a_changed_priority(rt: HostRuntime) -> Result<(), Fail> {
     let mut manager = made(rt.alloc(), &[10, 20, 30, 50, 70, 90], &[INHERIT; 4])?;
     let [t1, t2, t3, t4, t5, t6] = [base(10), base(20), base(30), base(50), base(70), base(90)];
+    for step in [lock(2, 1), lock(2, 2), lock(3, 3), lock(1, 4)] {
+        expect_step(
+            &rt,
+            &mut manager,
+            step,
+            Granted,
+            1,
+            &[t1, t2, t3, t4, t5, t6],
+        );
+    }
     let (t1_at_70, t2_at_90) = (waiter(70, 5, 4), waiter(90, 6, 1));
     let t3_at_90 = waiter(90, 2, 3);
     for (step, reply, visits, tasks) in [
-        (lock(2, 1), Granted, 1, [t1, t2, t3, t4, t5, t6]),
-        (lock(2, 2), Granted, 1, [t1, t2, t3, t4, t5, t6]),
-        (lock(3, 3), Granted, 1, [t1, t2, t3, t4, t5, t6]),
-        (lock(1, 4), Granted, 1, [t1, t2, t3, t4, t5, t6]),
         (
             lock(4, 2),
             Queued,

@@ -1,4 +1,3 @@
-use Rattle.std.proofs.Common.{◌≡◌}
 use Rattle.pim_manager.proofs.Passing.{has_left}
 use Rattle.pim_manager.proofs.changes.leave.Goals as goal
 
@@ -7,3 +6,6 @@ returns-clause-state c = (has_left c.args.tables.now c.leave.new.self c.args.tas
 
 pub returns-clause-stored : goal.returns-clause-stored
 returns-clause-stored c = (has_left c.args.tables.now c.leave.new.self c.args.task c.requires c.leave.ensures.left).stored
+
+pub returns-clause-marked : goal.returns-clause-marked
+returns-clause-marked c = (has_left c.args.tables.now c.leave.new.self c.args.task c.requires c.leave.ensures.left).marked

@@ -1,4 +1,4 @@
-use Rattle.std.proofs.Common.{◌≡◌, ◌≤◌, length, take, vec_len, vec_capacity}
+use Rattle.std.proofs.Common.{◌≡◌, ◌≤◌, length, take, vec_capacity}
 use Rattle.pim_base.specs.Runs.{IsRun}
 use Rattle.pim_manager.specs.Entries.{entries}
 use Rattle.pim_manager.proofs.manager.Manager.run_replies.Given as goal

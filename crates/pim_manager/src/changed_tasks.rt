@@ -1,0 +1,56 @@
+// The tasks that a step changed.
+
+ghost use Rattle.std.specs.Prelude.{◌≡◌, ◌<◌, [], ◌∷◌, ◌++◌, length};
+
+use pim_base::TaskNo;
+use std::alloc::{AllocError, Global};
+use std::marker::Model;
+
+/// The tasks whose effective priority a step changed, in rising number. It has room for all tasks from the start.
+#[derive(Drop)]
+pub struct ChangedTasks {
+    tasks: Vec<TaskNo>,
+}
+
+impl Model for ChangedTasks {
+    ghost use Rattle.std.specs.Prelude.{◌≤◌, ℕ, List};
+    ghost use Rattle.std.specs.Vec.{vec_capacity};
+
+    ghost Value = { List ℕ };
+
+    ghost view = { λ c. c.tasks.items };
+
+    ghost invariant = { λ c. 256 ≤ vec_capacity c.tasks };
+}
+
+impl ChangedTasks {
+    ghost use Rattle.std.specs.Prelude.{IfOk};
+
+    /// None yet. The only error is that memory was refused.
+    pub fn new(alloc: Global) -> Result<ChangedTasks, AllocError>
+        ensures { IfOk result (λ changed. changed ≡ []) }
+    {
+        let tasks = Vec::with_capacity(alloc, 256)?;
+        Ok(ChangedTasks { tasks })
+    }
+
+    /// The tasks, in rising number.
+    pub fn as_slice(&self) -> &[TaskNo]
+        ensures { result.now ≡ self.now }
+    {
+        &self.tasks
+    }
+
+    pub(crate) fn clear(&mut self)
+        ensures { self.new ≡ [] }
+    {
+        self.tasks.clear();
+    }
+
+    pub(crate) fn push(&mut self, task: TaskNo)
+        requires { length self.old < 256 }
+        ensures { self.new ≡ self.old ++ task ∷ [] }
+    {
+        self.tasks.push(task).unwrap();
+    }
+}
