@@ -11,5 +11,4 @@ pub mod EndsLemmas
 pub mod DecimalLemmas
 pub mod PrintingLemmas
 pub mod ReportLemmas
-pub mod ShownLemmas
 pub mod CommandLemmas

@@ -1,11 +1,12 @@
 -- The report from a line on, and what a step shows.
-use Rattle.std.proofs.Common.{◌≡◌, ◌≤◌, ◌<◌, ◌+◌, ◌-◌, ◌==◌, ℕ, zero, suc, not, Bool, true, false, eqb, arith, List, [], ◌∷◌, ◌++◌, length, filter, drop, get_or, Option, Some, None, unwrap_or, cond, ◌∙◌, ap, ap₂, sym, refl, drop-cons, add-one, if◌then◌else◌}
-use Rattle.std.specs.List.{range_with_len, flat_map}
+use Rattle.std.proofs.Common.{◌≡◌, ◌≤◌, ◌<◌, ◌+◌, ◌-◌, ◌==◌, ℕ, zero, suc, not, Bool, true, false, eqb, arith, List, [], ◌∷◌, ◌++◌, length, filter, drop, get_or, Option, Some, None, unwrap_or, cond, ◌∙◌, ap, sym, subst, refl, drop-cons, add-one, if◌then◌else◌}
+use Rattle.std.specs.List.{range_with_len, flat_map, AllByRecursion}
 use Rattle.std.proofs.lemmas.List.{drop_all}
 use Rattle.pim_base.specs.Lists.{nth, numbers}
 use Rattle.pim_base.specs.State.{State, IsTask, tasks, base_of}
 use Rattle.pim_base.specs.Priorities.{effective_priority}
 use Rattle.pim_base.specs.Reasons.{reason_of}
+use Rattle.pim_base.specs.Checks.{unknown_task}
 use Rattle.pim_base.specs.Steps.{after, reply_of, hand_over_to}
 use Rattle.pim_base.specs.Queues.{first_of}
 use Rattle.pim_base.specs.Reports.{agrees, reply_line, change_line, changed_between, answer_lines, rejection_lines, step_lines, accepted, report_from, verdict_from}
@@ -18,7 +19,7 @@ use Rattle.pim_base.specs.declared.lines.Verdict.TheVariants as verdicts
 use Rattle.pim_base.proofs.Places.{length-put}
 use Rattle.pim_base.proofs.Kept.{IsKeptBySteps, kept_by_step}
 use Rattle.pim_tool.specs.Printed.{changed_line}
-use Rattle.pim_tool.specs.Shown.{Shows, differs, changed_since}
+use Rattle.pim_manager.specs.Known.{of_task}
 
 -- ---- the line of a changed task
 
@@ -45,31 +46,50 @@ same_size n = record {
 pub size_after : (S : State) (step : Step) → length (after S step).base ≡ length S.base
 size_after S step = kept_by_step (λ T. length T.base ≡ length S.base) (same_size (length S.base)) S step refl
 
--- where the priorities of S were shown, the tasks of which another was shown are those that changed since
-filters_agree : (p q : ℕ → Bool) (a n : ℕ) → ((t : ℕ) → a ≤ t → t < a + n → p t ≡ q t) → filter p (range_with_len a n) ≡ filter q (range_with_len a n)
-filters_agree p q a zero same = refl
-filters_agree p q a (suc n) same =
-    ap₂ (λ b (xs : List ℕ). cond b (a ∷ xs) xs) (same a (omega arith) (omega arith))
-    (filters_agree p q (a + 1) n (λ t low high. same t (omega arith) (omega arith)))
+-- those of these numbers that pass lie within them
+passing_within : (P : ℕ → Type 0) (p : ℕ → Bool) (a n : ℕ) → ((t : ℕ) → a ≤ t → t < a + n → P t) → AllByRecursion P (filter p (range_with_len a n))
+passing_within P p a zero within = tt
+passing_within P p a (suc n) within = go (p a) (passing_within P p (a + 1) n (λ t low high. within t (omega arith) (omega arith)))
+  where
+    rest : List ℕ
+    rest = filter p (range_with_len (a + 1) n)
 
-pub changed_are : (ps : List ℕ) (S T : State) → Shows ps S → length T.base ≡ length S.base → changed_since ps T ≡ changed_between S T
-changed_are ps S T shows size =
-    ap (λ n. filter (differs ps T) (numbers n)) size
-    ∙ filters_agree (differs ps T) (λ t. not (effective_priority S t == effective_priority T t)) 1 (length S.base)
-    (λ t low high. ap (λ o. not (eqb (unwrap_or o 0) (effective_priority T t))) (shows.each t (low, omega arith)))
+    go : (b : Bool) → AllByRecursion P rest → AllByRecursion P (cond b (a ∷ rest) rest)
+    go true all = (within a (omega arith) (omega arith), all)
+    go false all = all
+
+-- what changed are tasks, after the step as before it
+pub changed_are_tasks : {ts : List ℕ} {T : State} (S : State) (step : Step) → T ≡ after S step → ts ≡ changed_between S T → AllByRecursion (IsTask T) ts
+changed_are_tasks {ts} {T} S step next are =
+    let size : length T.base ≡ length S.base = ap (λ (U : State). length U.base) next ∙ size_after S step in
+    subst (AllByRecursion (IsTask T)) (sym are)
+    (passing_within (IsTask T) (λ t. not (eqb (effective_priority S t) (effective_priority T t))) 1 (length S.base) (λ t low high. (low, omega arith)))
+
+-- ---- what is shown of a known task
+
+pub of_task_some : {X : Type 0} (S : State) (t : ℕ) (x v : X) → of_task S t x ≡ Some v → v ≡ x
+of_task_some {X} S t x v e = go (unknown_task S t) e
+  where
+    go : (b : Bool) → cond b None (Some x) ≡ Some v → v ≡ x
+    go true e = cc
+    go false e = cc
+
+-- the lines of the tasks from one on
+pub changes_next : (f : ℕ → List ℕ) (ts : List ℕ) (i t : ℕ) → i < length ts → t ≡ get_or ts i t → flat_map f (drop i ts) ≡ f t ++ flat_map f (drop (i + 1) ts)
+changes_next f ts i t inside at =
+    ap (flat_map f) (drop-cons ts i t inside ∙ ap (λ u. u ∷ drop (suc i) ts) (sym at) ∙ ap (λ j. t ∷ drop j ts) (sym (add-one i)))
 
 -- ---- what is shown of a step
 
 pub shows_answer :
-    (k : ℕ) (S T : State) (line : StepLine) (reply : Reply) (ps : List ℕ)
+    (k : ℕ) (S T : State) (line : StepLine) (reply : Reply) (ts : List ℕ)
     → reply ≡ reply_of S line.step
     → T ≡ after S line.step
-    → Shows ps S
+    → ts ≡ changed_between S T
     → agrees line.recorded reply ≡ true
-    → reply_line k reply ++ flat_map (change_line T) (changed_since ps T) ≡ step_lines k S line
-shows_answer k S T line reply ps is next shows yes' =
-    let size : length T.base ≡ length S.base = ap (λ (U : State). length U.base) next ∙ size_after S line.step in
-    ap (λ ts. reply_line k reply ++ flat_map (change_line T) ts) (changed_are ps S T shows size)
+    → reply_line k reply ++ flat_map (change_line T) ts ≡ step_lines k S line
+shows_answer k S T line reply ts is next are yes' =
+    ap (λ (ts' : List ℕ). reply_line k reply ++ flat_map (change_line T) ts') are
     ∙ ap (λ (r : Reply). reply_line k r ++ flat_map (change_line T) (changed_between S T)) is
     ∙ ap (λ (U : State). reply_line k (reply_of S line.step) ++ flat_map (change_line U) (changed_between S U)) next
     ∙ sym (ap (λ b. if b then answer_lines k S line else rejection_lines k (reply_of S line.step) line.recorded) (ap (agrees line.recorded) (sym is) ∙ yes'))

@@ -4,6 +4,5 @@ pub use Rattle.pim_base.specs.Reports
 pub mod Reading
 pub mod Ends
 pub mod Printed
-pub mod Shown
 pub mod Status
 pub mod Words

@@ -12,11 +12,10 @@ use crate::fault::Fault;
 use crate::page::Page;
 use crate::printing::print_report;
 use crate::reading::parse;
-use crate::shown::priorities_of;
 use crate::text::Text;
 use crate::transfer::read_all;
 use pim_base::Verdict;
-use pim_manager::Manager;
+use pim_manager::{ChangedTasks, Manager};
 use std::alloc::Global;
 
 /// Reads a trace to its end, and writes its report.
@@ -75,8 +74,8 @@ fn print_text<W: Sink>(alloc: Global, writer: &mut W, text: &Text) -> Result<Ver
 {
     let mut page = Page::new(alloc)?;
     let mut manager = manager_of(alloc, text)?;
-    let mut shown = priorities_of(alloc, &manager)?;
-    print_report(&mut page, writer, &mut manager, &mut shown, &text.lines)
+    let mut changed = ChangedTasks::new(alloc)?;
+    print_report(&mut page, writer, &mut manager, &mut changed, &text.lines)
 }
 
 /// The manager of what a text declares, in which all mutexes are free.

@@ -12,7 +12,6 @@ mod printing;
 mod reading;
 mod reply;
 mod request;
-mod shown;
 mod streams;
 mod text;
 mod transfer;

@@ -1,19 +1,18 @@
 //! The report, line by line through a page.
 ghost use Rattle.std.specs.Prelude.{◌≡◌, ◌++◌, ◌^◌, ◌<◌, ◌≤◌, [], length, flat_map, true, IfOk};
+ghost use Rattle.std.specs.List.{AllByRecursion};
 ghost use Rattle.pim_base.specs.State.{IsTask};
 ghost use Rattle.pim_base.specs.Steps.{reply_of, after};
 ghost use Rattle.pim_base.specs.Reports.{agrees, reply_line, change_line, rejection_lines, step_lines, accepted, report_from, verdict_from};
 ghost use Rattle.pim_tool.specs.Ends.{Prints};
-ghost use Rattle.pim_tool.specs.Shown.{Shows, changed_since};
 
 use crate::agreement::agrees;
 use crate::ends::Sink;
 use crate::fault::Fault;
 use crate::page::Page;
-use crate::shown::{next_changed, show};
 use crate::transfer::write_all;
-use pim_base::{Prio, Reply, StepLine, TaskNo, Verdict};
-use pim_manager::Manager;
+use pim_base::{Reply, StepLine, TaskNo, Verdict};
+use pim_manager::{ChangedTasks, Manager};
 
 /// Writes the page, and empties it.
 fn flush<W: Sink>(page: &mut Page, writer: &mut W) -> Result<(), Fault>
@@ -54,23 +53,19 @@ fn print_change<W: Sink>(
     Ok(())
 }
 
-/// The lines of all tasks of which another priority was shown, which is taken down.
+/// The lines of these tasks, whose priorities changed.
 fn print_changes<W: Sink>(
     page: &mut Page,
     writer: &mut W,
     manager: &Manager,
-    shown: &mut Vec<Prio>,
+    changed: &[TaskNo],
 ) -> Result<(), Fault>
-    requires { length shown.old.items ≡ length manager.now.base }
-    ensures prints { Prints (W.told writer.old) (W.told writer.new)
-        (page.old.bytes.items ++ flat_map (change_line manager.now) (changed_since shown.old.items manager.now)) page.new.bytes.items result }
-    ensures shows { IfOk result (λ _. Shows shown.new.items manager.now) }
+    requires { AllByRecursion (IsTask manager.now) changed.now }
+    ensures { Prints (W.told writer.old) (W.told writer.new)
+        (page.old.bytes.items ++ flat_map (change_line manager.now) changed.now) page.new.bytes.items result }
 {
-    let mut above = 0;
-    while let Some(task) = next_changed(manager, shown, above) {
-        print_change(page, writer, manager, task)?;
-        show(shown, task, manager.effective(task).unwrap());
-        above = task.get();
+    for task in changed {
+        print_change(page, writer, manager, *task)?;
     }
     Ok(())
 }
@@ -97,18 +92,17 @@ fn print_answer<W: Sink>(
     page: &mut Page,
     writer: &mut W,
     manager: &Manager,
-    shown: &mut Vec<Prio>,
+    changed: &[TaskNo],
     number: u32,
     reply: &Reply,
 ) -> Result<(), Fault>
-    requires { length shown.old.items ≡ length manager.now.base }
-    ensures prints { Prints (W.told writer.old) (W.told writer.new)
-        (page.old.bytes.items ++ (reply_line number reply.now ++ flat_map (change_line manager.now) (changed_since shown.old.items manager.now))) page.new.bytes.items result }
-    ensures shows { IfOk result (λ _. Shows shown.new.items manager.now) }
+    requires { AllByRecursion (IsTask manager.now) changed.now }
+    ensures { Prints (W.told writer.old) (W.told writer.new)
+        (page.old.bytes.items ++ (reply_line number reply.now ++ flat_map (change_line manager.now) changed.now)) page.new.bytes.items result }
 {
     make_room(page, writer)?;
     page.answer(number, reply)?;
-    print_changes(page, writer, manager, shown)
+    print_changes(page, writer, manager, changed)
 }
 
 /// Makes a step, and prints its lines. It says whether the reply agrees with the recorded one.
@@ -116,20 +110,18 @@ fn print_step<W: Sink>(
     page: &mut Page,
     writer: &mut W,
     manager: &mut Manager,
-    shown: &mut Vec<Prio>,
+    changed: &mut ChangedTasks,
     number: u32,
     line: &StepLine,
 ) -> Result<bool, Fault>
-    requires { Shows shown.old.items manager.old }
     ensures prints { Prints (W.told writer.old) (W.told writer.new) (page.old.bytes.items ++ step_lines number manager.old line.now) page.new.bytes.items result }
     ensures agrees { IfOk result (λ goes_on. goes_on ≡ agrees line.now.recorded (reply_of manager.old line.now.step)) }
     ensures after { manager.new ≡ after manager.old line.now.step }
-    ensures shows { IfOk result (λ goes_on. goes_on ≡ true → Shows shown.new.items manager.new) }
 {
-    let reply = manager.step(line.step).reply;
+    let reply = manager.step_with_changes(line.step, changed).reply;
     let goes_on = agrees(line, &reply);
     if goes_on {
-        print_answer(page, writer, manager, shown, number, &reply)?;
+        print_answer(page, writer, manager, changed.as_slice(), number, &reply)?;
     } else {
         print_rejection(page, writer, number, &reply, line)?;
     }
@@ -150,18 +142,17 @@ pub(crate) fn print_report<W: Sink>(
     page: &mut Page,
     writer: &mut W,
     manager: &mut Manager,
-    shown: &mut Vec<Prio>,
+    changed: &mut ChangedTasks,
     lines: &[StepLine],
 ) -> Result<Verdict, Fault>
     requires few { length lines.now < 2 ^ 32 }
     requires empty { page.old.bytes.items ≡ [] }
-    requires shows { Shows shown.old.items manager.old }
     ensures prints { Prints (W.told writer.old) (W.told writer.new) (report_from 1 manager.old lines.now) [] result }
     ensures verdict { IfOk result (λ verdict. verdict ≡ verdict_from 1 manager.old lines.now) }
 {
     for (index, line) in lines.iter().enumerate() {
         let number = index as u32 + 1;
-        if !print_step(page, writer, manager, shown, number, line)? {
+        if !print_step(page, writer, manager, changed, number, line)? {
             flush(page, writer)?;
             return Ok(Verdict::Rejected(number));
         }

@@ -13,6 +13,6 @@ returns-in_err-manager-clause-prints g c =
     prints_err _ _ c.from_residual-in_err-manager.ensures.1
     (stops_fault c.in_err-manager.ensures (puts_none _ (report_of (trace_of c.args.text.now)) _ refl))
 
-pub returns-in_err-shown-clause-prints : goal.returns-in_err-shown-clause-prints
-returns-in_err-shown-clause-prints g c =
-    prints_err _ _ c.from_residual-in_err-shown.ensures.1 (stops_memory (puts_none _ (report_of (trace_of c.args.text.now)) _ refl))
+pub returns-in_err-changed-clause-prints : goal.returns-in_err-changed-clause-prints
+returns-in_err-changed-clause-prints g c =
+    prints_err _ _ c.from_residual-in_err-changed.ensures.1 (stops_memory (puts_none _ (report_of (trace_of c.args.text.now)) _ refl))

@@ -4,8 +4,7 @@ use Rattle.pim_base.specs.Reasons.{reason_of}
 use Rattle.pim_base.specs.Reports.{change_line}
 use Rattle.pim_tool.specs.Printed.{changed_line}
 use Rattle.pim_tool.proofs.PrintingLemmas.{prints_err, stops_line, stops_memory, puts_line, puts_as}
-use Rattle.pim_tool.proofs.ReportLemmas.{change_line_is}
-use Rattle.pim_tool.proofs.ShownLemmas.{of_task_some}
+use Rattle.pim_tool.proofs.ReportLemmas.{change_line_is, of_task_some}
 use Rattle.pim_tool.proofs.printing.print_change.Goals as goal
 
 pub returns-in_err-make_room : goal.returns-in_err-make_room

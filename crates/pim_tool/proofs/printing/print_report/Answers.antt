@@ -36,7 +36,6 @@ loop-index-preserved g c =
       verdict =
           verdict_goes_on _ _ _ c.args.lines.now c.loop-index.index _ c.loop-index-test.true c.index-lines-index.is says c.print_step.ensures.after
           ∙ c.loop-index.invariant.verdict;
-      shows = c.in_ok-print_step.ensures.shows c.if-not-branch.false;
     }
 
 pub returns-in_err-print_end-clause-prints : goal.returns-in_err-print_end-clause-prints
