@@ -1,16 +1,43 @@
-//! The program `pim`: judges the trace on standard input.
+//! The program `pim`: judges traces of mutexes with the POSIX protocols.
+//!
+//! It reads its words with `pim_tool::command`, hands standard input and output to `pim_tool::judge`, and turns the answer
+//! into a line on standard error and an exit status. What it decides is in `pim_tool`, proved; here is only what no
+//! contract can say: the streams, the texts and the process.
 #![tactic(auto)]
 
-mod streams;
-
-use pim_tool::{judge, status};
+use pim_tool::{Input, Job, Output, command, judge, status};
 use std::io;
 use std::process::ExitCode;
-use streams::{Input, Output};
 
-fn main(rt: HostRuntime) -> io::Result<ExitCode> {
+/// The exit status for a fault, of the command line too.
+const FAULT: u8 = 2;
+
+fn main(rt: HostRuntime) -> ExitCode {
+    answer(&rt).unwrap_or(ExitCode::from(FAULT))
+}
+
+/// What the words ask for, done.
+fn answer(rt: &HostRuntime) -> io::Result<ExitCode> {
+    let alloc = rt.alloc();
+    let arguments: Vec<String> = std::env::args(rt)?.collect(alloc)?;
+    let words: Vec<&str> = arguments.iter().map(|word| word.as_str()).collect(alloc)?;
+    match command(alloc, words.as_slice()) {
+        Ok(Job::Judge) => judge_input(rt),
+        Ok(Job::Run) | Ok(Job::Check) => {
+            eprintln!(rt; "pim: run and check are not there yet")?;
+            Ok(ExitCode::from(FAULT))
+        }
+        Err(error) => {
+            error.print(rt)?;
+            Ok(ExitCode::from(if error.use_stderr() { FAULT } else { 0 }))
+        }
+    }
+}
+
+/// Judges the trace on standard input.
+fn judge_input(rt: &HostRuntime) -> io::Result<ExitCode> {
     let mut reader = Input::new(rt.reader());
-    let mut writer = Output::new(io::writer(&rt));
+    let mut writer = Output::new(io::writer(rt));
     let answer = judge(rt.alloc(), &mut reader, &mut writer);
     if let Err(fault) = &answer {
         eprintln!(rt; "pim: {fault}")?;

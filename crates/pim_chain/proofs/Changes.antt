@@ -36,8 +36,12 @@ pub differs_settled : (S T : State) (stored : ℕ → ℕ) (x : ℕ) → Differs
 differs_settled S T stored x differs settled t task away =
     settled t (task_S t task) (λ e. none-some t e)
     ∙ le_antisymm
-    (local_priority-le S stored t (local_priority T stored t) (subst (λ o. o ≤ local_priority T stored t) (sym (differs.own t ne)) (own_priority-le-local_priority T stored t)) (λ u known e. stored-le-local_priority T stored u t (known.0, subst (λ n. u ≤ n) (sym differs.tasks) known.1) (differs.kept u t ne e)))
-    (local_priority-le T stored t (local_priority S stored t) (subst (λ o. o ≤ local_priority S stored t) (differs.own t ne) (own_priority-le-local_priority S stored t)) (λ u known e. stored-le-local_priority S stored u t (task_S u known) (differs.added u t ne e)))
+    (local_priority-le S stored t (local_priority T stored t)
+    (subst (λ o. o ≤ local_priority T stored t) (sym (differs.own t ne)) (own_priority-le-local_priority T stored t))
+    (λ u known e. stored-le-local_priority T stored u t (known.0, subst (λ n. u ≤ n) (sym differs.tasks) known.1) (differs.kept u t ne e)))
+    (local_priority-le T stored t (local_priority S stored t)
+    (subst (λ o. o ≤ local_priority S stored t) (differs.own t ne) (own_priority-le-local_priority S stored t))
+    (λ u known e. stored-le-local_priority S stored u t (task_S u known) (differs.added u t ne e)))
   where
     ne : t ≡ x → ⊥
     ne e = away (ap Some (sym e))
@@ -61,17 +65,29 @@ owner_other : (S : State) (m : ℕ) (o : Option ℕ) (k : ℕ) → (k ≡ m → 
 owner_other S m o k ne = ap (λ v. unwrap_or v None) (nth-put_other S.owner m k o (λ e. ne (sym e)))
 
 -- who owns another mutex, or owns it and isn't x, owns it still
-owner_still : (S : State) (m : ℕ) (o : Option ℕ) (x : ℕ) → AtMost (owner_of S m) x → AtMost o x → (k t : ℕ) → (t ≡ x → ⊥) → (owner_of S k ≡ Some t → owner_of (with_owner S m o) k ≡ Some t) × (owner_of (with_owner S m o) k ≡ Some t → owner_of S k ≡ Some t)
+owner_still :
+    (S : State) (m : ℕ) (o : Option ℕ) (x : ℕ)
+    → AtMost (owner_of S m) x
+    → AtMost o x
+    → (k t : ℕ)
+    → (t ≡ x → ⊥)
+    → (owner_of S k ≡ Some t → owner_of (with_owner S m o) k ≡ Some t) × (owner_of (with_owner S m o) k ≡ Some t → owner_of S k ≡ Some t)
 owner_still S m o x was is k t ne = go (cases_eq k m)
   where
-    go : (k ≡ m) ⊎ (k ≡ m → ⊥) → (owner_of S k ≡ Some t → owner_of (with_owner S m o) k ≡ Some t) × (owner_of (with_owner S m o) k ≡ Some t → owner_of S k ≡ Some t)
+    go :
+        (k ≡ m) ⊎ (k ≡ m → ⊥)
+        → (owner_of S k ≡ Some t → owner_of (with_owner S m o) k ≡ Some t) × (owner_of (with_owner S m o) k ≡ Some t → owner_of S k ≡ Some t)
     go (inl same) = (
       (λ e. absurd (ne (was t (ap (owner_of S) (sym same) ∙ e)))),
       (λ e. absurd (ne (owner_now S m o x is t (ap (owner_of (with_owner S m o)) (sym same) ∙ e)))),
     )
     go (inr other) = ((λ e. owner_other S m o k other ∙ e), (λ e. sym (owner_other S m o k other) ∙ e))
 
-heir_from : (S T : State) (u t : ℕ) → ((w : Wait) → wait_of S u ≡ Some w → heir_of S w.mutex ≡ Some t → heir T u ≡ Some t) → heir S u ≡ Some t → heir T u ≡ Some t
+heir_from :
+    (S T : State) (u t : ℕ)
+    → ((w : Wait) → wait_of S u ≡ Some w → heir_of S w.mutex ≡ Some t → heir T u ≡ Some t)
+    → heir S u ≡ Some t
+    → heir T u ≡ Some t
 heir_from S T u t h e = let by = through S u t e in h by.wait by.waits by.heir
 
 heir_by : (T : State) (u t : ℕ) (w : Wait) → wait_of T u ≡ Some w → heir_of T w.mutex ≡ Some t → heir T u ≡ Some t
@@ -95,8 +111,10 @@ differs_owner S m o x was is = record {
     own_by t ne =
         greatest-cons (base_of S t) (map (ceiling_of S) (owned S t))
         ∙ ap (max (base_of S t)) (le_antisymm
-        (greatest_of-below (ceiling_of S) (ceiling_of S) (λ k. holds (owner_of S k) t) (λ k. holds (owner_of (with_owner S m o) k) t) (length S.protocol) (λ k _ _ h. (holds_from _ t ((owner_still S m o x was is k t ne).0 (from_holds _ t h)), refl)))
-        (greatest_of-below (ceiling_of S) (ceiling_of S) (λ k. holds (owner_of (with_owner S m o) k) t) (λ k. holds (owner_of S k) t) (length S.protocol) (λ k _ _ h. (holds_from _ t ((owner_still S m o x was is k t ne).1 (from_holds _ t h)), refl))))
+        (greatest_of-below (ceiling_of S) (ceiling_of S) (λ k. holds (owner_of S k) t) (λ k. holds (owner_of (with_owner S m o) k) t)
+        (length S.protocol) (λ k _ _ h. (holds_from _ t ((owner_still S m o x was is k t ne).0 (from_holds _ t h)), refl)))
+        (greatest_of-below (ceiling_of S) (ceiling_of S) (λ k. holds (owner_of (with_owner S m o) k) t) (λ k. holds (owner_of S k) t)
+        (length S.protocol) (λ k _ _ h. (holds_from _ t ((owner_still S m o x was is k t ne).1 (from_holds _ t h)), refl))))
         ∙ sym (greatest-cons (base_of S t) (map (ceiling_of S) (owned (with_owner S m o) t)))
 
 -- ---- another wait
@@ -110,7 +128,13 @@ wait_now S t o lists known = ap (λ v. unwrap_or v None) (nth-put_same S.wait t 
 abbrev pub heir_through : State → Option Wait → Option ℕ
 heir_through S o = option_and_then (λ (w : Wait). heir_of S w.mutex) o
 
-pub differs_wait : (S : State) (t : ℕ) (o : Option Wait) (x : ℕ) → IsState S → IsTask S t → AtMost (heir S t) x → AtMost (heir_through S o) x → DiffersAt S (with_wait S t o) x
+pub differs_wait :
+    (S : State) (t : ℕ) (o : Option Wait) (x : ℕ)
+    → IsState S
+    → IsTask S t
+    → AtMost (heir S t) x
+    → AtMost (heir_through S o) x
+    → DiffersAt S (with_wait S t o) x
 differs_wait S t o x lists known was is = record {
   tasks = refl;
   own = λ y ne. refl;
@@ -123,7 +147,8 @@ differs_wait S t o x lists known was is = record {
     go u y ne (inr other) e = ap (heir_through S) (wait_other S t o u other) ∙ e
 
     back : (u y : ℕ) → (y ≡ x → ⊥) → (u ≡ t) ⊎ (u ≡ t → ⊥) → heir (with_wait S t o) u ≡ Some y → heir S u ≡ Some y
-    back u y ne (inl same) e = absurd (ne (is y (sym (ap (heir_through S) (wait_now S t o lists known)) ∙ ap (heir (with_wait S t o)) (sym same) ∙ e)))
+    back u y ne (inl same) e =
+        absurd (ne (is y (sym (ap (heir_through S) (wait_now S t o lists known)) ∙ ap (heir (with_wait S t o)) (sym same) ∙ e)))
     back u y ne (inr other) e = sym (ap (heir_through S) (wait_other S t o u other)) ∙ e
 
 -- ---- another base priority
@@ -138,11 +163,16 @@ differs_base S x p = record {
     own_by : (t : ℕ) → (t ≡ x → ⊥) → own_priority S t ≡ own_priority (with_base S x p) t
     own_by t ne =
         greatest-cons (base_of S t) (map (ceiling_of S) (owned S t))
-        ∙ ap (λ b. max b (greatest_of (ceiling_of S) (λ k. holds (owner_of S k) t) (length S.protocol))) (sym (ap (λ v. unwrap_or v 0) (nth-put_other S.base x t p (λ e. ne (sym e)))))
+        ∙ ap (λ b. max b (greatest_of (ceiling_of S) (λ k. holds (owner_of S k) t) (length S.protocol)))
+        (sym (ap (λ v. unwrap_or v 0) (nth-put_other S.base x t p (λ e. ne (sym e)))))
         ∙ sym (greatest-cons (base_of (with_base S x p) t) (map (ceiling_of S) (owned S t)))
 
 -- ---- what is ready stays so
-pub ready_bound : (v : View) (m : ℕ) (o : Option ℕ) → ((t : ℕ) → o ≡ Some t → (IsTask v.state t) × (wait_of v.state t ≡ None)) → Ready v → Ready (with_state v (with_owner v.state m o))
+pub ready_bound :
+    (v : View) (m : ℕ) (o : Option ℕ)
+    → ((t : ℕ) → o ≡ Some t → (IsTask v.state t) × (wait_of v.state t ≡ None))
+    → Ready v
+    → Ready (with_state v (with_owner v.state m o))
 ready_bound v m o may ready = record {
   sound = owner_sound v.state m o (λ t e. (may t e).1) ready.sound;
   few_tasks = ready.few_tasks;
@@ -189,18 +219,33 @@ ready_based v t p ready = record {
     same = length-put v.state.base t p
 
 -- ---- lines after one was changed
-pub line_same : (lines : List Line) (m : ℕ) (ws : List Waiter) → 1 ≤ m → m ≤ length lines → line_in (put_queue lines m ws) m ≡ with_waiters (line_in lines m) ws
-line_same lines m ws low high = ap (λ o. unwrap_or o (record { waiters = []; room = 0 })) (nth-put_same lines m (with_waiters (line_in lines m) ws) low high)
+pub line_same :
+    (lines : List Line) (m : ℕ) (ws : List Waiter)
+    → 1 ≤ m
+    → m ≤ length lines
+    → line_in (put_queue lines m ws) m ≡ with_waiters (line_in lines m) ws
+line_same lines m ws low high =
+    ap (λ o. unwrap_or o (record { waiters = []; room = 0 })) (nth-put_same lines m (with_waiters (line_in lines m) ws) low high)
 
 pub line_other : (lines : List Line) (m k : ℕ) (ws : List Waiter) → (k ≡ m → ⊥) → line_in (put_queue lines m ws) k ≡ line_in lines k
-line_other lines m k ws ne = ap (λ o. unwrap_or o (record { waiters = []; room = 0 })) (nth-put_other lines m k (with_waiters (line_in lines m) ws) (λ e. ne (sym e)))
+line_other lines m k ws ne =
+    ap (λ o. unwrap_or o (record { waiters = []; room = 0 }))
+    (nth-put_other lines m k (with_waiters (line_in lines m) ws) (λ e. ne (sym e)))
 
 -- every line has its room still
-pub room_kept : (lines : List Line) (m : ℕ) (ws : List Waiter) (n k : ℕ) → 1 ≤ k → k ≤ length lines → n ≤ (line_in lines k).room → n ≤ (line_in (put_queue lines m ws) k).room
+pub room_kept :
+    (lines : List Line) (m : ℕ) (ws : List Waiter) (n k : ℕ)
+    → 1 ≤ k
+    → k ≤ length lines
+    → n ≤ (line_in lines k).room
+    → n ≤ (line_in (put_queue lines m ws) k).room
 room_kept lines m ws n k low high h = go (cases_eq k m)
   where
     go : (k ≡ m) ⊎ (k ≡ m → ⊥) → n ≤ (line_in (put_queue lines m ws) k).room
-    go (inl is) = subst (λ j. n ≤ (line_in (put_queue lines m ws) j).room) (sym is) (subst (λ (q : Line). n ≤ q.room) (sym (line_same lines m ws (subst (λ j. 1 ≤ j) is low) (subst (λ j. j ≤ length lines) is high))) (subst (λ j. n ≤ (line_in lines j).room) is h))
+    go (inl is) =
+        subst (λ j. n ≤ (line_in (put_queue lines m ws) j).room) (sym is)
+        (subst (λ (q : Line). n ≤ q.room) (sym (line_same lines m ws (subst (λ j. 1 ≤ j) is low) (subst (λ j. j ≤ length lines) is high)))
+        (subst (λ j. n ≤ (line_in lines j).room) is h))
     go (inr ne) = subst (λ (q : Line). n ≤ q.room) (sym (line_other lines m k ws ne)) h
 
 -- each mutex has its queue still, where that of m is the new one
@@ -222,7 +267,9 @@ queues_put S T stored stored' lines m ws len same here others k known = go (case
     go (inr ne) = subst (λ (q : Line). IsQueue (wait_of T) stored' k q.waiters) (sym (line_other lines m k ws ne)) (others k known_S ne)
     go (inl is) =
         subst (λ j. IsQueue (wait_of T) stored' j (queue_in (put_queue lines m ws) j)) (sym is)
-        (subst (λ (q : Line). IsQueue (wait_of T) stored' m q.waiters) (sym (line_same lines m ws (subst (λ j. 1 ≤ j) is known.0) (subst (λ j. j ≤ length lines) is (subst (λ n. k ≤ n) (sym len) known_S.1)))) here)
+        (subst (λ (q : Line). IsQueue (wait_of T) stored' m q.waiters)
+        (sym (line_same lines m ws (subst (λ j. 1 ≤ j) is known.0)
+        (subst (λ j. j ≤ length lines) is (subst (λ n. k ≤ n) (sym len) known_S.1)))) here)
 
 pub not_waiting : (wait : ℕ → Option Wait) (m t : ℕ) → wait t ≡ None → waits_for wait m t ≡ true → ⊥
 not_waiting wait m t e h = both_ways _ (ap (λ o. option_map_or (λ (w : Wait). eqb w.mutex m) o false) e) h
@@ -242,9 +289,15 @@ ready_left v t w at ready = record {
     mutexes = λ u x e. ready.waits.mutexes u x (old u x e);
     tickets = λ u y x e f. ready.waits.tickets u y x (old u x e) (old y x f);
   };
-  queues = queues_put v.state (with_wait v.state t None) (stored_at v) (stored_at v) v.queues w.mutex (without t (queue_at v w.mutex)) ready.queues_len refl
-      (queue_left (wait_of v.state) (wait_of (with_wait v.state t None)) (stored_at v) (stored_at v) t w.mutex (queue_at v w.mutex) (wait_other v.state t None) (λ u _. refl) (not_waiting (wait_of (with_wait v.state t None)) w.mutex t idle) (ready.queues w.mutex (ready.waits.mutexes t w at)))
-      (λ k known ne. queue_kept (wait_of v.state) (wait_of (with_wait v.state t None)) (stored_at v) (stored_at v) t k (queue_at v k) (wait_other v.state t None) (λ u _. refl) (λ h. ne (sym (waits_once (wait_of v.state) k t w at h))) (not_waiting (wait_of (with_wait v.state t None)) k t idle) (ready.queues k known));
+  queues =
+      queues_put v.state (with_wait v.state t None) (stored_at v) (stored_at v) v.queues w.mutex
+      (without t (queue_at v w.mutex)) ready.queues_len refl
+      (queue_left (wait_of v.state) (wait_of (with_wait v.state t None)) (stored_at v) (stored_at v) t w.mutex (queue_at v w.mutex)
+      (wait_other v.state t None) (λ u _. refl) (not_waiting (wait_of (with_wait v.state t None)) w.mutex t idle)
+      (ready.queues w.mutex (ready.waits.mutexes t w at)))
+      (λ k known ne. queue_kept (wait_of v.state) (wait_of (with_wait v.state t None)) (stored_at v) (stored_at v) t k (queue_at v k)
+      (wait_other v.state t None) (λ u _. refl) (λ h. ne (sym (waits_once (wait_of v.state) k t w at h)))
+      (not_waiting (wait_of (with_wait v.state t None)) k t idle) (ready.queues k known));
   room = λ k known. room_kept v.queues w.mutex _ (length v.state.base) k known.0 (subst (λ n. k ≤ n) (sym ready.queues_len) known.1) (ready.room k known);
 }
   where
@@ -285,8 +338,12 @@ ready_joined v t w known mutex idle open' fresh ready = record {
     tickets = λ u y x e f. tickets u y x e f (cases_eq u t) (cases_eq y t);
   };
   queues = queues_put v.state (with_wait v.state t (Some w)) (stored_at v) (stored_at v) v.queues w.mutex _ ready.queues_len refl
-      (queue_joined (wait_of v.state) (wait_of (with_wait v.state t (Some w))) (stored_at v) (stored_at v) t w (queue_at v w.mutex) (wait_other v.state t (Some w)) (λ u _. refl) (not_waiting (wait_of v.state) w.mutex t idle) now (λ u _ e. fresh u e) (ready.queues w.mutex mutex))
-      (λ k isk ne. queue_kept (wait_of v.state) (wait_of (with_wait v.state t (Some w))) (stored_at v) (stored_at v) t k (queue_at v k) (wait_other v.state t (Some w)) (λ u _. refl) (not_waiting (wait_of v.state) k t idle) (λ h. ne (sym (waits_once (wait_of (with_wait v.state t (Some w))) k t w now h))) (ready.queues k isk));
+      (queue_joined (wait_of v.state) (wait_of (with_wait v.state t (Some w))) (stored_at v) (stored_at v) t w (queue_at v w.mutex)
+      (wait_other v.state t (Some w)) (λ u _. refl) (not_waiting (wait_of v.state) w.mutex t idle) now (λ u _ e. fresh u e)
+      (ready.queues w.mutex mutex))
+      (λ k isk ne. queue_kept (wait_of v.state) (wait_of (with_wait v.state t (Some w))) (stored_at v) (stored_at v) t k (queue_at v k)
+      (wait_other v.state t (Some w)) (λ u _. refl) (not_waiting (wait_of v.state) k t idle)
+      (λ h. ne (sym (waits_once (wait_of (with_wait v.state t (Some w))) k t w now h))) (ready.queues k isk));
   room = λ k isk. room_kept v.queues w.mutex _ (length v.state.base) k isk.0 (subst (λ n. k ≤ n) (sym ready.queues_len) isk.1) (ready.room k isk);
 }
   where
@@ -295,7 +352,9 @@ ready_joined v t w known mutex idle open' fresh ready = record {
 
     mutexes : (u : ℕ) (x : Wait) → wait_of (with_wait v.state t (Some w)) u ≡ Some x → (u ≡ t) ⊎ (u ≡ t → ⊥) → IsMutex v.state x.mutex
     mutexes u x e (inr ne) = ready.waits.mutexes u x (sym (wait_other v.state t (Some w) u ne) ∙ e)
-    mutexes u x e (inl is) = subst (λ (y : Wait). IsMutex v.state y.mutex) (same_Some w x (sym now ∙ ap (wait_of (with_wait v.state t (Some w))) (sym is) ∙ e)) mutex
+    mutexes u x e (inl is) =
+        subst (λ (y : Wait). IsMutex v.state y.mutex)
+        (same_Some w x (sym now ∙ ap (wait_of (with_wait v.state t (Some w))) (sym is) ∙ e)) mutex
 
     old : (u : ℕ) (x : Wait) → (u ≡ t → ⊥) → wait_of (with_wait v.state t (Some w)) u ≡ Some x → wait_of v.state u ≡ Some x
     old u x ne e = sym (wait_other v.state t (Some w) u ne) ∙ e
@@ -303,7 +362,13 @@ ready_joined v t w known mutex idle open' fresh ready = record {
     at_t : (u : ℕ) (x : Wait) → u ≡ t → wait_of (with_wait v.state t (Some w)) u ≡ Some x → Some x ≡ Some w
     at_t u x is e = sym e ∙ ap (wait_of (with_wait v.state t (Some w))) is ∙ now
 
-    tickets : (u y : ℕ) (x : Wait) → wait_of (with_wait v.state t (Some w)) u ≡ Some x → wait_of (with_wait v.state t (Some w)) y ≡ Some x → (u ≡ t) ⊎ (u ≡ t → ⊥) → (y ≡ t) ⊎ (y ≡ t → ⊥) → u ≡ y
+    tickets :
+        (u y : ℕ) (x : Wait)
+        → wait_of (with_wait v.state t (Some w)) u ≡ Some x
+        → wait_of (with_wait v.state t (Some w)) y ≡ Some x
+        → (u ≡ t) ⊎ (u ≡ t → ⊥)
+        → (y ≡ t) ⊎ (y ≡ t → ⊥)
+        → u ≡ y
     tickets u y x e f (inl a) (inl b) = a ∙ sym b
     tickets u y x e f (inl a) (inr b) = absurd (fresh y (old y x b f ∙ at_t u x a e))
     tickets u y x e f (inr a) (inl b) = absurd (fresh u (old u x a e ∙ at_t y x b f))

@@ -34,14 +34,22 @@ bound_field v u m t owners same known idle is ready =
     subst (λ z. IsTask v.state z × (wait_of v.state z ≡ None)) (same_Some t y e)
     (subst (λ (w : View). IsTask w.state t × (wait_of w.state t ≡ None)) (sym same) (known, idle))) ready)
 
-pub unbound_field : (v : View) (m : ℕ) (owners : List (Option ℕ)) → owners ≡ put v.state.owner m None → Ready v → Ready (with_state v (record v.state { owner = owners }))
+pub unbound_field :
+    (v : View) (m : ℕ) (owners : List (Option ℕ))
+    → owners ≡ put v.state.owner m None
+    → Ready v
+    → Ready (with_state v (record v.state { owner = owners }))
 unbound_field v m owners is ready =
     subst (λ os. Ready (with_state v (record v.state { owner = os }))) (sym is) (ready_bound v m None (λ y e. absurd (no y e)) ready)
   where
     no : (y : ℕ) → None ≡ Some y → ⊥
     no y e = cc
 
-pub based_field : (v : View) (t p : ℕ) (bases : List ℕ) → bases ≡ put v.state.base t p → Ready v → Ready (with_state v (record v.state { base = bases }))
+pub based_field :
+    (v : View) (t p : ℕ) (bases : List ℕ)
+    → bases ≡ put v.state.base t p
+    → Ready v
+    → Ready (with_state v (record v.state { base = bases }))
 based_field v t p bases is ready = subst (λ bs. Ready (with_state v (record v.state { base = bs }))) (sym is) (ready_based v t p ready)
 
 pub joined_fields :
@@ -56,10 +64,12 @@ pub joined_fields :
     → waits ≡ put v.state.wait t (Some w)
     → lines ≡ put_queue v.queues w.mutex (insert_by precedes (queue_at v w.mutex) (record { task = t; prio = prio; ticket = w.ticket }))
     → Ready v
-    → Ready (record { state = record v.state { wait = waits }; stored = v.stored; queues = lines })
+    → Ready (record v { state = record v.state { wait = waits }; stored = v.stored; queues = lines })
 joined_fields v u t prio w waits lines same known mutex idle open' fresh is_prio is_waits is_lines ready =
-    subst (λ ws. Ready (record { state = record v.state { wait = ws }; stored = v.stored; queues = lines })) (sym is_waits)
-    (subst (λ ls. Ready (record { state = record v.state { wait = put v.state.wait t (Some w) }; stored = v.stored; queues = ls })) (sym (is_lines ∙ ap (λ p. put_queue v.queues w.mutex (insert_by precedes (queue_at v w.mutex) (record { task = t; prio = p; ticket = w.ticket }))) is_prio))
+    subst (λ ws. Ready (record v { state = record v.state { wait = ws }; stored = v.stored; queues = lines })) (sym is_waits)
+    (subst (λ ls. Ready (record v { state = record v.state { wait = put v.state.wait t (Some w) }; stored = v.stored; queues = ls }))
+    (sym (is_lines ∙ ap (λ p. put_queue v.queues w.mutex
+    (insert_by precedes (queue_at v w.mutex) (record { task = t; prio = p; ticket = w.ticket }))) is_prio))
     (ready_joined v t w
     (subst (λ (x : View). IsTask x.state t) (sym same) known)
     (subst (λ (x : View). IsMutex x.state w.mutex) (sym same) mutex)
@@ -73,13 +83,20 @@ pub left_fields :
     → waits ≡ put v.state.wait t None
     → lines ≡ put_queue v.queues w.mutex (without t (queue_at v w.mutex))
     → Ready v
-    → Ready (record { state = record v.state { wait = waits }; stored = v.stored; queues = lines })
+    → Ready (record v { state = record v.state { wait = waits }; stored = v.stored; queues = lines })
 left_fields v t w waits lines at is_waits is_lines ready =
-    subst (λ ws. Ready (record { state = record v.state { wait = ws }; stored = v.stored; queues = lines })) (sym is_waits)
-    (subst (λ ls. Ready (record { state = record v.state { wait = put v.state.wait t None }; stored = v.stored; queues = ls })) (sym is_lines) (ready_left v t w at ready))
+    subst (λ ws. Ready (record v { state = record v.state { wait = ws }; stored = v.stored; queues = lines })) (sym is_waits)
+    (subst (λ ls. Ready (record v { state = record v.state { wait = put v.state.wait t None }; stored = v.stored; queues = ls }))
+    (sym is_lines) (ready_left v t w at ready))
 
-pub restored_field : (v : View) (t p : ℕ) (stored : List ℕ) → wait_of v.state t ≡ None → stored ≡ put v.stored t p → Ready v → Ready (record { state = v.state; stored = stored; queues = v.queues })
-restored_field v t p stored at is ready = subst (λ ss. Ready (record { state = v.state; stored = ss; queues = v.queues })) (sym is) (restored_free v t p at ready)
+pub restored_field :
+    (v : View) (t p : ℕ) (stored : List ℕ)
+    → wait_of v.state t ≡ None
+    → stored ≡ put v.stored t p
+    → Ready v
+    → Ready (record v { state = v.state; stored = stored; queues = v.queues })
+restored_field v t p stored at is ready =
+    subst (λ ss. Ready (record v { state = v.state; stored = ss; queues = v.queues })) (sym is) (restored_free v t p at ready)
 
 pub restored_fields :
     (v u : View) (t p : ℕ) (w : Wait) (stored : List ℕ) (lines : List Line)
@@ -89,24 +106,44 @@ pub restored_fields :
     → stored ≡ put v.stored t p
     → lines ≡ moved v.queues (Some w) t p
     → Ready v
-    → Ready (record { state = v.state; stored = stored; queues = lines })
+    → Ready (record v { state = v.state; stored = stored; queues = lines })
 restored_fields v u t p w stored lines same known at is is_lines ready =
-    subst (λ ss. Ready (record { state = v.state; stored = ss; queues = lines })) (sym is)
-    (subst (λ ls. Ready (record { state = v.state; stored = put v.stored t p; queues = ls })) (sym is_lines) (restored_waiting v t p w (subst (λ (x : View). IsTask x.state t) (sym same) known) at ready))
+    subst (λ ss. Ready (record v { state = v.state; stored = ss; queues = lines })) (sym is)
+    (subst (λ ls. Ready (record v { state = v.state; stored = put v.stored t p; queues = ls })) (sym is_lines)
+    (restored_waiting v t p w (subst (λ (x : View). IsTask x.state t) (sym same) known) at ready))
 
-pub is_restored : (v : View) (t p : ℕ) (o : Option Wait) (stored : List ℕ) (lines : List Line) → wait_of v.state t ≡ o → stored ≡ put v.stored t p → lines ≡ moved v.queues o t p → record { state = v.state; stored = stored; queues = lines } ≡ restored v t p
+pub is_restored :
+    (v : View) (t p : ℕ) (o : Option Wait) (stored : List ℕ) (lines : List Line)
+    → wait_of v.state t ≡ o
+    → stored ≡ put v.stored t p
+    → lines ≡ moved v.queues o t p
+    → record v { state = v.state; stored = stored; queues = lines } ≡ restored v t p
 is_restored v t p o stored lines at is is_lines =
-    ap (λ ss. record { state = v.state; stored = ss; queues = lines }) is
-    ∙ ap (λ ls. record { state = v.state; stored = put v.stored t p; queues = ls }) (is_lines ∙ ap (λ x. moved v.queues x t p) (sym at))
+    ap (λ ss. record v { state = v.state; stored = ss; queues = lines }) is
+    ∙ ap (λ ls. record v { state = v.state; stored = put v.stored t p; queues = ls }) (is_lines ∙ ap (λ x. moved v.queues x t p) (sym at))
 
 -- ---- what the calls on the lines ask for
-pub join_room : (v u : View) (t m : ℕ) → v ≡ u → IsTask u.state t → IsMutex u.state m → wait_of u.state t ≡ None → Ready v → length (queue_at v m) < (line_in v.queues m).room
+pub join_room :
+    (v u : View) (t m : ℕ)
+    → v ≡ u
+    → IsTask u.state t
+    → IsMutex u.state m
+    → wait_of u.state t ≡ None
+    → Ready v
+    → length (queue_at v m) < (line_in v.queues m).room
 join_room v u t m same known mutex idle ready =
     let isk : IsMutex v.state m = subst (λ (x : View). IsMutex x.state m) (sym same) mutex in
-    let short : length (queue_at v m) < length v.state.base = room_for v.state (stored_at v) m t (queue_at v m) ready.sound.lists (subst (λ (x : View). IsTask x.state t) (sym same) known) (not_waiting (wait_of v.state) m t (subst (λ (x : View). wait_of x.state t ≡ None) (sym same) idle)) (ready.queues m isk) in
+    let short : length (queue_at v m) < length v.state.base =
+    room_for v.state (stored_at v) m t (queue_at v m) ready.sound.lists (subst (λ (x : View). IsTask x.state t) (sym same) known)
+    (not_waiting (wait_of v.state) m t (subst (λ (x : View). wait_of x.state t ≡ None) (sym same) idle)) (ready.queues m isk) in
     omega (arith, short, ready.room m isk)
 
-pub stands_in : (v u : View) (t : ℕ) (w : Wait) → v ≡ u → Some w ≡ wait_of u.state t → Ready v → list_any (is_of t) (queue_at v w.mutex) ≡ true
+pub stands_in :
+    (v u : View) (t : ℕ) (w : Wait)
+    → v ≡ u
+    → Some w ≡ wait_of u.state t
+    → Ready v
+    → list_any (is_of t) (queue_at v w.mutex) ≡ true
 stands_in v u t w same at ready = stands v t w ready (subst (λ (x : View). wait_of x.state t ≡ Some w) (sym same) (sym at))
 
 pub inside_wait : (v u : View) (t : ℕ) (o o' : Option Wait) → v ≡ u → o ≡ wait_of u.state t → o ≡ o' → wait_of v.state t ≡ o'
@@ -117,7 +154,13 @@ stored_read v t k p low e short is =
     is ∙ sym (ap (λ o. unwrap_or o 0) (nth-get_or v.stored t (k - 1) p (omega (arith, low, e)) short))
 
 -- who doesn't wait is in no queue
-pub not_here : (v u : View) (t m : ℕ) → v ≡ u → IsMutex u.state m → wait_of u.state t ≡ None → Ready v → list_any (is_of t) (queue_at v m) ≡ false
+pub not_here :
+    (v u : View) (t m : ℕ)
+    → v ≡ u
+    → IsMutex u.state m
+    → wait_of u.state t ≡ None
+    → Ready v
+    → list_any (is_of t) (queue_at v m) ≡ false
 not_here v u t m same mutex idle ready = go (list_any (is_of t) (queue_at v m)) refl
   where
     q : IsQueue (wait_of v.state) (stored_at v) m (queue_at v m)
@@ -126,8 +169,10 @@ not_here v u t m same mutex idle ready = go (list_any (is_of t) (queue_at v m)) 
     go : (b : Bool) → list_any (is_of t) (queue_at v m) ≡ b → b ≡ false
     go false h = refl
     go true h =
-        let it : Found (is_of t) (Shows (wait_of v.state) (stored_at v) m) (queue_at v m) = found (is_of t) (Shows (wait_of v.state) (stored_at v) m) (queue_at v m) h q.sound in
-        absurd (none-some _ (sym (subst (λ (x : View). wait_of x.state t ≡ None) (sym same) idle) ∙ ap (wait_of v.state) (sym (eqb-true it.one.task t it.passes)) ∙ it.holds.waits))
+        let it : Found (is_of t) (Shows (wait_of v.state) (stored_at v) m) (queue_at v m) =
+        found (is_of t) (Shows (wait_of v.state) (stored_at v) m) (queue_at v m) h q.sound in
+        absurd (none-some _ (sym (subst (λ (x : View). wait_of x.state t ≡ None) (sym same) idle) ∙ ap (wait_of v.state)
+        (sym (eqb-true it.one.task t it.passes)) ∙ it.holds.waits))
 
 -- a ticket that nobody waits with is in no queue
 pub ticket_not_here :
@@ -145,17 +190,28 @@ ticket_not_here v u m k same mutex fresh ready = go (list_any (has_ticket k) (qu
     go : (b : Bool) → list_any (has_ticket k) (queue_at v m) ≡ b → b ≡ false
     go false h = refl
     go true h =
-        let it : Found (has_ticket k) (Shows (wait_of v.state) (stored_at v) m) (queue_at v m) = found (has_ticket k) (Shows (wait_of v.state) (stored_at v) m) (queue_at v m) h q.sound in
+        let it : Found (has_ticket k) (Shows (wait_of v.state) (stored_at v) m) (queue_at v m) =
+        found (has_ticket k) (Shows (wait_of v.state) (stored_at v) m) (queue_at v m) h q.sound in
         absurd (fresh it.one.task (subst (λ (x : View). wait_of x.state it.one.task ≡ Some (record { mutex = m; ticket = k })) same
         (it.holds.waits ∙ ap (λ n. Some (record { mutex = m; ticket = n })) (eqb-true it.one.ticket k it.passes))))
 
 -- who waits with the ticket shows it
-ticket_there : (wait : ℕ → Option Wait) (stored : ℕ → ℕ) (m k t : ℕ) (ws : List Waiter) → wait t ≡ Some (record { mutex = m; ticket = k }) → AllByRecursion (Shows wait stored m) ws → list_any (is_of t) ws ≡ true → list_any (has_ticket k) ws ≡ true
+ticket_there :
+    (wait : ℕ → Option Wait) (stored : ℕ → ℕ) (m k t : ℕ) (ws : List Waiter)
+    → wait t ≡ Some (record { mutex = m; ticket = k })
+    → AllByRecursion (Shows wait stored m) ws
+    → list_any (is_of t) ws ≡ true
+    → list_any (has_ticket k) ws ≡ true
 ticket_there wait stored m k t [] at shows h = h
 ticket_there wait stored m k t (w ∷ ws) at shows h = go (or_cases _ _ h) (ticket_there wait stored m k t ws at shows.1)
   where
-    go : (is_of t w ≡ true) ⊎ (list_any (is_of t) ws ≡ true) → (list_any (is_of t) ws ≡ true → list_any (has_ticket k) ws ≡ true) → list_any (has_ticket k) (w ∷ ws) ≡ true
-    go (inl e) rest = or_left _ _ (eq-eqb w.ticket k (ap (λ (x : Wait). x.ticket) (same_Some _ _ (sym shows.0.waits ∙ ap wait (eqb-true w.task t e) ∙ at))))
+    go :
+        (is_of t w ≡ true) ⊎ (list_any (is_of t) ws ≡ true)
+        → (list_any (is_of t) ws ≡ true → list_any (has_ticket k) ws ≡ true)
+        → list_any (has_ticket k) (w ∷ ws) ≡ true
+    go (inl e) rest =
+        or_left _ _ (eq-eqb w.ticket k
+        (ap (λ (x : Wait). x.ticket) (same_Some _ _ (sym shows.0.waits ∙ ap wait (eqb-true w.task t e) ∙ at))))
     go (inr r) rest = or_right _ _ (rest r)
 
 -- a queue has the ticket exactly where somebody waits with it
@@ -167,23 +223,35 @@ pub ticket_told :
     × (((t : ℕ) × (wait_of v.state t ≡ Some (record { mutex = m; ticket = k }))) → list_any (has_ticket k) q.waiters ≡ true)
 ticket_told v m k q ready at = (
   (λ h.
-      let it : Found (has_ticket k) (Shows (wait_of v.state) (stored_at v) m) q.waiters = found (has_ticket k) (Shows (wait_of v.state) (stored_at v) m) q.waiters h here.sound in
+      let it : Found (has_ticket k) (Shows (wait_of v.state) (stored_at v) m) q.waiters =
+      found (has_ticket k) (Shows (wait_of v.state) (stored_at v) m) q.waiters h here.sound in
       (it.one.task, it.holds.waits ∙ ap (λ n. Some (record { mutex = m; ticket = n })) (eqb-true it.one.ticket k it.passes))),
-  (λ h. ticket_there (wait_of v.state) (stored_at v) m k h.0 q.waiters h.1 here.sound (here.complete h.0 (waits_for_from (wait_of v.state) h.0 _ h.1))),
+  (λ h. ticket_there (wait_of v.state) (stored_at v) m k h.0 q.waiters h.1 here.sound
+      (here.complete h.0 (waits_for_from (wait_of v.state) h.0 _ h.1))),
 )
   where
     isk : IsMutex v.state m
     isk = let within = nth_within v.queues m q at in (within.0, subst (λ n. m ≤ n) ready.queues_len within.1)
 
     here : IsQueue (wait_of v.state) (stored_at v) m q.waiters
-    here = subst (λ o. IsQueue (wait_of v.state) (stored_at v) m (unwrap_or {T = Line} o (record { waiters = []; room = 0 })).waiters) at (ready.queues m isk)
+    here =
+        subst (λ o. IsQueue (wait_of v.state) (stored_at v) m (unwrap_or {T = Line} o (record { waiters = []; room = 0 })).waiters) at
+        (ready.queues m isk)
 
 -- ---- the tables after a field was written
-pub owner_written : (v u : View) (m : ℕ) (o : Option ℕ) (owners : List (Option ℕ)) → v ≡ u → owners ≡ put v.state.owner m o → with_state v (record v.state { owner = owners }) ≡ with_state u (with_owner u.state m o)
+pub owner_written :
+    (v u : View) (m : ℕ) (o : Option ℕ) (owners : List (Option ℕ))
+    → v ≡ u
+    → owners ≡ put v.state.owner m o
+    → with_state v (record v.state { owner = owners }) ≡ with_state u (with_owner u.state m o)
 owner_written v u m o owners same is =
     ap (λ os. with_state v (record v.state { owner = os })) is ∙ ap (λ (x : View). with_state x (with_owner x.state m o)) same
 
-pub base_written : (v u : View) (t p : ℕ) (bases : List ℕ) → v ≡ u → bases ≡ put v.state.base t p → with_state v (record v.state { base = bases }) ≡ with_state u (with_base u.state t p)
+pub base_written :
+    (v u : View) (t p : ℕ) (bases : List ℕ)
+    → v ≡ u
+    → bases ≡ put v.state.base t p
+    → with_state v (record v.state { base = bases }) ≡ with_state u (with_base u.state t p)
 base_written v u t p bases same is =
     ap (λ bs. with_state v (record v.state { base = bs })) is ∙ ap (λ (x : View). with_state x (with_base x.state t p)) same
 
@@ -193,11 +261,12 @@ pub is_joined :
     → prio ≡ stored_at v t
     → waits ≡ put v.state.wait t (Some w)
     → lines ≡ put_queue v.queues w.mutex (insert_by precedes (queue_at v w.mutex) (record { task = t; prio = prio; ticket = w.ticket }))
-    → record { state = record v.state { wait = waits }; stored = v.stored; queues = lines } ≡ joined u t w
+    → record v { state = record v.state { wait = waits }; stored = v.stored; queues = lines } ≡ joined u t w
 is_joined v u t prio w waits lines same is_prio is_waits is_lines =
-    ap (λ ws. record { state = record v.state { wait = ws }; stored = v.stored; queues = lines }) is_waits
-    ∙ ap (λ ls. record { state = record v.state { wait = put v.state.wait t (Some w) }; stored = v.stored; queues = ls })
-    (is_lines ∙ ap (λ p. put_queue v.queues w.mutex (insert_by precedes (queue_at v w.mutex) (record { task = t; prio = p; ticket = w.ticket }))) is_prio)
+    ap (λ ws. record v { state = record v.state { wait = ws }; stored = v.stored; queues = lines }) is_waits
+    ∙ ap (λ ls. record v { state = record v.state { wait = put v.state.wait t (Some w) }; stored = v.stored; queues = ls })
+    (is_lines ∙ ap (λ p. put_queue v.queues w.mutex
+    (insert_by precedes (queue_at v w.mutex) (record { task = t; prio = p; ticket = w.ticket }))) is_prio)
     ∙ ap (λ x. joined x t w) same
 
 pub is_left :
@@ -205,8 +274,8 @@ pub is_left :
     → v ≡ u
     → waits ≡ put v.state.wait t None
     → lines ≡ put_queue v.queues m (without t (queue_at v m))
-    → record { state = record v.state { wait = waits }; stored = v.stored; queues = lines } ≡ left u t m
+    → record v { state = record v.state { wait = waits }; stored = v.stored; queues = lines } ≡ left u t m
 is_left v u t m waits lines same is_waits is_lines =
-    ap (λ ws. record { state = record v.state { wait = ws }; stored = v.stored; queues = lines }) is_waits
-    ∙ ap (λ ls. record { state = record v.state { wait = put v.state.wait t None }; stored = v.stored; queues = ls }) is_lines
+    ap (λ ws. record v { state = record v.state { wait = ws }; stored = v.stored; queues = lines }) is_waits
+    ∙ ap (λ ls. record v { state = record v.state { wait = put v.state.wait t None }; stored = v.stored; queues = ls }) is_lines
     ∙ ap (λ x. left x t m) same

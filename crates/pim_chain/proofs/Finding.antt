@@ -3,7 +3,7 @@ use Rattle.std.proofs.Common.{◌≡◌, ℕ, zero, suc, ◌<◌, ◌≤◌, Boo
 use Rattle.std.specs.List.{find}
 use Rattle.std.specs.Option.{option_or}
 use Rattle.std.proofs.lemmas.List.Folds.{find-append}
-use Rattle.std.proofs.lemmas.Bool.{and_parts, and_from, cases_lt}
+use Rattle.std.proofs.lemmas.Bool.{and_parts}
 use Rattle.pim_base.specs.Lists.{numbers}
 use Rattle.pim_base.proofs.Greatest.{filter_numbers-more}
 use Rattle.pim_chain.specs.Owned.{IsFirstAbove, IsNext}
@@ -20,7 +20,8 @@ find_here : (p : ℕ → Bool) (xs ys : List ℕ) (x : ℕ) → find p xs ≡ So
 find_here p xs ys x h = find-append p xs ys ∙ ap (λ o. option_or o (find p ys)) h
 
 filter_numbers-suc : (q : ℕ → Bool) (n : ℕ) → filter q (numbers (suc n)) ≡ filter q (numbers n) ++ cond (q (suc n)) (suc n ∷ []) []
-filter_numbers-suc q n = subst (λ k. filter q (numbers k) ≡ filter q (numbers n) ++ cond (q k) (k ∷ []) []) (add-one n) (filter_numbers-more q n)
+filter_numbers-suc q n =
+    subst (λ k. filter q (numbers k) ≡ filter q (numbers n) ++ cond (q k) (k ∷ []) []) (add-one n) (filter_numbers-more q n)
 
 find_one : (p : ℕ → Bool) (b : Bool) (x : ℕ) → (b && p x) ≡ false → find p (cond b (x ∷ []) []) ≡ None
 find_one p false x h = refl
@@ -37,7 +38,10 @@ pub find_some : (p q : ℕ → Bool) (n m : ℕ) → m ≤ n → IsFirstAbove (�
 find_some p q zero m le first = let above : 0 < m = first.above in absurd (omega (arith, above))
 find_some p q (suc n) m le first = go (eq-or-lt_of_le le) (find_some p q n m)
   where
-    go : (m ≡ suc n) ⊎ (m < suc n) → (m ≤ n → IsFirstAbove (λ k. q k && p k) 0 m → find p (filter q (numbers n)) ≡ Some m) → find p (filter q (numbers (suc n))) ≡ Some m
+    go :
+        (m ≡ suc n) ⊎ (m < suc n)
+        → (m ≤ n → IsFirstAbove (λ k. q k && p k) 0 m → find p (filter q (numbers n)) ≡ Some m)
+        → find p (filter q (numbers (suc n))) ≡ Some m
     go (inr less) rest = ap (find p) (filter_numbers-suc q n) ∙ find_here p (filter q (numbers n)) _ m (rest (omega arith) first)
     go (inl is) rest =
         let both : (q (suc n) ≡ true) × (p (suc n) ≡ true) = and_parts _ _ (subst (λ k. (q k && p k) ≡ true) is first.passes) in

@@ -25,7 +25,10 @@ owned_known S lists m t h = go (nth S.owner m) refl (from_holds (owner_of S m) t
         (within.0, subst (λ n. m ≤ n) lists.owners within.1)
 
 -- ---- numbers that don't pass add nothing
-greatest_of-skip : (f : ℕ → ℕ) (p : ℕ → Bool) (n d : ℕ) → ((k : ℕ) → n < k → k ≤ n + d → p k ≡ false) → greatest_of f p (n + d) ≡ greatest_of f p n
+greatest_of-skip :
+    (f : ℕ → ℕ) (p : ℕ → Bool) (n d : ℕ)
+    → ((k : ℕ) → n < k → k ≤ n + d → p k ≡ false)
+    → greatest_of f p (n + d) ≡ greatest_of f p n
 greatest_of-skip f p n zero none = ap (greatest_of f p) (omega arith)
 greatest_of-skip f p n (suc d) none =
     greatest_of-fail f p (n + suc d) (n + d) (omega arith) (none (n + suc d) (omega arith) (omega arith))
@@ -44,7 +47,8 @@ not_heir S m t away = go (holds (heir_of S m) t) refl
     go : (b : Bool) → holds (heir_of S m) t ≡ b → b ≡ false
     go false h = refl
     go true h =
-        absurd (both_ways _ away (holds_from (owner_of S m) t (heir_in-owner (protocol_of S m) (owner_of S m) t (from_holds (heir_of S m) t h))))
+        absurd (both_ways _ away
+        (holds_from (owner_of S m) t (heir_in-owner (protocol_of S m) (owner_of S m) t (from_holds (heir_of S m) t h))))
 
 -- an owner is the heir where anybody is
 heir_is : (S : State) (m t : ℕ) → owner_of S m ≡ Some t → holds (heir_of S m) t ≡ is_some (heir_of S m)
@@ -58,40 +62,63 @@ heir_is S m t owns = go (protocol_of S m)
     go Protocol.None = refl
     go (Protocol.Protect c) = refl
 
-as_far_skip : (v : View) (t n m prio : ℕ) → n ≤ m → ((k : ℕ) → n < k → k ≤ m → holds (owner_of v.state k) t ≡ false) → AsFar v t n prio → AsFar v t m prio
+as_far_skip :
+    (v : View) (t n m prio : ℕ)
+    → n ≤ m
+    → ((k : ℕ) → n < k → k ≤ m → holds (owner_of v.state k) t ≡ false)
+    → AsFar v t n prio
+    → AsFar v t m prio
 as_far_skip v t n m prio le none so_far = subst (λ k. AsFar v t k prio) is
     (so_far
     ∙ ap (λ x. max (max (base_of v.state t) x) (greatest_of (λ m. front_prio (queue_at v m)) (λ m. holds (heir_of v.state m) t) n))
-    (sym (greatest_of-skip (ceiling_of v.state) (λ m. holds (owner_of v.state m) t) n (m - n) (λ k low high. none k low (omega (arith, high, le)))))
+    (sym (greatest_of-skip (ceiling_of v.state) (λ m. holds (owner_of v.state m) t) n (m - n)
+    (λ k low high. none k low (omega (arith, high, le)))))
     ∙ ap (max (max (base_of v.state t) (greatest_of (ceiling_of v.state) (λ m. holds (owner_of v.state m) t) (n + (m - n)))))
-    (sym (greatest_of-skip (λ m. front_prio (queue_at v m)) (λ m. holds (heir_of v.state m) t) n (m - n) (λ k low high. not_heir v.state k t (none k low (omega (arith, high, le)))))))
+    (sym (greatest_of-skip (λ m. front_prio (queue_at v m)) (λ m. holds (heir_of v.state m) t) n (m - n)
+    (λ k low high. not_heir v.state k t (none k low (omega (arith, high, le)))))))
   where
     is : n + (m - n) ≡ m
     is = omega (arith, le)
 
 -- the next owned mutex adds what it lends
-pub as_far_next : (v : View) (t n m prio : ℕ) → IsFirstAbove (λ k. holds (owner_of v.state k) t) n m → AsFar v t n prio → AsFar v t m (max prio (worth v m))
+pub as_far_next :
+    (v : View) (t n m prio : ℕ)
+    → IsFirstAbove (λ k. holds (owner_of v.state k) t) n m
+    → AsFar v t n prio
+    → AsFar v t m (max prio (worth v m))
 as_far_next v t n zero prio next so_far = let above : n < 0 = next.above in absurd (omega (arith, above))
 as_far_next v t n (suc m) prio next so_far =
     let above : n < suc m = next.above in
-    let before : AsFar v t m prio = as_far_skip v t n m prio (omega (arith, above)) (λ k low high. next.none_between k low (omega (arith, high))) so_far in
+    let before : AsFar v t m prio =
+    as_far_skip v t n m prio (omega (arith, above)) (λ k low high. next.none_between k low (omega (arith, high))) so_far in
     let one : greatest_of (ceiling_of v.state) (λ k. holds (owner_of v.state k) t) (suc m) ≡ max (greatest_of (ceiling_of v.state) (λ k. holds (owner_of v.state k) t) m) (cond (holds (owner_of v.state (suc m)) t) (ceiling_of v.state (suc m)) 0) =
     greatest_of-more (ceiling_of v.state) (λ k. holds (owner_of v.state k) t) (suc m) m (omega arith) in
     let two : greatest_of (λ k. front_prio (queue_at v k)) (λ k. holds (heir_of v.state k) t) (suc m) ≡ max (greatest_of (λ k. front_prio (queue_at v k)) (λ k. holds (heir_of v.state k) t) m) (cond (holds (heir_of v.state (suc m)) t) (front_prio (queue_at v (suc m))) 0) =
     greatest_of-more (λ k. front_prio (queue_at v k)) (λ k. holds (heir_of v.state k) t) (suc m) m (omega arith) in
-    let owns : cond (holds (owner_of v.state (suc m)) t) (ceiling_of v.state (suc m)) 0 ≡ ceiling_of v.state (suc m) = ap (λ b. cond b (ceiling_of v.state (suc m)) 0) next.passes in
+    let owns : cond (holds (owner_of v.state (suc m)) t) (ceiling_of v.state (suc m)) 0 ≡ ceiling_of v.state (suc m) =
+    ap (λ b. cond b (ceiling_of v.state (suc m)) 0) next.passes in
     let inherits : cond (holds (heir_of v.state (suc m)) t) (front_prio (queue_at v (suc m))) 0 ≡ cond (is_some (heir_of v.state (suc m))) (front_prio (queue_at v (suc m))) 0 =
-    ap (λ b. cond b (front_prio (queue_at v (suc m))) 0) (heir_is v.state (suc m) t (from_holds (owner_of v.state (suc m)) t next.passes)) in
+    ap (λ b. cond b (front_prio (queue_at v (suc m))) 0)
+    (heir_is v.state (suc m) t (from_holds (owner_of v.state (suc m)) t next.passes)) in
     omega (arith, one, two, owns, inherits, before)
 
 -- behind the last one it is the local priority
-pub as_far_all : (v : View) (t n prio : ℕ) → Ready v → n ≤ length v.state.protocol → ((k : ℕ) → n < k → holds (owner_of v.state k) t ≡ false) → AsFar v t n prio → prio ≡ local_priority v.state (stored_at v) t
+pub as_far_all :
+    (v : View) (t n prio : ℕ)
+    → Ready v
+    → n ≤ length v.state.protocol
+    → ((k : ℕ) → n < k → holds (owner_of v.state k) t ≡ false)
+    → AsFar v t n prio
+    → prio ≡ local_priority v.state (stored_at v) t
 as_far_all v t n prio ready le none so_far =
     as_far_skip v t n (length v.state.protocol) prio le (λ k low _. none k low) so_far
-    ∙ ap (λ o. max o (greatest_of (λ m. front_prio (queue_at v m)) (λ m. holds (heir_of v.state m) t) (length v.state.protocol))) (sym (greatest-cons (base_of v.state t) (map (ceiling_of v.state) (owned v.state t))))
+    ∙ ap (λ o. max o (greatest_of (λ m. front_prio (queue_at v m)) (λ m. holds (heir_of v.state m) t) (length v.state.protocol)))
+    (sym (greatest-cons (base_of v.state t) (map (ceiling_of v.state) (owned v.state t))))
     ∙ ap (max (own_priority v.state t)) (le_antisymm
-    (greatest_of-below (λ m. front_prio (queue_at v m)) (top v.state (stored_at v)) (λ m. holds (heir_of v.state m) t) (λ m. holds (heir_of v.state m) t) (length v.state.protocol) (λ m low high h. (h, sym (fronts m low high))))
-    (greatest_of-below (top v.state (stored_at v)) (λ m. front_prio (queue_at v m)) (λ m. holds (heir_of v.state m) t) (λ m. holds (heir_of v.state m) t) (length v.state.protocol) (λ m low high h. (h, fronts m low high))))
+    (greatest_of-below (λ m. front_prio (queue_at v m)) (top v.state (stored_at v)) (λ m. holds (heir_of v.state m) t)
+    (λ m. holds (heir_of v.state m) t) (length v.state.protocol) (λ m low high h. (h, sym (fronts m low high))))
+    (greatest_of-below (top v.state (stored_at v)) (λ m. front_prio (queue_at v m)) (λ m. holds (heir_of v.state m) t)
+    (λ m. holds (heir_of v.state m) t) (length v.state.protocol) (λ m low high h. (h, fronts m low high))))
     ∙ sym (local_by_mutexes v.state (stored_at v) t ready.waits)
   where
     fronts : (m : ℕ) → 1 ≤ m → m ≤ length v.state.protocol → top v.state (stored_at v) m ≡ front_prio (queue_at v m)

@@ -22,17 +22,25 @@ greatest_of-more f p n m e = go (p n) refl
     go true h = greatest_of-pass f p n m e h
     go false h = let same : greatest_of f p n ≡ greatest_of f p m = greatest_of-fail f p n m e h in omega arith
 
-pub greatest_of-below : (f g : ℕ → ℕ) (p q : ℕ → Bool) (n : ℕ) → ((k : ℕ) → 1 ≤ k → k ≤ n → p k ≡ true → (q k ≡ true) × (f k ≡ g k)) → greatest_of f p n ≤ greatest_of g q n
+pub greatest_of-below :
+    (f g : ℕ → ℕ) (p q : ℕ → Bool) (n : ℕ)
+    → ((k : ℕ) → 1 ≤ k → k ≤ n → p k ≡ true → (q k ≡ true) × (f k ≡ g k))
+    → greatest_of f p n ≤ greatest_of g q n
 greatest_of-below f g p q n h =
     greatest_of-le f p n (greatest_of g q n) (λ k low high passes.
     let both : (q k ≡ true) × (f k ≡ g k) = h k low high passes in
     subst (λ x. x ≤ greatest_of g q n) (sym both.1) (le-greatest_of g q n k low high both.0))
 
-pub local_priority-same : (S : State) (f g : ℕ → ℕ) (t : ℕ) → ((u : ℕ) → IsTask S u → heir S u ≡ Some t → f u ≡ g u) → local_priority S f t ≡ local_priority S g t
+pub local_priority-same :
+    (S : State) (f g : ℕ → ℕ) (t : ℕ)
+    → ((u : ℕ) → IsTask S u → heir S u ≡ Some t → f u ≡ g u)
+    → local_priority S f t ≡ local_priority S g t
 local_priority-same S f g t same =
     le_antisymm
-    (local_priority-le S f t (local_priority S g t) (own_priority-le-local_priority S g t) (λ u task e. subst (λ x. x ≤ local_priority S g t) (sym (same u task e)) (stored-le-local_priority S g u t task e)))
-    (local_priority-le S g t (local_priority S f t) (own_priority-le-local_priority S f t) (λ u task e. subst (λ x. x ≤ local_priority S f t) (same u task e) (stored-le-local_priority S f u t task e)))
+    (local_priority-le S f t (local_priority S g t) (own_priority-le-local_priority S g t)
+    (λ u task e. subst (λ x. x ≤ local_priority S g t) (sym (same u task e)) (stored-le-local_priority S g u t task e)))
+    (local_priority-le S g t (local_priority S f t) (own_priority-le-local_priority S f t)
+    (λ u task e. subst (λ x. x ≤ local_priority S f t) (same u task e) (stored-le-local_priority S f u t task e)))
 
 pub no_self_heir : (S : State) → IsSound S → (x : ℕ) → IsTask S x → heir S x ≡ Some x → ⊥
 no_self_heir S ok x task e = none_inherits_back S ok x 0 (omega (arith, task.0, task.1)) (hops_front (heir S) 0 x x e)
@@ -43,21 +51,36 @@ pub record Mends (S : State) (f g : ℕ → ℕ) (x : ℕ) : Type 0 where
   pub others : (u : ℕ) → (u ≡ x → ⊥) → g u ≡ f u
 
 -- whom the priority of x isn't handed on to, sees no change
-local_kept : (S : State) (f g : ℕ → ℕ) (x t : ℕ) → ((u : ℕ) → (u ≡ x → ⊥) → g u ≡ f u) → (heir S x ≡ Some t → ⊥) → local_priority S f t ≡ local_priority S g t
-local_kept S f g x t others away = local_priority-same S f g t (λ u _ e. sym (others u (λ same. away (subst (λ v. heir S v ≡ Some t) same e))))
+local_kept :
+    (S : State) (f g : ℕ → ℕ) (x t : ℕ)
+    → ((u : ℕ) → (u ≡ x → ⊥) → g u ≡ f u)
+    → (heir S x ≡ Some t → ⊥)
+    → local_priority S f t ≡ local_priority S g t
+local_kept S f g x t others away =
+    local_priority-same S f g t (λ u _ e. sym (others u (λ same. away (subst (λ v. heir S v ≡ Some t) same e))))
 
-pub mended_onward : (S : State) (f g : ℕ → ℕ) (x : ℕ) → IsSound S → IsTask S x → SettledBut S f (Some x) → Mends S f g x → SettledBut S g (heir S x)
+pub mended_onward :
+    (S : State) (f g : ℕ → ℕ) (x : ℕ)
+    → IsSound S
+    → IsTask S x
+    → SettledBut S f (Some x)
+    → Mends S f g x
+    → SettledBut S g (heir S x)
 mended_onward S f g x ok known settled mends t task away = go (cases_eq t x)
   where
     go : (t ≡ x) ⊎ (t ≡ x → ⊥) → g t ≡ local_priority S g t
-    go (inl same) = subst (λ v. g v ≡ local_priority S g v) (sym same) (mends.mended ∙ local_kept S f g x x mends.others (no_self_heir S ok x known))
+    go (inl same) =
+        subst (λ v. g v ≡ local_priority S g v) (sym same) (mends.mended ∙ local_kept S f g x x mends.others (no_self_heir S ok x known))
     go (inr ne) = mends.others t ne ∙ settled t task (λ e. ne (sym (same_Some _ _ e))) ∙ local_kept S f g x t mends.others away
 
 -- ---- by mutexes
 pub heir_at : (S : State) (m u : ℕ) → waits_for (wait_of S) m u ≡ true → heir S u ≡ heir_of S m
 heir_at S m u h = go (wait_of S u) h
   where
-    go : (o : Option Wait) → option_map_or (λ (w : Wait). eqb w.mutex m) o false ≡ true → option_and_then (λ (w : Wait). heir_of S w.mutex) o ≡ heir_of S m
+    go :
+        (o : Option Wait)
+        → option_map_or (λ (w : Wait). eqb w.mutex m) o false ≡ true
+        → option_and_then (λ (w : Wait). heir_of S w.mutex) o ≡ heir_of S m
     go None k = absurd (none_true k)
       where
         none_true : false ≡ true → ⊥
@@ -85,20 +108,41 @@ abbrev pub top : State → (ℕ → ℕ) → ℕ → ℕ
 top S stored m = greatest_of stored (waits_for (wait_of S) m) (length S.base)
 
 -- where the greatest at the mutex of x stays what it was, nobody sees a change
-local_under : (S : State) (f g : ℕ → ℕ) (x y m : ℕ) → ((u : ℕ) → (u ≡ x → ⊥) → f u ≡ g u) → heir_of S m ≡ Some y → IsTask S x → waits_for (wait_of S) m x ≡ true → top S f m ≡ top S g m → local_priority S f y ≤ local_priority S g y
-local_under S f g x y m others leads known inside same = local_priority-le S f y (local_priority S g y) (own_priority-le-local_priority S g y) each
+local_under :
+    (S : State) (f g : ℕ → ℕ) (x y m : ℕ)
+    → ((u : ℕ) → (u ≡ x → ⊥) → f u ≡ g u)
+    → heir_of S m ≡ Some y
+    → IsTask S x
+    → waits_for (wait_of S) m x ≡ true
+    → top S f m ≡ top S g m
+    → local_priority S f y ≤ local_priority S g y
+local_under S f g x y m others leads known inside same =
+    local_priority-le S f y (local_priority S g y) (own_priority-le-local_priority S g y) each
   where
     best : top S g m ≤ local_priority S g y
-    best = greatest_of-le g (waits_for (wait_of S) m) (length S.base) (local_priority S g y) (λ u low high h. stored-le-local_priority S g u y (low, high) (heir_at S m u h ∙ leads))
+    best =
+        greatest_of-le g (waits_for (wait_of S) m) (length S.base) (local_priority S g y)
+        (λ u low high h. stored-le-local_priority S g u y (low, high) (heir_at S m u h ∙ leads))
 
     each : (u : ℕ) → IsTask S u → heir S u ≡ Some y → f u ≤ local_priority S g y
     each u task e = go (cases_eq u x)
       where
         go : (u ≡ x) ⊎ (u ≡ x → ⊥) → f u ≤ local_priority S g y
-        go (inl is) = subst (λ v. f v ≤ local_priority S g y) (sym is) (le_trans (le-greatest_of f (waits_for (wait_of S) m) (length S.base) x known.0 known.1 inside) (subst (λ v. v ≤ local_priority S g y) (sym same) best))
+        go (inl is) =
+            subst (λ v. f v ≤ local_priority S g y) (sym is)
+            (le_trans (le-greatest_of f (waits_for (wait_of S) m) (length S.base) x known.0 known.1 inside)
+            (subst (λ v. v ≤ local_priority S g y) (sym same) best))
         go (inr ne) = subst (λ v. v ≤ local_priority S g y) (sym (others u ne)) (stored-le-local_priority S g u y task e)
 
-pub mended_stop : (S : State) (f g : ℕ → ℕ) (x m : ℕ) → IsSound S → IsTask S x → SettledBut S f (Some x) → Mends S f g x → waits_for (wait_of S) m x ≡ true → top S g m ≡ top S f m → SettledBut S g None
+pub mended_stop :
+    (S : State) (f g : ℕ → ℕ) (x m : ℕ)
+    → IsSound S
+    → IsTask S x
+    → SettledBut S f (Some x)
+    → Mends S f g x
+    → waits_for (wait_of S) m x ≡ true
+    → top S g m ≡ top S f m
+    → SettledBut S g None
 mended_stop S f g x m ok known settled mends inside same t task _ = go (heir S x) refl
   where
     onward : SettledBut S g (heir S x)

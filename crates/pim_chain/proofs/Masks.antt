@@ -23,15 +23,22 @@ rest_same word low i within above below =
     least b small = omega arith
 
 rest_below : (word low i : ℕ) → low < 64 → i < low → bit_at (rest_of word low) i ≡ 0
-rest_below word low i within below = masked word low i within ∙ ap (min (bit_at word i)) (bit_at_mask_below low 64 i below) ∙ none (bit_at word i)
+rest_below word low i within below =
+    masked word low i within ∙ ap (min (bit_at word i)) (bit_at_mask_below low 64 i below) ∙ none (bit_at word i)
   where
     none : (b : ℕ) → min b 0 ≡ 0
     none b = omega arith
 
 pub none_from : (word low : ℕ) → low < 64 → rest_of word low ≡ 0 → NoneFrom word low
-none_from word low within nothing i above below = sym (rest_same word low i within above below) ∙ ap (λ r. bit_at r i) nothing ∙ bit_at-zero i
+none_from word low within nothing i above below =
+    sym (rest_same word low i within above below) ∙ ap (λ r. bit_at r i) nothing ∙ bit_at-zero i
 
-pub lowest_from : (word low : ℕ) → low < 64 → 0 < rest_of word low → rest_of word low < 2 ^ 64 → IsLowestFrom word low (trailing_zeros w64 (rest_of word low))
+pub lowest_from :
+    (word low : ℕ)
+    → low < 64
+    → 0 < rest_of word low
+    → rest_of word low < 2 ^ 64
+    → IsLowestFrom word low (trailing_zeros w64 (rest_of word low))
 lowest_from word low within some fits =
     let found = bit_at-trailing_zeros w64 (rest_of word low) some fits in
     at (trailing_zeros w64 (rest_of word low)) found.0 found.1 found.2 (cases_lt (trailing_zeros w64 (rest_of word low)) low)
@@ -46,7 +53,8 @@ lowest_from word low within some fits =
         → ((i : ℕ) → i < place → bit_at (rest_of word low) i ≡ 0)
         → (place < low) ⊎ (low ≤ place)
         → IsLowestFrom word low place
-    at place small is_set none (inl below) = absurd (one_zero (bit_at (rest_of word low) place) is_set (rest_below word low place within below))
+    at place small is_set none (inl below) =
+        absurd (one_zero (bit_at (rest_of word low) place) is_set (rest_below word low place within below))
     at place small is_set none (inr above) = record {
       above = above;
       within = small;
@@ -61,7 +69,13 @@ bit_there words index place within =
     let rest : (64 * index + place) % 64 ≡ place = omega arith in
     ap (λ i. bit_at (slice_index words i) ((64 * index + place) % 64)) word ∙ ap (bit_at (slice_index words index)) rest
 
-not_there : (words : List ℕ) (index low bound k : ℕ) → bound ≤ 64 → ((i : ℕ) → low ≤ i → i < bound → bit_at (slice_index words index) i ≡ 0) → 64 * index + low ≤ k → k < 64 * index + bound → has words k ≡ false
+not_there :
+    (words : List ℕ) (index low bound k : ℕ)
+    → bound ≤ 64
+    → ((i : ℕ) → low ≤ i → i < bound → bit_at (slice_index words index) i ≡ 0)
+    → 64 * index + low ≤ k
+    → k < 64 * index + bound
+    → has words k ≡ false
 not_there words index low bound k few none above below =
     let is : 64 * index + (k - 64 * index) ≡ k = omega arith in
     ap (λ b. b == 1)

@@ -46,19 +46,31 @@ among_more S n u ne = go (cases_lt n u)
     go (inr l) = among_in S (suc n) u (omega (arith, l)) ∙ sym (among_in S n u l)
 
 waiter_none : (S : State) (m t : ℕ) (o : Option Wait) → wait_of S t ≡ o → (waits_for (wait_of S) m t ≡ true → ⊥) → waiter_of S m t ≡ None
-waiter_none S m t None e away = ap (option_and_then (λ (w : Wait). cond {A = Option Waiter} (eqb w.mutex m) (Some (record { task = t; prio = effective_priority S t; ticket = w.ticket })) None)) e
+waiter_none S m t None e away =
+    ap (option_and_then (λ (w : Wait). cond {A = Option Waiter} (eqb w.mutex m)
+    (Some (record { task = t; prio = effective_priority S t; ticket = w.ticket })) None)) e
 waiter_none S m t (Some w) e away =
-    ap (option_and_then (λ (w : Wait). cond {A = Option Waiter} (eqb w.mutex m) (Some (record { task = t; prio = effective_priority S t; ticket = w.ticket })) None)) e
+    ap (option_and_then (λ (w : Wait). cond {A = Option Waiter} (eqb w.mutex m)
+    (Some (record { task = t; prio = effective_priority S t; ticket = w.ticket })) None)) e
     ∙ go (eqb w.mutex m) refl
   where
-    go : (b : Bool) → eqb w.mutex m ≡ b → cond {A = Option Waiter} b (Some (record { task = t; prio = effective_priority S t; ticket = w.ticket })) None ≡ None
+    go :
+        (b : Bool)
+        → eqb w.mutex m ≡ b
+        → cond {A = Option Waiter} b (Some (record { task = t; prio = effective_priority S t; ticket = w.ticket })) None ≡ None
     go false h = refl
     go true h = absurd (away (ap (λ o. option_map_or (λ (x : Wait). eqb x.mutex m) o false) e ∙ h))
 
-waiter_some : (S : State) (m t : ℕ) (w : Wait) → wait_of S t ≡ Some w → w.mutex ≡ m → waiter_of S m t ≡ Some (record { task = t; prio = effective_priority S t; ticket = w.ticket })
+waiter_some :
+    (S : State) (m t : ℕ) (w : Wait)
+    → wait_of S t ≡ Some w
+    → w.mutex ≡ m
+    → waiter_of S m t ≡ Some (record { task = t; prio = effective_priority S t; ticket = w.ticket })
 waiter_some S m t w e is =
-    ap (option_and_then (λ (w : Wait). cond {A = Option Waiter} (eqb w.mutex m) (Some (record { task = t; prio = effective_priority S t; ticket = w.ticket })) None)) e
-    ∙ ap (λ b. cond {A = Option Waiter} b (Some (record { task = t; prio = effective_priority S t; ticket = w.ticket })) None) (eq-eqb w.mutex m is)
+    ap (option_and_then (λ (w : Wait). cond {A = Option Waiter} (eqb w.mutex m)
+    (Some (record { task = t; prio = effective_priority S t; ticket = w.ticket })) None)) e
+    ∙ ap (λ b. cond {A = Option Waiter} b (Some (record { task = t; prio = effective_priority S t; ticket = w.ticket })) None)
+    (eq-eqb w.mutex m is)
 
 model_upto : (S : State) → WaitsFit S → (m n : ℕ) → IsQueue (among S n) (effective_priority S) m (queue_upto (waiter_of S m) n)
 model_upto S fit m zero = record {
@@ -78,22 +90,37 @@ model_upto S fit m (suc n) = go (model_upto S fit m n) (wait_of S (suc n)) refl
     idle : among S n (suc n) ≡ None
     idle = among_out S n (suc n) (omega arith)
 
-    kept : IsQueue (among S n) (effective_priority S) m (queue_upto (waiter_of S m) n) → (waits_for (wait_of S) m (suc n) ≡ true → ⊥) → IsQueue (among S (suc n)) (effective_priority S) m (queue_upto (waiter_of S m) (suc n))
+    kept :
+        IsQueue (among S n) (effective_priority S) m (queue_upto (waiter_of S m) n)
+        → (waits_for (wait_of S) m (suc n) ≡ true → ⊥)
+        → IsQueue (among S (suc n)) (effective_priority S) m (queue_upto (waiter_of S m) (suc n))
     kept q away =
-        subst (IsQueue (among S (suc n)) (effective_priority S) m) (sym (queue_upto-none (waiter_of S m) (suc n) n (omega arith) (waiter_none S m (suc n) (wait_of S (suc n)) refl away)))
-        (queue_kept (among S n) (among S (suc n)) (effective_priority S) (effective_priority S) (suc n) m (queue_upto (waiter_of S m) n) (among_more S n) (λ u _. refl) (not_waiting (among S n) m (suc n) idle)
+        subst (IsQueue (among S (suc n)) (effective_priority S) m)
+        (sym (queue_upto-none (waiter_of S m) (suc n) n (omega arith) (waiter_none S m (suc n) (wait_of S (suc n)) refl away)))
+        (queue_kept (among S n) (among S (suc n)) (effective_priority S) (effective_priority S) (suc n) m (queue_upto (waiter_of S m) n)
+        (among_more S n) (λ u _. refl) (not_waiting (among S n) m (suc n) idle)
         (λ h. away (ap (λ o. option_map_or (λ (x : Wait). eqb x.mutex m) o false) (sym here) ∙ h)) q)
 
-    go : IsQueue (among S n) (effective_priority S) m (queue_upto (waiter_of S m) n) → (o : Option Wait) → wait_of S (suc n) ≡ o → IsQueue (among S (suc n)) (effective_priority S) m (queue_upto (waiter_of S m) (suc n))
+    go :
+        IsQueue (among S n) (effective_priority S) m (queue_upto (waiter_of S m) n)
+        → (o : Option Wait)
+        → wait_of S (suc n) ≡ o
+        → IsQueue (among S (suc n)) (effective_priority S) m (queue_upto (waiter_of S m) (suc n))
     go q None e = kept q (not_waiting (wait_of S) m (suc n) e)
     go q (Some w) e = at (cases_eq w.mutex m)
       where
         at : (w.mutex ≡ m) ⊎ (w.mutex ≡ m → ⊥) → IsQueue (among S (suc n)) (effective_priority S) m (queue_upto (waiter_of S m) (suc n))
         at (inr ne) = kept q (λ h. ne (waits_once (wait_of S) m (suc n) w e h))
         at (inl is) =
-            subst (IsQueue (among S (suc n)) (effective_priority S) m) (sym (queue_upto-some (waiter_of S m) (suc n) n (record { task = suc n; prio = effective_priority S (suc n); ticket = w.ticket }) (omega arith) (waiter_some S m (suc n) w e is)))
-            (subst (λ k. IsQueue (among S (suc n)) (effective_priority S) k (insert_by precedes (queue_upto (waiter_of S m) n) (record { task = suc n; prio = effective_priority S (suc n); ticket = w.ticket }))) is
-            (queue_joined (among S n) (among S (suc n)) (effective_priority S) (effective_priority S) (suc n) w (queue_upto (waiter_of S m) n) (among_more S n) (λ u _. refl) (not_waiting (among S n) w.mutex (suc n) idle) (here ∙ e)
+            subst (IsQueue (among S (suc n)) (effective_priority S) m)
+            (sym (queue_upto-some (waiter_of S m) (suc n) n
+            (record { task = suc n; prio = effective_priority S (suc n); ticket = w.ticket }) (omega arith)
+            (waiter_some S m (suc n) w e is)))
+            (subst (λ k. IsQueue (among S (suc n)) (effective_priority S) k
+            (insert_by precedes (queue_upto (waiter_of S m) n)
+            (record { task = suc n; prio = effective_priority S (suc n); ticket = w.ticket }))) is
+            (queue_joined (among S n) (among S (suc n)) (effective_priority S) (effective_priority S) (suc n) w
+            (queue_upto (waiter_of S m) n) (among_more S n) (λ u _. refl) (not_waiting (among S n) w.mutex (suc n) idle) (here ∙ e)
             (λ u ne f. ne (fit.tickets u (suc n) w (known u f) e))
             (subst (λ k. IsQueue (among S n) (effective_priority S) k (queue_upto (waiter_of S m) n)) (sym is) q)))
           where
@@ -105,10 +132,15 @@ model_upto S fit m (suc n) = go (model_upto S fit m n) (wait_of S (suc n)) refl
                 from false g = g
 
 -- who is listed waits
-listed_waits : (wait : ℕ → Option Wait) (stored : ℕ → ℕ) (m t : ℕ) (ws : List Waiter) → list_any (is_of t) ws ≡ true → AllByRecursion (Shows wait stored m) ws → waits_for wait m t ≡ true
+listed_waits :
+    (wait : ℕ → Option Wait) (stored : ℕ → ℕ) (m t : ℕ) (ws : List Waiter)
+    → list_any (is_of t) ws ≡ true
+    → AllByRecursion (Shows wait stored m) ws
+    → waits_for wait m t ≡ true
 listed_waits wait stored m t ws h shows =
     let it : Found (is_of t) (Shows wait stored m) ws = found (is_of t) (Shows wait stored m) ws h shows in
-    subst (λ u. waits_for wait m u ≡ true) (eqb-true it.one.task t it.passes) (waits_for_from wait it.one.task (record { mutex = m; ticket = it.one.ticket }) it.holds.waits)
+    subst (λ u. waits_for wait m u ≡ true) (eqb-true it.one.task t it.passes)
+    (waits_for_from wait it.one.task (record { mutex = m; ticket = it.one.ticket }) it.holds.waits)
 
 among_from : (S : State) (n u : ℕ) (w : Wait) → among S n u ≡ Some w → wait_of S u ≡ Some w
 among_from S n u w e = go (ltb n u) e
@@ -135,7 +167,17 @@ queue_is v m calm known =
     let theirs = model_upto v.state calm.ready.waits m (length v.state.base) in
     same_queue (wait_of v.state) (stored_at v) m (queue_at v m) (queue_of v.state m) mine.ordered mine.sound theirs.ordered
     (all_each (Shows (among v.state (length v.state.base)) (effective_priority v.state) m) (Shows (wait_of v.state) (stored_at v) m) (λ w k.
-    let waits : wait_of v.state w.task ≡ Some (record { mutex = m; ticket = w.ticket }) = among_from v.state (length v.state.base) w.task (record { mutex = m; ticket = w.ticket }) k.waits in
-    record { waits = waits; prio = k.prio ∙ sym (settled_effective v.state (stored_at v) calm.ready.sound calm.settled w.task (waiting_known v.state calm.ready.sound.lists w.task _ waits)) }) (queue_of v.state m) theirs.sound)
-    (λ t h. theirs.complete t (same_waits_for (wait_of v.state) (among v.state (length v.state.base)) m t (sym (among_all v.state calm.ready.sound.lists t)) (listed_waits (wait_of v.state) (stored_at v) m t (queue_at v m) h mine.sound)))
-    (λ t h. mine.complete t (same_waits_for (among v.state (length v.state.base)) (wait_of v.state) m t (among_all v.state calm.ready.sound.lists t) (listed_waits (among v.state (length v.state.base)) (effective_priority v.state) m t (queue_of v.state m) h theirs.sound)))
+    let waits : wait_of v.state w.task ≡ Some (record { mutex = m; ticket = w.ticket }) =
+    among_from v.state (length v.state.base) w.task (record { mutex = m; ticket = w.ticket }) k.waits in
+    record {
+      waits = waits;
+      prio = k.prio ∙ sym
+          (settled_effective v.state (stored_at v) calm.ready.sound calm.settled w.task
+          (waiting_known v.state calm.ready.sound.lists w.task _ waits));
+    }) (queue_of v.state m) theirs.sound)
+    (λ t h. theirs.complete t
+    (same_waits_for (wait_of v.state) (among v.state (length v.state.base)) m t (sym (among_all v.state calm.ready.sound.lists t))
+    (listed_waits (wait_of v.state) (stored_at v) m t (queue_at v m) h mine.sound)))
+    (λ t h. mine.complete t
+    (same_waits_for (among v.state (length v.state.base)) (wait_of v.state) m t (among_all v.state calm.ready.sound.lists t)
+    (listed_waits (among v.state (length v.state.base)) (effective_priority v.state) m t (queue_of v.state m) h theirs.sound)))

@@ -40,20 +40,30 @@ owned_bound n owners sets after m t low high free owned low_t high_t len inserte
   members = λ u k low_u high_u. go u k low_u high_u (cases_eq u t) (cases_eq k m);
 }
   where
-    go : (u k : ℕ) → 1 ≤ u → u ≤ n → (u ≡ t) ⊎ (u ≡ t → ⊥) → (k ≡ m) ⊎ (k ≡ m → ⊥) → has (words_in after u) k ≡ holds (owner_in (put owners m (Some t)) k) u
+    go :
+        (u k : ℕ)
+        → 1 ≤ u
+        → u ≤ n
+        → (u ≡ t) ⊎ (u ≡ t → ⊥)
+        → (k ≡ m) ⊎ (k ≡ m → ⊥)
+        → has (words_in after u) k ≡ holds (owner_in (put owners m (Some t)) k) u
     go u k low_u high_u (inl is) (inl here) =
         subst (λ x. has (words_in after x) k ≡ holds (owner_in (put owners m (Some t)) k) x) (sym is)
         (inserted k ∙ ap (λ b. b || has (words_in sets t) k) (eq-eqb k m here)
-        ∙ sym (ap (λ j. holds (owner_in (put owners m (Some t)) j) t) here ∙ ap (λ o. holds o t) (owner_put owners m (Some t) low high) ∙ eq-eqb t t refl))
+        ∙ sym (ap (λ j. holds (owner_in (put owners m (Some t)) j) t) here ∙ ap (λ o. holds o t) (owner_put owners m (Some t) low high)
+        ∙ eq-eqb t t refl))
     go u k low_u high_u (inl is) (inr ne) =
         subst (λ x. has (words_in after x) k ≡ holds (owner_in (put owners m (Some t)) k) x) (sym is)
-        (inserted k ∙ ap (λ b. b || has (words_in sets t) k) (ne_eqb k m ne) ∙ owned.members t k low_t high_t ∙ ap (λ o. holds o t) (sym (owner_kept owners m k (Some t) ne)))
+        (inserted k ∙ ap (λ b. b || has (words_in sets t) k) (ne_eqb k m ne) ∙ owned.members t k low_t high_t ∙ ap (λ o. holds o t)
+        (sym (owner_kept owners m k (Some t) ne)))
     go u k low_u high_u (inr other) (inl here) =
         ap (λ ws. has ws k) (others u other) ∙ owned.members u k low_u high_u
         ∙ ap (λ j. holds (owner_in owners j) u) here ∙ ap (λ o. holds o u) free
-        ∙ sym (ap (λ j. holds (owner_in (put owners m (Some t)) j) u) here ∙ ap (λ o. holds o u) (owner_put owners m (Some t) low high) ∙ ne_eqb t u (λ e. other (sym e)))
+        ∙ sym (ap (λ j. holds (owner_in (put owners m (Some t)) j) u) here ∙ ap (λ o. holds o u) (owner_put owners m (Some t) low high)
+        ∙ ne_eqb t u (λ e. other (sym e)))
     go u k low_u high_u (inr other) (inr ne) =
-        ap (λ ws. has ws k) (others u other) ∙ owned.members u k low_u high_u ∙ ap (λ o. holds o u) (sym (owner_kept owners m k (Some t) ne))
+        ap (λ ws. has ws k) (others u other) ∙ owned.members u k low_u high_u ∙ ap (λ o. holds o u)
+        (sym (owner_kept owners m k (Some t) ne))
 
 -- the owned mutex is free
 pub owned_unbound :
@@ -76,12 +86,19 @@ owned_unbound n owners sets after m t low high mine owned low_t high_t len remov
     gone : (k u : ℕ) → k ≡ m → false ≡ holds (owner_in (put owners m None) k) u
     gone k u here = sym (ap (λ j. holds (owner_in (put owners m None) j) u) here ∙ ap (λ o. holds o u) (owner_put owners m None low high))
 
-    go : (u k : ℕ) → 1 ≤ u → u ≤ n → (u ≡ t) ⊎ (u ≡ t → ⊥) → (k ≡ m) ⊎ (k ≡ m → ⊥) → has (words_in after u) k ≡ holds (owner_in (put owners m None) k) u
+    go :
+        (u k : ℕ)
+        → 1 ≤ u
+        → u ≤ n
+        → (u ≡ t) ⊎ (u ≡ t → ⊥)
+        → (k ≡ m) ⊎ (k ≡ m → ⊥)
+        → has (words_in after u) k ≡ holds (owner_in (put owners m None) k) u
     go u k low_u high_u (inl is) (inl here) =
         ap (λ x. has (words_in after x) k) is ∙ removed k ∙ ap (λ b. not b && has (words_in sets t) k) (eq-eqb k m here) ∙ gone k u here
     go u k low_u high_u (inl is) (inr ne) =
         subst (λ x. has (words_in after x) k ≡ holds (owner_in (put owners m None) k) x) (sym is)
-        (removed k ∙ ap (λ b. not b && has (words_in sets t) k) (ne_eqb k m ne) ∙ owned.members t k low_t high_t ∙ ap (λ o. holds o t) (sym (owner_kept owners m k None ne)))
+        (removed k ∙ ap (λ b. not b && has (words_in sets t) k) (ne_eqb k m ne) ∙ owned.members t k low_t high_t ∙ ap (λ o. holds o t)
+        (sym (owner_kept owners m k None ne)))
     go u k low_u high_u (inr other) (inl here) =
         ap (λ ws. has ws k) (others u other) ∙ owned.members u k low_u high_u
         ∙ ap (λ j. holds (owner_in owners j) u) here ∙ ap (λ o. holds o u) mine ∙ ne_eqb t u (λ e. other (sym e)) ∙ gone k u here
@@ -90,7 +107,11 @@ owned_unbound n owners sets after m t low high mine owned low_t high_t len remov
 
 -- ---- as the tables have it
 -- nothing is owned
-pub none_owned : (n k : ℕ) (s : NumberSet) (sets : List NumberSet) → ((m : ℕ) → has s.words m ≡ false) → sets ≡ replicate n s → AreOwned n (replicate k None) sets
+pub none_owned :
+    (n k : ℕ) (s : NumberSet) (sets : List NumberSet)
+    → ((m : ℕ) → has s.words m ≡ false)
+    → sets ≡ replicate n s
+    → AreOwned n (replicate k None) sets
 none_owned n k s sets empty is = record {
   len = ap length is ∙ length-replicate n s;
   members = λ t m low high.
@@ -103,7 +124,8 @@ none_owned n k s sets empty is = record {
     words_same : (n t : ℕ) → 1 ≤ t → t ≤ n → words_in (replicate n s) t ≡ s.words
     words_same n t low high = ap (λ o. option_map_or (λ (x : NumberSet). x.words) o []) (nth-replicate_same n t s low high)
 
-module _ (v u : View) (same : v ≡ u) (ready : Ready v) (sets : List NumberSet) (owned : AreOwned (length v.state.base) v.state.owner sets) where
+module _ (v u : View) (same : v ≡ u) (ready : Ready v) (sets : List NumberSet)
+    (owned : AreOwned (length v.state.base) v.state.owner sets) where
   mutex_in : (m : ℕ) → IsMutex u.state m → (1 ≤ m) × (m ≤ length v.state.owner)
   mutex_in m known =
       let isk : IsMutex v.state m = subst (λ (x : View). IsMutex x.state m) (sym same) known in
@@ -145,7 +167,8 @@ module _ (v u : View) (same : v ≡ u) (ready : Ready v) (sets : List NumberSet)
 
   -- the task's set says what it owns
   pub sets_tell : (t k : ℕ) → has (words_in sets t) k ≡ holds (owner_of u.state k) t
-  sets_tell t k = subst (λ (x : View). has (words_in sets t) k ≡ holds (owner_of x.state k) t) same (go t (cases_lt (length v.state.base) t))
+  sets_tell t k =
+      subst (λ (x : View). has (words_in sets t) k ≡ holds (owner_of x.state k) t) same (go t (cases_lt (length v.state.base) t))
     where
       no_number : has [] k ≡ false
       no_number = ap (λ b. b == 1) (bit_at-zero (k % 64))

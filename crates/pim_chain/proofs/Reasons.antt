@@ -27,13 +27,22 @@ use Rattle.pim_chain.proofs.Models.{queue_is}
 use Rattle.pim_chain.proofs.Finding.{find_none, find_some, next_same}
 
 -- ---- the first has the priority where anybody has
-behind_first : (p : ℕ) (w : Waiter) (ws : List Waiter) → w.prio < p → AllByRecursion (λ v. precedes w v ≡ true) ws → list_any (λ (v : Waiter). v.prio == p) ws ≡ false
+behind_first :
+    (p : ℕ) (w : Waiter) (ws : List Waiter)
+    → w.prio < p
+    → AllByRecursion (λ v. precedes w v ≡ true) ws
+    → list_any (λ (v : Waiter). v.prio == p) ws ≡ false
 behind_first p w [] less h = refl
 behind_first p w (v ∷ vs) less h =
     let le : v.prio ≤ w.prio = before_prio w v h.0 in
     or_from _ _ (ne_eqb v.prio p (λ e. absurd (omega (arith, e, le, less)))) (behind_first p w vs less h.1)
 
-first_lends : (p : ℕ) (ws : List Waiter) → 1 ≤ p → IsOrdered ws → front_prio ws ≤ p → (front_prio ws == p) ≡ list_any (λ (v : Waiter). v.prio == p) ws
+first_lends :
+    (p : ℕ) (ws : List Waiter)
+    → 1 ≤ p
+    → IsOrdered ws
+    → front_prio ws ≤ p
+    → (front_prio ws == p) ≡ list_any (λ (v : Waiter). v.prio == p) ws
 first_lends p [] low ordered le = ne_eqb 0 p (λ e. absurd (omega (arith, e, low)))
 first_lends p (w ∷ ws) low ordered le = go (cases_eq w.prio p)
   where
@@ -71,7 +80,8 @@ module _ (v : View) (t : ℕ) (calm : Calm v) (known : IsTask v.state t) where
           → owns v t m ≡ a
           → (b : Bool)
           → is_inherit (protocol_of v.state m) ≡ b
-          → (a && (b && (front_prio (queue_at v m) == stored_at v t))) ≡ (a && (b && list_any (λ w. w.prio == stored_at v t) (queue_of v.state m)))
+          → (a && (b && (front_prio (queue_at v m) == stored_at v t))) ≡
+          (a && (b && list_any (λ w. w.prio == stored_at v t) (queue_of v.state m)))
       go false _ b _ = refl
       go true _ false _ = refl
       go true mine true inherit =
@@ -86,20 +96,29 @@ module _ (v : View) (t : ℕ) (calm : Calm v) (known : IsTask v.state t) where
 
   pub reason_base : stored_at v t ≡ base_of v.state t → Reason.Base ≡ reason_of v.state t
   reason_base is =
-      sym (ap (λ b. if b then Reason.Base else owning_reason v.state t (find (λ m. ceiling_of v.state m == effective_priority v.state t) (owned v.state t))) (eq-eqb _ _ (now ∙ is)))
+      sym (ap (λ b. if b then Reason.Base else owning_reason v.state t
+      (find (λ m. ceiling_of v.state m == effective_priority v.state t) (owned v.state t))) (eq-eqb _ _ (now ∙ is)))
 
   module _ (other : stored_at v t ≡ base_of v.state t → ⊥) where
     -- it isn't the base
-    from_owned : (o : Option ℕ) → find (λ m. ceiling_of v.state m == stored_at v t) (owned v.state t) ≡ o → reason_of v.state t ≡ owning_reason v.state t o
+    from_owned :
+        (o : Option ℕ)
+        → find (λ m. ceiling_of v.state m == stored_at v t) (owned v.state t) ≡ o
+        → reason_of v.state t ≡ owning_reason v.state t o
     from_owned o is =
-        ap (λ b. if b then Reason.Base else owning_reason v.state t (find (λ m. ceiling_of v.state m == effective_priority v.state t) (owned v.state t))) (ne_eqb _ _ (λ e. other (sym now ∙ e)))
+        ap (λ b. if b then Reason.Base else owning_reason v.state t
+        (find (λ m. ceiling_of v.state m == effective_priority v.state t) (owned v.state t))) (ne_eqb _ _ (λ e. other (sym now ∙ e)))
         ∙ ap (λ p. owning_reason v.state t (find (λ m. ceiling_of v.state m == p) (owned v.state t))) now
         ∙ ap (owning_reason v.state t) is
 
-    pub reason_ceiling : (m : ℕ) → IsFirstAbove (λ k. owns v t k && (ceiling_of v.state k == stored_at v t)) 0 m → Reason.Ceiling m ≡ reason_of v.state t
+    pub reason_ceiling :
+        (m : ℕ)
+        → IsFirstAbove (λ k. owns v t k && (ceiling_of v.state k == stored_at v t)) 0 m
+        → Reason.Ceiling m ≡ reason_of v.state t
     reason_ceiling m first =
         let isk : IsMutex v.state m = owned_known v.state calm.ready.sound.lists m t (and_parts _ _ first.passes).0 in
-        sym (from_owned (Some m) (find_some (λ k. ceiling_of v.state k == stored_at v t) (owns v t) (length v.state.protocol) m isk.1 first))
+        sym (from_owned (Some m)
+        (find_some (λ k. ceiling_of v.state k == stored_at v t) (owns v t) (length v.state.protocol) m isk.1 first))
 
     pub reason_waiter :
         (o : Option ℕ)
@@ -108,11 +127,15 @@ module _ (v : View) (t : ℕ) (calm : Calm v) (known : IsTask v.state t) where
         → 1 ≤ stored_at v t
         → waiter_reason v.state o ≡ reason_of v.state t
     reason_waiter o no_ceiling next low =
-        sym (from_owned None (find_none (λ k. ceiling_of v.state k == stored_at v t) (owns v t) (length v.state.protocol) (λ k above _. no_ceiling k above))
+        sym (from_owned None
+        (find_none (λ k. ceiling_of v.state k == stored_at v t) (owns v t) (length v.state.protocol) (λ k above _. no_ceiling k above))
         ∙ ap (λ p. waiter_reason v.state (find (lends v.state p) (owned v.state t))) now
         ∙ ap (waiter_reason v.state) (found o (next_same _ _ 0 o (same_lends low) next)))
       where
-        found : (o : Option ℕ) → IsNext (λ k. owns v t k && lends v.state (stored_at v t) k) 0 o → find (lends v.state (stored_at v t)) (owned v.state t) ≡ o
+        found :
+            (o : Option ℕ)
+            → IsNext (λ k. owns v t k && lends v.state (stored_at v t) k) 0 o
+            → find (lends v.state (stored_at v t)) (owned v.state t) ≡ o
         found None none = find_none (lends v.state (stored_at v t)) (owns v t) (length v.state.protocol) (λ k above _. none k above)
         found (Some m) first =
             find_some (lends v.state (stored_at v t)) (owns v t) (length v.state.protocol) m
@@ -120,4 +143,5 @@ module _ (v : View) (t : ℕ) (calm : Calm v) (known : IsTask v.state t) where
 
 -- the first waiter of the tables is the definitions'
 pub waiter_here : (v : View) (m : ℕ) → Calm v → IsMutex v.state m → first_reason v m ≡ waiter_reason v.state (Some m)
-waiter_here v m calm isk = ap (λ ws. option_map_or (λ (w : Waiter). Reason.Waiter w.task m) (head_of ws) Reason.Base) (queue_is v m calm isk)
+waiter_here v m calm isk =
+    ap (λ ws. option_map_or (λ (w : Waiter). Reason.Waiter w.task m) (head_of ws) Reason.Base) (queue_is v m calm isk)

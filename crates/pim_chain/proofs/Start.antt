@@ -65,7 +65,10 @@ module _ (bases : List ℕ) (protocols : List Protocol) where
     room = λ m known. subst (λ (q : Line). length bases ≤ q.room) (sym (empty m known)) (omega arith);
   }
     where
-      empty : (m : ℕ) → IsMutex (start bases protocols 0) m → line_in (fresh bases protocols).queues m ≡ record { waiters = []; room = length bases }
+      empty :
+          (m : ℕ)
+          → IsMutex (start bases protocols 0) m
+          → line_in (fresh bases protocols).queues m ≡ record { waiters = []; room = length bases }
       empty m known = ap (λ o. unwrap_or o (record { waiters = []; room = 0 })) (nth-replicate_same (length protocols) m _ known.0 known.1)
 
   -- nobody lends anything
@@ -74,7 +77,8 @@ module _ (bases : List ℕ) (protocols : List Protocol) where
       let whole : own_priority S t ≡ max (base_of S t) (greatest_of (ceiling_of S) (λ m. holds (owner_of S m) t) (length protocols)) =
       greatest-cons (base_of S t) (map (ceiling_of S) (owned S t)) in
       let none : greatest_of (ceiling_of S) (λ m. holds (owner_of S m) t) (length protocols) ≤ 0 =
-      greatest_of-le (ceiling_of S) (λ m. holds (owner_of S m) t) (length protocols) 0 (λ m _ _ h. absurd (both_ways false refl (ap (λ o. holds o t) (sym (free m)) ∙ h))) in
+      greatest_of-le (ceiling_of S) (λ m. holds (owner_of S m) t) (length protocols) 0
+      (λ m _ _ h. absurd (both_ways false refl (ap (λ o. holds o t) (sym (free m)) ∙ h))) in
       let least : own_priority S t ≤ local_priority S bases_of t = own_priority-le-local_priority S bases_of t in
       le_antisymm (omega (arith, whole, least))
       (local_priority-le S bases_of t (base_of S t) (omega (arith, whole, none)) (λ u task e. absurd (none-some t (sym (no_heir u) ∙ e))))
@@ -87,12 +91,13 @@ module _ (bases : List ℕ) (protocols : List Protocol) where
 
 pub is_fresh :
     (bases : List ℕ) (protocols : List Protocol)
-    (b : List ℕ) (p : List Protocol) (o : List (Option ℕ)) (w : List (Option Wait)) (s : List ℕ) (q : List Line)
+    (b : List ℕ) (p : List Protocol) (o : List (Option ℕ)) (w : List (Option Wait)) (s k : List ℕ) (q : List Line)
     → b ≡ bases
     → p ≡ protocols
     → o ≡ replicate (length protocols) None
     → w ≡ replicate (length bases) None
     → s ≡ bases
+    → k ≡ bases
     → q ≡ replicate (length protocols) (record { waiters = []; room = length bases })
-    → record { state = record { base = b; protocol = p; owner = o; wait = w; next = 0 }; stored = s; queues = q } ≡ fresh bases protocols
-is_fresh bases protocols b p o w s q is_b is_p is_o is_w is_s is_q = cc
+    → record { state = record { base = b; protocol = p; owner = o; wait = w; next = 0 }; stored = s; marked = k; queues = q } ≡ fresh bases protocols
+is_fresh bases protocols b p o w s k q is_b is_p is_o is_w is_s is_k is_q = cc

@@ -12,7 +12,12 @@ use Rattle.pim_chain.specs.Views.{Shows}
 use Rattle.pim_chain.proofs.Queues.{others_behind}
 
 -- two waiters of one task show the same
-same_waiter : (wait : ℕ → Option Wait) (stored : ℕ → ℕ) (m : ℕ) (a b : Waiter) → Shows wait stored m a → Shows wait stored m b → a.task ≡ b.task → a ≡ b
+same_waiter :
+    (wait : ℕ → Option Wait) (stored : ℕ → ℕ) (m : ℕ) (a b : Waiter)
+    → Shows wait stored m a
+    → Shows wait stored m b
+    → a.task ≡ b.task
+    → a ≡ b
 same_waiter wait stored m a b p q e =
     let ticket : a.ticket ≡ b.ticket = ap (λ (w : Wait). w.ticket) (same_Some _ _ (sym p.waits ∙ ap wait e ∙ q.waits)) in
     let prio : a.prio ≡ b.prio = p.prio ∙ ap stored e ∙ sym q.prio in
@@ -30,17 +35,33 @@ not_both a b h k = go (told_before a b h) (told_before b a k)
     go (inr x) (inr y) = let s : a.ticket < b.ticket = x.1 in let t : b.ticket < a.ticket = y.1 in omega (arith, s, t)
 
 -- the waiter is in the list where one of its task is
-head_or_behind : (wait : ℕ → Option Wait) (stored : ℕ → ℕ) (m : ℕ) (x y : Waiter) (ys : List Waiter) → Shows wait stored m x → Shows wait stored m y → AllByRecursion (λ v. precedes y v ≡ true) ys → AllByRecursion (Shows wait stored m) ys → list_any (is_of x.task) (y ∷ ys) ≡ true → (x ≡ y) ⊎ (precedes y x ≡ true)
+head_or_behind :
+    (wait : ℕ → Option Wait) (stored : ℕ → ℕ) (m : ℕ) (x y : Waiter) (ys : List Waiter)
+    → Shows wait stored m x
+    → Shows wait stored m y
+    → AllByRecursion (λ v. precedes y v ≡ true) ys
+    → AllByRecursion (Shows wait stored m) ys
+    → list_any (is_of x.task) (y ∷ ys) ≡ true
+    → (x ≡ y) ⊎ (precedes y x ≡ true)
 head_or_behind wait stored m x y ys px py behind shows h = go (or_cases _ _ h)
   where
     go : (is_of x.task y ≡ true) ⊎ (list_any (is_of x.task) ys ≡ true) → (x ≡ y) ⊎ (precedes y x ≡ true)
     go (inl e) = inl (same_waiter wait stored m x y px py (sym (eqb-true y.task x.task e)))
     go (inr r) =
-        let it : Found (is_of x.task) (λ v. (precedes y v ≡ true) × Shows wait stored m v) ys = found (is_of x.task) (λ v. (precedes y v ≡ true) × Shows wait stored m v) ys r (all_both (λ v. precedes y v ≡ true) (Shows wait stored m) (λ v. (precedes y v ≡ true) × Shows wait stored m v) (λ v a b. (a, b)) ys behind shows) in
-        inr (subst (λ v. precedes y v ≡ true) (same_waiter wait stored m it.one x it.holds.1 px (eqb-true it.one.task x.task it.passes)) it.holds.0)
+        let it : Found (is_of x.task) (λ v. (precedes y v ≡ true) × Shows wait stored m v) ys =
+        found (is_of x.task) (λ v. (precedes y v ≡ true) × Shows wait stored m v) ys r
+        (all_both (λ v. precedes y v ≡ true) (Shows wait stored m) (λ v. (precedes y v ≡ true) × Shows wait stored m v)
+        (λ v a b. (a, b)) ys behind shows) in
+        inr (subst (λ v. precedes y v ≡ true)
+        (same_waiter wait stored m it.one x it.holds.1 px (eqb-true it.one.task x.task it.passes)) it.holds.0)
 
 -- who stands behind the head isn't of its task
-behind_only : (x : Waiter) (xs : List Waiter) (t : ℕ) → AllByRecursion (λ u. x.task ≡ u.task → ⊥) xs → list_any (is_of t) xs ≡ true → x.task ≡ t → ⊥
+behind_only :
+    (x : Waiter) (xs : List Waiter) (t : ℕ)
+    → AllByRecursion (λ u. x.task ≡ u.task → ⊥) xs
+    → list_any (is_of t) xs ≡ true
+    → x.task ≡ t
+    → ⊥
 behind_only x xs t apart h e =
     let it : Found (is_of t) (λ u. x.task ≡ u.task → ⊥) xs = found (is_of t) (λ u. x.task ≡ u.task → ⊥) xs h apart in
     it.holds (e ∙ sym (eqb-true it.one.task t it.passes))
@@ -53,14 +74,20 @@ pub same_queue :
     → ((t : ℕ) → list_any (is_of t) ys ≡ true → list_any (is_of t) xs ≡ true)
     → xs ≡ ys
 same_queue wait stored m [] [] ox sx oy sy there back = refl
-same_queue wait stored m [] (y ∷ ys) ox sx oy sy there back = absurd (both_ways false refl (back y.task (or_left _ _ (eq-eqb y.task y.task refl))))
-same_queue wait stored m (x ∷ xs) [] ox sx oy sy there back = absurd (both_ways false refl (there x.task (or_left _ _ (eq-eqb x.task x.task refl))))
+same_queue wait stored m [] (y ∷ ys) ox sx oy sy there back =
+    absurd (both_ways false refl (back y.task (or_left _ _ (eq-eqb y.task y.task refl))))
+same_queue wait stored m (x ∷ xs) [] ox sx oy sy there back =
+    absurd (both_ways false refl (there x.task (or_left _ _ (eq-eqb x.task x.task refl))))
 same_queue wait stored m (x ∷ xs) (y ∷ ys) ox sx oy sy there back =
-    let same : x ≡ y = heads (head_or_behind wait stored m x y ys sx.0 sy.0 oy.0 sy.1 (there x.task (or_left _ _ (eq-eqb x.task x.task refl)))) (head_or_behind wait stored m y x xs sy.0 sx.0 ox.0 sx.1 (back y.task (or_left _ _ (eq-eqb y.task y.task refl)))) in
+    let same : x ≡ y =
+    heads (head_or_behind wait stored m x y ys sx.0 sy.0 oy.0 sy.1 (there x.task (or_left _ _ (eq-eqb x.task x.task refl))))
+    (head_or_behind wait stored m y x xs sy.0 sx.0 ox.0 sx.1 (back y.task (or_left _ _ (eq-eqb y.task y.task refl)))) in
     ap (λ v. v ∷ xs) same
     ∙ ap (λ r. y ∷ r) (same_queue wait stored m xs ys ox.1 sx.1 oy.1 sy.1
-    (λ t h. tail ys y t (λ e. behind_only x xs t (others_behind wait stored m x xs ox.0 sx.0 sx.1) h (ap (λ (v : Waiter). v.task) same ∙ e)) (there t (or_right _ _ h)))
-    (λ t h. tail xs x t (λ e. behind_only y ys t (others_behind wait stored m y ys oy.0 sy.0 sy.1) h (sym (ap (λ (v : Waiter). v.task) same) ∙ e)) (back t (or_right _ _ h))))
+    (λ t h. tail ys y t (λ e. behind_only x xs t (others_behind wait stored m x xs ox.0 sx.0 sx.1) h
+    (ap (λ (v : Waiter). v.task) same ∙ e)) (there t (or_right _ _ h)))
+    (λ t h. tail xs x t (λ e. behind_only y ys t (others_behind wait stored m y ys oy.0 sy.0 sy.1) h
+    (sym (ap (λ (v : Waiter). v.task) same) ∙ e)) (back t (or_right _ _ h))))
   where
     heads : (x ≡ y) ⊎ (precedes y x ≡ true) → (y ≡ x) ⊎ (precedes x y ≡ true) → x ≡ y
     heads (inl e) _ = e

@@ -10,7 +10,8 @@ use Rattle.pim_chain.proofs.Changes.{AtMost, DiffersAt, differs_settled, differs
 
 -- no task is number 0
 settled_all : (S : State) (stored : ℕ → ℕ) → SettledBut S stored (Some 0) → SettledBut S stored None
-settled_all S stored settled t task _ = settled t task (λ e. let same : 0 ≡ t = same_Some 0 t e in let low = task.0 in absurd (omega (arith, same, low)))
+settled_all S stored settled t task _ =
+    settled t task (λ e. let same : 0 ≡ t = same_Some 0 t e in let low = task.0 in absurd (omega (arith, same, low)))
 
 -- nobody but this one
 module _ (S T : State) (stored : ℕ → ℕ) (settled : SettledBut S stored None) where
@@ -18,22 +19,41 @@ module _ (S T : State) (stored : ℕ → ℕ) (settled : SettledBut S stored Non
   but (Some x) differs = differs_settled S T stored x (differs x (λ t e. sym (same_Some x t e))) settled
   but None differs = settled_all T stored (differs_settled S T stored 0 (differs 0 (λ t e. absurd (none-some t e))) settled)
 
-pub bound_unsettles : (S : State) (stored : ℕ → ℕ) (m t : ℕ) → owner_of S m ≡ None → SettledBut S stored None → SettledBut (with_owner S m (Some t)) stored (Some t)
+pub bound_unsettles :
+    (S : State) (stored : ℕ → ℕ) (m t : ℕ)
+    → owner_of S m ≡ None
+    → SettledBut S stored None
+    → SettledBut (with_owner S m (Some t)) stored (Some t)
 bound_unsettles S stored m t free settled =
-    differs_settled S (with_owner S m (Some t)) stored t (differs_owner S m (Some t) t (λ x e. absurd (none-some x (sym free ∙ e))) (λ x e. sym (same_Some t x e))) settled
+    differs_settled S (with_owner S m (Some t)) stored t
+    (differs_owner S m (Some t) t (λ x e. absurd (none-some x (sym free ∙ e))) (λ x e. sym (same_Some t x e))) settled
 
-pub unbound_unsettles : (S : State) (stored : ℕ → ℕ) (m : ℕ) → SettledBut S stored None → SettledBut (with_owner S m None) stored (owner_of S m)
+pub unbound_unsettles :
+    (S : State) (stored : ℕ → ℕ) (m : ℕ)
+    → SettledBut S stored None
+    → SettledBut (with_owner S m None) stored (owner_of S m)
 unbound_unsettles S stored m settled =
     but S (with_owner S m None) stored settled (owner_of S m) (λ x at. differs_owner S m None x at (λ t e. absurd (none-some t e)))
 
-pub joined_unsettles : (S : State) (stored : ℕ → ℕ) (t : ℕ) (w : Wait) → IsState S → IsTask S t → wait_of S t ≡ None → SettledBut S stored None → SettledBut (with_wait S t (Some w)) stored (owner_of S w.mutex)
+pub joined_unsettles :
+    (S : State) (stored : ℕ → ℕ) (t : ℕ) (w : Wait)
+    → IsState S
+    → IsTask S t
+    → wait_of S t ≡ None
+    → SettledBut S stored None
+    → SettledBut (with_wait S t (Some w)) stored (owner_of S w.mutex)
 joined_unsettles S stored t w lists known idle settled =
     but S (with_wait S t (Some w)) stored settled (owner_of S w.mutex) (λ x at.
     differs_wait S t (Some w) x lists known
     (λ y e. absurd (none-some y (sym (ap (option_and_then (λ (u : Wait). heir_of S u.mutex)) idle) ∙ e)))
     (λ y e. at y (heir_in-owner (protocol_of S w.mutex) (owner_of S w.mutex) y e)))
 
-pub left_unsettles : (S : State) (stored : ℕ → ℕ) (t : ℕ) → IsState S → IsTask S t → SettledBut S stored None → SettledBut (with_wait S t None) stored (blocker S t)
+pub left_unsettles :
+    (S : State) (stored : ℕ → ℕ) (t : ℕ)
+    → IsState S
+    → IsTask S t
+    → SettledBut S stored None
+    → SettledBut (with_wait S t None) stored (blocker S t)
 left_unsettles S stored t lists known settled =
     but S (with_wait S t None) stored settled (blocker S t) (λ x at.
     differs_wait S t None x lists known (λ y e. at y (heir-blocker S t y e)) (λ y e. absurd (none-some y e)))

@@ -22,7 +22,8 @@ use Rattle.pim_chain.proofs.Changes.{queues_put, room_kept, not_waiting, waits_o
 
 -- ---- another stored priority
 pub stored_now : (v : View) (x p : ℕ) → Ready v → IsTask v.state x → stored_in (put v.stored x p) x ≡ p
-stored_now v x p ready known = ap (λ o. unwrap_or o 0) (nth-put_same v.stored x p known.0 (subst (λ n. x ≤ n) (sym ready.stored_len) known.1))
+stored_now v x p ready known =
+    ap (λ o. unwrap_or o 0) (nth-put_same v.stored x p known.0 (subst (λ n. x ≤ n) (sym ready.stored_len) known.1))
 
 pub stored_else : (v : View) (x p u : ℕ) → (u ≡ x → ⊥) → stored_in (put v.stored x p) u ≡ stored_at v u
 stored_else v x p u ne = ap (λ o. unwrap_or o 0) (nth-put_other v.stored x u p (λ e. ne (sym e)))
@@ -65,7 +66,9 @@ queue_moved v x p w ready known at =
     placed n k = insert_by precedes (without x (queue_at v w.mutex)) (record { task = x; prio = n; ticket = k })
 
     ticket : ticket_of x (queue_at v w.mutex) ≡ w.ticket
-    ticket = ticket_shown (wait_of v.state) (stored_at v) x w (queue_at v w.mutex) here at (here.complete x (waits_for_from (wait_of v.state) x w at))
+    ticket =
+        ticket_shown (wait_of v.state) (stored_at v) x w (queue_at v w.mutex) here at
+        (here.complete x (waits_for_from (wait_of v.state) x w at))
 
     waits_in : Option Wait → Bool
     waits_in o = option_map_or (λ (y : Wait). eqb y.mutex w.mutex) o false
@@ -80,7 +83,11 @@ queue_moved v x p w ready known at =
     back : (u : ℕ) → (u ≡ x → ⊥) → wait_of v.state u ≡ away u
     back u ne = sym (ap (λ b. cond b None (wait_of v.state u)) (ne_eqb u x ne))
 
-pub restored_free : (v : View) (x p : ℕ) → wait_of v.state x ≡ None → Ready v → Ready (record { state = v.state; stored = put v.stored x p; queues = v.queues })
+pub restored_free :
+    (v : View) (x p : ℕ)
+    → wait_of v.state x ≡ None
+    → Ready v
+    → Ready (record v { state = v.state; stored = put v.stored x p; queues = v.queues })
 restored_free v x p at ready = record {
   sound = ready.sound;
   few_tasks = ready.few_tasks;
@@ -92,7 +99,12 @@ restored_free v x p at ready = record {
   room = ready.room;
 }
 
-pub restored_waiting : (v : View) (x p : ℕ) (w : Wait) → IsTask v.state x → wait_of v.state x ≡ Some w → Ready v → Ready (record { state = v.state; stored = put v.stored x p; queues = moved v.queues (Some w) x p })
+pub restored_waiting :
+    (v : View) (x p : ℕ) (w : Wait)
+    → IsTask v.state x
+    → wait_of v.state x ≡ Some w
+    → Ready v
+    → Ready (record v { state = v.state; stored = put v.stored x p; queues = moved v.queues (Some w) x p })
 restored_waiting v x p w known at ready = record {
   sound = ready.sound;
   few_tasks = ready.few_tasks;
@@ -102,14 +114,19 @@ restored_waiting v x p w known at ready = record {
   waits = ready.waits;
   queues = queues_put v.state v.state (stored_at v) (stored_in (put v.stored x p)) v.queues w.mutex _ ready.queues_len refl
       (queue_moved v x p w ready known at)
-      (λ k isk ne. queue_kept (wait_of v.state) (wait_of v.state) (stored_at v) (stored_in (put v.stored x p)) x k (queue_at v k) (λ u _. refl) (stored_else v x p) (λ h. ne (sym (waits_once (wait_of v.state) k x w at h))) (λ h. ne (sym (waits_once (wait_of v.state) k x w at h))) (ready.queues k isk));
+      (λ k isk ne. queue_kept (wait_of v.state) (wait_of v.state) (stored_at v) (stored_in (put v.stored x p)) x k (queue_at v k)
+      (λ u _. refl) (stored_else v x p) (λ h. ne (sym (waits_once (wait_of v.state) k x w at h)))
+      (λ h. ne (sym (waits_once (wait_of v.state) k x w at h))) (ready.queues k isk));
   room = λ k isk. room_kept v.queues w.mutex _ (length v.state.base) k isk.0 (subst (λ n. k ≤ n) (sym ready.queues_len) isk.1) (ready.room k isk);
 }
 
 pub ready_restored : (v : View) (x p : ℕ) → IsTask v.state x → Ready v → Ready (restored v x p)
 ready_restored v x p known ready = go (wait_of v.state x) refl
   where
-    go : (o : Option Wait) → wait_of v.state x ≡ o → Ready (record { state = v.state; stored = put v.stored x p; queues = moved v.queues o x p })
+    go :
+        (o : Option Wait)
+        → wait_of v.state x ≡ o
+        → Ready (record v { state = v.state; stored = put v.stored x p; queues = moved v.queues o x p })
     go None at = restored_free v x p at ready
     go (Some w) at = restored_waiting v x p w known at ready
 
@@ -118,9 +135,14 @@ pub stands : (v : View) (x : ℕ) (w : Wait) → Ready v → wait_of v.state x �
 stands v x w ready at = (ready.queues w.mutex (ready.waits.mutexes x w at)).complete x (waits_for_from (wait_of v.state) x w at)
 
 -- ---- what a visit leaves
-pub visited_same : (v : View) (x : ℕ) → SettledBut v.state (stored_at v) (Some x) → stored_at v x ≡ local_priority v.state (stored_at v) x → Visited v v x None
+pub visited_same :
+    (v : View) (x : ℕ)
+    → SettledBut v.state (stored_at v) (Some x)
+    → stored_at v x ≡ local_priority v.state (stored_at v) x
+    → Visited v v x None
 visited_same v x settled right = record {
   state = refl;
+  marked = refl;
   settled = λ t task _. go t task (cases_eq t x);
   others = λ u _. refl;
   onward = λ y e. absurd (none-some y e);
@@ -130,7 +152,8 @@ visited_same v x settled right = record {
     go t task (inl e) = subst (λ u. stored_at v u ≡ local_priority v.state (stored_at v) u) (sym e) right
     go t task (inr ne) = settled t task (λ e. ne (sym (same_Some _ _ e)))
 
-module _ (v : View) (x p : ℕ) (ready : Ready v) (known : IsTask v.state x) (settled : SettledBut v.state (stored_at v) (Some x)) (is : p ≡ local_priority v.state (stored_at v) x) where
+module _ (v : View) (x p : ℕ) (ready : Ready v) (known : IsTask v.state x) (settled : SettledBut v.state (stored_at v) (Some x))
+    (is : p ≡ local_priority v.state (stored_at v) x) where
   mends : Mends v.state (stored_at v) (stored_at (restored v x p)) x
   mends = record { mended = stored_now v x p ready known ∙ is; others = stored_else v x p }
 
@@ -141,6 +164,7 @@ module _ (v : View) (x p : ℕ) (ready : Ready v) (known : IsTask v.state x) (se
   pub visited_free : wait_of v.state x ≡ None → Visited v (restored v x p) x None
   visited_free free = record {
     state = refl;
+    marked = refl;
     settled = λ t task _. onward t task (λ e. none-some t (sym (ap (option_and_then (λ (w : Wait). heir_of v.state w.mutex)) free) ∙ e));
     others = stored_else v x p;
     onward = λ y e. absurd (none-some y e);
@@ -151,8 +175,12 @@ module _ (v : View) (x p : ℕ) (ready : Ready v) (known : IsTask v.state x) (se
     pub visited_stop : front_prio (queue_at v w.mutex) ≡ front_prio (queue_at (restored v x p) w.mutex) → Visited v (restored v x p) x None
     visited_stop same = record {
       state = refl;
-      settled = mended_stop v.state (stored_at v) (stored_at (restored v x p)) x w.mutex ready.sound known settled mends (waits_for_from (wait_of v.state) x w at)
-          (top_front v.state (stored_at (restored v x p)) w.mutex (queue_at (restored v x p) w.mutex) ready.sound.lists ((ready_restored v x p known ready).queues w.mutex mutex)
+      marked = refl;
+      settled =
+          mended_stop v.state (stored_at v) (stored_at (restored v x p)) x w.mutex ready.sound known settled mends
+          (waits_for_from (wait_of v.state) x w at)
+          (top_front v.state (stored_at (restored v x p)) w.mutex (queue_at (restored v x p) w.mutex) ready.sound.lists
+          ((ready_restored v x p known ready).queues w.mutex mutex)
           ∙ sym same
           ∙ sym (top_front v.state (stored_at v) w.mutex (queue_at v w.mutex) ready.sound.lists (ready.queues w.mutex mutex)));
       others = stored_else v x p;
@@ -168,6 +196,7 @@ module _ (v : View) (x p : ℕ) (ready : Ready v) (known : IsTask v.state x) (se
         let hop : heir v.state x ≡ heir_of v.state w.mutex = heir_at v.state w.mutex x (waits_for_from (wait_of v.state) x w at) in
         record {
           state = refl;
+          marked = refl;
           settled = subst (SettledBut v.state (stored_at (restored v x p))) hop onward;
           others = stored_else v x p;
           onward = λ y e. (hop ∙ e, λ same. other (sym (stored_now v x p ready known) ∙ same));
@@ -176,9 +205,13 @@ module _ (v : View) (x p : ℕ) (ready : Ready v) (known : IsTask v.state x) (se
     -- on or not, by the front
     pub visited_next :
         (p ≡ stored_at v x → ⊥)
-        → Visited v (restored v x p) x (if front_prio (queue_at v w.mutex) == front_prio (queue_at (restored v x p) w.mutex) then None else heir_of v.state w.mutex)
+        → Visited v (restored v x p) x
+        (if front_prio (queue_at v w.mutex) == front_prio (queue_at (restored v x p) w.mutex) then None else heir_of v.state w.mutex)
     visited_next other = go (front_prio (queue_at v w.mutex) == front_prio (queue_at (restored v x p) w.mutex)) refl
       where
-        go : (b : Bool) → (front_prio (queue_at v w.mutex) == front_prio (queue_at (restored v x p) w.mutex)) ≡ b → Visited v (restored v x p) x (if b then None else heir_of v.state w.mutex)
+        go :
+            (b : Bool)
+            → (front_prio (queue_at v w.mutex) == front_prio (queue_at (restored v x p) w.mutex)) ≡ b
+            → Visited v (restored v x p) x (if b then None else heir_of v.state w.mutex)
         go true same = visited_stop (eqb-true _ _ same)
         go false _ = visited_on other

@@ -26,18 +26,30 @@ pub count_same : (n : ℕ) (p q : ℕ → Bool) → ((u : ℕ) → 1 ≤ u → u
 unfolding count
 count_same zero p q h = refl
 count_same (suc n) p q h =
-    let at : cond {A = ℕ} (p (suc n)) 1 0 ≡ cond {A = ℕ} (q (suc n)) 1 0 = ap {B = ℕ} (λ (b : Bool). cond {A = ℕ} b 1 0) (h (suc n) (omega arith) (omega arith)) in
+    let at : cond {A = ℕ} (p (suc n)) 1 0 ≡ cond {A = ℕ} (q (suc n)) 1 0 =
+    ap {B = ℕ} (λ (b : Bool). cond {A = ℕ} b 1 0) (h (suc n) (omega arith) (omega arith)) in
     let rest : count n p ≡ count n q = count_same n p q (λ u low high. h u low (omega arith)) in
     omega arith
 
-pub count_more : (n : ℕ) (p q : ℕ → Bool) (x : ℕ) → 1 ≤ x → x ≤ n → p x ≡ false → q x ≡ true → ((u : ℕ) → (u ≡ x → ⊥) → p u ≡ q u) → count n q ≡ count n p + 1
+pub count_more :
+    (n : ℕ) (p q : ℕ → Bool) (x : ℕ)
+    → 1 ≤ x
+    → x ≤ n
+    → p x ≡ false
+    → q x ≡ true
+    → ((u : ℕ) → (u ≡ x → ⊥) → p u ≡ q u)
+    → count n q ≡ count n p + 1
 unfolding count
 count_more zero p q x low high f t h = absurd (omega arith)
 count_more (suc n) p q x low high f t h = go (count_more n p q x low) (eq-or-lt_of_le high)
   where
-    go : (x ≤ n → p x ≡ false → q x ≡ true → ((u : ℕ) → (u ≡ x → ⊥) → p u ≡ q u) → count n q ≡ count n p + 1) → (x ≡ suc n) ⊎ (x < suc n) → count n q + cond {A = ℕ} (q (suc n)) 1 0 ≡ count n p + cond {A = ℕ} (p (suc n)) 1 0 + 1
+    go :
+        (x ≤ n → p x ≡ false → q x ≡ true → ((u : ℕ) → (u ≡ x → ⊥) → p u ≡ q u) → count n q ≡ count n p + 1)
+        → (x ≡ suc n) ⊎ (x < suc n)
+        → count n q + cond {A = ℕ} (q (suc n)) 1 0 ≡ count n p + cond {A = ℕ} (p (suc n)) 1 0 + 1
     go precedes (inr lt) =
-        let at : cond {A = ℕ} (p (suc n)) 1 0 ≡ cond {A = ℕ} (q (suc n)) 1 0 = ap {B = ℕ} (λ (b : Bool). cond {A = ℕ} b 1 0) (h (suc n) (λ e. absurd (omega (arith, e, lt)))) in
+        let at : cond {A = ℕ} (p (suc n)) 1 0 ≡ cond {A = ℕ} (q (suc n)) 1 0 =
+        ap {B = ℕ} (λ (b : Bool). cond {A = ℕ} b 1 0) (h (suc n) (λ e. absurd (omega (arith, e, lt)))) in
         let rest : count n q ≡ count n p + 1 = precedes (omega (arith, lt)) f t h in
         omega arith
     go precedes (inl is) =
@@ -63,7 +75,8 @@ known_on S fit (suc k) x c known e =
 
 -- no chain from a known task has as many hops as there are tasks
 short_of : (S : State) → IsSound S → (k x c : ℕ) → k ≤ length S.base → hops (heir S) k x ≡ Some c → IsTask S c → suc k ≤ length S.base
-short_of S ok k x c le e known = chain_is_short (heir S) (length S.base) (none_inherits_back S ok) (only_known_inherit S ok) k x c le e known
+short_of S ok k x c le e known =
+    chain_is_short (heir S) (length S.base) (none_inherits_back S ok) (only_known_inherit S ok) k x c le e known
 
 short : (S : State) → IsSound S → WaitsFit S → (k x c : ℕ) → IsTask S x → hops (heir S) k x ≡ Some c → suc k ≤ length S.base
 short S ok fit zero x c known e = let low = known.0 in let high = known.1 in omega (arith, low, high)
@@ -89,6 +102,7 @@ slack (Some u) = 0
 -- ---- after k visits, from v to w
 pub record Walking (v w : View) (x k : ℕ) (next : Option ℕ) : Type 0 where
   pub state : w.state ≡ v.state
+  pub marked : w.marked ≡ v.marked
   pub settled : SettledBut w.state (stored_at w) next
   pub place : (c : ℕ) → next ≡ Some c → hops (heir v.state) k x ≡ Some c
   pub least : changed v w ≤ k
@@ -99,9 +113,12 @@ pub record Walking (v w : View) (x k : ℕ) (next : Option ℕ) : Type 0 where
 
 pub walking_none : (v : View) (x : ℕ) → SettledBut v.state (stored_at v) (Some x) → Walking v v x 0 (Some x)
 walking_none v x settled =
-    let none : changed v v ≡ 0 = count_none (length v.state.base) (λ u. not (eqb (stored_at v u) (stored_at v u))) (λ u. ap not (eq-eqb (stored_at v u) (stored_at v u) refl)) in
+    let none : changed v v ≡ 0 =
+    count_none (length v.state.base) (λ u. not (eqb (stored_at v u) (stored_at v u)))
+    (λ u. ap not (eq-eqb (stored_at v u) (stored_at v u) refl)) in
     record {
       state = refl;
+      marked = refl;
       settled = settled;
       place = λ c e. e;
       least = omega (arith, none);
@@ -111,13 +128,19 @@ walking_none v x settled =
       back = λ c t e differs. absurd (differs refl);
     }
 
-pub walking_few : (v w : View) (x k c : ℕ) → Ready v → IsTask v.state x → Walking v w x k (Some c) → (suc k ≤ length v.state.base) × IsTask v.state c
+pub walking_few :
+    (v w : View) (x k c : ℕ)
+    → Ready v
+    → IsTask v.state x
+    → Walking v w x k (Some c)
+    → (suc k ≤ length v.state.base) × IsTask v.state c
 walking_few v w x k c ready known walking = (
   short v.state ready.sound ready.waits k x c known (walking.place c refl),
   known_on v.state ready.waits k x c known (walking.place c refl),
 )
 
-module _ (v w z : View) (x k c : ℕ) (next : Option ℕ) (ready : Ready v) (known : IsTask v.state x) (walking : Walking v w x k (Some c)) (visited : Visited w z c next) where
+module _ (v w z : View) (x k c : ℕ) (next : Option ℕ) (ready : Ready v) (known : IsTask v.state x) (walking : Walking v w x k (Some c))
+    (visited : Visited w z c next) where
   here : IsTask v.state c
   here = (walking_few v w x k c ready known walking).1
 
@@ -136,9 +159,15 @@ module _ (v w z : View) (x k c : ℕ) (next : Option ℕ) (ready : Ready v) (kno
   differs_kept t ne = ap (λ p. not (eqb (stored_at v t) p)) (sym (visited.others t ne))
 
   count_if_same : stored_at z c ≡ stored_at w c → changed v z ≡ changed v w
-  count_if_same same = count_same (length v.state.base) (λ t. not (eqb (stored_at v t) (stored_at z t))) (λ t. not (eqb (stored_at v t) (stored_at w t))) each
+  count_if_same same =
+      count_same (length v.state.base) (λ t. not (eqb (stored_at v t) (stored_at z t)))
+      (λ t. not (eqb (stored_at v t) (stored_at w t))) each
     where
-      each : (t : ℕ) → 1 ≤ t → t ≤ length v.state.base → not (eqb (stored_at v t) (stored_at z t)) ≡ not (eqb (stored_at v t) (stored_at w t))
+      each :
+          (t : ℕ)
+          → 1 ≤ t
+          → t ≤ length v.state.base
+          → not (eqb (stored_at v t) (stored_at z t)) ≡ not (eqb (stored_at v t) (stored_at w t))
       each t _ _ = go (cases_eq t c)
         where
           go : (t ≡ c) ⊎ (t ≡ c → ⊥) → not (eqb (stored_at v t) (stored_at z t)) ≡ not (eqb (stored_at v t) (stored_at w t))
@@ -147,7 +176,8 @@ module _ (v w z : View) (x k c : ℕ) (next : Option ℕ) (ready : Ready v) (kno
 
   count_if_other : (stored_at z c ≡ stored_at w c → ⊥) → changed v z ≡ changed v w + 1
   count_if_other other =
-      count_more (length v.state.base) (λ t. not (eqb (stored_at v t) (stored_at w t))) (λ t. not (eqb (stored_at v t) (stored_at z t))) c here.0 here.1
+      count_more (length v.state.base) (λ t. not (eqb (stored_at v t) (stored_at w t)))
+      (λ t. not (eqb (stored_at v t) (stored_at z t))) c here.0 here.1
       (ap not (eq-eqb _ _ fresh))
       (ap not (ne_eqb (stored_at v c) (stored_at z c) (λ e. other (sym e ∙ fresh))))
       differs_kept
@@ -174,7 +204,11 @@ module _ (v w z : View) (x k c : ℕ) (next : Option ℕ) (ready : Ready v) (kno
       go (inl is) = record { count = 0; leads = hops_front (heir v.state) 0 t y (ap (heir v.state) is ∙ next_hop y e) }
       go (inr ne) =
           let so_far = walking.back c t refl (λ same. changes (same ∙ sym (visited.others t ne))) in
-          record { count = suc so_far.count; leads = subst (λ j. hops (heir v.state) j t ≡ Some y) (add-one (suc so_far.count)) (hops_last (heir v.state) (suc so_far.count) t c y so_far.leads (next_hop y e)) }
+          record {
+            count = suc so_far.count;
+            leads = subst (λ j. hops (heir v.state) j t ≡ Some y) (add-one (suc so_far.count))
+                (hops_last (heir v.state) (suc so_far.count) t c y so_far.leads (next_hop y e));
+          }
 
   single_more : heir v.state x ≡ None → k + 1 ≤ 1
   single_more h = go k (walking.place c refl)
@@ -186,6 +220,7 @@ module _ (v w z : View) (x k c : ℕ) (next : Option ℕ) (ready : Ready v) (kno
   pub walking_more : Walking v z x (k + 1) next
   walking_more = record {
     state = visited.state ∙ walking.state;
+    marked = visited.marked ∙ walking.marked;
     settled = visited.settled;
     place = λ y e. hops_last (heir v.state) k x c y (walking.place c refl) (next_hop y e);
     least = least_more;
@@ -196,7 +231,13 @@ module _ (v w z : View) (x k c : ℕ) (next : Option ℕ) (ready : Ready v) (kno
   }
 
 -- ---- where nobody is left
-pub settled_effective : (S : State) (stored : ℕ → ℕ) → IsSound S → SettledBut S stored None → (t : ℕ) → IsTask S t → stored t ≡ effective_priority S t
+pub settled_effective :
+    (S : State) (stored : ℕ → ℕ)
+    → IsSound S
+    → SettledBut S stored None
+    → (t : ℕ)
+    → IsTask S t
+    → stored t ≡ effective_priority S t
 settled_effective S stored ok settled t known = (stored_law S stored ok).0 (λ u task. settled u task (λ e. none-some u e)) t known
 
 -- ---- several walks in one step
@@ -205,7 +246,11 @@ unfolding count
 count_either zero p q r h = omega arith
 count_either (suc n) p q r h = go (p (suc n)) (q (suc n)) (r (suc n)) (h (suc n)) (count_either n p q r h)
   where
-    go : (a b d : Bool) → (b ≡ false → d ≡ false → a ≡ false) → count n p ≤ count n q + count n r → count n p + cond {A = ℕ} a 1 0 ≤ (count n q + cond {A = ℕ} b 1 0) + (count n r + cond {A = ℕ} d 1 0)
+    go :
+        (a b d : Bool)
+        → (b ≡ false → d ≡ false → a ≡ false)
+        → count n p ≤ count n q + count n r
+        → count n p + cond {A = ℕ} a 1 0 ≤ (count n q + cond {A = ℕ} b 1 0) + (count n r + cond {A = ℕ} d 1 0)
     go false b d k l = omega arith
     go true true d k l = omega arith
     go true false true k l = omega arith
@@ -219,7 +264,11 @@ differing_over n f g h =
     count_either n (λ u. not (eqb (f u) (h u))) (λ u. not (eqb (f u) (g u))) (λ u. not (eqb (g u) (h u)))
     (λ u a b. ap not (eq-eqb _ _ (same_from _ _ a ∙ same_from _ _ b)))
 
-pub differing_same : (n : ℕ) (f f' g g' : ℕ → ℕ) → ((u : ℕ) → 1 ≤ u → u ≤ n → (f u ≡ f' u) × (g u ≡ g' u)) → differing n f g ≡ differing n f' g'
+pub differing_same :
+    (n : ℕ) (f f' g g' : ℕ → ℕ)
+    → ((u : ℕ) → 1 ≤ u → u ≤ n → (f u ≡ f' u) × (g u ≡ g' u))
+    → differing n f g ≡ differing n f' g'
 differing_same n f f' g g' h =
     count_same n (λ u. not (eqb (f u) (g u))) (λ u. not (eqb (f' u) (g' u)))
-    (λ u low high. let both : (f u ≡ f' u) × (g u ≡ g' u) = h u low high in ap (λ a. not (eqb a (g u))) both.0 ∙ ap (λ b. not (eqb (f' u) b)) both.1)
+    (λ u low high. let both : (f u ≡ f' u) × (g u ≡ g' u) = h u low high in ap (λ a. not (eqb a (g u))) both.0 ∙ ap
+    (λ b. not (eqb (f' u) b)) both.1)

@@ -32,23 +32,22 @@ moved lines (Some w) t p = put_queue lines w.mutex (repositioned t p (queue_in l
 
 -- the task waits for the mutex, in its queue
 abbrev pub joined : View → ℕ → Wait → View
-joined v t w = record {
+joined v t w = record v {
   state = with_wait v.state t (Some w);
-  stored = v.stored;
-  queues = put_queue v.queues w.mutex (insert_by precedes (queue_at v w.mutex) (record { task = t; prio = stored_at v t; ticket = w.ticket }));
+  queues =
+      put_queue v.queues w.mutex (insert_by precedes (queue_at v w.mutex) (record { task = t; prio = stored_at v t; ticket = w.ticket }));
 }
 
 -- the task waits no more for the mutex, and has left its queue
 abbrev pub left : View → ℕ → ℕ → View
-left v t m = record {
+left v t m = record v {
   state = with_wait v.state t None;
-  stored = v.stored;
   queues = put_queue v.queues m (without t (queue_at v m));
 }
 
 -- another stored priority for the task
 abbrev pub restored : View → ℕ → ℕ → View
-restored v t p = record { state = v.state; stored = put v.stored t p; queues = moved v.queues (wait_of v.state t) t p }
+restored v t p = record v { stored = put v.stored t p; queues = moved v.queues (wait_of v.state t) t p }
 
 -- who is to be looked at after x: the heir of the mutex that it waits for, where the front of that queue has changed
 abbrev pub next_of : View → View → ℕ → Option ℕ
@@ -60,6 +59,7 @@ next_of v w x =
 -- what the visit of x leaves, and who is next
 pub record Visited (v w : View) (x : ℕ) (next : Option ℕ) : Type 0 where
   pub state : w.state ≡ v.state
+  pub marked : w.marked ≡ v.marked
   pub settled : SettledBut w.state (stored_at w) next
   pub others : (u : ℕ) → (u ≡ x → ⊥) → stored_at w u ≡ stored_at v u
   pub onward : (y : ℕ) → next ≡ Some y → (heir v.state x ≡ Some y) × (stored_at w x ≡ stored_at v x → ⊥)

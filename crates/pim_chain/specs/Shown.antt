@@ -1,7 +1,7 @@
 -- What the fields of the tables show.
 use Rattle.std.specs.Prelude.{length}
 use Rattle.pim_chain.specs.Views.{View, Ready}
-use Rattle.pim_chain.specs.Sets.{AreOwned}
+use Rattle.pim_chain.specs.Sets.{AreOwned, AreMarked}
 use Rattle.pim_chain.specs.declared.tables.Tables.TheInside.{Inside}
 
 -- the tables know no next ticket
@@ -15,6 +15,7 @@ shown t = record {
     next = 0;
   };
   stored = t.stored.items;
+  marked = t.marked.items;
   queues = t.queues.items;
 }
 
@@ -22,3 +23,4 @@ shown t = record {
 pub record Kept (t : Inside) : Type 0 where
   pub ready : Ready (shown t)
   pub owned : AreOwned (length t.base.items) t.owner.items t.owned.items
+  pub marks : AreMarked t.stored.items t.marked.items t.touched.words

@@ -1,5 +1,5 @@
 -- What the tables hold, and what always holds of it.
-use Rattle.std.specs.Prelude.{◌≡◌, ◌≤◌, ℕ, Bool, true, false, ◌==◌, List, [], Option, Some, length, replicate, unwrap_or}
+use Rattle.std.specs.Prelude.{◌≡◌, ◌≤◌, ℕ, Bool, true, false, not, ◌==◌, List, [], Option, Some, length, replicate, unwrap_or}
 use Rattle.std.specs.List.{list_any, AllByRecursion}
 use Rattle.std.specs.Option.{option_map_or}
 use Rattle.pim_base.specs.Lists.{nth, put, head_of}
@@ -11,10 +11,12 @@ use Rattle.pim_base.specs.declared.steps.Waiter.{Waiter}
 use Rattle.pim_queue.specs.Line.{Line, with_waiters}
 use Rattle.pim_queue.specs.Waiters.{is_of, IsOrdered}
 
--- the state, whose next ticket is not the tables', the stored priorities, and the queue of each mutex
+-- the state, whose next ticket is not the tables', the stored priorities, those of when they were marked, and the queue of
+-- each mutex
 pub record View : Type 0 where
   pub state : State
   pub stored : List ℕ
+  pub marked : List ℕ
   pub queues : List Line
 
 -- nothing is owned, nobody waits, each stored priority is the base, and each queue has room for all tasks
@@ -22,6 +24,7 @@ abbrev pub fresh : List ℕ → List Protocol → View
 fresh bases protocols = record {
   state = start bases protocols 0;
   stored = bases;
+  marked = bases;
   queues = replicate (length protocols) (record { waiters = []; room = length bases });
 }
 
@@ -33,6 +36,10 @@ stored_in stored t = unwrap_or (nth stored t) 0
 
 abbrev pub stored_at : View → ℕ → ℕ
 stored_at v t = stored_in v.stored t
+
+-- the stored priority isn't what it was when it was marked
+abbrev pub has_changed : View → ℕ → Bool
+has_changed v t = not (stored_in v.marked t == stored_in v.stored t)
 
 abbrev pub line_in : List Line → ℕ → Line
 line_in lines m = unwrap_or (nth lines m) (record { waiters = []; room = 0 })

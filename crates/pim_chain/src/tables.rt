@@ -6,7 +6,7 @@ ghost use Rattle.pim_base.specs.Lists.{nth, holds, head_of};
 ghost use Rattle.pim_base.specs.State.{IsTask, IsMutex, base_of, owner_of, wait_of, with_owner, with_base};
 ghost use Rattle.pim_base.specs.Chains.{blocker, closes_cycle};
 ghost use Rattle.pim_base.specs.declared.steps.Wait.{Wait};
-ghost use Rattle.pim_chain.specs.Views.{Ready, fresh, with_state, queue_at, stored_at};
+ghost use Rattle.pim_chain.specs.Views.{Ready, fresh, has_changed, with_state, queue_at, stored_at};
 ghost use Rattle.pim_chain.specs.Owned.{IsNext};
 ghost use Rattle.pim_chain.specs.Settled.{SettledBut, Unsettles, joined, left, restored};
 
@@ -27,6 +27,8 @@ pub struct Tables {
     wait: Vec<Option<Wait>>,
     owned: Vec<NumberSet>,
     stored: Vec<Prio>,
+    marked: Vec<Prio>,
+    touched: NumberSet,
     queues: Vec<Queue>,
 }
 
@@ -57,6 +59,7 @@ impl Tables {
         let wait = filled(alloc, bases.len(), None)?;
         let owned = filled(alloc, bases.len(), NumberSet::new())?;
         let stored = Vec::from_slice(alloc, bases)?;
+        let marked = Vec::from_slice(alloc, bases)?;
         let queues = lines::empty(alloc, protocols.len(), bases.len() as u16)?;
         Ok(Tables {
             base,
@@ -65,6 +68,8 @@ impl Tables {
             wait,
             owned,
             stored,
+            marked,
+            touched: NumberSet::new(),
             queues,
         })
     }
@@ -79,6 +84,7 @@ impl Tables {
         let wait = Vec::from_slice(alloc, &self.wait)?;
         let owned = Vec::from_slice(alloc, &self.owned)?;
         let stored = Vec::from_slice(alloc, &self.stored)?;
+        let marked = Vec::from_slice(alloc, &self.marked)?;
         let queues = lines::try_clone(alloc, &self.queues)?;
         Ok(Tables {
             base,
@@ -87,6 +93,8 @@ impl Tables {
             wait,
             owned,
             stored,
+            marked,
+            touched: self.touched,
             queues,
         })
     }
@@ -183,6 +191,25 @@ impl Tables {
         self.stored[task.get() as usize - 1]
     }
 
+    /// Marks the stored priorities: what `next_changed` finds from now on is what changes from now on.
+    pub fn mark(&mut self)
+        ensures marked { self.new ≡ record self.old { marked = self.old.stored } }
+        ensures ready { Ready self.new }
+    {
+        sets::mark(&mut self.marked, &self.stored);
+        self.touched = NumberSet::new();
+    }
+
+    /// The least task above this number whose stored priority isn't what it was when the priorities were marked last.
+    pub fn next_changed(&self, above: u16) -> Option<TaskNo>
+        ensures { IsNext (has_changed self.now) above result }
+    {
+        match sets::next_differing(&self.marked, &self.stored, self.touched, above) {
+            Some(number) => Some(TaskNo(number)),
+            None => None,
+        }
+    }
+
     /// The free mutex gets an owner, who waits for nothing.
     pub fn bind(&mut self, mutex: MutexNo, task: TaskNo)
         requires mutex { IsMutex self.old.state mutex }
@@ -256,6 +283,7 @@ impl Tables {
     {
         let wait = self.waits_for(task);
         put(&mut self.stored, task.get(), prio);
+        self.touched.insert(task.get());
         if let Some(wait) = wait {
             lines::reposition(&mut self.queues, wait.mutex, task, prio);
         }

@@ -396,3 +396,29 @@ fn shows_what_stands(rt: HostRuntime) -> Result<(), Fail> {
     assert_eq!(rt; tables.has_ticket(MutexNo(1), 4), false);
     Ok(())
 }
+
+#[test]
+fn finds_what_changed_since_the_mark(rt: HostRuntime) -> Result<(), Fail> {
+    let mut tables = tables(&rt, rt.alloc(), &[10, 20, 30, 60, 90], &[INHERIT; 4])?;
+    let rows = [
+        step(Event::Lock(1, 1), 1, &[10, 20, 30, 60, 90]),
+        step(Event::Lock(2, 2), 1, &[10, 20, 30, 60, 90]),
+        step(Event::Lock(3, 4), 1, &[10, 20, 30, 60, 90]),
+        step(Event::Lock(3, 2), 1, &[10, 30, 30, 60, 90]),
+        step(Event::Lock(2, 1), 1, &[30, 30, 30, 60, 90]),
+    ];
+    play(&rt, &mut tables, &rows);
+    assert_eq!(rt; tables.next_changed(0), Some(TaskNo(1)));
+    assert_eq!(rt; tables.next_changed(1), Some(TaskNo(2)));
+    assert_eq!(rt; tables.next_changed(2), None);
+    tables.mark();
+    assert_eq!(rt; tables.next_changed(0), None);
+    assert_eq!(rt; lock(&rt, &mut tables, TaskNo(5), MutexNo(4), 8), 3);
+    assert_eq!(rt; tables.next_changed(0), Some(TaskNo(1)));
+    assert_eq!(rt; tables.next_changed(2), Some(TaskNo(3)));
+    assert_eq!(rt; tables.next_changed(3), None);
+    // and what is again as it was hasn't changed
+    assert_eq!(rt; cancel(&rt, &mut tables, TaskNo(5)), 3);
+    assert_eq!(rt; tables.next_changed(0), None);
+    Ok(())
+}

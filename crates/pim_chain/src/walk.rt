@@ -134,6 +134,7 @@ impl Tables {
         requires known { IsTask self.old.state task }
         requires room { visits.old ≤ 2 ^ 32 - 1 - 256 }
         ensures state { self.new.state ≡ self.old.state }
+        ensures marked { self.new.marked ≡ self.old.marked }
         ensures settled { SettledBut self.new.state (stored_at self.new) None }
         ensures effective { (t : ℕ) → IsTask self.new.state t → stored_at self.new t ≡ effective_priority self.new.state t }
         ensures queues { (m : ℕ) → IsMutex self.new.state m → queue_at self.new m ≡ queue_of self.new.state m }

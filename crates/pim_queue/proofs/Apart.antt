@@ -42,7 +42,11 @@ pub none_passes : {X : Type 0} (p : X → Bool) → (xs : List X) → list_any p
 none_passes p [] h = tt
 none_passes p (x ∷ xs) h = let parts = or_parts _ _ h in (parts.0, none_passes p xs parts.1)
 
-differs_from : (w : Waiter) (ws : List Waiter) → list_any (is_of w.task) ws ≡ false → list_any (has_ticket w.ticket) ws ≡ false → AllByRecursion (Differs w) ws
+differs_from :
+    (w : Waiter) (ws : List Waiter)
+    → list_any (is_of w.task) ws ≡ false
+    → list_any (has_ticket w.ticket) ws ≡ false
+    → AllByRecursion (Differs w) ws
 differs_from w ws task ticket =
     all_both (λ v. is_of w.task v ≡ false) (λ v. has_ticket w.ticket v ≡ false) (Differs w)
     (λ v h k. record {
@@ -68,7 +72,11 @@ apart_without task (v ∷ vs) h =
 
 -- ---- one that was there
 -- what holds of each ticket holds of the task's
-ticket_among : (P : ℕ → Type 0) (task : ℕ) (ws : List Waiter) → list_any (is_of task) ws ≡ true → AllByRecursion (λ (v : Waiter). P v.ticket) ws → P (ticket_of task ws)
+ticket_among :
+    (P : ℕ → Type 0) (task : ℕ) (ws : List Waiter)
+    → list_any (is_of task) ws ≡ true
+    → AllByRecursion (λ (v : Waiter). P v.ticket) ws
+    → P (ticket_of task ws)
 ticket_among P task [] h k = absurd (both_ways _ refl h)
 ticket_among P task (v ∷ vs) h k = go (is_of task v) (λ there. ticket_among P task vs there k.1) h
   where
@@ -81,7 +89,11 @@ ticket_among P task (v ∷ vs) h k = go (is_of task v) (λ there. ticket_among P
     go false rest e = rest e
 
 -- the others have another task and another ticket
-pub others_differ : (task prio : ℕ) (ws : List Waiter) → IsApart ws → list_any (is_of task) ws ≡ true → AllByRecursion (Differs (record { task = task; prio = prio; ticket = ticket_of task ws })) (without task ws)
+pub others_differ :
+    (task prio : ℕ) (ws : List Waiter)
+    → IsApart ws
+    → list_any (is_of task) ws ≡ true
+    → AllByRecursion (Differs (record { task = task; prio = prio; ticket = ticket_of task ws })) (without task ws)
 others_differ task prio [] h k = tt
 others_differ task prio (v ∷ vs) h k = go (is_of task v) refl (others_differ task prio vs h.1) k
   where
@@ -94,14 +106,17 @@ others_differ task prio (v ∷ vs) h k = go (is_of task v) refl (others_differ t
         → is_of task v ≡ b
         → (list_any (is_of task) vs ≡ true → AllByRecursion (Differs (self (ticket_of task vs))) (without task vs))
         → (b || list_any (is_of task) vs) ≡ true
-        → AllByRecursion (Differs (self (option_map_or (λ (w : Waiter). w.ticket) (cond b (Some v) (find (is_of task) vs)) 0))) (cond b vs (v ∷ without task vs))
+        → AllByRecursion (Differs (self (option_map_or (λ (w : Waiter). w.ticket) (cond b (Some v) (find (is_of task) vs)) 0)))
+        (cond b vs (v ∷ without task vs))
     go true here rest e =
         all_each (Differs v) (Differs (record { task = task; prio = prio; ticket = v.ticket }))
         (λ u d. record { task = λ same. d.task (eqb-true v.task task here ∙ same); ticket = d.ticket }) vs h.0
     go false away rest e = (
       record {
         task = λ same. both_ways _ away (eq-eqb v.task task (sym same));
-        ticket = ticket_among (λ n. n ≢ v.ticket) task vs e (all_each (Differs v) (λ u. u.ticket ≢ v.ticket) (λ u d same. d.ticket (sym same)) vs h.0);
+        ticket =
+            ticket_among (λ n. n ≢ v.ticket) task vs e
+            (all_each (Differs v) (λ u. u.ticket ≢ v.ticket) (λ u d same. d.ticket (sym same)) vs h.0);
       },
       rest e,
     )
@@ -110,7 +125,12 @@ others_differ task prio (v ∷ vs) h k = go (is_of task v) refl (others_differ t
 tickets_apart : (w : Waiter) (ws : List Waiter) → AllByRecursion (Differs w) ws → AllByRecursion (λ v. v.ticket ≡ w.ticket → ⊥) ws
 tickets_apart w ws new = all_each (Differs w) (λ v. v.ticket ≡ w.ticket → ⊥) (λ v d same. d.ticket (sym same)) ws new
 
-line_joined : (room : ℕ) (w : Waiter) (ws : List Waiter) → IsLine room ws → length ws < room → AllByRecursion (Differs w) ws → IsLine room (insert_by precedes ws w)
+line_joined :
+    (room : ℕ) (w : Waiter) (ws : List Waiter)
+    → IsLine room ws
+    → length ws < room
+    → AllByRecursion (Differs w) ws
+    → IsLine room (insert_by precedes ws w)
 line_joined room w ws line fits new =
     let longer : length (insert_by precedes ws w) ≡ suc (length ws) = length-insert_by w ws in
     record {
@@ -134,11 +154,16 @@ line_without room task ws line =
     let fits : length ws ≤ room = line.fits in
     record { ordered = ordered_without task ws line.ordered; apart = apart_without task ws line.apart; fits = omega arith }
 
-pub line_repositioned : (room task prio : ℕ) (ws : List Waiter) → IsLine room ws → list_any (is_of task) ws ≡ true → IsLine room (repositioned task prio ws)
+pub line_repositioned :
+    (room task prio : ℕ) (ws : List Waiter)
+    → IsLine room ws
+    → list_any (is_of task) ws ≡ true
+    → IsLine room (repositioned task prio ws)
 line_repositioned room task prio ws line here =
     let fewer : suc (length (without task ws)) ≡ length ws = length-without_one task ws here in
     let fits : length ws ≤ room = line.fits in
-    line_joined room (record { task = task; prio = prio; ticket = ticket_of task ws }) (without task ws) (line_without room task ws line) (omega arith) (others_differ task prio ws line.apart here)
+    line_joined room (record { task = task; prio = prio; ticket = ticket_of task ws }) (without task ws) (line_without room task ws line)
+    (omega arith) (others_differ task prio ws line.apart here)
 
 -- taken out and put in again with its ticket
 pub is_repositioned :
@@ -150,4 +175,5 @@ pub is_repositioned :
 is_repositioned task prio w ws us vs was out put =
     put
     ∙ ap (λ xs. insert_by precedes xs (record { task = task; prio = prio; ticket = w.ticket })) out
-    ∙ ap (λ n. insert_by precedes (without task ws) (record { task = task; prio = prio; ticket = n })) (sym (ap (λ o. option_map_or (λ (v : Waiter). v.ticket) o 0) was))
+    ∙ ap (λ n. insert_by precedes (without task ws) (record { task = task; prio = prio; ticket = n }))
+    (sym (ap (λ o. option_map_or (λ (v : Waiter). v.ticket) o 0) was))

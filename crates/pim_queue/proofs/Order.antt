@@ -7,7 +7,13 @@ use Rattle.pim_base.specs.Queues.{precedes}
 use Rattle.pim_queue.specs.Waiters.{is_of, without, IsOrdered}
 
 -- ---- facts of each element of a list
-pub all_both : {X : Type 0} (P Q R : X → Type 0) → ((x : X) → P x → Q x → R x) → (xs : List X) → AllByRecursion P xs → AllByRecursion Q xs → AllByRecursion R xs
+pub all_both :
+    {X : Type 0} (P Q R : X → Type 0)
+    → ((x : X) → P x → Q x → R x)
+    → (xs : List X)
+    → AllByRecursion P xs
+    → AllByRecursion Q xs
+    → AllByRecursion R xs
 all_both P Q R f [] h k = tt
 all_both P Q R f (x ∷ xs) h k = (f x h.0 k.0, all_both P Q R f xs h.1 k.1)
 
@@ -69,7 +75,10 @@ before_else a b apart h = before_from b a (go (cases_order a.prio b.prio) (cases
     never : Before a b → ⊥
     never k = both_ways _ h (before_from a b k)
 
-    go : (a.prio ≡ b.prio) ⊎ ((a.prio < b.prio) ⊎ (b.prio < a.prio)) → (a.ticket ≡ b.ticket) ⊎ ((a.ticket < b.ticket) ⊎ (b.ticket < a.ticket)) → Before b a
+    go :
+        (a.prio ≡ b.prio) ⊎ ((a.prio < b.prio) ⊎ (b.prio < a.prio))
+        → (a.ticket ≡ b.ticket) ⊎ ((a.ticket < b.ticket) ⊎ (b.ticket < a.ticket))
+        → Before b a
     go (inr (inl l)) _ = inl l
     go (inr (inr g)) _ = absurd (never (inl g))
     go (inl e) (inl f) = absurd (apart (sym f))
@@ -79,30 +88,51 @@ before_else a b apart h = before_from b a (go (cases_order a.prio b.prio) (cases
 -- ---- one taken out
 pub all_without : (P : Waiter → Type 0) (task : ℕ) (ws : List Waiter) → AllByRecursion P ws → AllByRecursion P (without task ws)
 all_without P task [] h = tt
-all_without P task (v ∷ vs) h = cond_both (is_of task v) vs (v ∷ without task vs) (AllByRecursion P) (λ _. h.1) (λ _. (h.0, all_without P task vs h.1))
+all_without P task (v ∷ vs) h =
+    cond_both (is_of task v) vs (v ∷ without task vs) (AllByRecursion P) (λ _. h.1) (λ _. (h.0, all_without P task vs h.1))
 
 pub ordered_without : (task : ℕ) (ws : List Waiter) → IsOrdered ws → IsOrdered (without task ws)
 ordered_without task [] h = tt
-ordered_without task (v ∷ vs) h = cond_both (is_of task v) vs (v ∷ without task vs) IsOrdered (λ _. h.1) (λ _. (all_without _ task vs h.0, ordered_without task vs h.1))
+ordered_without task (v ∷ vs) h =
+    cond_both (is_of task v) vs (v ∷ without task vs) IsOrdered (λ _. h.1) (λ _. (all_without _ task vs h.0, ordered_without task vs h.1))
 
-pub any_without : (task u : ℕ) (ws : List Waiter) → (u ≡ task → ⊥) → list_any (is_of u) ws ≡ true → list_any (is_of u) (without task ws) ≡ true
+pub any_without :
+    (task u : ℕ) (ws : List Waiter)
+    → (u ≡ task → ⊥)
+    → list_any (is_of u) ws ≡ true
+    → list_any (is_of u) (without task ws) ≡ true
 any_without task u [] ne h = h
-any_without task u (v ∷ vs) ne h = cond_both (is_of task v) vs (v ∷ without task vs) (λ us. list_any (is_of u) us ≡ true) (λ here. there here (or_cases _ _ h)) (λ _. stays (any_without task u vs ne) (or_cases _ _ h))
+any_without task u (v ∷ vs) ne h =
+    cond_both (is_of task v) vs (v ∷ without task vs) (λ us. list_any (is_of u) us ≡ true) (λ here. there here (or_cases _ _ h))
+    (λ _. stays (any_without task u vs ne) (or_cases _ _ h))
   where
     there : is_of task v ≡ true → (is_of u v ≡ true) ⊎ (list_any (is_of u) vs ≡ true) → list_any (is_of u) vs ≡ true
     there here (inl e) = absurd (ne (sym (eqb-true v.task u e) ∙ eqb-true v.task task here))
     there here (inr k) = k
 
-    stays : (list_any (is_of u) vs ≡ true → list_any (is_of u) (without task vs) ≡ true) → (is_of u v ≡ true) ⊎ (list_any (is_of u) vs ≡ true) → list_any (is_of u) (v ∷ without task vs) ≡ true
+    stays :
+        (list_any (is_of u) vs ≡ true → list_any (is_of u) (without task vs) ≡ true)
+        → (is_of u v ≡ true) ⊎ (list_any (is_of u) vs ≡ true)
+        → list_any (is_of u) (v ∷ without task vs) ≡ true
     stays rest (inl e) = or_left _ _ e
     stays rest (inr k) = or_right _ _ (rest k)
 
 -- ---- one put in
-pub all_place : (P : Waiter → Type 0) (w : Waiter) (ws : List Waiter) → P w → AllByRecursion P ws → AllByRecursion P (insert_by precedes ws w)
+pub all_place :
+    (P : Waiter → Type 0) (w : Waiter) (ws : List Waiter)
+    → P w
+    → AllByRecursion P ws
+    → AllByRecursion P (insert_by precedes ws w)
 all_place P w [] p h = (p, tt)
-all_place P w (v ∷ vs) p h = cond_both (precedes w v) (w ∷ v ∷ vs) (v ∷ insert_by precedes vs w) (AllByRecursion P) (λ _. (p, (h.0, h.1))) (λ _. (h.0, all_place P w vs p h.1))
+all_place P w (v ∷ vs) p h =
+    cond_both (precedes w v) (w ∷ v ∷ vs) (v ∷ insert_by precedes vs w) (AllByRecursion P) (λ _. (p, (h.0, h.1)))
+    (λ _. (h.0, all_place P w vs p h.1))
 
-pub ordered_place : (w : Waiter) (ws : List Waiter) → IsOrdered ws → AllByRecursion (λ v. v.ticket ≡ w.ticket → ⊥) ws → IsOrdered (insert_by precedes ws w)
+pub ordered_place :
+    (w : Waiter) (ws : List Waiter)
+    → IsOrdered ws
+    → AllByRecursion (λ v. v.ticket ≡ w.ticket → ⊥) ws
+    → IsOrdered (insert_by precedes ws w)
 ordered_place w [] h apart = (tt, tt)
 ordered_place w (v ∷ vs) h apart =
     cond_both (precedes w v) (w ∷ v ∷ vs) (v ∷ insert_by precedes vs w) IsOrdered
@@ -111,12 +141,19 @@ ordered_place w (v ∷ vs) h apart =
 
 pub any_place_new : (p : Waiter → Bool) (w : Waiter) (ws : List Waiter) → p w ≡ true → list_any p (insert_by precedes ws w) ≡ true
 any_place_new p w [] h = or_left _ _ h
-any_place_new p w (v ∷ vs) h = cond_both (precedes w v) (w ∷ v ∷ vs) (v ∷ insert_by precedes vs w) (λ us. list_any p us ≡ true) (λ _. or_left _ _ h) (λ _. or_right _ _ (any_place_new p w vs h))
+any_place_new p w (v ∷ vs) h =
+    cond_both (precedes w v) (w ∷ v ∷ vs) (v ∷ insert_by precedes vs w) (λ us. list_any p us ≡ true) (λ _. or_left _ _ h)
+    (λ _. or_right _ _ (any_place_new p w vs h))
 
 pub any_place : (p : Waiter → Bool) (w : Waiter) (ws : List Waiter) → list_any p ws ≡ true → list_any p (insert_by precedes ws w) ≡ true
 any_place p w [] h = absurd (both_ways false refl h)
-any_place p w (v ∷ vs) h = cond_both (precedes w v) (w ∷ v ∷ vs) (v ∷ insert_by precedes vs w) (λ us. list_any p us ≡ true) (λ _. or_right _ _ h) (λ _. go (any_place p w vs) (or_cases _ _ h))
+any_place p w (v ∷ vs) h =
+    cond_both (precedes w v) (w ∷ v ∷ vs) (v ∷ insert_by precedes vs w) (λ us. list_any p us ≡ true) (λ _. or_right _ _ h)
+    (λ _. go (any_place p w vs) (or_cases _ _ h))
   where
-    go : (list_any p vs ≡ true → list_any p (insert_by precedes vs w) ≡ true) → (p v ≡ true) ⊎ (list_any p vs ≡ true) → list_any p (v ∷ insert_by precedes vs w) ≡ true
+    go :
+        (list_any p vs ≡ true → list_any p (insert_by precedes vs w) ≡ true)
+        → (p v ≡ true) ⊎ (list_any p vs ≡ true)
+        → list_any p (v ∷ insert_by precedes vs w) ≡ true
     go rest (inl e) = or_left _ _ e
     go rest (inr k) = or_right _ _ (rest k)

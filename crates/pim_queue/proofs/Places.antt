@@ -14,7 +14,13 @@ all_at P [] h k d low = absurd (omega arith)
 all_at P (x ∷ xs) h zero d low = h.0
 all_at P (x ∷ xs) h (suc k) d low = all_at P xs h.1 k d (omega arith)
 
-ordered_at : (ws : List Waiter) → IsOrdered ws → (i j : ℕ) (d : Waiter) → i < j → j < length ws → precedes (get_or ws i d) (get_or ws j d) ≡ true
+ordered_at :
+    (ws : List Waiter)
+    → IsOrdered ws
+    → (i j : ℕ) (d : Waiter)
+    → i < j
+    → j < length ws
+    → precedes (get_or ws i d) (get_or ws j d) ≡ true
 ordered_at [] h i j d less low = absurd (omega arith)
 ordered_at (w ∷ ws) h i zero d less low = absurd (omega arith)
 ordered_at (w ∷ ws) h zero (suc j) d less low = all_at _ ws h.0 j d (omega arith)
@@ -27,7 +33,8 @@ partitioned w ws ordered i j d le low behind = go (eq-or-lt_of_le le) (precedes 
     go : (i ≡ j) ⊎ (i < j) → (b : Bool) → precedes w (get_or ws i d) ≡ b → not b ≡ true
     go _ false h = refl
     go (inl is) true h = absurd (both_ways _ (not-true _ behind) (ap (λ k. precedes w (get_or ws k d)) (sym is) ∙ h))
-    go (inr less) true h = absurd (both_ways _ (not-true _ behind) (before_trans w (get_or ws i d) (get_or ws j d) h (ordered_at ws ordered i j d less low)))
+    go (inr less) true h =
+        absurd (both_ways _ (not-true _ behind) (before_trans w (get_or ws i d) (get_or ws j d) h (ordered_at ws ordered i j d less low)))
 
 -- behind them, and in front of the others, it is in its place
 pub insert_by-at :

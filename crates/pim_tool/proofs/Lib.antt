@@ -12,3 +12,4 @@ pub mod DecimalLemmas
 pub mod PrintingLemmas
 pub mod ReportLemmas
 pub mod ShownLemmas
+pub mod CommandLemmas

@@ -6,3 +6,4 @@ pub mod Ends
 pub mod Printed
 pub mod Shown
 pub mod Status
+pub mod Words

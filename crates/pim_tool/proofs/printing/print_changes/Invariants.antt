@@ -9,8 +9,8 @@ use Rattle.pim_tool.proofs.printing.print_changes.Given as goal
 abbrev pub invariant-loop-task : goal.invariant-loop-task
 invariant-loop-task g l = record {
   put : Puts (g.W.Sink.told l.fn.writer) (g.W.Sink.told l.writer)
-    (l.fn.page.bytes.items ++ flat_map (change_line l.manager) (changed_since l.fn.shown.items l.manager))
-    (l.page.bytes.items ++ flat_map (change_line l.manager) (passing (differs l.fn.shown.items l.manager) (length l.manager.base) l.above));
+      (l.fn.page.bytes.items ++ flat_map (change_line l.manager) (changed_since l.fn.shown.items l.manager))
+      (l.page.bytes.items ++ flat_map (change_line l.manager) (passing (differs l.fn.shown.items l.manager) (length l.manager.base) l.above));
   down : TakenDown l.fn.shown.items l.shown.items l.manager l.above;
   within : l.above ≤ length l.manager.base;
 }

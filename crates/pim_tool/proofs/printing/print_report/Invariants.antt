@@ -8,7 +8,7 @@ use Rattle.pim_tool.proofs.printing.print_report.Given as goal
 abbrev pub invariant-loop-index : goal.invariant-loop-index
 invariant-loop-index g l = record {
   put : Puts (g.W.Sink.told l.fn.writer) (g.W.Sink.told l.writer) (report_from 1 l.fn.manager l.lines)
-    (l.page.bytes.items ++ report_from (l.index + 1) l.manager (drop l.index l.lines));
+      (l.page.bytes.items ++ report_from (l.index + 1) l.manager (drop l.index l.lines));
   verdict : verdict_from (l.index + 1) l.manager (drop l.index l.lines) ≡ verdict_from 1 l.fn.manager l.lines;
   shows : Shows l.shown.items l.manager;
 }

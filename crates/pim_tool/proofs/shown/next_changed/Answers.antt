@@ -6,8 +6,7 @@ use Rattle.pim_tool.proofs.shown.next_changed.Goals as goal
 pub returns-then-level-get : goal.returns-then-level-get
 returns-then-level-get c =
     let level : c.get-level.result ≡ effective_priority c.args.manager.now (c.loop-number.number + 1) =
-    c.get-level.ensures.value ∙ of_task_some c.args.manager.now (c.loop-number.number + 1) _ _ (sym c.effective.ensures ∙ c.unwrap.ensures) in
-    (
+    c.get-level.ensures.value ∙ of_task_some c.args.manager.now (c.loop-number.number + 1) _ _ (sym c.effective.ensures ∙ c.unwrap.ensures) in (
       record {
         beyond = omega arith;
         passes = differs_shown _ c.args.manager.now c.loop-number.number _ _ (omega arith) c.index-shown-number.is level (λ e. c.if-level-get.true (e ∙ sym c.get.ensures.value));

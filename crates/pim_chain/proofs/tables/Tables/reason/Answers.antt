@@ -11,7 +11,8 @@ use Rattle.pim_chain.proofs.tables.Tables.reason.Goals as goal
 
 pub returns-then-level-get : goal.returns-then-level-get
 returns-then-level-get c =
-    reason_base c.args.self.now c.args.task (record { ready = c.task_count-tasks.ensures.ready; settled = c.requires.settled }) c.requires.known
+    reason_base c.args.self.now c.args.task
+    (record { ready = c.task_count-tasks.ensures.ready; settled = c.requires.settled }) c.requires.known
     (sym (c.get-level.ensures.value ∙ c.known_stored.ensures) ∙ c.if-level-get.true ∙ c.get.ensures.value ∙ c.known_base.ensures)
 
 pub returns-in-Some : goal.returns-in-Some
@@ -28,7 +29,8 @@ returns-in-Some-lender_at c =
     let v = c.args.self.now in
     let calm : Calm v = record { ready = c.task_count-tasks.ensures.ready; settled = c.requires.settled } in
     let level : c.get-level.result ≡ stored_at v c.args.task = c.get-level.ensures.value ∙ c.known_stored.ensures in
-    let known : IsMutex v.state c.in-Some-lender_at.mutex = owned_known v.state calm.ready.sound.lists c.in-Some-lender_at.mutex c.args.task (and_parts _ _ c.in-Some-lender_at.ensures.passes).0 in
+    let known : IsMutex v.state c.in-Some-lender_at.mutex =
+    owned_known v.state calm.ready.sound.lists c.in-Some-lender_at.mutex c.args.task (and_parts _ _ c.in-Some-lender_at.ensures.passes).0 in
     c.first_waiter.ensures ∙ waiter_here v c.in-Some-lender_at.mutex calm known
     ∙ reason_waiter v c.args.task calm c.requires.known
     (λ e. c.if-level-get.false (level ∙ e ∙ sym (c.get.ensures.value ∙ c.known_base.ensures)))

@@ -9,7 +9,8 @@ use Rattle.pim_queue.proofs.queue.Queue.reposition.Goals as goal
 
 pub put_in-requires-clause-ordered : goal.put_in-requires-clause-ordered
 put_in-requires-clause-ordered c =
-    subst IsOrdered (sym c.take_out-ticket.ensures.waiters) (ordered_without c.args.task c.self.inside.waiters.items c.self.invariant.0.ordered)
+    subst IsOrdered (sym c.take_out-ticket.ensures.waiters)
+    (ordered_without c.args.task c.self.inside.waiters.items c.self.invariant.0.ordered)
 
 pub invariant_of-self : goal.invariant_of-self
 invariant_of-self c =

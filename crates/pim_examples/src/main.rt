@@ -1,0 +1,41 @@
+//! Judges each example trace, and says whether its report is the one that is stored beside it.
+#![tactic(auto)]
+
+use pim_tool::{Input, Output, judge};
+use std::fs::File;
+use std::{fs, io};
+
+/// The names of the traces in data/, each with its report beside it.
+const EXAMPLES: [&str; 6] = [
+    "boost_through_a_chain",
+    "ceilings",
+    "deadlock_refused",
+    "inversion_avoided",
+    "inversion_suffered",
+    "recording_rejected",
+];
+
+fn main(rt: HostRuntime) -> io::Result<()> {
+    for name in EXAMPLES {
+        let answer = if is_as_stored(&rt, name)? {
+            "as stored"
+        } else {
+            "another report"
+        };
+        println!(rt; "{name}: {answer}")?;
+    }
+    Ok(())
+}
+
+/// Whether the report of the trace of this name is the stored one.
+fn is_as_stored(rt: &HostRuntime, name: &str) -> io::Result<bool> {
+    let alloc = rt.alloc();
+    let trace = format!(in alloc; "{name}.pim")?;
+    let report = format!(in alloc; "{name}.report")?;
+    let mut reader = Input::new(File::open(rt, trace.as_str())?);
+    let mut writer = Output::new(Vec::new(alloc));
+    let judged = judge(alloc, &mut reader, &mut writer).is_ok();
+    let written = writer.into_inner();
+    let stored = fs::read(rt, report.as_str())?;
+    Ok(judged && written.as_slice() == stored.as_slice())
+}

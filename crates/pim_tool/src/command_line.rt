@@ -1,0 +1,78 @@
+//! The words of the command line.
+ghost use Rattle.std.specs.Prelude.{◌≡◌, List, ℕ, map, [], ◌∷◌, codes, IfOk, option_map};
+ghost use Rattle.clap.specs.Simple.{app_of};
+ghost use Rattle.pim_tool.specs.Words.{pim_app, job_named, Answers};
+
+use clap::{Command, Error};
+use std::alloc::{AllocError, Global};
+
+/// What the program is to do.
+#[derive(Clone, Copy, Debug, PartialEq, Eq)]
+pub enum Job {
+    /// Judge the trace on standard input.
+    Judge,
+    /// Run the script on standard input, a worker for each task, and print the trace.
+    Run,
+    /// Run the script on standard input, and judge the trace of that run.
+    Check,
+}
+
+/// What stands below the options in `--help`.
+const MORE: &str = "\
+A trace declares tasks with their base priorities and mutexes with their protocols, and has a step a line:
+
+    $ printf 'pim 1\\ntask 1 10\\ntask 2 50\\nmutex 1 inherit\\n1 lock 1\\n2 lock 1\\n' | pim
+    1 granted
+    2 queued
+      task 1 at 50 waiter 2 mutex 1
+    accepted 2
+
+Lines: task <n> <base>; mutex <n> none | inherit | protect <ceiling>; <task> lock | try | unlock <mutex>;
+<task> release; <task> cancel <task>; <task> base <task> <priority>. Behind a step ' = <reply>' is what was
+recorded; the report ends at the first reply that differs.
+
+Input is standard input, results go to standard output, faults to standard error.
+Exit status: 0 accepted, 1 rejected, 2 any fault (the first line that can't stand, a failed read or write,
+want of memory, a wrong command line).";
+
+/// What the words ask for, the program's name first.
+///
+/// For the program's name alone, or followed by just `judge`, `run` or `check`, it answers Judge, Judge, Run or Check;
+/// the only error then is want of memory. Other words are an error with the text that is to be shown: help, the version,
+/// or what is wrong.
+pub fn command<'a>(alloc: Global, words: &'a [&'a str]) -> Result<Job, Error>
+    ensures none { (name : List ℕ) → map (λ word. word.now) words.now ≡ name ∷ [] → Answers result Job.Judge }
+    ensures judge { (name : List ℕ) → map (λ word. word.now) words.now ≡ name ∷ codes "judge" ∷ [] → Answers result Job.Judge }
+    ensures run { (name : List ℕ) → map (λ word. word.now) words.now ≡ name ∷ codes "run" ∷ [] → Answers result Job.Run }
+    ensures check { (name : List ℕ) → map (λ word. word.now) words.now ≡ name ∷ codes "check" ∷ [] → Answers result Job.Check }
+{
+    let matches = pim(alloc)?.try_get_matches_from(words)?;
+    Ok(job_of(matches.subcommand_name()))
+}
+
+/// The program's command line.
+fn pim<'a>(alloc: Global) -> Result<Command<'a>, AllocError>
+    ensures { IfOk result (λ command. app_of command ≡ pim_app) }
+{
+    let judge = Command::new(alloc, "judge").about("Print the report of a trace (the default)");
+    let run = Command::new(alloc, "run").about("Run a script and print its trace (not yet)");
+    let check = Command::new(alloc, "check").about("Run a script and judge its trace (not yet)");
+    Command::new(alloc, "pim")
+        .about("Judge traces of mutexes with the POSIX protocols: who ran boosted, when, and why")
+        .version("0.1.0")
+        .after_help(MORE)
+        .subcommand(judge)?
+        .subcommand(run)?
+        .subcommand(check)
+}
+
+/// The job that a subcommand names: judge, if there is none.
+fn job_of(subcommand: Option<&str>) -> Job
+    ensures { result ≡ job_named (option_map (λ name. name.now) subcommand.entry) }
+{
+    match subcommand {
+        Some("run") => Job::Run,
+        Some("check") => Job::Check,
+        _ => Job::Judge,
+    }
+}

@@ -1,0 +1,91 @@
+//! The readers and writers of std as ends that know no bytes.
+ghost use Rattle.std.specs.Prelude.{None};
+
+use crate::ends::{Failed, Sink, Source};
+use std::io::{ErrorKind, Read, Write};
+
+/// A reader that counts its failures. A read that a signal interrupts is made again.
+#[derive(Drop)]
+pub struct Input<R> {
+    reader: R,
+    failures: u64,
+}
+
+impl<R: Read> Input<R> {
+    /// A reader of which no read has failed.
+    pub fn new(reader: R) -> Input<R> {
+        Input {
+            reader,
+            failures: 0,
+        }
+    }
+}
+
+impl<R: Read> Source for Input<R> {
+    ghost remaining = { λ _. None };
+
+    ghost failures = { λ input. input.failures };
+
+    fn read(&mut self, buffer: &mut [u8]) -> Result<usize, Failed> {
+        for _attempt in 0..u64::MAX {
+            match self.reader.read(buffer) {
+                Ok(count) => return Ok(count),
+                Err(error) if error.kind() == ErrorKind::Interrupted => {}
+                Err(_) => break,
+            }
+        }
+        self.failures = self.failures.saturating_add(1);
+        Err(Failed)
+    }
+}
+
+/// A writer that counts its failures, and the writes that took nothing. A write that a signal interrupts is made again.
+#[derive(Drop)]
+pub struct Output<W> {
+    writer: W,
+    failures: u64,
+    stalls: u64,
+}
+
+impl<W: Write> Output<W> {
+    /// A writer of which no write has failed or taken nothing.
+    pub fn new(writer: W) -> Output<W> {
+        Output {
+            writer,
+            failures: 0,
+            stalls: 0,
+        }
+    }
+}
+
+impl<W> Output<W> {
+    /// The writer.
+    pub fn into_inner(self) -> W {
+        let Output {
+            writer,
+            failures: _,
+            stalls: _,
+        } = self;
+        writer
+    }
+}
+
+impl<W: Write> Sink for Output<W> {
+    ghost told = { λ output. record { contents = None; failures = output.failures; stalls = output.stalls } };
+
+    fn write(&mut self, piece: &[u8]) -> Result<usize, Failed> {
+        for _attempt in 0..u64::MAX {
+            match self.writer.write(piece) {
+                Ok(0) => {
+                    self.stalls = self.stalls.saturating_add(1);
+                    return Ok(0);
+                }
+                Ok(count) => return Ok(count),
+                Err(error) if error.kind() == ErrorKind::Interrupted => {}
+                Err(_) => break,
+            }
+        }
+        self.failures = self.failures.saturating_add(1);
+        Err(Failed)
+    }
+}
