@@ -1,6 +1,6 @@
 // Ends of one byte a call, and ends of which each call in turn goes wrong.
 
-use crate::tests::memory_ends::{Input, Output, Trouble};
+use crate::tests::memory_ends::{MemoryReader, MemoryWriter, Trouble};
 use crate::{Fault, Verdict, judge};
 use std::alloc::AllocGlobal;
 use std::process::Abort;
@@ -27,11 +27,11 @@ accepted 3
 
 /// The report is written whole by ends that take so many bytes a call.
 fn expect_whole(rt: &(impl Abort + AllocGlobal), read: usize, written: usize) {
-    let mut input = Input::piecewise(TEXT.as_bytes(), read, 0);
-    let mut output = Output::piecewise(rt.alloc(), written, Trouble::Fails, 0);
-    let answer = judge(rt.alloc(), &mut input, &mut output);
+    let mut reader = MemoryReader::piecewise(TEXT.as_bytes(), read, 0);
+    let mut writer = MemoryWriter::piecewise(rt.alloc(), written, Trouble::Fails, 0);
+    let answer = judge(rt.alloc(), &mut reader, &mut writer);
     assert_eq!(rt; answer, Ok(Verdict::Accepted(3)), "{read} {written}");
-    assert_eq!(rt; output.text(), Some(REPORT), "{read} {written}");
+    assert_eq!(rt; writer.text(), Some(REPORT), "{read} {written}");
 }
 
 #[test]
@@ -47,32 +47,32 @@ fn report_is_the_same_by_pieces(rt: HostRuntime) {
 fn each_failed_read_is_answered_and_nothing_is_written(rt: HostRuntime) {
     let calls = TEXT.len() as u64 + 1;
     for call in 1..calls + 1 {
-        let mut input = Input::piecewise(TEXT.as_bytes(), 1, call);
-        let mut output = Output::new(rt.alloc());
-        let answer = judge(rt.alloc(), &mut input, &mut output);
+        let mut reader = MemoryReader::piecewise(TEXT.as_bytes(), 1, call);
+        let mut writer = MemoryWriter::new(rt.alloc());
+        let answer = judge(rt.alloc(), &mut reader, &mut writer);
         assert_eq!(rt; answer, Err(Fault::Read), "at call {call}");
-        assert_eq!(rt; output.bytes().len(), 0, "at call {call}");
+        assert_eq!(rt; writer.bytes().len(), 0, "at call {call}");
     }
 }
 
 #[test]
 fn read_behind_the_end_is_not_made(rt: HostRuntime) {
-    let mut input = Input::piecewise(TEXT.as_bytes(), 1, TEXT.len() as u64 + 2);
-    let mut output = Output::new(rt.alloc());
-    let answer = judge(rt.alloc(), &mut input, &mut output);
+    let mut reader = MemoryReader::piecewise(TEXT.as_bytes(), 1, TEXT.len() as u64 + 2);
+    let mut writer = MemoryWriter::new(rt.alloc());
+    let answer = judge(rt.alloc(), &mut reader, &mut writer);
     assert_eq!(rt; answer, Ok(Verdict::Accepted(3)));
-    assert_eq!(rt; output.text(), Some(REPORT));
+    assert_eq!(rt; writer.text(), Some(REPORT));
 }
 
 /// Each write in turn goes wrong: what was written before is a beginning of the report.
 fn expect_beginnings(rt: &(impl Abort + AllocGlobal), trouble: Trouble) {
     for written in 0..REPORT.len() {
-        let mut input = Input::new(TEXT.as_bytes());
-        let mut output = Output::piecewise(rt.alloc(), 1, trouble, written as u64 + 1);
-        let answer = judge(rt.alloc(), &mut input, &mut output);
+        let mut reader = MemoryReader::new(TEXT.as_bytes());
+        let mut writer = MemoryWriter::piecewise(rt.alloc(), 1, trouble, written as u64 + 1);
+        let answer = judge(rt.alloc(), &mut reader, &mut writer);
         assert_eq!(rt; answer, Err(Fault::Write), "{trouble:?} after {written}");
         assert_eq!(rt;
-            output.text(),
+            writer.text(),
             REPORT.get(..written),
             "{trouble:?} after {written}"
         );

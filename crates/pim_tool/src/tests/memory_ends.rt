@@ -6,7 +6,7 @@ use std::alloc::Global;
 
 /// A reader over bytes.
 #[derive(Drop)]
-pub struct Input<'a> {
+pub struct MemoryReader<'a> {
     left: &'a [u8],
     /// The most bytes that a call hands over; 0 counts as 1.
     most: usize,
@@ -16,15 +16,15 @@ pub struct Input<'a> {
     failures: u64,
 }
 
-impl Input<'_> {
+impl MemoryReader<'_> {
     /// A reader that hands over as many bytes as are asked for.
-    pub fn new(bytes: &[u8]) -> Input<'_> {
-        Input::piecewise(bytes, usize::MAX, 0)
+    pub fn new(bytes: &[u8]) -> MemoryReader<'_> {
+        MemoryReader::piecewise(bytes, usize::MAX, 0)
     }
 
     /// A reader that hands over so many bytes a call at most, and fails at this call.
-    pub fn piecewise(bytes: &[u8], most: usize, fails_at: u64) -> Input<'_> {
-        Input {
+    pub fn piecewise(bytes: &[u8], most: usize, fails_at: u64) -> MemoryReader<'_> {
+        MemoryReader {
             left: bytes,
             most,
             fails_at,
@@ -34,10 +34,10 @@ impl Input<'_> {
     }
 }
 
-impl Source for Input<'_> {
-    ghost remaining = { λ input. Some input.left.now };
+impl Source for MemoryReader<'_> {
+    ghost remaining = { λ reader. Some reader.left.now };
 
-    ghost failures = { λ input. input.failures };
+    ghost failures = { λ reader. reader.failures };
 
     fn read(&mut self, buffer: &mut [u8]) -> Result<usize, Failed> {
         self.calls = self.calls.saturating_add(1);
@@ -64,7 +64,7 @@ pub enum Trouble {
 
 /// A writer into memory.
 #[derive(Drop)]
-pub struct Output {
+pub struct MemoryWriter {
     bytes: Vec<u8>,
     /// The most bytes that a call takes.
     most: usize,
@@ -76,15 +76,15 @@ pub struct Output {
     stalls: u64,
 }
 
-impl Output {
+impl MemoryWriter {
     /// A writer that takes each piece whole.
-    pub fn new(alloc: Global) -> Output {
-        Output::piecewise(alloc, usize::MAX, Trouble::Fails, 0)
+    pub fn new(alloc: Global) -> MemoryWriter {
+        MemoryWriter::piecewise(alloc, usize::MAX, Trouble::Fails, 0)
     }
 
     /// A writer that takes so many bytes a call at most, and goes wrong at this call.
-    pub fn piecewise(alloc: Global, most: usize, trouble: Trouble, at: u64) -> Output {
-        Output {
+    pub fn piecewise(alloc: Global, most: usize, trouble: Trouble, at: u64) -> MemoryWriter {
+        MemoryWriter {
             bytes: Vec::new(alloc),
             most,
             trouble,
@@ -106,8 +106,8 @@ impl Output {
     }
 }
 
-impl Sink for Output {
-    ghost told = { λ output. record { contents = Some output.bytes.items; failures = output.failures; stalls = output.stalls } };
+impl Sink for MemoryWriter {
+    ghost told = { λ writer. record { contents = Some writer.bytes.items; failures = writer.failures; stalls = writer.stalls } };
 
     fn write(&mut self, piece: &[u8]) -> Result<usize, Failed> {
         self.calls = self.calls.saturating_add(1);

@@ -1,7 +1,7 @@
 // The longest texts that stand, and those of one line more.
 
 use crate::tests::expected::expect_line;
-use crate::tests::memory_ends::{Input, Output};
+use crate::tests::memory_ends::{MemoryReader, MemoryWriter};
 use crate::{Verdict, judge};
 use std::alloc::{AllocGlobal, Global};
 use std::process::Abort;
@@ -38,10 +38,10 @@ fn mutexes(alloc: Global, count: u32) -> Result<Vec<u8>, Fail> {
 
 /// The judge accepts the text, and its report ends so.
 fn expect_accepted(rt: &(impl Abort + AllocGlobal), text: &[u8], steps: u32, end: &str) {
-    let mut output = Output::new(rt.alloc());
-    let answer = judge(rt.alloc(), &mut Input::new(text), &mut output);
+    let mut writer = MemoryWriter::new(rt.alloc());
+    let answer = judge(rt.alloc(), &mut MemoryReader::new(text), &mut writer);
     assert_eq!(rt; answer, Ok(Verdict::Accepted(steps)));
-    assert!(rt; output.bytes().ends_with(end.as_bytes()));
+    assert!(rt; writer.bytes().ends_with(end.as_bytes()));
 }
 
 #[test]
