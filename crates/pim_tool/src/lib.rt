@@ -1,4 +1,16 @@
 //! The text of traces, and the judge that writes their reports.
+//!
+//! [`judge`] reads a trace from a [`Source`], makes its steps, and writes to a [`Sink`] what each is answered, which tasks
+//! then have another priority, and why. Its answer is the [`Verdict`], or the [`Fault`] that kept it from one. [`parse`]
+//! reads a text alone, [`command`] the words of the command line, and [`status`] is the exit status for an answer.
+//!
+//! ```text
+//! let mut reader = Input::new(rt.reader());
+//! let mut writer = Output::new(io::writer(rt));
+//! let answer = judge(rt.alloc(), &mut reader, &mut writer);
+//! // from "pim 1\ntask 1 10\nmutex 1 protect 40\n1 lock 1\n"
+//! // "1 granted\n  task 1 at 40 ceiling 1\naccepted 1\n" was written, and the answer is Ok(Verdict::Accepted(1))
+//! ```
 #![tactic(auto)]
 
 mod agreement;

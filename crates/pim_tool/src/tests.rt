@@ -7,5 +7,4 @@ mod failing_ends;
 mod first_bad_lines;
 mod memory_ends;
 mod refusals;
-mod refused_memory;
 mod sizes;
