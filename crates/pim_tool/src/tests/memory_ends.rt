@@ -2,7 +2,7 @@
 ghost use Rattle.std.specs.Prelude.{Some};
 
 use crate::{Failed, Sink, Source};
-use std::alloc::{AllocError, Global};
+use std::alloc::Global;
 
 /// A reader over bytes.
 #[derive(Drop)]
@@ -93,13 +93,6 @@ impl MemoryWriter {
             failures: 0,
             stalls: 0,
         }
-    }
-
-    /// A writer that takes each piece whole, and takes no memory for so many bytes.
-    pub fn with_room(alloc: Global, room: usize) -> Result<MemoryWriter, AllocError> {
-        let mut writer = MemoryWriter::new(alloc);
-        writer.bytes = Vec::with_capacity(alloc, room)?;
-        Ok(writer)
     }
 
     /// What was written.
