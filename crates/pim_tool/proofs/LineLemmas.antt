@@ -1,12 +1,11 @@
 -- What words spell, by what they begin with.
-use Rattle.std.proofs.Common.{◌≡◌, ℕ, List, [], ◌∷◌, ◌++◌, codes, arith, refl, sym, ◌∙◌, ap, Option, Some, None}
+use Rattle.std.proofs.Common.{◌≡◌, ℕ, List, [], ◌∷◌, ◌++◌, codes, arith, sym, ◌∙◌, ap, Option, None}
 use Rattle.std.specs.Fmt.{decimal}
 use Rattle.pim_base.specs.declared.steps.Protocol.{Protocol}
 use Rattle.pim_base.specs.declared.steps.Op.{Op}
 use Rattle.pim_base.specs.declared.steps.Reply.{Reply}
-use Rattle.pim_base.specs.declared.lines.Line.{Line}
 use Rattle.pim_base.specs.declared.lines.Line.TheVariants as lines
-use Rattle.pim_base.specs.Spelling.{IsNumber, IsPrio, IsProtocol, IsOp, IsRecorded, IsLine, words_of, protocol_words, op_words, recorded_words}
+use Rattle.pim_base.specs.Spelling.{IsNumber, IsPrio, IsProtocol, IsOp, IsRecorded, protocol_words, op_words, recorded_words}
 use Rattle.pim_tool.specs.Reading.{words, Reads, ReadsAs}
 use Rattle.pim_tool.proofs.NumberLemmas.{no_number}
 use Rattle.pim_tool.proofs.SpellingLemmas.{same_behind}

@@ -1,5 +1,5 @@
 -- The lines of the bytes, one after another, and the first that can't stand.
-use Rattle.std.proofs.Common.{◌≡◌, ℕ, ◌+◌, ◌-◌, ◌<◌, ◌≤◌, List, [], ◌∷◌, ◌++◌, arith, refl, ap, sym, ◌∙◌, subst, length, length-append, append_assoc, take, Bool, true, false, not, Option, Some, None, IfSome, Bor, eqb, inl, inr, unwrap_or}
+use Rattle.std.proofs.Common.{◌≡◌, ℕ, ◌+◌, ◌-◌, ◌<◌, ◌≤◌, List, [], ◌∷◌, ◌++◌, arith, refl, ap, sym, ◌∙◌, subst, length, length-append, append_assoc, take, Bool, true, false, Option, Some, None, IfSome, Bor, eqb, inl, inr, unwrap_or}
 use Rattle.std.specs.Bool.{MatchBool}
 use Rattle.std.specs.List.{slice_split, join_with_byte}
 use Rattle.std.proofs.lemmas.List.{append-nil}

@@ -1,9 +1,8 @@
 -- The report from a line on, and what a step shows.
-use Rattle.std.proofs.Common.{◌≡◌, ◌≤◌, ◌<◌, ◌+◌, ◌-◌, ◌==◌, ℕ, zero, suc, not, Bool, true, false, eqb, arith, List, [], ◌∷◌, ◌++◌, length, filter, drop, get_or, Option, Some, None, unwrap_or, cond, ◌∙◌, ap, sym, subst, refl, drop-cons, add-one, if◌then◌else◌}
+use Rattle.std.proofs.Common.{◌≡◌, ◌≤◌, ◌<◌, ◌+◌, ◌-◌, ℕ, zero, suc, not, Bool, true, false, eqb, arith, List, [], ◌∷◌, ◌++◌, length, filter, drop, get_or, Option, Some, None, cond, ◌∙◌, ap, sym, subst, refl, drop-cons, add-one, if◌then◌else◌}
 use Rattle.std.specs.List.{range_with_len, flat_map, AllByRecursion}
 use Rattle.std.proofs.lemmas.List.{drop_all}
-use Rattle.pim_base.specs.Lists.{nth, numbers}
-use Rattle.pim_base.specs.State.{State, IsTask, tasks, base_of}
+use Rattle.pim_base.specs.State.{State, IsTask}
 use Rattle.pim_base.specs.Priorities.{effective_priority}
 use Rattle.pim_base.specs.Reasons.{reason_of}
 use Rattle.pim_base.specs.Checks.{unknown_task}
@@ -14,7 +13,6 @@ use Rattle.pim_base.specs.declared.steps.Step.{Step}
 use Rattle.pim_base.specs.declared.steps.Reply.{Reply}
 use Rattle.pim_base.specs.declared.steps.Waiter.{Waiter}
 use Rattle.pim_base.specs.declared.lines.StepLine.{StepLine}
-use Rattle.pim_base.specs.declared.lines.Verdict.{Verdict}
 use Rattle.pim_base.specs.declared.lines.Verdict.TheVariants as verdicts
 use Rattle.pim_base.proofs.Places.{length-put}
 use Rattle.pim_base.proofs.Kept.{IsKeptBySteps, kept_by_step}

@@ -1,5 +1,5 @@
 -- How a text grows by a line, and when it can't.
-use Rattle.std.proofs.Common.{◌≡◌, ℕ, ◌+◌, ◌≤◌, List, [], ◌∷◌, ◌++◌, arith, refl, ap, sym, ◌∙◌, subst, length, map, append_assoc, length-append, codes, Result, Ok, Err, IfOk, Bool, true, false, None}
+use Rattle.std.proofs.Common.{◌≡◌, ℕ, ◌+◌, ◌≤◌, List, [], ◌∷◌, ◌++◌, arith, refl, ap, sym, ◌∙◌, subst, length, map, append_assoc, length-append, Result, Ok, Err, IfOk, Bool, true, false, None}
 use Rattle.std.specs.Bool.{MatchBool}
 use Rattle.std.specs.List.{AllByRecursion}
 use Rattle.std.proofs.lemmas.List.{length-map, append-nil}

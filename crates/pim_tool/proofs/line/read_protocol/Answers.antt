@@ -1,4 +1,4 @@
-use Rattle.std.proofs.Common.{◌≡◌, List, ℕ, ap, ◌∙◌, ◌∷◌, [], codes, decimal}
+use Rattle.std.proofs.Common.{List, ℕ, ap, ◌∙◌, ◌∷◌, codes}
 use Rattle.pim_tool.specs.Reading.{words}
 use Rattle.pim_tool.proofs.WordLemmas.{cut_some, cut_none, same_bytes, other_bytes, one_prio}
 use Rattle.pim_tool.proofs.LineLemmas.{no_protocol, no_ceiling, bad_ceiling, not_protect}

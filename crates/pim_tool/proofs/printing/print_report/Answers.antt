@@ -1,8 +1,8 @@
-use Rattle.std.proofs.Common.{◌≡◌, ◌+◌, ◌++◌, List, ℕ, length, arith, refl, sym, subst, ◌∙◌, true, false}
+use Rattle.std.proofs.Common.{◌≡◌, ◌++◌, List, ℕ, length, arith, sym, subst, ◌∙◌}
 use Rattle.pim_base.specs.Reports.{report_from}
 use Rattle.pim_tool.specs.Ends.{Puts}
 use Rattle.pim_tool.proofs.PrintingLemmas.{prints_err, stops_page, stops_next, puts_next, puts_rejected, puts_page, puts_emptied}
-use Rattle.pim_tool.proofs.ReportLemmas.{report_next, report_goes_on, report_stops, verdict_goes_on, verdict_stops, report_end, verdict_end}
+use Rattle.pim_tool.proofs.ReportLemmas.{report_next, report_goes_on, report_stops, verdict_goes_on, report_end}
 use Rattle.pim_tool.proofs.printing.print_report.Goals as goal
 
 pub returns-in_err-print_step-clause-prints : goal.returns-in_err-print_step-clause-prints

@@ -1,6 +1,6 @@
 use Rattle.std.proofs.Common.{sym, ◌∙◌}
 use Rattle.pim_tool.proofs.PrintingLemmas.{prints_err, puts_as, stops_as}
-use Rattle.pim_tool.proofs.ReportLemmas.{shows_answer, shows_rejection, changed_are_tasks}
+use Rattle.pim_tool.proofs.ReportLemmas.{shows_answer, changed_are_tasks}
 use Rattle.pim_tool.proofs.printing.print_step.Goals as goal
 
 pub print_answer-requires : goal.print_answer-requires

@@ -1,5 +1,3 @@
-use Rattle.std.proofs.Common.{subst, sym}
-use Rattle.pim_tool.specs.Reading.{ReadsBytes}
 use Rattle.pim_tool.proofs.TraceLemmas.{adds_line, no_line_read}
 use Rattle.pim_tool.proofs.reading.add_line.Goals as goal
 

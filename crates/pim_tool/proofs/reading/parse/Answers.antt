@@ -1,4 +1,4 @@
-use Rattle.std.proofs.Common.{◌≤◌, arith, refl}
+use Rattle.std.proofs.Common.{◌≤◌, arith}
 use Rattle.pim_tool.specs.Reading.{trace_of}
 use Rattle.pim_tool.proofs.WordLemmas.{agreeing_bytes}
 use Rattle.pim_tool.proofs.ReadingLemmas.{begins, bad_next, goes_on, count_small}

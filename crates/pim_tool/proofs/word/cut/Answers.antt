@@ -1,4 +1,4 @@
-use Rattle.std.proofs.Common.{◌≡◌, sym, ◌∙◌}
+use Rattle.std.proofs.Common.{sym, ◌∙◌}
 use Rattle.std.proofs.lemmas.List.{take_rest}
 use Rattle.pim_tool.proofs.CutLemmas.{split_at_place, split_nowhere}
 use Rattle.pim_tool.proofs.word.cut.Goals as goal
