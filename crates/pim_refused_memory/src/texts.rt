@@ -1,7 +1,7 @@
 // The calls on texts.
 
 use crate::hoard::{GRAINS, Hoard};
-use pim_tool::{Fault, Input, Output, Verdict, judge, parse};
+use pim_tool::{Fault, Input, Output, Verdict, judge, parse, parse_script};
 use std::alloc::{AllocError, Global};
 use std::test::Fail;
 
@@ -69,6 +69,27 @@ fn read_by_grains(alloc: Global) -> Result<(u32, Result<usize, Fault>), AllocErr
 #[test]
 fn parse_answers_memory_until_there_is_enough(rt: HostRuntime) -> Result<(), Fail> {
     let (refusals, answer) = read_by_grains(rt.alloc())?;
+    assert_eq!(rt; answer, Ok(5), "after {refusals}");
+    assert!(rt; refusals > 0);
+    Ok(())
+}
+
+/// The same for a script.
+fn script_by_grains(alloc: Global) -> Result<(u32, Result<usize, Fault>), AllocError> {
+    let mut hoard = Hoard::new(alloc)?;
+    for refusals in 0..GRAINS {
+        let answer = parse_script(alloc, TEXT).map(|script| script.lines.len());
+        if answer != Err(Fault::Memory) {
+            return Ok((refusals, answer));
+        }
+        hoard.give_back();
+    }
+    Ok((GRAINS, Err(Fault::Memory)))
+}
+
+#[test]
+fn parse_script_answers_memory_until_there_is_enough(rt: HostRuntime) -> Result<(), Fail> {
+    let (refusals, answer) = script_by_grains(rt.alloc())?;
     assert_eq!(rt; answer, Ok(5), "after {refusals}");
     assert!(rt; refusals > 0);
     Ok(())

@@ -5,9 +5,10 @@ use Rattle.std.specs.List.{slice_split, join_with_byte}
 use Rattle.std.proofs.lemmas.List.{append-nil}
 use Rattle.std.proofs.lemmas.List.Splits.{length-slice_split, join_with_byte-slice_split}
 use Rattle.pim_base.specs.Spelling.{NEWLINE, version_line}
-use Rattle.pim_base.specs.Texts.{Trace, Spells, IsTrace, FirstBadLine, without_empty_last, lines_of}
+use Rattle.pim_base.specs.Texts.{Trace, without_empty_last, lines_of}
 use Rattle.pim_tool.specs.Reading.{pieces}
-use Rattle.pim_tool.proofs.TraceLemmas.{first_alone, first_is, no_line, length_valid}
+use Rattle.pim_tool.specs.Scripts.{SpellsBy, IsBy, FirstBadBy}
+use Rattle.pim_tool.proofs.TraceLemmas.{first_alone, first_obeys, first_is, no_line, length_valid}
 
 abbrev parts : List ℕ → List (List ℕ)
 parts bytes = slice_split (λ b. eqb b NEWLINE) bytes
@@ -52,10 +53,10 @@ rest_shorter bytes (Some r) d none some short = short
 -- ---- the first bad line
 
 -- the lines before `rest`, of which there are `count`, are those of the text so far
-pub record Halfway (all rest : List (List ℕ)) (t : Trace) (count : ℕ) : Type 0 where
+pub record Halfway (rules : Bool) (all rest : List (List ℕ)) (t : Trace) (count : ℕ) : Type 0 where
   pub done : List (List ℕ)
   pub whole : all ≡ done ++ rest
-  pub spells : Spells done t
+  pub spells : SpellsBy rules done t
   pub many : length done ≡ count
 
 take_done : (done rest : List (List ℕ)) → take (length done) (done ++ rest) ≡ done
@@ -72,15 +73,15 @@ at_true false P Q e h = cc
 
 -- the line behind a valid text that no valid text goes on with
 pub bad_next :
-    {all left : List (List ℕ)} {t : Trace} {count : ℕ} (added : Bool) (P : List (List ℕ) → Type 0) (line : List ℕ) (rest : List (List ℕ))
+    {rules : Bool} {all left : List (List ℕ)} {t : Trace} {count : ℕ} (added : Bool) (P : List (List ℕ) → Type 0) (line : List ℕ) (rest : List (List ℕ))
     → left ≡ line ∷ rest
-    → Halfway all left t count
+    → Halfway rules all left t count
     → added ≡ false
-    → ((ls : List (List ℕ)) → Spells ls t → MatchBool added (P ls) (IsTrace (ls ++ line ∷ []) → ⊥))
-    → FirstBadLine all (count + 1)
-bad_next {all} {left} {t} {count} added P line rest next half refused add =
+    → ((ls : List (List ℕ)) → SpellsBy rules ls t → MatchBool added (P ls) (IsBy rules (ls ++ line ∷ []) → ⊥))
+    → FirstBadBy rules all (count + 1)
+bad_next {rules} {all} {left} {t} {count} added P line rest next half refused add =
     let whole : all ≡ half.done ++ line ∷ rest = half.whole ∙ ap (λ ls. half.done ++ ls) next in
-    let stops = at_false added (P half.done) (IsTrace (half.done ++ line ∷ []) → ⊥) refused (add half.done half.spells) in
+    let stops = at_false added (P half.done) (IsBy rules (half.done ++ line ∷ []) → ⊥) refused (add half.done half.spells) in
     let longer : all ≡ (half.done ++ line ∷ []) ++ rest = whole ∙ sym (append_assoc half.done (line ∷ []) rest) in
     let size : length (half.done ++ line ∷ []) ≡ count + 1 = omega (arith, length-append half.done (line ∷ []), half.many) in
     let before : take (count + 1 - 1) all ≡ half.done =
@@ -88,45 +89,45 @@ bad_next {all} {left} {t} {count} added P line rest next half refused add =
     ∙ ap (take (length half.done)) whole ∙ take_done half.done (line ∷ rest) in
     let upto : take (count + 1) all ≡ half.done ++ line ∷ [] =
     ap (λ k. take k all) (sym size) ∙ ap (take (length (half.done ++ line ∷ []))) longer ∙ take_done (half.done ++ line ∷ []) rest in
-    (inr (subst IsTrace (sym before) (t, half.spells)), omega arith, λ valid. stops (subst IsTrace upto valid))
+    (inr (subst (IsBy rules) (sym before) (t, half.spells)), omega arith, λ valid. stops (subst (IsBy rules) upto valid))
 
 -- the text with that line
 pub goes_on :
-    {all left : List (List ℕ)} {t : Trace} {count : ℕ} (added : Bool) (u : Trace) (Q : List (List ℕ) → Type 0) (line : List ℕ) (rest : List (List ℕ))
+    {rules : Bool} {all left : List (List ℕ)} {t : Trace} {count : ℕ} (added : Bool) (u : Trace) (Q : List (List ℕ) → Type 0) (line : List ℕ) (rest : List (List ℕ))
     → left ≡ line ∷ rest
-    → Halfway all left t count
+    → Halfway rules all left t count
     → added ≡ true
-    → ((ls : List (List ℕ)) → Spells ls t → MatchBool added (Spells (ls ++ line ∷ []) u) (Q ls))
-    → Halfway all rest u (count + 1)
-goes_on {all} {left} {t} {count} added u Q line rest next half taken add = record {
+    → ((ls : List (List ℕ)) → SpellsBy rules ls t → MatchBool added (SpellsBy rules (ls ++ line ∷ []) u) (Q ls))
+    → Halfway rules all rest u (count + 1)
+goes_on {rules} {all} {left} {t} {count} added u Q line rest next half taken add = record {
   done = half.done ++ line ∷ [];
   whole = half.whole ∙ ap (λ ls. half.done ++ ls) next ∙ sym (append_assoc half.done (line ∷ []) rest);
-  spells = at_true added (Spells (half.done ++ line ∷ []) u) (Q half.done) taken (add half.done half.spells);
+  spells = at_true added (SpellsBy rules (half.done ++ line ∷ []) u) (Q half.done) taken (add half.done half.spells);
   many = omega (arith, length-append half.done (line ∷ []), half.many);
 }
 
 -- they are few
-pub count_small : {all rest : List (List ℕ)} {t : Trace} {count : ℕ} → Halfway all rest t count → count ≤ 66049
-count_small {all} {rest} {t} {count} half = omega (arith, half.many, length_valid half.done t half.spells)
+pub count_small : {rules : Bool} {all rest : List (List ℕ)} {t : Trace} {count : ℕ} → Halfway rules all rest t count → count ≤ 66049
+count_small {rules} {all} {rest} {t} {count} half = omega (arith, half.many, length_valid half.done t half.spells.0)
 
 -- all lines are done
-pub comes_to_end : {all : List (List ℕ)} {t : Trace} {count : ℕ} → Halfway all [] t count → Spells all t
-comes_to_end {all} {t} {count} half = subst (λ ls. Spells ls t) (sym (half.whole ∙ append-nil half.done)) half.spells
+pub comes_to_end : {rules : Bool} {all : List (List ℕ)} {t : Trace} {count : ℕ} → Halfway rules all [] t count → SpellsBy rules all t
+comes_to_end {rules} {all} {t} {count} half = subst (λ ls. SpellsBy rules ls t) (sym (half.whole ∙ append-nil half.done)) half.spells
 
 -- there is no first line
-pub no_first : (bytes : List ℕ) → length bytes ≡ 0 → FirstBadLine (lines_of bytes) 1
-no_first [] e = (inl refl, omega arith, no_line)
-no_first (b ∷ bytes) e = absurd (omega arith)
+pub no_first : (rules : Bool) (bytes : List ℕ) → length bytes ≡ 0 → FirstBadBy rules (lines_of bytes) 1
+no_first rules [] e = (inl refl, omega arith, no_line rules)
+no_first rules (b ∷ bytes) e = absurd (omega arith)
 
 -- the first line is not the version
-pub bad_first : (all : List (List ℕ)) (first : List ℕ) (rest : List (List ℕ)) → all ≡ first ∷ rest → (first ≡ version_line → ⊥) → FirstBadLine all 1
-bad_first all first rest e other = (inl refl, omega arith, λ valid. other (first_is first (subst (λ ls. IsTrace (take 1 ls)) e valid)))
+pub bad_first : (rules : Bool) (all : List (List ℕ)) (first : List ℕ) (rest : List (List ℕ)) → all ≡ first ∷ rest → (first ≡ version_line → ⊥) → FirstBadBy rules all 1
+bad_first rules all first rest e other = (inl refl, omega arith, λ valid. other (first_is rules first (subst (λ ls. IsBy rules (take 1 ls)) e valid)))
 
 -- the first line is the version
-pub begins : (all : List (List ℕ)) (first : List ℕ) (rest : List (List ℕ)) (t : Trace) → all ≡ first ∷ rest → first ≡ version_line → t ≡ record { bases = []; protocols = []; steps = [] } → Halfway all rest t 1
-begins all first rest t e version new = record {
+pub begins : (rules : Bool) (all : List (List ℕ)) (first : List ℕ) (rest : List (List ℕ)) (t : Trace) → all ≡ first ∷ rest → first ≡ version_line → t ≡ record { bases = []; protocols = []; steps = [] } → Halfway rules all rest t 1
+begins rules all first rest t e version new = record {
   done = version_line ∷ [];
   whole = e ∙ ap (λ (l : List ℕ). l ∷ rest) version;
-  spells = subst (λ (u : Trace). Spells (version_line ∷ []) u) (sym new) first_alone;
+  spells = subst (λ (u : Trace). SpellsBy rules (version_line ∷ []) u) (sym new) (first_alone, first_obeys rules);
   many = refl;
 }

@@ -8,8 +8,9 @@ use Rattle.pim_base.specs.declared.lines.StepLine.{StepLine}
 use Rattle.pim_base.specs.declared.lines.Line.{Line}
 use Rattle.pim_base.specs.declared.lines.Line.TheVariants as lines
 use Rattle.pim_base.specs.Spelling.{version_line, IsLine, spelled}
-use Rattle.pim_base.specs.Texts.{Trace, declared, task_lines, mutex_lines, IsWithinLimits, Spells, IsTrace}
+use Rattle.pim_base.specs.Texts.{Trace, declared, task_lines, mutex_lines, IsWithinLimits, Spells}
 use Rattle.pim_tool.specs.Reading.{ReadsBytes, with_line, MayFollow}
+use Rattle.pim_tool.specs.Scripts.{StandsInScript, MayStandInScript, Obeys, SpellsBy, IsBy}
 use Rattle.pim_tool.proofs.SpellingLemmas.{spelled_same}
 
 -- ---- the lines of a text tell it
@@ -241,23 +242,37 @@ last_of (x ∷ xs) (f ∷ front) last e =
 
 -- where no line that may follow is spelled so, there is no valid text
 stops :
-    (ls : List (List ℕ)) (t : Trace) (bytes : List ℕ)
+    (rules : Bool) (ls : List (List ℕ)) (t : Trace) (bytes : List ℕ)
     → Spells ls t
-    → ((m : Line) → IsLine m → MayFollow t m → bytes ≡ spelled m → ⊥)
-    → IsTrace (ls ++ bytes ∷ []) → ⊥
-stops ls t bytes spells none valid =
+    → ((m : Line) → IsLine m → MayFollow t m → Obeys rules (with_line t m) → bytes ≡ spelled m → ⊥)
+    → IsBy rules (ls ++ bytes ∷ []) → ⊥
+stops rules ls t bytes spells none valid =
     let u : Trace = valid.0 in
+    let is : Spells (ls ++ bytes ∷ []) u = valid.1.0 in
     let tail : version_line ∷ (map spelled (declared t) ++ bytes ∷ []) ≡ version_line ∷ map spelled (declared u) =
-    ap (λ xs. xs ++ bytes ∷ []) (sym spells.1) ∙ valid.1.1 in
+    ap (λ xs. xs ++ bytes ∷ []) (sym spells.1) ∙ is.1 in
     let last = last_of (declared u) (map spelled (declared t)) bytes (sym (cc)) in
     let m : Line = last.line in
-    let each = all_front IsLine last.before m (subst (AllByRecursion IsLine) last.whole valid.1.0.each) in
+    let each = all_front IsLine last.before m (subst (AllByRecursion IsLine) last.whole is.0.each) in
     let fronts : declared t ≡ last.before = map-spelled_same (declared t) last.before spells.0.each each.0 (sym last.fronts) in
     let longer : declared u ≡ declared t ++ m ∷ [] = last.whole ∙ ap (λ ls. ls ++ m ∷ []) (sym fronts) in
     let is_with : u ≡ with_line t m =
     sym (collect-declared u) ∙ ap collect longer ∙ collect-append_one (declared t) m ∙ ap (λ v. with_line v m) (collect-declared t) in
-    let may : MayFollow t m = follows t m (subst IsWithinLimits is_with valid.1.0) (ap declared (sym is_with) ∙ longer) in
-    none m each.1 may (sym last.lasts)
+    let may : MayFollow t m = follows t m (subst IsWithinLimits is_with is.0) (ap declared (sym is_with) ∙ longer) in
+    none m each.1 may (subst (Obeys rules) is_with valid.1.1) (sym last.lasts)
+
+-- ---- the rules of scripts, line by line
+
+obeys_more : (rules : Bool) (t : Trace) (m : Line) → MayFollow t m → (rules ≡ true → MayStandInScript t m) → Obeys rules t → Obeys rules (with_line t m)
+obeys_more false t m may stands h = tt
+obeys_more true t (lines.Task n p) may stands h = rw may.3 tt
+obeys_more true t (lines.Mutex n p) may stands h = h
+obeys_more true t (lines.Step s) may stands h = all_append_one (StandsInScript (length t.bases)) t.steps s h (stands refl)
+
+last_obeys : (t : Trace) (m : Line) → Obeys true (with_line t m) → MayStandInScript t m
+last_obeys t (lines.Task n p) h = tt
+last_obeys t (lines.Mutex n p) h = tt
+last_obeys t (lines.Step s) h = (all_front (StandsInScript (length t.bases)) t.steps s h).1
 
 -- ---- what the reading of a line adds
 
@@ -265,23 +280,42 @@ stops ls t bytes spells none valid =
 pub first_alone : Spells (version_line ∷ []) empty
 first_alone = (record { tasks = omega arith; mutexes = omega arith; steps = omega arith; each = tt }, refl)
 
--- the first line of a text names the version
-pub first_is : (bytes : List ℕ) → IsTrace (bytes ∷ []) → bytes ≡ version_line
-first_is bytes valid = let e = valid.1.1 in cc
+-- the text of no lines obeys any rules
+pub first_obeys : (rules : Bool) → Obeys rules empty
+first_obeys false = tt
+first_obeys true = tt
 
-pub no_line : IsTrace [] → ⊥
-no_line valid = let e = valid.1.1 in cc
+-- the first line of a text names the version
+pub first_is : (rules : Bool) (bytes : List ℕ) → IsBy rules (bytes ∷ []) → bytes ≡ version_line
+first_is rules bytes valid = let e = valid.1.0.1 in cc
+
+pub no_line : (rules : Bool) → IsBy rules [] → ⊥
+no_line rules valid = let e = valid.1.0.1 in cc
 
 pub adds_line :
-    {E : Type 0} (t u : Trace) (bytes : List ℕ) (m : Line) (r : Result Bool E)
+    {E : Type 0} (rules : Bool) (t u : Trace) (bytes : List ℕ) (m : Line) (r : Result Bool E)
     → IsLine m × (bytes ≡ spelled m)
+    → (rules ≡ true → MayStandInScript t m)
     → IfOk r (λ added. MatchBool added (MayFollow t m × (u ≡ with_line t m)) (MayFollow t m → ⊥))
-    → IfOk r (λ added. (ls : List (List ℕ)) → Spells ls t → MatchBool added (Spells (ls ++ bytes ∷ []) u) (IsTrace (ls ++ bytes ∷ []) → ⊥))
-adds_line t u bytes m (Err e) read h = tt
-adds_line t u bytes m (Ok true) read h = λ ls spells. rw (h.1, read.1) (grows ls t m spells read.0 h.0)
-adds_line t u bytes m (Ok false) read h =
-    λ ls spells. stops ls t bytes spells (λ l is may e.
+    → IfOk r (λ added. (ls : List (List ℕ)) → SpellsBy rules ls t → MatchBool added (SpellsBy rules (ls ++ bytes ∷ []) u) (IsBy rules (ls ++ bytes ∷ []) → ⊥))
+adds_line rules t u bytes m (Err e) read stands h = tt
+adds_line rules t u bytes m (Ok true) read stands h =
+    λ ls spells. rw (h.1, read.1) ((grows ls t m spells.0 read.0 h.0, obeys_more rules t m h.0 stands spells.1))
+adds_line rules t u bytes m (Ok false) read stands h =
+    λ ls spells. stops rules ls t bytes spells.0 (λ l is may obeys e.
     let same : l ≡ m = spelled_same l m is read.0 (sym e ∙ read.1) in h (subst (MayFollow t) same may))
 
-pub no_line_read : (t : Trace) (bytes : List ℕ) (ls : List (List ℕ)) → ReadsBytes bytes None → Spells ls t → IsTrace (ls ++ bytes ∷ []) → ⊥
-no_line_read t bytes ls none spells = stops ls t bytes spells (λ m is may e. none m is e)
+-- a line that may not stand in a script
+pub no_script_line :
+    (rules : Bool) (t : Trace) (bytes : List ℕ) (m : Line)
+    → rules ≡ true
+    → IsLine m × (bytes ≡ spelled m)
+    → (MayStandInScript t m → ⊥)
+    → (ls : List (List ℕ)) → SpellsBy rules ls t → IsBy rules (ls ++ bytes ∷ []) → ⊥
+no_script_line false t bytes m e read none ls spells = cc
+no_script_line true t bytes m e read none ls spells =
+    stops true ls t bytes spells.0 (λ l is may obeys same'.
+    let same : l ≡ m = spelled_same l m is read.0 (sym same' ∙ read.1) in none (subst (MayStandInScript t) same (last_obeys t l obeys)))
+
+pub no_line_read : (rules : Bool) (t : Trace) (bytes : List ℕ) (ls : List (List ℕ)) → ReadsBytes bytes None → SpellsBy rules ls t → IsBy rules (ls ++ bytes ∷ []) → ⊥
+no_line_read rules t bytes ls none spells = stops rules ls t bytes spells.0 (λ m is may obeys e. none m is e)

@@ -2,7 +2,8 @@
 //!
 //! [`judge`] reads a trace from a [`Source`], makes its steps, and writes to a [`Sink`] what each is answered, which tasks
 //! then have another priority, and why. Its answer is the [`Verdict`], or the [`Fault`] that kept it from one. [`parse`]
-//! reads a text alone, [`command`] the words of the command line, and [`status`] is the exit status for an answer.
+//! reads a text alone, [`parse_script`] one that is to be run, [`command`] the words of the command line, and [`status`] is
+//! the exit status for an answer.
 //!
 //! ```text
 //! let mut reader = Input::new(rt.reader());
@@ -34,7 +35,7 @@ pub use ends::{Failed, Sink, Source};
 pub use fault::Fault;
 pub use judging::{judge, status};
 pub use pim_base::{StepLine, Verdict};
-pub use reading::parse;
+pub use reading::{parse, parse_script};
 pub use streams::{Input, Output};
 pub use text::Text;
 

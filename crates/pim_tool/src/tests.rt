@@ -7,4 +7,5 @@ mod failing_ends;
 mod first_bad_lines;
 mod memory_ends;
 mod refusals;
+mod scripts;
 mod sizes;

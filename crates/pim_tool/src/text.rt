@@ -2,6 +2,7 @@
 ghost use Rattle.std.specs.Prelude.{◌≡◌, IfOk};
 ghost use Rattle.std.specs.Bool.{MatchBool};
 ghost use Rattle.pim_tool.specs.Reading.{trace_of, with_line, MayFollow};
+ghost use Rattle.pim_tool.specs.Scripts.{MayStandInScript};
 
 use pim_base::{Line, Prio, Protocol, Step, StepLine};
 use std::alloc::{AllocError, Global};
@@ -66,6 +67,18 @@ impl Text {
                 Ok(true)
             }
             Line::Step(line) => self.add_step(line),
+        }
+    }
+
+    /// Whether the line may stand in a script: it is no step, or one without a recorded reply by a declared task.
+    pub(crate) fn may_stand_in_script(&self, line: &Line) -> bool
+        ensures { MatchBool result (MayStandInScript (trace_of self.now) line.now) (MayStandInScript (trace_of self.now) line.now → ⊥) }
+    {
+        match line {
+            Line::Task { .. } | Line::Mutex { .. } => true,
+            Line::Step(line) => {
+                line.recorded.is_none() && usize::from(line.step.actor.get()) <= self.bases.len()
+            }
         }
     }
 

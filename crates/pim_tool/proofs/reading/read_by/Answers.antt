@@ -2,10 +2,10 @@ use Rattle.std.proofs.Common.{◌≤◌, arith}
 use Rattle.pim_tool.specs.Reading.{trace_of}
 use Rattle.pim_tool.proofs.WordLemmas.{agreeing_bytes}
 use Rattle.pim_tool.proofs.ReadingLemmas.{begins, bad_next, goes_on, count_small}
-use Rattle.pim_tool.proofs.reading.parse.Goals as goal
+use Rattle.pim_tool.proofs.reading.read_by.Goals as goal
 
 pub loop-rest-init : goal.loop-rest-init
-loop-rest-init c = begins _ _ _ _ c.next_line.ensures.lines (agreeing_bytes _ _ _ c.if-ne.ensures c.as_slice.ensures) c.new-text.ensures
+loop-rest-init c = begins _ _ _ _ _ c.next_line.ensures.lines (agreeing_bytes _ _ _ c.if-ne.ensures c.as_slice.ensures) c.new-text.ensures
 
 pub overflow_add-number : goal.overflow_add-number
 overflow_add-number c = let small : c.loop-rest.number ≤ 66049 = count_small c.loop-rest.invariant in omega arith

@@ -2,11 +2,11 @@ use Rattle.std.proofs.Common.{length}
 use Rattle.pim_base.specs.Texts.{lines_of}
 use Rattle.pim_tool.specs.Reading.{trace_of}
 use Rattle.pim_tool.proofs.ReadingLemmas.{Halfway}
-use Rattle.pim_tool.proofs.reading.parse.Given as goal
+use Rattle.pim_tool.proofs.reading.read_by.Given as goal
 
 -- the lines above the rest are those of the text so far
 abbrev pub invariant-loop-rest : goal.invariant-loop-rest
-invariant-loop-rest l = Halfway (lines_of l.fn.bytes) (lines_of l.rest) (trace_of l.text) l.number
+invariant-loop-rest l = Halfway l.is_script (lines_of l.fn.bytes) (lines_of l.rest) (trace_of l.text) l.number
 
 -- the bytes that are left
 abbrev pub decreases-loop-rest : goal.decreases-loop-rest
