@@ -49,7 +49,7 @@ fn any_step(random: &mut Pcg32) -> Step {
     Step { actor, op }
 }
 
-// every task shows the same, and is listed where its priority isn't what it was
+// every task shows the same, and is listed so where its priority isn't what it was
 fn expect_same_tasks(
     rt: &impl Abort,
     manager: &Manager,
@@ -63,8 +63,14 @@ fn expect_same_tasks(
         assert_eq!(rt; manager.effective(task), prio, "{task:?}");
         assert_eq!(rt; manager.reason(task), plain.reason(task), "{task:?}");
         assert_eq!(rt; manager.base(task), plain.base(task), "{task:?}");
-        let listed = changed.as_slice().contains(&task);
-        assert_eq!(rt; listed, before[number as usize] != prio, "{task:?}");
+        let listed = changed.as_slice().iter().find(|listed| listed.task == task);
+        let listed = listed.map(|listed| (Some(listed.prio), Some(listed.reason)));
+        let expected = if before[number as usize] == prio {
+            None
+        } else {
+            Some((prio, plain.reason(task)))
+        };
+        assert_eq!(rt; listed, expected, "{task:?}");
     }
 }
 

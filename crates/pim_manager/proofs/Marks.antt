@@ -1,6 +1,7 @@
 -- The tasks whose priority isn't the marked one are those that a step has changed.
-use Rattle.std.proofs.Common.{◌≡◌, ◌<◌, ◌≤◌, ℕ, Bool, true, false, not, ◌&&◌, eqb, List, [], ◌∷◌, ◌++◌, filter, length, length-append, refl, sym, ◌∙◌, ap, subst, arith, Option, Some, None}
+use Rattle.std.proofs.Common.{◌≡◌, ◌<◌, ◌≤◌, ℕ, Bool, true, false, not, ◌&&◌, eqb, List, [], ◌∷◌, ◌++◌, filter, map, length, length-append, refl, sym, ◌∙◌, ap, subst, arith, Option, Some, None}
 use Rattle.std.specs.Prelude.{IfSome}
+use Rattle.std.proofs.lemmas.List.{map-append}
 use Rattle.std.proofs.lemmas.Bool.{eq-eqb}
 use Rattle.std.proofs.lemmas.Bool.Decides.{nat_tests}
 use Rattle.pim_base.specs.Lists.{numbers}
@@ -16,6 +17,8 @@ use Rattle.pim_chain.specs.Views.{View, stored_in, stored_at, has_changed}
 use Rattle.pim_chain.specs.Settled.{Calm}
 use Rattle.pim_chain.specs.Owned.{IsFirstAbove, IsNext}
 use Rattle.pim_chain.proofs.Walking.{settled_effective}
+use Rattle.pim_manager.specs.declared.changed_tasks.ChangedTask.{ChangedTask}
+use Rattle.pim_manager.specs.Changed.{changed_task}
 use Rattle.pim_manager.specs.Held.{Held, AreMarked, is_changed, changed_since}
 use Rattle.pim_manager.proofs.Passes.{filter-same, filter-next, filter-until}
 use Rattle.pim_manager.proofs.Releases.{base-hand_over}
@@ -84,29 +87,37 @@ next_known_all h n (Some t) next few =
     record { next = next; known = known; few = omega (arith, high, few) }
 
 -- ---- the list, as far as a number
-pub record ListedTo (h : Held) (changed : List ℕ) (n : ℕ) : Type 0 where
-  pub list : changed ≡ filter (is_changed h) (numbers n)
+pub record ListedTo (h : Held) (changed : List ChangedTask) (n : ℕ) : Type 0 where
+  pub list : changed ≡ map (changed_task h.state) (filter (is_changed h) (numbers n))
   pub few : length changed ≤ n
   pub within : n ≤ length h.state.base
 
 pub listed_next :
-    (h : Held) (changed : List ℕ) (n t : ℕ)
+    (h : Held) (changed : List ChangedTask) (n t : ℕ)
     → ListedTo h changed n
     → IsFirstAbove (is_changed h) n t
     → IsTask h.state t
-    → ListedTo h (changed ++ t ∷ []) t
+    → ListedTo h (changed ++ changed_task h.state t ∷ []) t
 listed_next h changed n t before next known = record {
-  list = ap (λ xs. xs ++ t ∷ []) before.list ∙ sym (filter-next (is_changed h) n t next);
-  few = (let few = before.few in let above = next.above in let more = length-append changed (t ∷ []) in omega (arith, few, above, more));
+  list =
+      ap (λ cs. cs ++ changed_task h.state t ∷ []) before.list
+      ∙ sym (ap (map (changed_task h.state)) (filter-next (is_changed h) n t next) ∙ map-append (changed_task h.state) (filter (is_changed h) (numbers n)) (t ∷ []));
+  few = (
+      let few = before.few in
+      let above = next.above in
+      let more = length-append changed (changed_task h.state t ∷ []) in
+      omega (arith, few, above, more)
+      );
   within = known.1;
 }
 
 pub listed_all :
-    (h : Held) (changed : List ℕ) (n : ℕ)
+    (h : Held) (changed : List ChangedTask) (n : ℕ)
     → ListedTo h changed n
     → ((k : ℕ) → n < k → is_changed h k ≡ false)
-    → changed ≡ changed_since h
-listed_all h changed n done none = done.list ∙ sym (filter-until (is_changed h) n (length h.state.base) done.within (λ k low _. none k low))
+    → changed ≡ map (changed_task h.state) (changed_since h)
+listed_all h changed n done none =
+    done.list ∙ ap (map (changed_task h.state)) (sym (filter-until (is_changed h) n (length h.state.base) done.within (λ k low _. none k low)))
 
 -- ---- after a step: what differs from the marked priorities differs from those before it
 pub changed_by_step :

@@ -2,21 +2,33 @@
 
 ghost use Rattle.std.specs.Prelude.{◌≡◌, ◌<◌, [], ◌∷◌, ◌++◌, length};
 
-use pim_base::TaskNo;
+use pim_base::{Prio, Reason, TaskNo};
 use std::alloc::{AllocError, Global};
 use std::marker::Model;
+
+/// A task whose effective priority a step changed, as it is after the step.
+#[derive(Clone, Copy, Debug, PartialEq, Eq)]
+pub struct ChangedTask {
+    /// The task.
+    pub task: TaskNo,
+    /// Its effective priority.
+    pub prio: Prio,
+    /// Why it has that.
+    pub reason: Reason,
+}
 
 /// The tasks whose effective priority a step changed, in rising number. It has room for all tasks from the start.
 #[derive(Drop)]
 pub struct ChangedTasks {
-    tasks: Vec<TaskNo>,
+    tasks: Vec<ChangedTask>,
 }
 
 impl Model for ChangedTasks {
-    ghost use Rattle.std.specs.Prelude.{◌≤◌, ℕ, List};
+    ghost use Rattle.std.specs.Prelude.{◌≤◌, List};
     ghost use Rattle.std.specs.Vec.{vec_capacity};
+    ghost use Rattle.pim_manager.specs.declared.changed_tasks.ChangedTask.{ChangedTask};
 
-    ghost Value = { List ℕ };
+    ghost Value = { List ChangedTask };
 
     ghost view = { λ c. c.tasks.items };
 
@@ -35,7 +47,7 @@ impl ChangedTasks {
     }
 
     /// The tasks, in rising number.
-    pub fn as_slice(&self) -> &[TaskNo]
+    pub fn as_slice(&self) -> &[ChangedTask]
         ensures { result.now ≡ self.now }
     {
         &self.tasks
@@ -47,10 +59,11 @@ impl ChangedTasks {
         self.tasks.clear();
     }
 
-    pub(crate) fn push(&mut self, task: TaskNo)
+    pub(crate) fn push(&mut self, task: TaskNo, prio: Prio, reason: Reason)
         requires { length self.old < 256 }
-        ensures { self.new ≡ self.old ++ task ∷ [] }
+        ensures { self.new ≡ self.old ++ record { task = task; prio = prio; reason = reason } ∷ [] }
     {
-        self.tasks.push(task).unwrap();
+        let changed = ChangedTask { task, prio, reason };
+        self.tasks.push(changed).unwrap();
     }
 }

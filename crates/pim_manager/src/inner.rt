@@ -1,6 +1,6 @@
 // What a manager keeps: its tables, and the next ticket.
 
-ghost use Rattle.std.specs.Prelude.{◌≡◌, ◌≢◌, ◌≤◌, ◌<◌, ◌+◌, ◌-◌, ◌^◌, ◌↔◌, length, Some, None, false, IfSome, IfOk, IsErrOf};
+ghost use Rattle.std.specs.Prelude.{◌≡◌, ◌≢◌, ◌≤◌, ◌<◌, ◌+◌, ◌-◌, ◌^◌, ◌↔◌, length, map, Some, None, false, IfSome, IfOk, IsErrOf};
 ghost use Rattle.std.specs.Option.{option_map, option_copied};
 ghost use Rattle.pim_base.specs.Lists.{holds};
 ghost use Rattle.pim_base.specs.State.{start, IsTask, IsMutex, base_of, protocol_of, owner_of, wait_of, with_owner, with_wait, with_base, queued};
@@ -10,6 +10,7 @@ ghost use Rattle.pim_base.specs.Priorities.{effective_priority};
 ghost use Rattle.pim_base.specs.Reasons.{reason_of};
 ghost use Rattle.pim_base.specs.Laws.{IsSound};
 ghost use Rattle.pim_base.specs.declared.steps.Wait.{Wait};
+ghost use Rattle.pim_manager.specs.Changed.{changed_task};
 ghost use Rattle.pim_manager.specs.Held.{AreMarked, is_changed, changed_since};
 ghost use Rattle.pim_manager.specs.Known.{of_task, of_mutex};
 ghost use Rattle.pim_base.specs.Counts.{changed_tasks, handed_mutexes};
@@ -88,13 +89,13 @@ impl Inner {
     /// Lists the tasks whose effective priority isn't the marked one, in rising number.
     pub fn list_changed(&self, changed: &mut ChangedTasks)
         requires { length self.now.marked ≡ length self.now.state.base }
-        ensures { changed.new ≡ changed_since self.now }
+        ensures { changed.new ≡ map (changed_task self.now.state) (changed_since self.now) }
     {
         changed.clear();
         let mut asked = 0;
         while let Some(task) = self.next_changed(asked) {
             asked = task.get();
-            changed.push(task);
+            changed.push(task, self.known_effective(task), self.known_reason(task));
         }
     }
 
@@ -107,6 +108,22 @@ impl Inner {
     {
         let _tasks = self.tables.task_count();
         self.tables.next_changed(above)
+    }
+
+    // the effective priority of a known task
+    fn known_effective(&self, task: TaskNo) -> Prio
+        requires { IsTask self.now.state task }
+        ensures { result ≡ effective_priority self.now.state task }
+    {
+        self.tables.known_stored(task)
+    }
+
+    // why a known task has its effective priority
+    fn known_reason(&self, task: TaskNo) -> Reason
+        requires { IsTask self.now.state task }
+        ensures { result ≡ reason_of self.now.state task }
+    {
+        self.tables.reason(task)
     }
 
     /// How many tasks there are, 0 to 256. They have the numbers from 1 on.
@@ -154,7 +171,7 @@ impl Inner {
         if self.tables.is_unknown_task(task) {
             None
         } else {
-            Some(self.tables.reason(task))
+            Some(self.known_reason(task))
         }
     }
 

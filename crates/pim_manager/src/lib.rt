@@ -3,7 +3,8 @@
 //! A [`Manager`] keeps who owns and who waits, each queue in order, and the priority at which each task would execute.
 //! One [`Manager::step`] answers one request: the reply and the state after it are those of the definitions, and only
 //! the priorities that it may change are computed ([`Done::visits`] counts them). No step takes memory, and between two
-//! calls no cycle of waits stands. [`Manager::step_with_changes`] also lists the tasks whose priority the step changed.
+//! calls no cycle of waits stands. [`Manager::step_with_changes`] also lists the tasks whose priority the step
+//! changed, each with its priority and the reason.
 //!
 //! A low task owns what a high one asks for, so it executes at the high priority, and a medium one can't delay it:
 //!
@@ -39,7 +40,7 @@ mod tests;
 #[cfg(test)]
 mod walks;
 
-pub use changed_tasks::ChangedTasks;
+pub use changed_tasks::{ChangedTask, ChangedTasks};
 pub use done::Done;
 pub use make_fault::MakeFault;
 pub use manager::Manager;

@@ -1,6 +1,6 @@
 // The manager of mutexes.
 
-ghost use Rattle.std.specs.Prelude.{◌≡◌, ◌≤◌, ◌<◌, ◌+◌, ◌*◌, ◌↔◌, length, IfOk, IsErrOf};
+ghost use Rattle.std.specs.Prelude.{◌≡◌, ◌≤◌, ◌<◌, ◌+◌, ◌*◌, ◌↔◌, length, map, IfOk, IsErrOf};
 ghost use Rattle.std.specs.Option.{option_map, option_copied};
 ghost use Rattle.pim_base.specs.State.{start, base_of, protocol_of, owner_of, wait_of};
 ghost use Rattle.pim_base.specs.Chains.{HasCycle};
@@ -12,6 +12,7 @@ ghost use Rattle.pim_base.specs.Counts.{changed_tasks, handed_mutexes};
 ghost use Rattle.pim_base.specs.Steps.{reply_of, after};
 ghost use Rattle.pim_base.specs.Reports.{changed_between};
 ghost use Rattle.pim_base.specs.declared.steps.Wait.{Wait};
+ghost use Rattle.pim_manager.specs.Changed.{changed_task};
 ghost use Rattle.pim_manager.specs.Known.{of_task, of_mutex};
 
 use crate::changed_tasks::ChangedTasks;
@@ -165,14 +166,14 @@ impl Manager {
         self.inner.step(step)
     }
 
-    /// Makes one step as `step` does, and lists the tasks whose effective priority differs then, in rising number. This
-    /// takes no memory either.
+    /// Makes one step as `step` does, and lists the tasks whose effective priority differs then, in rising number, each
+    /// with that priority and the reason. This takes no memory either.
     pub fn step_with_changes(&mut self, step: Step, changed: &mut ChangedTasks) -> Done
         ensures reply { result.reply ≡ reply_of self.old step }
         ensures state { self.new ≡ after self.old step }
         ensures least { changed_tasks self.old self.new ≤ result.visits }
         ensures most { result.visits ≤ 1 + changed_tasks self.old self.new + 2 * handed_mutexes self.old self.new }
-        ensures changed { changed.new ≡ changed_between self.old self.new }
+        ensures changed { changed.new ≡ map (changed_task self.new) (changed_between self.old self.new) }
     {
         self.inner.mark();
         let done = self.inner.step(step);

@@ -1,6 +1,6 @@
 // What the scenarios are written with: steps, replies, and what each task shows.
 
-use crate::{Done, Manager};
+use crate::{ChangedTasks, Done, Manager};
 use pim_base::{MutexNo, Op, Prio, Protocol, Reason, Reply, Step, TaskNo};
 use std::alloc::Global;
 use std::process::Abort;
@@ -144,5 +144,15 @@ pub fn expect_queue(rt: &impl Abort, manager: &Manager, mutex: u16, tasks: &[u16
     assert_eq!(rt; queue.len(), tasks.len(), "mutex {mutex}");
     for (waiter, task) in queue.iter().zip(tasks) {
         assert_eq!(rt; waiter.task, TaskNo(*task), "mutex {mutex}");
+    }
+}
+
+/// These tasks are listed, in order, as they are seen now.
+pub fn expect_changed(rt: &impl Abort, changed: &ChangedTasks, tasks: &[(u16, Seen)]) {
+    assert_eq!(rt; changed.as_slice().len(), tasks.len());
+    for (listed, (number, seen)) in changed.as_slice().iter().zip(tasks) {
+        assert_eq!(rt; listed.task, TaskNo(*number));
+        assert_eq!(rt; listed.prio.get(), seen.prio, "task {number}");
+        assert_eq!(rt; listed.reason, seen.reason(), "task {number}");
     }
 }

@@ -1,7 +1,8 @@
 // What no scenario shows: the making of a manager, its getters, its ticket, its copy, and runs.
 
 use crate::scene::{
-    INHERIT, NONE, cancel, handed, lock, made, prios, protect, release, set_base, try_lock, unlock,
+    INHERIT, NONE, base, cancel, ceiling, expect_changed, handed, lock, made, prios, protect,
+    release, set_base, try_lock, unlock, waiter,
 };
 use crate::{ChangedTasks, Done, MakeFault, Manager};
 use pim_base::{MutexNo, Prio, Reason, Refusal, Reply, TaskNo, Waiter};
@@ -163,25 +164,49 @@ fn a_copy_goes_its_own_way(rt: HostRuntime) -> Result<(), Fail> {
 #[test]
 fn changed_tasks_in_rising_number(rt: HostRuntime) -> Result<(), Fail> {
     let mut manager = made(rt.alloc(), &[10, 20, 30, 90, 40], &[INHERIT; 3])?;
+    manager.run(&[lock(1, 1), lock(2, 2), lock(3, 3)]);
     let mut changed = ChangedTasks::new(rt.alloc())?;
-    assert!(rt; changed.as_slice().is_empty());
-    let tasks = [TaskNo(1), TaskNo(2), TaskNo(3), TaskNo(4)];
-    for (step, reply, visits, count) in [
-        (lock(1, 1), Reply::Granted, 1, 0),
-        (lock(2, 2), Reply::Granted, 1, 0),
-        (lock(3, 3), Reply::Granted, 1, 0),
-        (lock(2, 1), Reply::Queued, 1, 1),
-        (lock(3, 2), Reply::Queued, 2, 2),
-        (lock(4, 3), Reply::Queued, 3, 3),
-        (lock(5, 3), Reply::Queued, 1, 0),
-        (set_base(1, 4, 15), Reply::Set, 4, 4),
-        (lock(1, 1), Reply::Refused(Refusal::Deadlock), 0, 0),
-    ] {
-        let done = manager.step_with_changes(step, &mut changed);
-        assert_eq!(rt; done, Done { reply, visits }, "{step:?}");
-        let expected = tasks.get(..count).ok_or("at most four")?;
-        assert!(rt; changed.as_slice() == expected, "{step:?}");
-    }
+    expect_changed(&rt, &changed, &[]);
+    manager.step_with_changes(lock(2, 1), &mut changed);
+    expect_changed(&rt, &changed, &[(1, waiter(20, 2, 1))]);
+    manager.step_with_changes(lock(3, 2), &mut changed);
+    let tasks = [(1, waiter(30, 2, 1)), (2, waiter(30, 3, 2))];
+    expect_changed(&rt, &changed, &tasks);
+    manager.step_with_changes(lock(4, 3), &mut changed);
+    let tasks = [
+        (1, waiter(90, 2, 1)),
+        (2, waiter(90, 3, 2)),
+        (3, waiter(90, 4, 3)),
+    ];
+    expect_changed(&rt, &changed, &tasks);
+    manager.step_with_changes(lock(5, 3), &mut changed);
+    expect_changed(&rt, &changed, &[]);
+    // task 5 is now the first that waits for mutex 3
+    let done = manager.step_with_changes(set_base(1, 4, 15), &mut changed);
+    assert_eq!(rt; done.visits, 4);
+    let tasks = [
+        (1, waiter(40, 2, 1)),
+        (2, waiter(40, 3, 2)),
+        (3, waiter(40, 5, 3)),
+        (4, base(15)),
+    ];
+    expect_changed(&rt, &changed, &tasks);
+    manager.step_with_changes(lock(1, 1), &mut changed);
+    expect_changed(&rt, &changed, &[]);
+    Ok(())
+}
+
+#[test]
+fn task_whose_reason_alone_changed_is_not_listed(rt: HostRuntime) -> Result<(), Fail> {
+    let mut manager = made(rt.alloc(), &[10, 50, 50], &[INHERIT])?;
+    manager.run(&[lock(1, 1), lock(2, 1), lock(3, 1)]);
+    let mut changed = ChangedTasks::new(rt.alloc())?;
+    let second = Some(Reason::Waiter(TaskNo(2), MutexNo(1)));
+    assert_eq!(rt; manager.reason(TaskNo(1)), second);
+    manager.step_with_changes(cancel(2, 2), &mut changed);
+    let third = Some(Reason::Waiter(TaskNo(3), MutexNo(1)));
+    assert_eq!(rt; manager.reason(TaskNo(1)), third);
+    expect_changed(&rt, &changed, &[]);
     Ok(())
 }
 
@@ -199,6 +224,7 @@ fn changed_tasks_of_a_release(rt: HostRuntime) -> Result<(), Fail> {
             visits: 4
         }
     );
-    assert!(rt; changed.as_slice() == &[TaskNo(1), TaskNo(2), TaskNo(3)][..]);
+    let tasks = [(1, base(10)), (2, ceiling(40, 1)), (3, ceiling(50, 2))];
+    expect_changed(&rt, &changed, &tasks);
     Ok(())
 }

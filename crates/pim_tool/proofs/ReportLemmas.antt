@@ -1,105 +1,67 @@
 -- The report from a line on, and what a step shows.
-use Rattle.std.proofs.Common.{◌≡◌, ◌≤◌, ◌<◌, ◌+◌, ◌-◌, ℕ, zero, suc, not, Bool, true, false, eqb, arith, List, [], ◌∷◌, ◌++◌, length, filter, drop, get_or, Option, Some, None, cond, ◌∙◌, ap, sym, subst, refl, drop-cons, add-one, if◌then◌else◌}
-use Rattle.std.specs.List.{range_with_len, flat_map, AllByRecursion}
+use Rattle.std.proofs.Common.{◌≡◌, ◌≤◌, ◌<◌, ◌+◌, ◌-◌, ℕ, suc, true, false, arith, List, [], ◌∷◌, ◌++◌, length, map, drop, get_or, Result, ◌∙◌, ap, sym, drop-cons, add-one, if◌then◌else◌}
+use Rattle.std.specs.List.{flat_map}
 use Rattle.std.proofs.lemmas.List.{drop_all}
-use Rattle.pim_base.specs.State.{State, IsTask}
-use Rattle.pim_base.specs.Priorities.{effective_priority}
-use Rattle.pim_base.specs.Reasons.{reason_of}
-use Rattle.pim_base.specs.Checks.{unknown_task}
-use Rattle.pim_base.specs.Steps.{after, reply_of, hand_over_to}
-use Rattle.pim_base.specs.Queues.{first_of}
-use Rattle.pim_base.specs.Reports.{agrees, reply_line, change_line, changed_between, answer_lines, rejection_lines, step_lines, accepted, report_from, verdict_from}
-use Rattle.pim_base.specs.declared.steps.Step.{Step}
+use Rattle.std.proofs.lemmas.List.Folds.{flat_map-map}
+use Rattle.pim_base.specs.State.{State}
+use Rattle.pim_base.specs.Steps.{after, reply_of}
+use Rattle.pim_base.specs.Reports.{agrees, reply_line, rejection_lines, change_line, changed_between, step_lines, accepted, report_from, verdict_from}
 use Rattle.pim_base.specs.declared.steps.Reply.{Reply}
-use Rattle.pim_base.specs.declared.steps.Waiter.{Waiter}
 use Rattle.pim_base.specs.declared.lines.StepLine.{StepLine}
 use Rattle.pim_base.specs.declared.lines.Verdict.TheVariants as verdicts
-use Rattle.pim_base.proofs.Places.{length-put}
-use Rattle.pim_base.proofs.Kept.{IsKeptBySteps, kept_by_step}
-use Rattle.pim_tool.specs.Printed.{changed_line}
-use Rattle.pim_manager.specs.Known.{of_task}
+use Rattle.pim_tool.specs.Ends.{Told, Prints}
+use Rattle.pim_tool.specs.Printed.{changed_line, line_of, shown_lines}
+use Rattle.pim_tool.specs.declared.fault.Fault.{Fault}
+use Rattle.pim_tool.proofs.PrintingLemmas.{prints_as}
+use Rattle.pim_manager.specs.Changed.{changed_task}
+use Rattle.pim_manager.specs.declared.changed_tasks.ChangedTask.{ChangedTask}
 
--- ---- the line of a changed task
-
-pub change_line_is : (S : State) (t : ℕ) → change_line S t ≡ changed_line t (effective_priority S t) (reason_of S t)
-unfolding change_line changed_line
-change_line_is S t = refl
-
--- ---- the tasks that a step changed
-
--- steps declare no tasks
-same_size : (n : ℕ) → IsKeptBySteps (λ S. length S.base ≡ n)
-same_size n = record {
-  grant = λ S a m e idle. e;
-  enqueue = λ S a m e task idle closes owned. e;
-  hand = λ S m e. handed S m (first_of S m) e;
-  withdraw = λ S t e. e;
-  set_base = λ S t p e. length-put S.base t p ∙ e;
-}
-  where
-    handed : (S : State) (m : ℕ) (w : Option Waiter) → length S.base ≡ n → length (hand_over_to S m w).base ≡ n
-    handed S m None e = e
-    handed S m (Some w) e = e
-
-pub size_after : (S : State) (step : Step) → length (after S step).base ≡ length S.base
-size_after S step = kept_by_step (λ T. length T.base ≡ length S.base) (same_size (length S.base)) S step refl
-
--- those of these numbers that pass lie within them
-passing_within : (P : ℕ → Type 0) (p : ℕ → Bool) (a n : ℕ) → ((t : ℕ) → a ≤ t → t < a + n → P t) → AllByRecursion P (filter p (range_with_len a n))
-passing_within P p a zero within = tt
-passing_within P p a (suc n) within = go (p a) (passing_within P p (a + 1) n (λ t low high. within t (omega arith) (omega arith)))
-  where
-    rest : List ℕ
-    rest = filter p (range_with_len (a + 1) n)
-
-    go : (b : Bool) → AllByRecursion P rest → AllByRecursion P (cond b (a ∷ rest) rest)
-    go true all = (within a (omega arith) (omega arith), all)
-    go false all = all
-
--- what changed are tasks, after the step as before it
-pub changed_are_tasks : {ts : List ℕ} {T : State} (S : State) (step : Step) → T ≡ after S step → ts ≡ changed_between S T → AllByRecursion (IsTask T) ts
-changed_are_tasks {ts} {T} S step next are =
-    let size : length T.base ≡ length S.base = ap (λ (U : State). length U.base) next ∙ size_after S step in
-    subst (AllByRecursion (IsTask T)) (sym are)
-    (passing_within (IsTask T) (λ t. not (eqb (effective_priority S t) (effective_priority T t))) 1 (length S.base) (λ t low high. (low, omega arith)))
-
--- ---- what is shown of a known task
-
-pub of_task_some : {X : Type 0} (S : State) (t : ℕ) (x v : X) → of_task S t x ≡ Some v → v ≡ x
-of_task_some {X} S t x v e = go (unknown_task S t) e
-  where
-    go : (b : Bool) → cond b None (Some x) ≡ Some v → v ≡ x
-    go true e = cc
-    go false e = cc
+-- ---- the lines of the changed tasks
 
 -- the lines of the tasks from one on
-pub changes_next : (f : ℕ → List ℕ) (ts : List ℕ) (i t : ℕ) → i < length ts → t ≡ get_or ts i t → flat_map f (drop i ts) ≡ f t ++ flat_map f (drop (i + 1) ts)
-changes_next f ts i t inside at =
-    ap (flat_map f) (drop-cons ts i t inside ∙ ap (λ u. u ∷ drop (suc i) ts) (sym at) ∙ ap (λ j. t ∷ drop j ts) (sym (add-one i)))
+pub changes_next :
+    (f : ChangedTask → List ℕ) (cs : List ChangedTask) (i : ℕ) (c : ChangedTask) → i < length cs → c ≡ get_or cs i c → flat_map f (drop i cs) ≡ f c ++ flat_map f (drop (i + 1) cs)
+changes_next f cs i c inside at =
+    ap (flat_map f) (drop-cons cs i c inside ∙ ap (λ (d : ChangedTask). d ∷ drop (suc i) cs) (sym at) ∙ ap (λ j. c ∷ drop j cs) (sym (add-one i)))
 
 -- ---- what is shown of a step
 
-pub shows_answer :
-    (k : ℕ) (S T : State) (line : StepLine) (reply : Reply) (ts : List ℕ)
+-- what is listed of a task has the line of that task
+lines_are : (S : State) (ts : List ℕ) → flat_map line_of (map (changed_task S) ts) ≡ flat_map (change_line S) ts
+unfolding change_line changed_line
+lines_are S ts = flat_map-map line_of (changed_task S) ts
+
+-- with the reply and the changes of a step these are its lines
+shown_is :
+    (k : ℕ) (S : State) (line : StepLine) →
+    let T : State = after S line.step in
+    shown_lines k (reply_of S line.step) line.recorded (map (changed_task T) (changed_between S T)) ≡ step_lines k S line
+unfolding shown_lines
+shown_is k S line =
+    let T : State = after S line.step in
+    ap (λ bytes. if agrees line.recorded (reply_of S line.step) then reply_line k (reply_of S line.step) ++ bytes else rejection_lines k (reply_of S line.step) line.recorded)
+    (lines_are T (changed_between S T))
+
+shows_step :
+    (k : ℕ) (S T : State) (line : StepLine) (reply : Reply) (cs : List ChangedTask)
     → reply ≡ reply_of S line.step
     → T ≡ after S line.step
-    → ts ≡ changed_between S T
-    → agrees line.recorded reply ≡ true
-    → reply_line k reply ++ flat_map (change_line T) ts ≡ step_lines k S line
-shows_answer k S T line reply ts is next are yes' =
-    ap (λ (ts' : List ℕ). reply_line k reply ++ flat_map (change_line T) ts') are
-    ∙ ap (λ (r : Reply). reply_line k r ++ flat_map (change_line T) (changed_between S T)) is
-    ∙ ap (λ (U : State). reply_line k (reply_of S line.step) ++ flat_map (change_line U) (changed_between S U)) next
-    ∙ sym (ap (λ b. if b then answer_lines k S line else rejection_lines k (reply_of S line.step) line.recorded) (ap (agrees line.recorded) (sym is) ∙ yes'))
+    → cs ≡ map (changed_task T) (changed_between S T)
+    → shown_lines k reply line.recorded cs ≡ step_lines k S line
+shows_step k S T line reply cs is next are =
+    ap (λ (r : Reply). shown_lines k r line.recorded cs) is
+    ∙ ap (shown_lines k (reply_of S line.step) line.recorded) are
+    ∙ ap (λ (U : State). shown_lines k (reply_of S line.step) line.recorded (map (changed_task U) (changed_between S U))) next
+    ∙ shown_is k S line
 
-pub shows_rejection :
-    (k : ℕ) (S : State) (line : StepLine) (reply : Reply)
+pub prints_step :
+    {T : Type 0} (r : Result T Fault) (a b : Told) (left page : List ℕ) (k : ℕ) (S U : State) (line : StepLine) (reply : Reply) (cs : List ChangedTask)
+    → Prints a b (page ++ shown_lines k reply line.recorded cs) left r
     → reply ≡ reply_of S line.step
-    → agrees line.recorded reply ≡ false
-    → rejection_lines k reply line.recorded ≡ step_lines k S line
-shows_rejection k S line reply is no' =
-    ap (λ (r : Reply). rejection_lines k r line.recorded) is
-    ∙ sym (ap (λ b. if b then answer_lines k S line else rejection_lines k (reply_of S line.step) line.recorded) (ap (agrees line.recorded) (sym is) ∙ no'))
+    → U ≡ after S line.step
+    → cs ≡ map (changed_task U) (changed_between S U)
+    → Prints a b (page ++ step_lines k S line) left r
+prints_step r a b left page k S U line reply cs h is next are = prints_as a b left page _ _ r (shows_step k S U line reply cs is next are) h
 
 -- ---- the lines from one on
 

@@ -2,9 +2,10 @@
 ghost use Rattle.std.specs.Prelude.{◌≡◌, ◌++◌, ◌<◌, ◌+◌, [], decimal, OnOk, IfOk};
 ghost use Rattle.pim_base.specs.Spelling.{refusal_word};
 ghost use Rattle.pim_base.specs.Reports.{reply_text, reply_line, differing_line, rejected, accepted};
-ghost use Rattle.pim_tool.specs.Printed.{reason_text, changed_line};
+ghost use Rattle.pim_tool.specs.Printed.{reason_text, line_of};
 
-use pim_base::{Prio, Reason, Refusal, Reply, TaskNo};
+use pim_base::{Reason, Refusal, Reply};
+use pim_manager::ChangedTask;
 use std::alloc::{AllocError, Global};
 
 /// How many bytes are gathered before they are written.
@@ -48,15 +49,15 @@ impl Page {
 
     /// The line of a task whose priority changed: the priority that it has now, and why.
     #[tactic(auto, unfolding(crate::specs::Printed::changed_line))]
-    pub fn change(&mut self, task: TaskNo, prio: Prio, reason: Reason) -> Result<(), AllocError>
-        ensures { OnOk result (self.new.bytes.items ≡ self.old.bytes.items ++ changed_line task prio reason) }
+    pub fn change(&mut self, changed: &ChangedTask) -> Result<(), AllocError>
+        ensures { OnOk result (self.new.bytes.items ≡ self.old.bytes.items ++ line_of changed.now) }
     {
         self.word(b"  task ")?;
-        self.number(u32::from(task.get()))?;
+        self.number(u32::from(changed.task.get()))?;
         self.word(b" at ")?;
-        self.number(u32::from(prio.get()))?;
+        self.number(u32::from(changed.prio.get()))?;
         self.word(b" ")?;
-        self.reason(reason)?;
+        self.reason(changed.reason)?;
         self.word(b"\n")
     }
 

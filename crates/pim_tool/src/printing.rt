@@ -1,18 +1,17 @@
 //! The report, line by line through a page.
 ghost use Rattle.std.specs.Prelude.{◌≡◌, ◌++◌, ◌^◌, ◌<◌, ◌≤◌, [], length, flat_map, true, IfOk};
-ghost use Rattle.std.specs.List.{AllByRecursion};
-ghost use Rattle.pim_base.specs.State.{IsTask};
 ghost use Rattle.pim_base.specs.Steps.{reply_of, after};
-ghost use Rattle.pim_base.specs.Reports.{agrees, reply_line, change_line, rejection_lines, step_lines, accepted, report_from, verdict_from};
+ghost use Rattle.pim_base.specs.Reports.{agrees, reply_line, rejection_lines, step_lines, accepted, report_from, verdict_from};
 ghost use Rattle.pim_tool.specs.Ends.{Prints};
+ghost use Rattle.pim_tool.specs.Printed.{line_of, shown_lines};
 
 use crate::agreement::agrees;
 use crate::ends::Sink;
 use crate::fault::Fault;
 use crate::page::Page;
 use crate::transfer::write_all;
-use pim_base::{Reply, StepLine, TaskNo, Verdict};
-use pim_manager::{ChangedTasks, Manager};
+use pim_base::{Reply, StepLine, Verdict};
+use pim_manager::{ChangedTask, ChangedTasks, Manager};
 
 /// Writes the page, and empties it.
 fn flush<W: Sink>(page: &mut Page, writer: &mut W) -> Result<(), Fault>
@@ -40,16 +39,12 @@ fn make_room<W: Sink>(page: &mut Page, writer: &mut W) -> Result<(), Fault>
 fn print_change<W: Sink>(
     page: &mut Page,
     writer: &mut W,
-    manager: &Manager,
-    task: TaskNo,
+    changed: &ChangedTask,
 ) -> Result<(), Fault>
-    requires { IsTask manager.now task }
-    ensures { Prints (W.told writer.old) (W.told writer.new) (page.old.bytes.items ++ change_line manager.now task) page.new.bytes.items result }
+    ensures { Prints (W.told writer.old) (W.told writer.new) (page.old.bytes.items ++ line_of changed.now) page.new.bytes.items result }
 {
     make_room(page, writer)?;
-    let prio = manager.effective(task).unwrap();
-    let reason = manager.reason(task).unwrap();
-    page.change(task, prio, reason)?;
+    page.change(changed)?;
     Ok(())
 }
 
@@ -57,15 +52,12 @@ fn print_change<W: Sink>(
 fn print_changes<W: Sink>(
     page: &mut Page,
     writer: &mut W,
-    manager: &Manager,
-    changed: &[TaskNo],
+    changed: &[ChangedTask],
 ) -> Result<(), Fault>
-    requires { AllByRecursion (IsTask manager.now) changed.now }
-    ensures { Prints (W.told writer.old) (W.told writer.new)
-        (page.old.bytes.items ++ flat_map (change_line manager.now) changed.now) page.new.bytes.items result }
+    ensures { Prints (W.told writer.old) (W.told writer.new) (page.old.bytes.items ++ flat_map line_of changed.now) page.new.bytes.items result }
 {
     for task in changed {
-        print_change(page, writer, manager, *task)?;
+        print_change(page, writer, task)?;
     }
     Ok(())
 }
@@ -91,21 +83,47 @@ fn print_rejection<W: Sink>(
 fn print_answer<W: Sink>(
     page: &mut Page,
     writer: &mut W,
-    manager: &Manager,
-    changed: &[TaskNo],
     number: u32,
     reply: &Reply,
+    changed: &[ChangedTask],
 ) -> Result<(), Fault>
-    requires { AllByRecursion (IsTask manager.now) changed.now }
     ensures { Prints (W.told writer.old) (W.told writer.new)
-        (page.old.bytes.items ++ (reply_line number reply.now ++ flat_map (change_line manager.now) changed.now)) page.new.bytes.items result }
+        (page.old.bytes.items ++ (reply_line number reply.now ++ flat_map line_of changed.now)) page.new.bytes.items result }
 {
     make_room(page, writer)?;
     page.answer(number, reply)?;
-    print_changes(page, writer, manager, changed)
+    print_changes(page, writer, changed)
+}
+
+/// The lines of a step that was answered so and changed these tasks. It says whether the reply agrees with the recorded
+/// one.
+#[tactic(auto, unfolding(crate::specs::Printed::shown_lines))]
+fn print_lines<W: Sink>(
+    page: &mut Page,
+    writer: &mut W,
+    number: u32,
+    reply: &Reply,
+    line: &StepLine,
+    changed: &[ChangedTask],
+) -> Result<bool, Fault>
+    ensures prints { Prints (W.told writer.old) (W.told writer.new)
+        (page.old.bytes.items ++ shown_lines number reply.now line.now.recorded changed.now) page.new.bytes.items result }
+    ensures agrees { IfOk result (λ goes_on. goes_on ≡ agrees line.now.recorded reply.now) }
+{
+    let goes_on = agrees(line, reply);
+    let printed = if goes_on {
+        print_answer(page, writer, number, reply, changed)
+    } else {
+        print_rejection(page, writer, number, reply, line)
+    };
+    match printed {
+        Ok(()) => Ok(goes_on),
+        Err(fault) => Err(fault),
+    }
 }
 
 /// Makes a step, and prints its lines. It says whether the reply agrees with the recorded one.
+#[tactic(auto, using(crate::proofs::ReportLemmas::prints_step))]
 fn print_step<W: Sink>(
     page: &mut Page,
     writer: &mut W,
@@ -119,13 +137,7 @@ fn print_step<W: Sink>(
     ensures after { manager.new ≡ after manager.old line.now.step }
 {
     let reply = manager.step_with_changes(line.step, changed).reply;
-    let goes_on = agrees(line, &reply);
-    if goes_on {
-        print_answer(page, writer, manager, changed.as_slice(), number, &reply)?;
-    } else {
-        print_rejection(page, writer, number, &reply, line)?;
-    }
-    Ok(goes_on)
+    print_lines(page, writer, number, &reply, line, changed.as_slice())
 }
 
 /// The last line, and all that is still in the page.

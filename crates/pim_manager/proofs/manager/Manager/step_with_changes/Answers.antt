@@ -1,6 +1,7 @@
-use Rattle.std.proofs.Common.{◌≡◌, ◌∙◌, ap, sym, length}
+use Rattle.std.proofs.Common.{◌≡◌, ◌∙◌, ap, sym, length, map}
 use Rattle.pim_base.specs.State.{State}
 use Rattle.pim_base.specs.Reports.{changed_between}
+use Rattle.pim_manager.specs.Changed.{changed_task}
 use Rattle.pim_manager.specs.Held.{changed_since}
 use Rattle.pim_manager.proofs.Marks.{bases_after, changed_by_step}
 use Rattle.pim_manager.proofs.manager.Manager.step_with_changes.Goals as goal
@@ -19,6 +20,7 @@ returns-clause-changed c =
     ap (λ (S : State). length S.base) c.step-done.ensures.state ∙ bases_after c.mark.new.self.state c.args.step ∙ ap
     (λ (S : State). length S.base) c.mark.ensures.state in
     c.list_changed.ensures
-    ∙ ap (λ marked. changed_since (record { state = T; marked = marked })) c.step-done.ensures.marked
+    ∙ ap (map (changed_task T))
+    (ap (λ marked. changed_since (record { state = T; marked = marked })) c.step-done.ensures.marked
     ∙ changed_by_step S T c.mark.new.self.marked c.mark.ensures.marked same
-    ∙ ap (λ (S : State). changed_between S T) c.self.view_is
+    ∙ ap (λ (S : State). changed_between S T) c.self.view_is)
