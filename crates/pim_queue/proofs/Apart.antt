@@ -1,6 +1,6 @@
 -- Waiters of different tasks with different tickets, and what keeps them so.
 use Rattle.std.proofs.Common.{◌≡◌, ◌≢◌, ℕ, suc, ◌<◌, ◌≤◌, Bool, true, false, ◌||◌, cond, refl, sym, ◌∙◌, ap, arith, List, [], ◌∷◌, length, Some}
-use Rattle.std.specs.List.{list_any, AllByRecursion, find}
+use Rattle.std.specs.List.{list_any, AllByRecursion, find, insert, remove, position_or_len}
 use Rattle.std.specs.Option.{option_map_or}
 use Rattle.std.proofs.lemmas.Bool.{both_ways, eqb-true, eq-eqb, or_parts, cond_both}
 use Rattle.pim_base.specs.declared.steps.Waiter.{Waiter}
@@ -9,6 +9,7 @@ use Rattle.pim_base.specs.Queues.{precedes}
 use Rattle.pim_queue.specs.Line.{IsLine}
 use Rattle.pim_queue.specs.Waiters.{is_of, has_ticket, without, ticket_of, repositioned, Differs, IsApart}
 use Rattle.pim_queue.proofs.Order.{all_each, all_both, all_without, all_place, ordered_without, ordered_place}
+use Rattle.pim_queue.proofs.Places.{insert_by_is}
 
 -- ---- lengths
 pub length-insert_by : (w : Waiter) (ws : List Waiter) → length (insert_by precedes ws w) ≡ suc (length ws)
@@ -165,15 +166,33 @@ line_repositioned room task prio ws line here =
     line_joined room (record { task = task; prio = prio; ticket = ticket_of task ws }) (without task ws) (line_without room task ws line)
     (omega arith) (others_differ task prio ws line.apart here)
 
--- taken out and put in again with its ticket
+-- the one that is found is of the task
+found_is_of : (task : ℕ) (ws : List Waiter) (w : Waiter) → find (is_of task) ws ≡ Some w → w.task ≡ task
+found_is_of task [] w h = cc
+found_is_of task (v ∷ vs) w h = go (is_of task v) refl (found_is_of task vs w) h
+  where
+    go :
+        (b : Bool)
+        → is_of task v ≡ b
+        → (find (is_of task) vs ≡ Some w → w.task ≡ task)
+        → cond b (Some v) (find (is_of task) vs) ≡ Some w
+        → w.task ≡ task
+    go true here rest is = let same : v ≡ w = cc in ap (λ (u : Waiter). u.task) (sym same) ∙ eqb-true v.task task here
+    go false away rest is = rest is
+
+-- taken out, and put in again with its ticket where its priority belongs
 pub is_repositioned :
-    (task prio : ℕ) (w : Waiter) (ws us vs : List Waiter)
+    (task prio : ℕ) (w v : Waiter) (ws : List Waiter) (from to : ℕ)
     → find (is_of task) ws ≡ Some w
-    → us ≡ without task ws
-    → vs ≡ insert_by precedes us (record { task = task; prio = prio; ticket = w.ticket })
-    → vs ≡ repositioned task prio ws
-is_repositioned task prio w ws us vs was out put =
-    put
-    ∙ ap (λ xs. insert_by precedes xs (record { task = task; prio = prio; ticket = w.ticket })) out
-    ∙ ap (λ n. insert_by precedes (without task ws) (record { task = task; prio = prio; ticket = n }))
-    (sym (ap (λ o. option_map_or (λ (v : Waiter). v.ticket) o 0) was))
+    → without task ws ≡ remove ws from
+    → v ≡ record w { prio = prio }
+    → to ≡ position_or_len (precedes v) (remove ws from)
+    → insert (remove ws from) to v ≡ repositioned task prio ws
+is_repositioned task prio w v ws from to was out now place =
+    let its_task : w.task ≡ task = found_is_of task ws w was in
+    let its_ticket : w.ticket ≡ ticket_of task ws = sym (ap (λ o. option_map_or (λ (u : Waiter). u.ticket) o 0) was) in
+    let same : v ≡ record { task = task; prio = prio; ticket = ticket_of task ws } = cc in
+    ap (λ i. insert (remove ws from) i v) place
+    ∙ sym (insert_by_is v (remove ws from))
+    ∙ ap (λ us. insert_by precedes us v) (sym out)
+    ∙ ap (insert_by precedes (without task ws)) same

@@ -1,4 +1,4 @@
-use Rattle.std.proofs.Common.{◌≡◌, ℕ, ◌<◌, ◌≤◌, Bool, true, false, cond, ◌&&◌, ◌||◌, ◌⊎◌, inl, inr, refl, sym, ◌∙◌, ap, arith, Some, List, [], ◌∷◌, eqb, ltb}
+use Rattle.std.proofs.Common.{◌≡◌, ℕ, zero, suc, ◌<◌, ◌≤◌, Bool, true, false, cond, ◌&&◌, ◌||◌, ◌⊎◌, inl, inr, refl, sym, ◌∙◌, ap, arith, Some, List, [], ◌∷◌, take, drop, eqb, ltb}
 use Rattle.std.specs.List.{list_any, find, AllByRecursion}
 use Rattle.std.proofs.lemmas.Bool.{both_ways, cases_order, ltb-true, lt-ltb, eqb-true, eq-eqb, or_cases, or_left, or_right, and_parts, and_from, cond_both}
 use Rattle.pim_base.specs.declared.steps.Waiter.{Waiter}
@@ -84,6 +84,22 @@ before_else a b apart h = before_from b a (go (cases_order a.prio b.prio) (cases
     go (inl e) (inl f) = absurd (apart (sym f))
     go (inl e) (inr (inl l)) = absurd (never (inr (e, l)))
     go (inl e) (inr (inr g)) = inr (sym e, g)
+
+-- ---- a part of an ordered list
+all_take : {X : Type 0} (P : X → Type 0) (n : ℕ) (xs : List X) → AllByRecursion P xs → AllByRecursion P (take n xs)
+all_take P zero xs h = tt
+all_take P (suc n) [] h = tt
+all_take P (suc n) (x ∷ xs) h = (h.0, all_take P n xs h.1)
+
+pub ordered_take : (n : ℕ) (ws : List Waiter) → IsOrdered ws → IsOrdered (take n ws)
+ordered_take zero ws h = tt
+ordered_take (suc n) [] h = tt
+ordered_take (suc n) (w ∷ ws) h = (all_take _ n ws h.0, ordered_take n ws h.1)
+
+pub ordered_drop : (n : ℕ) (ws : List Waiter) → IsOrdered ws → IsOrdered (drop n ws)
+ordered_drop zero ws h = h
+ordered_drop (suc n) [] h = tt
+ordered_drop (suc n) (w ∷ ws) h = ordered_drop n ws h.1
 
 -- ---- one taken out
 pub all_without : (P : Waiter → Type 0) (task : ℕ) (ws : List Waiter) → AllByRecursion P ws → AllByRecursion P (without task ws)

@@ -1,13 +1,17 @@
 -- The place of a waiter in its queue.
-use Rattle.std.proofs.Common.{◌≡◌, ℕ, zero, suc, ◌<◌, ◌≤◌, Bool, true, false, not, ◌⊎◌, inl, inr, refl, sym, ◌∙◌, ap, arith, List, [], ◌∷◌, length, get_or, if◌then◌else◌, eq-or-lt_of_le}
-use Rattle.std.specs.List.{AllByRecursion, insert}
+use Rattle.std.proofs.Common.{◌≡◌, ℕ, zero, suc, ◌<◌, ◌≤◌, Bool, true, false, not, ◌⊎◌, inl, inr, refl, sym, ◌∙◌, ap, arith, List, [], ◌∷◌, length, get_or, if◌then◌else◌, eq-or-lt_of_le, ◌+◌, add-one, cond, set, take, drop, rules}
+use Rattle.std.specs.List.{AllByRecursion, insert, remove, between, copy_within, position_or_len}
 use Rattle.std.specs.List.Sorted.{IsPartitionedBy, IsPartitionPoint}
-use Rattle.std.proofs.lemmas.Bool.{both_ways, not-false, not-true}
+use Rattle.std.proofs.lemmas.Bool.{both_ways, cases_eq, not-true, not-false, cond-true, cond-false, eq-eqb, ne_eqb}
+use Rattle.std.proofs.lemmas.List.{same_lists, places, length-set, get_or-set_other, length-take, length-take-le}
+use Rattle.std.proofs.lemmas.List.Folds.{prefix_len-append}
+use Rattle.std.proofs.lemmas.List.Sums.{prefix_len-le-length, position_or_len_is}
+use Rattle.std.proofs.lemmas.Slice.{between_to_end}
 use Rattle.pim_base.specs.declared.steps.Waiter.{Waiter}
 use Rattle.pim_base.specs.Lists.{insert_by}
 use Rattle.pim_base.specs.Queues.{precedes}
 use Rattle.pim_queue.specs.Waiters.{IsOrdered}
-use Rattle.pim_queue.proofs.Order.{before_trans}
+use Rattle.pim_queue.proofs.Order.{before_trans, ordered_take, ordered_drop}
 
 all_at : {X : Type 0} (P : X → Type 0) → (xs : List X) → AllByRecursion P xs → (k : ℕ) (d : X) → k < length xs → P (get_or xs k d)
 all_at P [] h k d low = absurd (omega arith)
@@ -36,17 +40,92 @@ partitioned w ws ordered i j d le low behind = go (eq-or-lt_of_le le) (precedes 
     go (inr less) true h =
         absurd (both_ways _ (not-true _ behind) (before_trans w (get_or ws i d) (get_or ws j d) h (ordered_at ws ordered i j d less low)))
 
--- behind them, and in front of the others, it is in its place
-pub insert_by-at :
+-- its place is in front of the first that it comes before
+pub insert_by_is : (w : Waiter) (ws : List Waiter) → insert_by precedes ws w ≡ insert ws (position_or_len (precedes w) ws) w
+insert_by_is w [] = refl
+insert_by_is w (v ∷ vs) = go (precedes w v) (insert_by_is w vs)
+  where
+    go :
+        (b : Bool)
+        → insert_by precedes vs w ≡ insert vs (position_or_len (precedes w) vs) w
+        → (if b then w ∷ v ∷ vs else v ∷ insert_by precedes vs w)
+        ≡ insert (v ∷ vs) (cond (not b) (1 + position_or_len (precedes w) vs) 0) w
+    go true rest = refl
+    go false rest =
+        let next : suc (position_or_len (precedes w) vs) ≡ 1 + position_or_len (precedes w) vs = omega arith in
+        ap (λ us. v ∷ us) rest ∙ ap (λ i. insert (v ∷ vs) i w) next
+
+pub place_is :
     (w : Waiter) (ws : List Waiter) (i : ℕ)
     → i ≤ length ws
     → IsPartitionPoint (λ v. not (precedes w v) ≡ true) (λ v. not (precedes w v) ≡ false) ws i
-    → insert_by precedes ws w ≡ insert ws i w
-insert_by-at w [] zero le point = refl
-insert_by-at w [] (suc i) le point = absurd (omega arith)
-insert_by-at w (v ∷ vs) zero le point =
-    ap (λ b. if b then w ∷ v ∷ vs else v ∷ insert_by precedes vs w) (not-false _ (point.1 0 v (omega arith) (omega arith)))
-insert_by-at w (v ∷ vs) (suc i) le point =
-    ap (λ b. if b then w ∷ v ∷ vs else v ∷ insert_by precedes vs w) (not-true _ (point.0 0 v (omega arith) (omega arith)))
-    ∙ ap (λ us. v ∷ us) (insert_by-at w vs i (omega arith)
-    ((λ k d low high. point.0 (suc k) d (omega arith) (omega arith)), (λ k d low high. point.1 (suc k) d (omega arith) (omega arith))))
+    → i ≡ position_or_len (precedes w) ws
+place_is w ws i le point =
+    sym (position_or_len_is (precedes w) ws i w le (λ k less. not-true _ (point.0 k w (omega arith) less))
+    (λ less. not-false _ (point.1 i w (omega arith) less)))
+
+-- ---- one moved
+-- its place once it is taken out: before where it was, or else behind
+pub place_before :
+    (p : Waiter → Bool) (ws : List Waiter) (from : ℕ)
+    → position_or_len p (take from ws) < from
+    → from < length ws
+    → position_or_len p (remove ws from) ≡ position_or_len p (take from ws)
+place_before p ws from less low =
+    prefix_len-append (λ x. not (p x)) (take from ws) (drop (suc from) ws)
+    ∙ cond-false _ _ _ (ne_eqb (position_or_len p (take from ws)) (length (take from ws)) (omega (arith, length-take {A = Waiter})))
+
+pub place_behind :
+    (p : Waiter → Bool) (ws : List Waiter) (from : ℕ)
+    → from ≤ position_or_len p (take from ws)
+    → from < length ws
+    → position_or_len p (remove ws from) ≡ from + position_or_len p (between (from + 1) (length ws) ws)
+place_behind p ws from all low =
+    let most : position_or_len p (take from ws) ≤ length (take from ws) = prefix_len-le-length (λ x. not (p x)) (take from ws) in
+    let short : length (take from ws) ≡ from = length-take-le from ws (omega arith) in
+    prefix_len-append (λ x. not (p x)) (take from ws) (drop (suc from) ws)
+    ∙ cond-true _ _ _ (eq-eqb (position_or_len p (take from ws)) (length (take from ws)) (omega arith))
+    ∙ ap (λ n. n + position_or_len p (drop (suc from) ws)) short
+    ∙ ap (λ us. from + position_or_len p us) (sym (rw add-one (between_to_end ws (suc from) (length ws) (omega arith))))
+
+pub ruleset among_others = (ordered_take, ordered_drop, place_before, place_behind)
+
+-- written at `to`, where each other place has what it is to have
+written :
+    (w : Waiter) (us ws : List Waiter) (from to : ℕ)
+    → from < length ws
+    → to < length ws
+    → length us ≡ length ws
+    → ((k : ℕ) (d : Waiter) → k < length ws → (k ≡ to → ⊥) → get_or us k d ≡ get_or (insert (remove ws from) to w) k d)
+    → set us to w ≡ insert (remove ws from) to w
+written w us ws from to low within long others =
+    same_lists _ _ (search (rules, places)) (λ k d h. go k d (omega (arith, length-set us to w)) (cases_eq k to))
+  where
+    go :
+        (k : ℕ) (d : Waiter)
+        → k < length ws
+        → (k ≡ to) ⊎ (k ≡ to → ⊥)
+        → get_or (set us to w) k d ≡ get_or (insert (remove ws from) to w) k d
+    go k d h (inl is) = search (rules, places)
+    go k d h (inr ne) = get_or-set_other us to k w d ne ∙ others k d h ne
+
+pub moved_forward :
+    (w : Waiter) (ws : List Waiter) (from to : ℕ)
+    → to < from
+    → from < length ws
+    → set (copy_within ws to from (to + 1)) to w ≡ insert (remove ws from) to w
+moved_forward w ws from to before low =
+    written w (copy_within ws to from (to + 1)) ws from to low (omega arith) (search (rules, places)) (λ k d h ne. grind (arith, places))
+
+pub moved_back :
+    (w : Waiter) (ws : List Waiter) (from to : ℕ)
+    → from < to
+    → to < length ws
+    → set (copy_within ws (from + 1) (to + 1) from) to w ≡ insert (remove ws from) to w
+moved_back w ws from to behind low =
+    written w (copy_within ws (from + 1) (to + 1) from) ws from to (omega arith) low (search (rules, places)) (λ k d h ne. grind (arith, places))
+
+pub stayed : (w : Waiter) (ws : List Waiter) (from : ℕ) → from < length ws → set ws from w ≡ insert (remove ws from) from w
+stayed w ws from low = written w ws ws from from low low refl (λ k d h ne. grind (arith, places))
+
+pub ruleset moved = (moved_forward, moved_back, stayed)
