@@ -1,5 +1,5 @@
 -- The place of a waiter in its queue.
-use Rattle.std.proofs.Common.{◌≡◌, ℕ, zero, suc, ◌<◌, ◌≤◌, Bool, true, false, not, ◌⊎◌, inl, inr, refl, sym, ◌∙◌, ap, arith, List, [], ◌∷◌, length, get_or, if◌then◌else◌, eq-or-lt_of_le, ◌+◌, add-one, cond, set, take, drop, rules}
+use Rattle.std.proofs.Common.{◌≡◌, ℕ, zero, suc, ◌<◌, ◌≤◌, Bool, true, false, not, ◌⊎◌, inl, inr, refl, sym, ◌∙◌, ap, arith, List, [], ◌∷◌, ◌++◌, length, get_or, if◌then◌else◌, eq-or-lt_of_le, ◌+◌, add-one, cond, set, take, drop, rules}
 use Rattle.std.specs.List.{AllByRecursion, insert, remove, between, copy_within, position_or_len}
 use Rattle.std.specs.List.Sorted.{IsPartitionedBy, IsPartitionPoint}
 use Rattle.std.proofs.lemmas.Bool.{both_ways, cases_eq, not-true, not-false, cond-true, cond-false, eq-eqb, ne_eqb}
@@ -129,3 +129,8 @@ pub stayed : (w : Waiter) (ws : List Waiter) (from : ℕ) → from < length ws �
 stayed w ws from low = written w ws ws from from low low refl (λ k d h ne. grind (arith, places))
 
 pub ruleset moved = (moved_forward, moved_back, stayed)
+
+-- one more at the end, taken out again
+pub added : (w : Waiter) (ws : List Waiter) → remove (ws ++ w ∷ []) (length ws) ≡ ws
+added w [] = refl
+added w (v ∷ vs) = ap (λ us. v ∷ us) (added w vs)

@@ -175,36 +175,47 @@ impl Page {
 
     /// A number in decimal digits.
     #[inline(always)]
-    #[tactic(auto, using(std::proofs::lemmas::Fmt::decimal_digit, crate::proofs::DecimalLemmas::two_digits, crate::proofs::DecimalLemmas::three_digits))]
     fn number(&mut self, number: u32) -> Result<(), AllocError>
+        ensures { OnOk result (self.new.bytes.items ≡ self.old.bytes.items ++ decimal number) }
+    {
+        if number < 1000 {
+            self.short_number(number)
+        } else {
+            self.long_number(number)
+        }
+    }
+
+    /// A number of at most three digits.
+    #[inline(always)]
+    #[tactic(auto, using(std::proofs::lemmas::Fmt::decimal_digit, crate::proofs::DecimalLemmas::two_digits, crate::proofs::DecimalLemmas::three_digits))]
+    fn short_number(&mut self, number: u32) -> Result<(), AllocError>
+        requires { number < 1000 }
         ensures { OnOk result (self.new.bytes.items ≡ self.old.bytes.items ++ decimal number) }
     {
         if number < 10 {
             self.word(&[digit(number)])
         } else if number < 100 {
             self.word(&[digit(number / 10), digit(number % 10)])
-        } else if number < 1000 {
+        } else {
             self.word(&[
                 digit(number / 100),
                 digit(number / 10 % 10),
                 digit(number % 10),
             ])
-        } else {
-            self.long_number(number)
         }
     }
 
-    /// The same, digit by digit.
-    #[tactic(auto, using(std::proofs::lemmas::Fmt::decimal_digit))]
+    /// A number of any length, two digits after the other.
     #[inline(never)]
     fn long_number(&mut self, number: u32) -> Result<(), AllocError>
         ensures { OnOk result (self.new.bytes.items ≡ self.old.bytes.items ++ decimal number) }
     {
-        if number < 10 {
-            return self.word(&[digit(number)]);
+        if number < 1000 {
+            return self.short_number(number);
         }
-        self.long_number(number / 10)?;
-        self.word(&[digit(number % 10)])
+        self.long_number(number / 100)?;
+        let last = number % 100;
+        self.word(&[digit(last / 10), digit(last % 10)])
     }
 }
 
