@@ -1,11 +1,11 @@
 -- The tasks whose stored priority was touched since the priorities were marked.
-use Rattle.std.proofs.Common.{◌≡◌, ℕ, ◌<◌, ◌≤◌, ◌==◌, ◌||◌, not, false, ◌⊎◌, inl, inr, sym, ◌∙◌, ap, List, length, unwrap_or}
-use Rattle.std.proofs.lemmas.Bool.{both_ways, cases_eq, cases_lt, eq-eqb, or_left, or_parts}
+use Rattle.std.proofs.Common.{◌≡◌, ℕ, ◌<◌, ◌==◌, ◌||◌, false, ◌⊎◌, inl, inr, sym, ◌∙◌, ap, List, length, unwrap_or, suc, get_or, arith}
+use Rattle.std.proofs.lemmas.Bool.{both_ways, cases_eq, eq-eqb, or_left, or_parts}
+use Rattle.std.proofs.lemmas.List.{ext_get_or}
 use Rattle.pim_base.specs.Lists.{put}
-use Rattle.pim_base.proofs.Places.{nth-put_other, length-put}
+use Rattle.pim_base.proofs.Places.{nth-put_other, nth-get_or, length-put}
 use Rattle.pim_chain.specs.Views.{stored_in}
 use Rattle.pim_chain.specs.Numbers.{has}
-use Rattle.pim_chain.specs.Owned.{IsFirstAbove}
 use Rattle.pim_chain.specs.Sets.{AreMarked}
 
 -- one more was touched
@@ -26,22 +26,10 @@ marks_touched stored after marked words touched t p marks is inserted = record {
         marks.same k (or_parts _ _ (sym (inserted k) ∙ away)).1
         ∙ sym (ap (λ ss. stored_in ss k) is ∙ ap (λ o. unwrap_or o 0) (nth-put_other stored t k p (λ e. ne (sym e))))
 
--- ---- one after another, those that were touched
-module _ (stored marked words : List ℕ) (marks : AreMarked stored marked words) where
-  untouched : (k : ℕ) → has words k ≡ false → not (stored_in marked k == stored_in stored k) ≡ false
-  untouched k away = ap not (eq-eqb _ _ (marks.same k away))
-
-  -- those between two that were touched weren't
-  pub same_upto :
-      (above asked task : ℕ)
-      → IsFirstAbove (has words) asked task
-      → ((k : ℕ) → above < k → k ≤ asked → not (stored_in marked k == stored_in stored k) ≡ false)
-      → (k : ℕ)
-      → above < k
-      → k < task
-      → not (stored_in marked k == stored_in stored k) ≡ false
-  same_upto above asked task next so_far k low high = go (cases_lt asked k)
-    where
-      go : (asked < k) ⊎ (k ≤ asked) → not (stored_in marked k == stored_in stored k) ≡ false
-      go (inl behind) = untouched k (next.none_between k behind high)
-      go (inr le) = so_far k low le
+-- lists with the same priority for each task are the same
+pub same_by_places : (xs ys : List ℕ) → length xs ≡ length ys → ((t : ℕ) → stored_in xs t ≡ stored_in ys t) → xs ≡ ys
+same_by_places xs ys len same =
+    ext_get_or 0 xs ys len (λ i within. sym (here xs i within) ∙ same (suc i) ∙ here ys i (omega arith))
+  where
+    here : (zs : List ℕ) (i : ℕ) → i < length zs → stored_in zs (suc i) ≡ get_or zs i 0
+    here zs i within = ap (λ o. unwrap_or o 0) (nth-get_or zs (suc i) i 0 (omega arith) within)

@@ -71,6 +71,7 @@ impl Tables {
     }
 
     /// Whether the task is `from`, or is reached from it by hops 'the mutex that it waits for, the owner of that mutex'.
+    #[tactic(auto, using(crate::proofs::Hopping::contains_onward))]
     pub fn on_chain(&self, from: TaskNo, task: TaskNo) -> bool
         ensures { result ≡ contains (waits_chain self.now.state from) task }
     {

@@ -7,7 +7,7 @@ ghost use Rattle.pim_chain.specs.Views.{stored_in};
 ghost use Rattle.pim_chain.specs.Sets.{words_in, AreMarked};
 
 use crate::number_set::NumberSet;
-use crate::numbered::nth;
+use crate::numbered::{nth, put};
 use pim_base::{Prio, TaskNo};
 
 /// Puts the number into the task's set.
@@ -42,12 +42,28 @@ pub fn next_above(sets: &[NumberSet], task: TaskNo, above: u16) -> Option<u16>
     sets.get(place)?.next_above(above)
 }
 
-/// Marks the stored priorities.
-pub fn mark(marked: &mut Vec<Prio>, stored: &[Prio])
-    requires { length marked.old.items ≡ length stored.now }
+/// Marks the stored priorities, where only these tasks were touched.
+pub fn mark(marked: &mut Vec<Prio>, stored: &[Prio], touched: NumberSet)
+    requires { AreMarked stored.now marked.old.items touched.words }
     ensures { marked.new.items ≡ stored.now }
 {
-    marked.copy_from_slice(stored);
+    let mut asked = 0;
+    while let Some(task) = touched.next_above(asked) {
+        asked = task;
+        mark_one(marked, stored, task);
+    }
+}
+
+// marks the task's stored priority, if there is such a task
+fn mark_one(marked: &mut Vec<Prio>, stored: &[Prio], task: u16)
+    requires { length marked.old.items ≡ length stored.now }
+    ensures len { length marked.new.items ≡ length stored.now }
+    ensures same { stored_in marked.new.items task ≡ stored_in stored.now task }
+    ensures others { (t : ℕ) → t ≢ task → stored_in marked.new.items t ≡ stored_in marked.old.items t }
+{
+    if let Some(prio) = nth(stored, task) {
+        put(marked, task, prio);
+    }
 }
 
 /// The least task above this number with another stored priority than the marked one, where only these were touched.
@@ -63,11 +79,18 @@ pub fn next_differing(
     let mut asked = above;
     while let Some(task) = touched.next_above(asked) {
         asked = task;
-        if level_of(marked, task) != level_of(stored, task) {
+        if differs(marked, stored, task) {
             return Some(task);
         }
     }
     None
+}
+
+// whether the task's stored priority isn't the marked one
+fn differs(marked: &[Prio], stored: &[Prio], task: u16) -> bool
+    ensures { result ≡ not (stored_in marked.now task == stored_in stored.now task) }
+{
+    level_of(marked, task) != level_of(stored, task)
 }
 
 // the task's priority as a number, 0 for an unknown one

@@ -196,7 +196,7 @@ impl Tables {
         ensures marked { self.new ≡ record self.old { marked = self.old.stored } }
         ensures ready { Ready self.new }
     {
-        sets::mark(&mut self.marked, &self.stored);
+        sets::mark(&mut self.marked, &self.stored, self.touched);
         self.touched = NumberSet::new();
     }
 
