@@ -21,10 +21,6 @@ use Rattle.pim_queue.proofs.Order.{found, all_both, all_each, before_prio, told_
 use Rattle.pim_chain.specs.Views.{front_prio, waits_for, Shows, IsQueue, WaitsFit}
 use Rattle.pim_chain.proofs.Local.{top, through, heir_at, waits_for_from}
 
-none_waits : (o : Option Wait) (x : Wait) → o ≡ None → o ≡ Some x → ⊥
-none_waits None x e f = cc
-none_waits (Some w) x e f = cc
-
 pub waiting_known : (S : State) → IsState S → (t : ℕ) (w : Wait) → wait_of S t ≡ Some w → IsTask S t
 waiting_known S lists t w e = go (nth S.wait t) refl e
   where

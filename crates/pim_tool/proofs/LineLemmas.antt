@@ -1,14 +1,12 @@
 -- What words spell, by what they begin with.
-use Rattle.std.proofs.Common.{◌≡◌, ℕ, List, [], ◌∷◌, ◌++◌, codes, arith, sym, ◌∙◌, ap, Option, None}
+use Rattle.std.proofs.Common.{◌≡◌, ℕ, List, [], ◌∷◌, ◌++◌, codes, arith, sym, ◌∙◌, None}
 use Rattle.std.specs.Fmt.{decimal}
 use Rattle.pim_base.specs.declared.steps.Protocol.{Protocol}
 use Rattle.pim_base.specs.declared.steps.Op.{Op}
-use Rattle.pim_base.specs.declared.steps.Reply.{Reply}
 use Rattle.pim_base.specs.declared.lines.Line.TheVariants as lines
-use Rattle.pim_base.specs.Spelling.{IsNumber, IsPrio, IsProtocol, IsOp, IsRecorded, protocol_words, op_words, recorded_words}
+use Rattle.pim_base.specs.Spelling.{IsNumber, IsPrio, IsProtocol, protocol_words, op_words, recorded_words}
 use Rattle.pim_tool.specs.Reading.{words, Reads, ReadsAs}
 use Rattle.pim_tool.proofs.NumberLemmas.{no_number}
-use Rattle.pim_tool.proofs.SpellingLemmas.{same_behind}
 use Rattle.pim_tool.proofs.WordLemmas.{only_word}
 
 -- ---- protocols
@@ -90,53 +88,3 @@ no_single first (lines.Step line) is e = short (recorded_words line.recorded) li
     short ws Op.ReleaseAll e = cc
     short ws (Op.Cancel t) e = cc
     short ws (Op.SetBase t p) e = cc
-
--- what begins with another word than the declarations do is a step line or none
-no_step :
-    (first : List ℕ) (ws : List (List ℕ))
-    → (first ≡ codes "task" → ⊥)
-    → (first ≡ codes "mutex" → ⊥)
-    → ((a : ℕ) (op : Op) (r : Option Reply) → IsNumber a → IsOp op → IsRecorded r → first ≡ decimal a → ws ≡ op_words op ++ recorded_words r → ⊥)
-    → Reads (first ∷ ws) None
-no_step first ws task mutex none (lines.Task n p) is e = task (cc)
-no_step first ws task mutex none (lines.Mutex n p) is e = mutex (cc)
-no_step first ws task mutex none (lines.Step line) is e = none line.step.actor line.step.op line.recorded is.0 is.1 is.2 (cc) (cc)
-
-pub step_no_actor :
-    (first : List ℕ) (ws : List (List ℕ))
-    → (first ≡ codes "task" → ⊥)
-    → (first ≡ codes "mutex" → ⊥)
-    → ((n : ℕ) → IsNumber n → first ≡ decimal n → ⊥)
-    → Reads (first ∷ ws) None
-step_no_actor first ws task mutex none = no_step first ws task mutex (λ a op r is fits rec e f. none a is e)
-
-pub step_no_op :
-    (first : List ℕ) (ws vs : List (List ℕ))
-    → (first ≡ codes "task" → ⊥)
-    → (first ≡ codes "mutex" → ⊥)
-    → ws ≡ vs
-    → ((op : Op) (us : List (List ℕ)) → IsOp op → vs ≡ op_words op ++ us → ⊥)
-    → Reads (first ∷ ws) None
-step_no_op first ws vs task mutex cut none =
-    no_step first ws task mutex (λ a op r is fits rec e f. none op (recorded_words r) fits (sym cut ∙ f))
-
-pub step_no_recorded :
-    (first : List ℕ) (ws vs us : List (List ℕ)) (op : Op)
-    → (first ≡ codes "task" → ⊥)
-    → (first ≡ codes "mutex" → ⊥)
-    → ws ≡ vs
-    → vs ≡ op_words op ++ us
-    → ReadsAs IsRecorded recorded_words us None
-    → Reads (first ∷ ws) None
-step_no_recorded first ws vs us op task mutex cut spells none =
-    no_step first ws task mutex (λ a other r is fits rec e f. none r rec (same_behind op other us (recorded_words r) (sym (cut ∙ spells) ∙ f)))
-
-pub step_spelled :
-    (first : List ℕ) (ws vs us : List (List ℕ)) (a : ℕ) (op : Op) (r : Option Reply)
-    → first ≡ decimal a
-    → ws ≡ vs
-    → vs ≡ op_words op ++ us
-    → us ≡ recorded_words r
-    → first ∷ ws ≡ decimal a ∷ (op_words op ++ recorded_words r)
-step_spelled first ws vs us a op r actor cut spells rec =
-    ap (λ (w : List ℕ). w ∷ ws) actor ∙ ap (λ (xs : List (List ℕ)). decimal a ∷ xs) (cut ∙ spells ∙ ap (λ (xs : List (List ℕ)). op_words op ++ xs) rec)

@@ -136,19 +136,8 @@ pub puts_page : {a b c : Told} {whole page left : List ℕ} → Puts a b whole p
 puts_page {a} {b} {c} {whole} {page} {left} first h =
     puts_last page [] (subst (λ (t : List ℕ). Puts a b whole t) (sym (append-nil page)) first) (subst (λ (t : List ℕ). Puts b c t left) (sym (append-nil page)) h)
 
-pub puts_all : {a b : Told} {whole page : List ℕ} (rest : List ℕ) → rest ≡ [] → Puts a b whole (page ++ rest) → Puts a b whole page
-puts_all {a} {b} {whole} {page} rest e first =
-    subst (λ (t : List ℕ). Puts a b whole t) (append-nil page) (subst (λ (t : List ℕ). Puts a b whole (page ++ t)) e first)
-
 pub puts_emptied : {a b : Told} {whole page : List ℕ} → page ≡ [] → Puts a b whole page → Puts a b whole []
 puts_emptied {a} {b} {whole} {page} e first = subst (λ (t : List ℕ). Puts a b whole t) e first
-
--- the same where the bytes are known by an equation
-pub puts_as : {a b : Told} {left : List ℕ} (page bytes more : List ℕ) → bytes ≡ more → Puts a b (page ++ bytes) left → Puts a b (page ++ more) left
-puts_as {a} {b} {left} page bytes more e first = subst (λ (t : List ℕ). Puts a b (page ++ t) left) e first
-
-pub stops_as : {a b : Told} {fault : Fault} (page bytes more : List ℕ) → bytes ≡ more → Stops a b (page ++ bytes) fault → Stops a b (page ++ more) fault
-stops_as {a} {b} {fault} page bytes more e first = subst (λ (t : List ℕ). Stops a b (page ++ t) fault) e first
 
 -- memory was wanting, by whatever fault says so
 pub stops_fault : {a b : Told} {whole left : List ℕ} {fault : Fault} → fault ≡ faults.Memory → Puts a b whole left → Stops a b whole fault

@@ -1,14 +1,13 @@
 -- The lines of the bytes, one after another, and the first that can't stand.
-use Rattle.std.proofs.Common.{◌≡◌, ℕ, ◌+◌, ◌-◌, ◌<◌, ◌≤◌, List, [], ◌∷◌, ◌++◌, arith, refl, ap, sym, ◌∙◌, subst, length, length-append, append_assoc, take, Bool, true, false, Option, Some, None, IfSome, Bor, eqb, inl, inr, unwrap_or}
+use Rattle.std.proofs.Common.{◌≡◌, ℕ, ◌+◌, ◌-◌, ◌<◌, ◌≤◌, List, [], ◌∷◌, ◌++◌, arith, refl, ap, sym, ◌∙◌, subst, length, length-append, append_assoc, take, Bool, true, false, Option, Some, None, IfSome, Bor, eqb, inr, unwrap_or}
 use Rattle.std.specs.Bool.{MatchBool}
 use Rattle.std.specs.List.{slice_split, join_with_byte}
-use Rattle.std.proofs.lemmas.List.{append-nil}
 use Rattle.std.proofs.lemmas.List.Splits.{length-slice_split, join_with_byte-slice_split}
 use Rattle.pim_base.specs.Spelling.{NEWLINE, version_line}
 use Rattle.pim_base.specs.Texts.{Trace, without_empty_last, lines_of}
 use Rattle.pim_tool.specs.Reading.{pieces}
 use Rattle.pim_tool.specs.Scripts.{SpellsBy, IsBy, FirstBadBy}
-use Rattle.pim_tool.proofs.TraceLemmas.{first_alone, first_obeys, first_is, no_line, length_valid}
+use Rattle.pim_tool.proofs.TraceLemmas.{first_alone, first_obeys, length_valid}
 
 abbrev parts : List ℕ → List (List ℕ)
 parts bytes = slice_split (λ b. eqb b NEWLINE) bytes
@@ -109,19 +108,6 @@ goes_on {rules} {all} {left} {t} {count} added u Q line rest next half taken add
 -- they are few
 pub count_small : {rules : Bool} {all rest : List (List ℕ)} {t : Trace} {count : ℕ} → Halfway rules all rest t count → count ≤ 66049
 count_small {rules} {all} {rest} {t} {count} half = omega (arith, half.many, length_valid half.done t half.spells.0)
-
--- all lines are done
-pub comes_to_end : {rules : Bool} {all : List (List ℕ)} {t : Trace} {count : ℕ} → Halfway rules all [] t count → SpellsBy rules all t
-comes_to_end {rules} {all} {t} {count} half = subst (λ ls. SpellsBy rules ls t) (sym (half.whole ∙ append-nil half.done)) half.spells
-
--- there is no first line
-pub no_first : (rules : Bool) (bytes : List ℕ) → length bytes ≡ 0 → FirstBadBy rules (lines_of bytes) 1
-no_first rules [] e = (inl refl, omega arith, no_line rules)
-no_first rules (b ∷ bytes) e = absurd (omega arith)
-
--- the first line is not the version
-pub bad_first : (rules : Bool) (all : List (List ℕ)) (first : List ℕ) (rest : List (List ℕ)) → all ≡ first ∷ rest → (first ≡ version_line → ⊥) → FirstBadBy rules all 1
-bad_first rules all first rest e other = (inl refl, omega arith, λ valid. other (first_is rules first (subst (λ ls. IsBy rules (take 1 ls)) e valid)))
 
 -- the first line is the version
 pub begins : (rules : Bool) (all : List (List ℕ)) (first : List ℕ) (rest : List (List ℕ)) (t : Trace) → all ≡ first ∷ rest → first ≡ version_line → t ≡ record { bases = []; protocols = []; steps = [] } → Halfway rules all rest t 1

@@ -1,33 +1,13 @@
 -- Words that spell no reply.
-use Rattle.std.proofs.Common.{◌≡◌, ◌<◌, ◌^◌, ℕ, List, [], ◌∷◌, codes, refl, sym, ◌∙◌, Some, None}
+use Rattle.std.proofs.Common.{◌≡◌, ◌<◌, ◌^◌, ℕ, List, [], ◌∷◌, codes, refl, sym, ◌∙◌, None}
 use Rattle.std.specs.Fmt.{decimal}
 use Rattle.pim_base.specs.declared.steps.Refusal.{Refusal}
 use Rattle.pim_base.specs.declared.steps.Reply.{Reply}
-use Rattle.pim_base.specs.Spelling.{IsNumber, IsReply, IsRecorded, recorded_words, reply_words, refusal_word}
+use Rattle.pim_base.specs.Spelling.{IsNumber, IsReply, reply_words, refusal_word}
 use Rattle.pim_tool.specs.Reading.{words, ReadsAs}
-use Rattle.pim_tool.proofs.SpellingLemmas.{refusal_split}
-use Rattle.pim_tool.proofs.WordLemmas.{not_both, some_word, only_word, word_alone}
+use Rattle.pim_tool.proofs.WordLemmas.{not_both, some_word, only_word}
 
 -- ---- recorded replies
-
-pub no_equals : (ws : List (List ℕ)) (w : List ℕ) (tail : List (List ℕ)) → ws ≡ w ∷ tail → (w ≡ codes "=" → ⊥) → ReadsAs IsRecorded recorded_words ws None
-no_equals ws w tail cut other None is e = let both = sym cut ∙ e in cc
-no_equals ws w tail cut other (Some r) is e = other (let both = sym cut ∙ e in cc)
-
-pub no_recorded : (ws : List (List ℕ)) (w : List ℕ) (tail : List (List ℕ)) → ws ≡ w ∷ tail → ReadsAs IsReply reply_words tail None → ReadsAs IsRecorded recorded_words ws None
-no_recorded ws w tail cut none None is e = let both = sym cut ∙ e in cc
-no_recorded ws w tail cut none (Some r) is e = none r is (let both = sym cut ∙ e in cc)
-
--- no reply has no word
-pub no_word_reply : ReadsAs IsReply reply_words [] None
-no_word_reply Reply.Granted is e = cc
-no_word_reply Reply.Queued is e = cc
-no_word_reply Reply.Freed is e = cc
-no_word_reply (Reply.Handed t) is e = cc
-no_word_reply (Reply.Released k) is e = cc
-no_word_reply Reply.Withdrawn is e = cc
-no_word_reply Reply.Set is e = cc
-no_word_reply (Reply.Refused r) is e = cc
 
 -- ---- replies of a word and what belongs to it
 
@@ -90,6 +70,3 @@ no_such_reply w argument handed released refused =
 
 pub spells_with : (w argument verb word : List ℕ) → w ≡ verb → words argument ≡ word ∷ [] → w ∷ words argument ≡ verb ∷ word ∷ []
 spells_with w argument verb word e f = cc
-
-pub refusal_alone : (argument : List ℕ) (r : Refusal) → argument ≡ refusal_word r → words argument ≡ refusal_word r ∷ []
-refusal_alone argument r e = word_alone argument (refusal_word r) (refusal_split r) e

@@ -113,23 +113,8 @@ verdict_goes_on k S T ls i line inside at says next =
     ∙ sym (ap (λ b. if b then verdict_from (k + 1) (after S line.step) (drop (i + 1) ls) else verdicts.Rejected k) says)
     ∙ sym (ap (verdict_from k S) (from_line ls i line inside at))
 
-pub verdict_stops :
-    (k : ℕ) (S : State) (ls : List StepLine) (i : ℕ) (line : StepLine)
-    → i < length ls
-    → line ≡ get_or ls i line
-    → agrees line.recorded (reply_of S line.step) ≡ false
-    → verdicts.Rejected k ≡ verdict_from k S (drop i ls)
-verdict_stops k S ls i line inside at says =
-    sym (ap (λ b. if b then verdict_from (k + 1) (after S line.step) (drop (i + 1) ls) else verdicts.Rejected k) says)
-    ∙ sym (ap (verdict_from k S) (from_line ls i line inside at))
-
 -- after the last line
 pub report_end : (S : State) (ls : List StepLine) (i : ℕ) → i ≡ length ls → report_from (i + 1) S (drop i ls) ≡ accepted (length ls)
 report_end S ls i e =
     ap (report_from (i + 1) S) (let over : length ls ≤ i = omega arith in drop_all i ls over)
     ∙ ap accepted (let less : (i + 1) - 1 ≡ length ls = omega arith in less)
-
-pub verdict_end : (S : State) (ls : List StepLine) (i : ℕ) → i ≡ length ls → verdict_from (i + 1) S (drop i ls) ≡ verdicts.Accepted (length ls)
-verdict_end S ls i e =
-    ap (verdict_from (i + 1) S) (let over : length ls ≤ i = omega arith in drop_all i ls over)
-    ∙ ap verdicts.Accepted (let less : (i + 1) - 1 ≡ length ls = omega arith in less)

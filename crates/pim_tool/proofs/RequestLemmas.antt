@@ -1,5 +1,5 @@
 -- Words that begin with no operation.
-use Rattle.std.proofs.Common.{◌≡◌, ℕ, List, [], ◌∷◌, ◌++◌, codes, refl, sym, ◌∙◌}
+use Rattle.std.proofs.Common.{◌≡◌, ℕ, List, ◌∷◌, ◌++◌, codes, refl, sym, ◌∙◌}
 use Rattle.std.specs.Fmt.{decimal}
 use Rattle.pim_base.specs.declared.steps.Op.{Op}
 use Rattle.pim_base.specs.Spelling.{IsNumber, IsOp, op_words}
@@ -12,13 +12,6 @@ NoNumber ws = (n : ℕ) (vs : List (List ℕ)) → IsNumber n → ws ≡ decimal
 -- these words begin with no operation
 abbrev pub NoOp : List (List ℕ) → Type 0
 NoOp ws = (op : Op) (vs : List (List ℕ)) → IsOp op → ws ≡ op_words op ++ vs → ⊥
-
--- there is no word
-pub no_words : NoNumber []
-no_words n vs is e = cc
-
-pub no_first_number : (ws : List (List ℕ)) (w : List ℕ) (tail : List (List ℕ)) → ws ≡ w ∷ tail → ((n : ℕ) → IsNumber n → w ≡ decimal n → ⊥) → NoNumber ws
-no_first_number ws w tail cut none n vs is e = none n is (let both = sym cut ∙ e in cc)
 
 -- each operation but the release of all has a number
 pub no_target : (w : List ℕ) (ws : List (List ℕ)) → (w ≡ codes "release" → ⊥) → NoNumber ws → NoOp (w ∷ ws)

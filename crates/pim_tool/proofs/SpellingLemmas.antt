@@ -169,10 +169,6 @@ behind-words Op.ReleaseAll ws = refl
 behind-words (Op.Cancel t) ws = refl
 behind-words (Op.SetBase t p) ws = refl
 
--- what stands behind one operation stands behind the other
-pub same_behind : (o p : Op) (vs ws : List (List ℕ)) → op_words o ++ vs ≡ op_words p ++ ws → vs ≡ ws
-same_behind o p vs ws e = sym (behind-words o vs) ∙ ap behind e ∙ behind-words p ws
-
 refusal_in : List ℕ → Refusal
 refusal_in w =
     if bytes_eq w (codes "no-task") then Refusal.NoTask

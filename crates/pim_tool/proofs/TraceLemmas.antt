@@ -285,13 +285,6 @@ pub first_obeys : (rules : Bool) → Obeys rules empty
 first_obeys false = tt
 first_obeys true = tt
 
--- the first line of a text names the version
-pub first_is : (rules : Bool) (bytes : List ℕ) → IsBy rules (bytes ∷ []) → bytes ≡ version_line
-first_is rules bytes valid = let e = valid.1.0.1 in cc
-
-pub no_line : (rules : Bool) → IsBy rules [] → ⊥
-no_line rules valid = let e = valid.1.0.1 in cc
-
 pub adds_line :
     {E : Type 0} (rules : Bool) (t u : Trace) (bytes : List ℕ) (m : Line) (r : Result Bool E)
     → IsLine m × (bytes ≡ spelled m)

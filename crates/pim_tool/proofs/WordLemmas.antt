@@ -27,14 +27,6 @@ other_bytes a b c test e same = differ (bytes_eq a b) ((bytes_eq-Decides a b).1 
     differ true h e = cc
     differ false h e = cc
 
--- one that the bytes differ, and holds
-pub differing_bytes : (a b c : List ℕ) → true ≡ not (bytes_eq a b) → b ≡ c → a ≡ c → ⊥
-differing_bytes a b c test e = other_bytes a b c (fails (bytes_eq a b) test) e
-  where
-    fails : (t : Bool) → true ≡ not t → false ≡ t
-    fails true h = cc
-    fails false h = refl
-
 -- one that the bytes differ, and fails
 pub agreeing_bytes : (a b c : List ℕ) → false ≡ not (bytes_eq a b) → b ≡ c → a ≡ c
 agreeing_bytes a b c test e = same_bytes a b c (holds (bytes_eq a b) test) e
