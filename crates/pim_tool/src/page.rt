@@ -173,49 +173,34 @@ impl Page {
         self.bytes.extend_from_slice(word)
     }
 
-    /// A number in decimal digits.
-    #[inline(always)]
-    fn number(&mut self, number: u32) -> Result<(), AllocError>
-        ensures { OnOk result (self.new.bytes.items ≡ self.old.bytes.items ++ decimal number) }
-    {
-        if number < 1000 {
-            self.short_number(number)
-        } else {
-            self.long_number(number)
-        }
-    }
-
-    /// A number of at most three digits.
+    /// A number in decimal digits. Most have at most three, and those are put without a call.
     #[inline(always)]
     #[tactic(auto, using(std::proofs::lemmas::Fmt::decimal_digit, crate::proofs::DecimalLemmas::two_digits, crate::proofs::DecimalLemmas::three_digits))]
-    fn short_number(&mut self, number: u32) -> Result<(), AllocError>
-        requires { number < 1000 }
+    fn number(&mut self, number: u32) -> Result<(), AllocError>
         ensures { OnOk result (self.new.bytes.items ≡ self.old.bytes.items ++ decimal number) }
     {
         if number < 10 {
             self.word(&[digit(number)])
         } else if number < 100 {
             self.word(&[digit(number / 10), digit(number % 10)])
-        } else {
+        } else if number < 1000 {
             self.word(&[
                 digit(number / 100),
                 digit(number / 10 % 10),
                 digit(number % 10),
             ])
+        } else {
+            self.long_number(number)
         }
     }
 
-    /// A number of any length, two digits after the other.
+    /// The same for any number of digits.
     #[inline(never)]
     fn long_number(&mut self, number: u32) -> Result<(), AllocError>
         ensures { OnOk result (self.new.bytes.items ≡ self.old.bytes.items ++ decimal number) }
     {
-        if number < 1000 {
-            return self.short_number(number);
-        }
-        self.long_number(number / 100)?;
-        let last = number % 100;
-        self.word(&[digit(last / 10), digit(last % 10)])
+        let mut digits = itoa::Buffer::new();
+        self.word(digits.format(number).as_bytes())
     }
 }
 
