@@ -1,8 +1,10 @@
-//! Shows that the manager and the plain manager agree, over pseudo-random steps.
+//! Runs the manager and the plain manager side by side, over scenarios that are told and over pseudo-random steps.
 //!
-//! Both are proved against the same definitions, so they can't differ where their contracts speak. This test runs what
-//! the proofs are about: thousands of steps from fixed seeds, with unknown numbers among them, and after each step
-//! every reply, priority, reason, owner and queue, and the list of changed tasks.
+//! Both are proved against the same definitions, so they can't differ where their contracts speak. These tests run
+//! what the proofs are about. A scenario is told once, with what was worked out by hand from the definitions: after
+//! each step its reply, its visits, and the priority of each task with its reason. The random steps are thousands,
+//! from fixed seeds, with unknown numbers among them, and after each step every reply, priority, reason, owner and
+//! queue is compared, and the list of changed tasks.
 //!
 //! ```text
 //! manager.step(step).reply == plain.step(step)
@@ -11,4 +13,10 @@
 #![tactic(auto)]
 
 #[cfg(test)]
-mod tests;
+mod random;
+#[cfg(test)]
+mod scenarios;
+#[cfg(test)]
+mod scene;
+#[cfg(test)]
+mod walks;

@@ -31,14 +31,10 @@ mod make_fault;
 mod manager;
 mod runs;
 #[cfg(test)]
-mod scenarios;
-#[cfg(test)]
 mod scene;
 mod steps;
 #[cfg(test)]
 mod tests;
-#[cfg(test)]
-mod walks;
 
 pub use changed_tasks::{ChangedTask, ChangedTasks};
 pub use done::Done;

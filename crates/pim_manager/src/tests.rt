@@ -1,8 +1,9 @@
-// What no scenario shows: the making of a manager, its getters, its ticket, its copy, and runs.
+// What no scenario of pim_agreement shows: the making of a manager, its getters, its ticket, its copy, runs, and the
+// changed tasks.
 
 use crate::scene::{
-    INHERIT, NONE, base, cancel, ceiling, expect_changed, handed, lock, made, prios, protect,
-    release, set_base, try_lock, unlock, waiter,
+    INHERIT, NONE, base, cancel, ceiling, expect_changed, lock, made, protect, release, set_base,
+    try_lock, unlock, waiter,
 };
 use crate::{ChangedTasks, Done, MakeFault, Manager};
 use pim_base::{MutexNo, Prio, Reason, Refusal, Reply, TaskNo, Waiter};
@@ -56,25 +57,6 @@ fn what_is_shown_of_an_owner_and_a_waiter(rt: HostRuntime) -> Result<(), Fail> {
         manager.waiters(MutexNo(1)).map(|waiters| waiters.len()),
         Some(0)
     );
-    Ok(())
-}
-
-#[test]
-fn last_ticket(rt: HostRuntime) -> Result<(), Fail> {
-    let bases = prios(rt.alloc(), &[10, 20, 30])?;
-    let mut manager = Manager::with_next_ticket(rt.alloc(), &bases, &[INHERIT], u64::MAX - 1)?;
-    for (step, reply, visits) in [
-        (lock(1, 1), Reply::Granted, 1),
-        (lock(2, 1), Reply::Queued, 1),
-        (lock(3, 1), Reply::Refused(Refusal::Tickets), 0),
-        (try_lock(3, 1), Reply::Refused(Refusal::Busy), 0),
-    ] {
-        assert_eq!(rt; manager.step(step), Done { reply, visits }, "{step:?}");
-    }
-    let waiters = manager.waiters(MutexNo(1)).ok_or("a known mutex")?;
-    let tickets = waiters.first().map(|waiter| waiter.ticket);
-    assert_eq!(rt; tickets, Some(u64::MAX - 1));
-    assert_eq!(rt; manager.next_ticket(), u64::MAX);
     Ok(())
 }
 
@@ -139,7 +121,7 @@ fn replies_of_a_run(rt: HostRuntime) -> Result<(), Fail> {
         Reply::Granted,
         Reply::Queued,
         Reply::Refused(Refusal::Waiting),
-        handed(2),
+        Reply::Handed(TaskNo(2)),
         Reply::Set,
     ];
     assert!(rt; replies.as_slice() == &expected[..]);

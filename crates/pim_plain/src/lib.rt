@@ -3,7 +3,7 @@
 //! Its type is [`Tables`]: what is declared, owned and waited for. It keeps no priority and no queue, and
 //! computes each chain, priority, queue and reason from scratch, so that a reader can compare a fast manager,
 //! or a log, with code that does nothing but what the definitions say. One step costs some
-//! tasks * tasks * mutexes looks.
+//! tasks * tasks * mutexes looks. Its tests stand in pim_agreement, which calls each of its public functions.
 //!
 //! ```
 //! let mut tables = Tables::new(alloc, &[low, high], &[Protocol::Inherit], 1)?;
@@ -20,10 +20,6 @@ mod numbered;
 mod priorities;
 mod queues;
 mod reasons;
-#[cfg(test)]
-mod scenarios;
-#[cfg(test)]
-mod scene;
 mod steps;
 mod tables;
 
