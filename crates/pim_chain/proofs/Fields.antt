@@ -2,7 +2,7 @@
 use Rattle.std.proofs.Common.{◌≡◌, ℕ, ◌≤◌, ◌<◌, ◌-◌, Bool, true, false, ◌⊎◌, inl, inr, refl, sym, ◌∙◌, ap, subst, arith, Option, Some, None, List, [], ◌∷◌, length, get_or, unwrap_or}
 use Rattle.pim_base.proofs.Places.{nth-get_or, nth_within}
 use Rattle.pim_chain.proofs.Queues.{room_for}
-use Rattle.std.specs.List.{list_any, AllByRecursion}
+use Rattle.std.specs.List.{list_any, find, AllByRecursion}
 use Rattle.std.proofs.lemmas.Bool.{eqb-true, eq-eqb, or_cases, or_left, or_right}
 use Rattle.std.proofs.lemmas.Option.{none-some, same_Some}
 use Rattle.pim_base.specs.Lists.{nth, put, insert_by}
@@ -139,12 +139,15 @@ join_room v u t m same known mutex idle ready =
     omega (arith, short, ready.room m isk)
 
 pub stands_in :
-    (v u : View) (t : ℕ) (w : Wait)
+    (v u : View) (t p : ℕ) (w : Wait)
     → v ≡ u
     → Some w ≡ wait_of u.state t
+    → p ≡ stored_at u t
     → Ready v
-    → list_any (is_of t) (queue_at v w.mutex) ≡ true
-stands_in v u t w same at ready = stands v t w ready (subst (λ (x : View). wait_of x.state t ≡ Some w) (sym same) (sym at))
+    → find (is_of t) (queue_at v w.mutex) ≡ Some (record { task = t; prio = p; ticket = w.ticket })
+stands_in v u t p w same at is ready =
+    stands v t w ready (subst (λ (x : View). wait_of x.state t ≡ Some w) (sym same) (sym at))
+    ∙ ap (λ n. Some (record { task = t; prio = n; ticket = w.ticket })) (ap (λ x. stored_at x t) same ∙ sym is)
 
 pub inside_wait : (v u : View) (t : ℕ) (o o' : Option Wait) → v ≡ u → o ≡ wait_of u.state t → o ≡ o' → wait_of v.state t ≡ o'
 inside_wait v u t o o' same is at = subst (λ (x : View). wait_of x.state t ≡ o') (sym same) (sym is ∙ at)

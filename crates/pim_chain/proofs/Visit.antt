@@ -1,6 +1,6 @@
 -- One visit.
 use Rattle.std.proofs.Common.{◌≡◌, ℕ, eqb, ◌≤◌, ◌==◌, Bool, cond, if◌then◌else◌, true, false, ◌⊎◌, inl, inr, refl, sym, ◌∙◌, ap, subst, Option, Some, None, List, length, unwrap_or, option_and_then}
-use Rattle.std.specs.List.{list_any}
+use Rattle.std.specs.List.{list_any, find}
 use Rattle.std.specs.Option.{option_map_or}
 use Rattle.std.proofs.lemmas.Bool.{cases_eq, eqb-true, eq-eqb, ne_eqb}
 use Rattle.std.proofs.lemmas.Option.{none-some, same_Some}
@@ -130,9 +130,27 @@ ready_restored v x p known ready = go (wait_of v.state x) refl
     go None at = restored_free v x p at ready
     go (Some w) at = restored_waiting v x p w known at ready
 
--- the task stands in the queue of the mutex that it waits for
-pub stands : (v : View) (x : ℕ) (w : Wait) → Ready v → wait_of v.state x ≡ Some w → list_any (is_of x) (queue_at v w.mutex) ≡ true
-stands v x w ready at = (ready.queues w.mutex (ready.waits.mutexes x w at)).complete x (waits_for_from (wait_of v.state) x w at)
+same_waiter : (w : Waiter) (t p k : ℕ) → w.task ≡ t → w.prio ≡ p → w.ticket ≡ k → w ≡ record { task = t; prio = p; ticket = k }
+same_waiter w t p k task prio ticket =
+    ap (λ n. record w { task = n }) task
+    ∙ ap (λ n. record w { task = t; prio = n }) prio
+    ∙ ap (λ n. record { task = t; prio = p; ticket = n }) ticket
+
+-- the task stands in the queue of the mutex that it waits for, with its stored priority and its ticket
+pub stands :
+    (v : View) (x : ℕ) (w : Wait)
+    → Ready v
+    → wait_of v.state x ≡ Some w
+    → find (is_of x) (queue_at v w.mutex) ≡ Some (record { task = x; prio = stored_at v x; ticket = w.ticket })
+stands v x w ready at =
+    let q : IsQueue (wait_of v.state) (stored_at v) w.mutex (queue_at v w.mutex) = ready.queues w.mutex (ready.waits.mutexes x w at) in
+    let it : Found (is_of x) (Shows (wait_of v.state) (stored_at v) w.mutex) (queue_at v w.mutex) =
+    found (is_of x) (Shows (wait_of v.state) (stored_at v) w.mutex) (queue_at v w.mutex)
+    (q.complete x (waits_for_from (wait_of v.state) x w at)) q.sound in
+    let task : it.one.task ≡ x = eqb-true it.one.task x it.passes in
+    it.is
+    ∙ ap Some (same_waiter it.one x (stored_at v x) w.ticket task (it.holds.prio ∙ ap (stored_at v) task)
+    (ap (λ (y : Wait). y.ticket) (same_Some _ _ (sym it.holds.waits ∙ ap (wait_of v.state) task ∙ at))))
 
 -- ---- what a visit leaves
 pub visited_same :

@@ -1,13 +1,13 @@
 // The queues of the mutexes, by number.
 
-ghost use Rattle.std.specs.Prelude.{◌≡◌, ◌≤◌, ◌<◌, length, replicate, [], true, false, IfOk};
-ghost use Rattle.std.specs.List.{list_any};
+ghost use Rattle.std.specs.Prelude.{◌≡◌, ◌≤◌, ◌<◌, length, replicate, [], false, IfOk, Some};
+ghost use Rattle.std.specs.List.{list_any, find};
 ghost use Rattle.pim_base.specs.Lists.{insert_by, head_of};
 ghost use Rattle.pim_base.specs.Queues.{precedes};
 ghost use Rattle.pim_queue.specs.Waiters.{is_of, has_ticket, without, repositioned};
 ghost use Rattle.pim_chain.specs.Views.{line_in, queue_in, put_queue};
 
-use pim_base::{MutexNo, Prio, TaskNo, Waiter};
+use pim_base::{MutexNo, Prio, Waiter};
 use pim_queue::Queue;
 use std::alloc::{AllocError, Global};
 
@@ -53,22 +53,22 @@ pub fn insert(lines: &mut Vec<Queue>, mutex: MutexNo, waiter: Waiter)
     lines[mutex.get() as usize - 1].insert(waiter);
 }
 
-/// Takes the task out of the queue of the mutex.
-pub fn remove(lines: &mut Vec<Queue>, mutex: MutexNo, task: TaskNo)
+/// Takes the waiter out of the queue of the mutex.
+pub fn remove(lines: &mut Vec<Queue>, mutex: MutexNo, waiter: &Waiter)
     requires least { 1 ≤ mutex }
     requires most { mutex ≤ length lines.old.items }
-    requires waits { list_any (is_of task) (queue_in lines.old.items mutex) ≡ true }
-    ensures { lines.new.items ≡ put_queue lines.old.items mutex (without task (queue_in lines.old.items mutex)) }
+    requires waits { find (is_of waiter.now.task) (queue_in lines.old.items mutex) ≡ Some waiter.now }
+    ensures { lines.new.items ≡ put_queue lines.old.items mutex (without waiter.now.task (queue_in lines.old.items mutex)) }
 {
-    let _waiter = lines[mutex.get() as usize - 1].remove(task);
+    lines[mutex.get() as usize - 1].remove(waiter);
 }
 
-/// Moves the task to where it belongs with this priority in the queue of the mutex.
-pub fn reposition(lines: &mut Vec<Queue>, mutex: MutexNo, task: TaskNo, prio: Prio)
+/// Moves the waiter to where it belongs with this priority in the queue of the mutex.
+pub fn reposition(lines: &mut Vec<Queue>, mutex: MutexNo, waiter: &Waiter, prio: Prio)
     requires least { 1 ≤ mutex }
     requires most { mutex ≤ length lines.old.items }
-    requires waits { list_any (is_of task) (queue_in lines.old.items mutex) ≡ true }
-    ensures { lines.new.items ≡ put_queue lines.old.items mutex (repositioned task prio (queue_in lines.old.items mutex)) }
+    requires waits { find (is_of waiter.now.task) (queue_in lines.old.items mutex) ≡ Some waiter.now }
+    ensures { lines.new.items ≡ put_queue lines.old.items mutex (repositioned waiter.now.task prio (queue_in lines.old.items mutex)) }
 {
-    lines[mutex.get() as usize - 1].reposition(task, prio);
+    lines[mutex.get() as usize - 1].reposition(waiter, prio);
 }

@@ -271,7 +271,13 @@ impl Tables {
         ensures ready { Ready self.new }
     {
         if let Some(wait) = self.waits_for(task) {
-            lines::remove(&mut self.queues, wait.mutex, task);
+            let prio = self.known_stored(task);
+            let waiter = Waiter {
+                task,
+                prio,
+                ticket: wait.ticket,
+            };
+            lines::remove(&mut self.queues, wait.mutex, &waiter);
             put(&mut self.wait, task.get(), None);
         }
     }
@@ -282,10 +288,16 @@ impl Tables {
         ensures { self.new ≡ restored self.old task prio }
     {
         let wait = self.waits_for(task);
+        let before = self.known_stored(task);
         put(&mut self.stored, task.get(), prio);
         self.touched.insert(task.get());
         if let Some(wait) = wait {
-            lines::reposition(&mut self.queues, wait.mutex, task, prio);
+            let waiter = Waiter {
+                task,
+                prio: before,
+                ticket: wait.ticket,
+            };
+            lines::reposition(&mut self.queues, wait.mutex, &waiter, prio);
         }
     }
 }

@@ -1,6 +1,7 @@
-use Rattle.std.proofs.Common.{◌≡◌, ℕ, zero, suc, ◌<◌, ◌≤◌, Bool, true, false, cond, ◌&&◌, ◌||◌, ◌⊎◌, inl, inr, refl, sym, ◌∙◌, ap, arith, Some, List, [], ◌∷◌, take, drop, eqb, ltb}
+use Rattle.std.proofs.Common.{◌≡◌, ℕ, zero, suc, ◌<◌, ◌≤◌, Bool, true, false, cond, ◌&&◌, ◌||◌, ◌⊎◌, inl, inr, refl, sym, ◌∙◌, ap, subst, arith, Some, List, [], ◌∷◌, take, drop, eqb, ltb}
 use Rattle.std.specs.List.{list_any, find, AllByRecursion}
 use Rattle.std.proofs.lemmas.Bool.{both_ways, cases_order, ltb-true, lt-ltb, eqb-true, eq-eqb, or_cases, or_left, or_right, and_parts, and_from, cond_both}
+use Rattle.std.proofs.lemmas.Option.{none-some, same_Some}
 use Rattle.pim_base.specs.declared.steps.Waiter.{Waiter}
 use Rattle.pim_base.specs.Lists.{insert_by}
 use Rattle.pim_base.specs.Queues.{precedes}
@@ -37,6 +38,26 @@ found p P (x ∷ xs) h k = go (p x) refl (λ there. found p P xs there k.1) h
         let it = rest e in
         record { one = it.one; is = ap (λ b. cond b (Some x) (find p xs)) away ∙ it.is; passes = it.passes; holds = it.holds }
 
+-- what is found is there
+pub any_found : {X : Type 0} (p : X → Bool) → (xs : List X) (x : X) → find p xs ≡ Some x → list_any p xs ≡ true
+any_found p [] x h = absurd (none-some x h)
+any_found p (y ∷ ys) x h = go (p y) (any_found p ys x) h
+  where
+    go : (b : Bool) → (find p ys ≡ Some x → list_any p ys ≡ true) → cond b (Some y) (find p ys) ≡ Some x → (b || list_any p ys) ≡ true
+    go true rest e = refl
+    go false rest e = rest e
+
+-- and has what all have
+pub found_holds :
+    {X : Type 0} (p : X → Bool) (P : X → Type 0)
+    → (xs : List X) (x : X)
+    → find p xs ≡ Some x
+    → AllByRecursion P xs
+    → P x
+found_holds p P xs x h all =
+    let it : Found p P xs = found p P xs (any_found p xs x h) all in
+    subst P (same_Some _ _ (sym it.is ∙ h)) it.holds
+
 -- ---- the order
 pub before_prio : (a b : Waiter) → precedes a b ≡ true → b.prio ≤ a.prio
 before_prio a b h = go (or_cases _ _ h)
@@ -68,6 +89,26 @@ before_trans a b c h k = before_from a c (go (told_before a b h) (told_before b 
     go (inl l) (inr e) = let same : b.prio ≡ c.prio = e.0 in inl (omega arith)
     go (inr e) (inl m) = let same : a.prio ≡ b.prio = e.0 in inl (omega arith)
     go (inr e) (inr f) = inr (e.0 ∙ f.0, omega arith)
+
+pub before_not : (a b : Waiter) → precedes a b ≡ true → precedes b a ≡ false
+before_not a b h = go (precedes b a) refl
+  where
+    never : Before a b → Before b a → ⊥
+    never (inl l) (inl m) = omega arith
+    never (inl l) (inr e) = let same : b.prio ≡ a.prio = e.0 in omega arith
+    never (inr e) (inl m) = let same : a.prio ≡ b.prio = e.0 in omega arith
+    never (inr e) (inr f) = let less : a.ticket < b.ticket = e.1 in let more : b.ticket < a.ticket = f.1 in omega arith
+
+    go : (c : Bool) → precedes b a ≡ c → c ≡ false
+    go false k = refl
+    go true k = absurd (never (told_before a b h) (told_before b a k))
+
+pub before_itself : (w : Waiter) → precedes w w ≡ false
+before_itself w = go (precedes w w) refl
+  where
+    go : (b : Bool) → precedes w w ≡ b → b ≡ false
+    go false h = refl
+    go true h = absurd (both_ways _ (before_not w w h) h)
 
 pub before_else : (a b : Waiter) → (b.ticket ≡ a.ticket → ⊥) → precedes a b ≡ false → precedes b a ≡ true
 before_else a b apart h = before_from b a (go (cases_order a.prio b.prio) (cases_order a.ticket b.ticket))

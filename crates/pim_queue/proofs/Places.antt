@@ -1,17 +1,18 @@
 -- The place of a waiter in its queue.
-use Rattle.std.proofs.Common.{◌≡◌, ℕ, zero, suc, ◌<◌, ◌≤◌, Bool, true, false, not, ◌⊎◌, inl, inr, refl, sym, ◌∙◌, ap, arith, List, [], ◌∷◌, ◌++◌, length, get_or, if◌then◌else◌, eq-or-lt_of_le, ◌+◌, add-one, cond, set, take, drop, rules}
-use Rattle.std.specs.List.{AllByRecursion, insert, remove, between, copy_within, position_or_len}
+use Rattle.std.proofs.Common.{◌≡◌, ℕ, zero, suc, ◌<◌, ◌≤◌, Bool, true, false, not, ◌⊎◌, inl, inr, refl, sym, ◌∙◌, ap, subst, arith, Some, List, [], ◌∷◌, ◌++◌, length, get_or, if◌then◌else◌, eq-or-lt_of_le, ◌+◌, ◌-◌, add-one, cond, set, take, drop, rules}
+use Rattle.std.specs.List.{AllByRecursion, find, insert, remove, between, copy_within, position_or_len}
 use Rattle.std.specs.List.Sorted.{IsPartitionedBy, IsPartitionPoint}
 use Rattle.std.proofs.lemmas.Bool.{both_ways, cases_eq, not-true, not-false, cond-true, cond-false, eq-eqb, ne_eqb}
 use Rattle.std.proofs.lemmas.List.{same_lists, places, length-set, get_or-set_other, length-take, length-take-le}
 use Rattle.std.proofs.lemmas.List.Folds.{prefix_len-append}
 use Rattle.std.proofs.lemmas.List.Sums.{prefix_len-le-length, position_or_len_is}
+use Rattle.std.proofs.lemmas.Option.{none-some, same_Some}
 use Rattle.std.proofs.lemmas.Slice.{between_to_end}
 use Rattle.pim_base.specs.declared.steps.Waiter.{Waiter}
 use Rattle.pim_base.specs.Lists.{insert_by}
 use Rattle.pim_base.specs.Queues.{precedes}
-use Rattle.pim_queue.specs.Waiters.{IsOrdered}
-use Rattle.pim_queue.proofs.Order.{before_trans, ordered_take, ordered_drop}
+use Rattle.pim_queue.specs.Waiters.{is_of, without, IsOrdered}
+use Rattle.pim_queue.proofs.Order.{found_holds, before_trans, before_itself, before_not, ordered_take, ordered_drop}
 
 all_at : {X : Type 0} (P : X → Type 0) → (xs : List X) → AllByRecursion P xs → (k : ℕ) (d : X) → k < length xs → P (get_or xs k d)
 all_at P [] h k d low = absurd (omega arith)
@@ -63,6 +64,64 @@ pub place_is :
 place_is w ws i le point =
     sym (position_or_len_is (precedes w) ws i w le (λ k less. not-true _ (point.0 k w (omega arith) less))
     (λ less. not-false _ (point.1 i w (omega arith) less)))
+
+-- ---- one that is here
+-- its place, which is one in front of the first that it comes before
+record Here (w : Waiter) (ws : List Waiter) : Type 0 where
+  place : ℕ
+  next : position_or_len (precedes w) ws ≡ 1 + place
+  out : without w.task ws ≡ remove ws place
+
+-- before all of them
+first_of_all : (w : Waiter) (ws : List Waiter) → AllByRecursion (λ v. precedes w v ≡ true) ws → position_or_len (precedes w) ws ≡ 0
+first_of_all w [] h = refl
+first_of_all w (v ∷ vs) h = ap (λ b. cond (not b) (1 + position_or_len (precedes w) vs) 0) h.0
+
+here : (w : Waiter) (ws : List Waiter) → IsOrdered ws → find (is_of w.task) ws ≡ Some w → Here w ws
+here w [] ordered found = absurd (none-some w found)
+here w (v ∷ vs) ordered found = go (is_of w.task v) refl found (here w vs ordered.1)
+  where
+    -- v isn't behind w
+    one_more : precedes w v ≡ false → position_or_len (precedes w) (v ∷ vs) ≡ 1 + position_or_len (precedes w) vs
+    one_more h = ap (λ b. cond (not b) (1 + position_or_len (precedes w) vs) 0) h
+
+    go :
+        (b : Bool)
+        → is_of w.task v ≡ b
+        → cond b (Some v) (find (is_of w.task) vs) ≡ Some w
+        → (find (is_of w.task) vs ≡ Some w → Here w vs)
+        → Here w (v ∷ vs)
+    go true its is rest =
+        let same : v ≡ w = same_Some v w is in
+        record {
+          place = 0;
+          next =
+              one_more (ap (precedes w) same ∙ before_itself w)
+              ∙ ap (λ n. 1 + n) (first_of_all w vs (subst (λ u. AllByRecursion (λ x. precedes u x ≡ true) vs) same ordered.0));
+          out = cond-true _ _ _ its;
+        }
+    go false other is rest =
+        let it : Here w vs = rest is in
+        let first : precedes v w ≡ true = found_holds (is_of w.task) (λ u. precedes v u ≡ true) vs w is ordered.0 in
+        record {
+          place = suc it.place;
+          next = one_more (before_not v w first) ∙ ap (λ n. 1 + n) (it.next ∙ omega arith);
+          out = cond-false _ _ _ other ∙ ap (λ us. v ∷ us) it.out;
+        }
+
+pub own_place_some : (w : Waiter) (ws : List Waiter) → IsOrdered ws → find (is_of w.task) ws ≡ Some w → 1 ≤ position_or_len (precedes w) ws
+own_place_some w ws ordered found = let it : Here w ws = here w ws ordered found in omega (arith, it.next)
+
+pub own_place_out :
+    (w : Waiter) (ws : List Waiter)
+    → IsOrdered ws
+    → find (is_of w.task) ws ≡ Some w
+    → without w.task ws ≡ remove ws (position_or_len (precedes w) ws - 1)
+own_place_out w ws ordered found =
+    let it : Here w ws = here w ws ordered found in
+    it.out ∙ ap (remove ws) (omega (arith, it.next))
+
+pub ruleset own_place = (own_place_some, own_place_out)
 
 -- ---- one moved
 -- its place once it is taken out: before where it was, or else behind

@@ -8,6 +8,6 @@ pub invariant_of-self : goal.invariant_of-self
 invariant_of-self c =
     let reserved : c.self.inside.room ≤ vec_capacity c.self.inside.waiters = c.self.invariant.1 in (
       subst (IsLine c.self.inside.room) (sym c.take_out.ensures.waiters)
-          (line_without c.self.inside.room c.args.task c.self.inside.waiters.items c.self.invariant.0),
+          (line_without c.self.inside.room c.args.waiter.now.task c.self.inside.waiters.items c.self.invariant.0),
       omega (arith, reserved, c.take_out.ensures.capacity),
     )
