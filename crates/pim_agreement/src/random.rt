@@ -1,4 +1,4 @@
-// The manager beside the plain one, over pseudo-random steps.
+//! The manager beside the plain one, over pseudo-random steps.
 
 ghost use Rattle.std.specs.Prelude.{◌≤◌, ◌<◌};
 

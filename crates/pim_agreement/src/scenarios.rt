@@ -1,5 +1,5 @@
-// Worked scenarios, each run on both managers: the reply of each step, its visits, and the priority of each task after
-// it, with its reason, as worked out by hand from the definitions.
+//! Worked scenarios, each run on both managers: the reply of each step, its visits, and the priority of each task after
+//! it, with its reason, as worked out by hand from the definitions.
 
 use crate::scene::{
     Both, INHERIT, NONE, base, cancel, ceiling, handed, lock, protect, release, set_base, try_lock,

@@ -1,4 +1,4 @@
-// What the scenarios are told with: steps, replies, what a task shows, and the two managers side by side.
+//! What the scenarios are told with: steps, replies, what a task shows, and the two managers side by side.
 
 ghost use Rattle.std.specs.Prelude.{◌≤◌};
 

@@ -1,4 +1,4 @@
-// Scenarios of the walk, on both managers: where it goes, and where it stops early.
+//! Scenarios of the walk, on both managers: where it goes, and where it stops early.
 
 use crate::scene::{Both, INHERIT, base, cancel, handed, lock, set_base, unlock, waiter};
 use Refusal::{Deadlock, NoTask};

@@ -1,4 +1,4 @@
-// What the steps ask of the tables.
+//! What the steps ask of the tables.
 
 ghost use Rattle.std.specs.Prelude.{◌≡◌, ◌↔◌, IsTrue, ℕ, Some};
 ghost use Rattle.pim_base.specs.Lists.{contains, holds};

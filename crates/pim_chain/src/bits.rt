@@ -1,4 +1,4 @@
-// The bits of a word.
+//! The bits of a word.
 
 ghost use Rattle.std.specs.Prelude.{◌≡◌, ◌≢◌, ◌≤◌, ◌<◌, ℕ, MatchOption};
 ghost use Rattle.std.specs.Int.{bit_at};

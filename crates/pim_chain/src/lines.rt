@@ -1,4 +1,4 @@
-// The queues of the mutexes, by number.
+//! The queues of the mutexes, by number.
 
 ghost use Rattle.std.specs.Prelude.{◌≡◌, ◌≤◌, ◌<◌, length, replicate, [], false, IfOk, Some};
 ghost use Rattle.std.specs.List.{list_any, find};

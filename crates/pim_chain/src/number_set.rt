@@ -1,4 +1,4 @@
-// Sets of the numbers of tasks or mutexes.
+//! Sets of the numbers of tasks or mutexes.
 
 ghost use Rattle.std.specs.Prelude.{◌≡◌, ◌==◌, ◌<◌, ◌&&◌, ◌||◌, ℕ, not, false};
 ghost use Rattle.pim_chain.specs.Numbers.{has};

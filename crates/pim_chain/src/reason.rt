@@ -1,4 +1,4 @@
-// Why a task has its priority.
+//! Why a task has its priority.
 
 ghost use Rattle.std.specs.Prelude.{◌≡◌, ◌==◌, ◌&&◌, None};
 ghost use Rattle.pim_base.specs.State.{IsTask, protocol_of};

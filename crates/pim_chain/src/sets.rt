@@ -1,4 +1,4 @@
-// The sets of what each task owns, by number.
+//! The sets of what each task owns, by number.
 
 ghost use Rattle.std.specs.Prelude.{◌≡◌, ◌≢◌, ◌≤◌, ◌<◌, ◌==◌, ◌&&◌, ◌||◌, ℕ, not, length};
 ghost use Rattle.pim_chain.specs.Numbers.{has};

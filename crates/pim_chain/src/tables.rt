@@ -1,4 +1,4 @@
-// What is owned and waited for, with the stored priorities and the queues.
+//! What is owned and waited for, with the stored priorities and the queues.
 
 ghost use Rattle.std.specs.Prelude.{◌≡◌, ◌≢◌, ◌≤◌, length, IfOk, None, Some, false, ℕ};
 ghost use Rattle.std.specs.Option.{option_copied};

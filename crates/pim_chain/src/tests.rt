@@ -1,5 +1,5 @@
-// Scenarios over the calls of the tables, with every stored priority and the number of visits after each step worked out
-// from the definitions.
+//! Scenarios over the calls of the tables, with every stored priority and the number of visits after each step worked out
+//! from the definitions.
 
 ghost use Rattle.std.specs.Prelude.{None, IfOk};
 ghost use Rattle.pim_chain.specs.Views.{stored_at};

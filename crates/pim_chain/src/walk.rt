@@ -1,4 +1,4 @@
-// The walk that mends the stored priorities, and stops early.
+//! The walk that mends the stored priorities, and stops early.
 
 ghost use Rattle.std.specs.Prelude.{◌≡◌, ◌≤◌, ◌<◌, ◌+◌, ◌-◌, ◌^◌, ◌==◌, if◌then◌else◌, None, unwrap_or, ℕ};
 ghost use Rattle.pim_base.specs.State.{IsTask, IsMutex};

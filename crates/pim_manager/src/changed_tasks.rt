@@ -1,4 +1,4 @@
-// The tasks that a step changed.
+//! The tasks that a step changed.
 
 ghost use Rattle.std.specs.Prelude.{◌≡◌, ◌<◌, [], ◌∷◌, ◌++◌, length};
 

@@ -1,4 +1,4 @@
-// The changes of a step, each with the walks from the tasks whose local priority it may have changed.
+//! The changes of a step, each with the walks from the tasks whose local priority it may have changed.
 
 ghost use Rattle.std.specs.Prelude.{◌≡◌, ◌≢◌, ◌≤◌, ◌+◌, ◌-◌, ◌^◌, Some, None, false, ℕ};
 ghost use Rattle.pim_base.specs.Lists.{head_of};

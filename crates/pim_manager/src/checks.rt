@@ -1,4 +1,4 @@
-// The test of a step that needs no state.
+//! The test of a step that needs no state.
 
 ghost use Rattle.std.specs.Prelude.{◌≡◌};
 ghost use Rattle.pim_base.specs.Checks.{withdraws_itself};

@@ -1,4 +1,4 @@
-// What a step is answered.
+//! What a step is answered.
 
 use pim_base::Reply;
 

@@ -1,4 +1,4 @@
-// What a manager keeps: its tables, and the next ticket.
+//! What a manager keeps: its tables, and the next ticket.
 
 ghost use Rattle.std.specs.Prelude.{◌≡◌, ◌≢◌, ◌≤◌, ◌<◌, ◌+◌, ◌-◌, ◌^◌, ◌↔◌, length, map, Some, None, false, IfSome, IfOk, IsErrOf};
 ghost use Rattle.std.specs.Option.{option_map, option_copied};

@@ -1,4 +1,4 @@
-// Why no manager was made.
+//! Why no manager was made.
 
 ghost use Rattle.std.specs.Prelude.{◌≡◌};
 ghost use Rattle.pim_manager.specs.declared.make_fault.MakeFault.TheVariants.{Memory};

@@ -1,4 +1,4 @@
-// The manager of mutexes.
+//! The manager of mutexes.
 
 ghost use Rattle.std.specs.Prelude.{◌≡◌, ◌≤◌, ◌<◌, ◌+◌, ◌*◌, ◌↔◌, length, map, IfOk, IsErrOf};
 ghost use Rattle.std.specs.Option.{option_map, option_copied};

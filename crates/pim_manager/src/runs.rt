@@ -1,4 +1,4 @@
-// Many steps, one after another.
+//! Many steps, one after another.
 
 ghost use Rattle.std.specs.Prelude.{◌≡◌, length, IfOk, OnErr};
 ghost use Rattle.std.specs.List.{fold};

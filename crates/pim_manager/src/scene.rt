@@ -1,4 +1,4 @@
-// What the tests are written with: steps, and what a changed task shows.
+//! What the tests are written with: steps, and what a changed task shows.
 
 use crate::{ChangedTasks, Manager};
 use pim_base::{MutexNo, Op, Prio, Protocol, Reason, Step, TaskNo};

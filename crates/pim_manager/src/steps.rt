@@ -1,4 +1,4 @@
-// The steps: what each is answered, and what it changes.
+//! The steps: what each is answered, and what it changes.
 
 ghost use Rattle.std.specs.Prelude.{◌≡◌, ◌≤◌, ◌+◌, ◌*◌, None};
 ghost use Rattle.pim_base.specs.State.{IsTask, wait_of};

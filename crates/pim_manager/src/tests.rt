@@ -1,5 +1,5 @@
-// What no scenario of pim_agreement shows: the making of a manager, its getters, its ticket, its copy, runs, and the
-// changed tasks.
+//! What no scenario of pim_agreement shows: the making of a manager, its getters, its ticket, its copy, runs, and the
+//! changed tasks.
 
 use crate::scene::{
     INHERIT, NONE, base, cancel, ceiling, expect_changed, lock, made, protect, release, set_base,

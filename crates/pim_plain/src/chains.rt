@@ -1,4 +1,4 @@
-// The chains from a task to those that it waits for, and to those that inherit from it.
+//! The chains from a task to those that it waits for, and to those that inherit from it.
 
 ghost use Rattle.std.specs.Prelude.{◌≡◌};
 ghost use Rattle.pim_base.specs.Lists.{contains};

@@ -1,4 +1,4 @@
-// The tests that refuse a step.
+//! The tests that refuse a step.
 
 ghost use Rattle.std.specs.Prelude.{◌≡◌};
 ghost use Rattle.pim_base.specs.Checks.{unknown_task, unknown_mutex, is_owned, is_waiting, above_ceiling, withdraws_itself};

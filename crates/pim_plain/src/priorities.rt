@@ -1,4 +1,4 @@
-// The priorities at which tasks execute.
+//! The priorities at which tasks execute.
 
 ghost use Rattle.std.specs.Prelude.{◌≡◌, IsTrue};
 ghost use Rattle.pim_base.specs.State.{IsTask};

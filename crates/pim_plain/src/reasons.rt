@@ -1,4 +1,4 @@
-// Why a task has its effective priority.
+//! Why a task has its effective priority.
 
 ghost use Rattle.std.specs.Prelude.{◌≡◌, ◌==◌, IsTrue};
 ghost use Rattle.std.specs.List.{find, list_any};

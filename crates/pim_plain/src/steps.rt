@@ -1,4 +1,4 @@
-// One step: what it is answered, and what it changes.
+//! One step: what it is answered, and what it changes.
 
 ghost use Rattle.std.specs.Prelude.{◌≡◌};
 ghost use Rattle.pim_base.specs.Queues.{first_of};

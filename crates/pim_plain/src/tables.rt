@@ -1,4 +1,4 @@
-// What is owned and waited for, and the changes of one fact.
+//! What is owned and waited for, and the changes of one fact.
 
 ghost use Rattle.std.specs.Prelude.{◌≡◌, ◌≤◌, ◌<◌, ◌-◌, ◌^◌, length, IfOk};
 ghost use Rattle.pim_base.specs.Lists.{nth, holds};

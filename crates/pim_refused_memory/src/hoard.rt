@@ -1,4 +1,4 @@
-// All the memory that there is.
+//! All the memory that there is.
 
 use std::alloc::{AllocError, Global};
 

@@ -1,4 +1,4 @@
-// The calls of a manager that take memory.
+//! The calls of a manager that take memory.
 
 use crate::hoard::{GRAINS, Hoard};
 use pim_base::{MutexNo, Op, Prio, Protocol, Reply, Step, TaskNo};

@@ -1,4 +1,4 @@
-// The calls on texts.
+//! The calls on texts.
 
 use crate::hoard::{GRAINS, Hoard};
 use pim_tool::{Fault, Input, Output, Verdict, judge, parse, parse_script};

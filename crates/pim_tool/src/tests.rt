@@ -1,4 +1,4 @@
-// Worked texts with their reports, bad lines, ends that fail, and memory that is refused.
+//! Worked texts with their reports, bad lines, ends that fail, and memory that is refused.
 
 mod boosts;
 mod ceilings;

@@ -1,4 +1,4 @@
-// Priorities that waiters lend, and take back.
+//! Priorities that waiters lend, and take back.
 
 use crate::Verdict::Accepted;
 use crate::tests::expected::expect_report;

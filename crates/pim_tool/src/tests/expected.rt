@@ -1,4 +1,4 @@
-// What the judge is expected to answer and to write.
+//! What the judge is expected to answer and to write.
 
 use crate::tests::memory_ends::{MemoryReader, MemoryWriter};
 use crate::{Fault, Verdict, judge};

@@ -1,4 +1,4 @@
-// Ends of one byte a call, and ends of which each call in turn goes wrong.
+//! Ends of one byte a call, and ends of which each call in turn goes wrong.
 
 use crate::tests::memory_ends::{MemoryReader, MemoryWriter, Trouble};
 use crate::{Fault, Verdict, judge};

@@ -1,4 +1,4 @@
-// The first line that can't stand, and lines beside it that can.
+//! The first line that can't stand, and lines beside it that can.
 
 use crate::Verdict::{Accepted, Rejected};
 use crate::tests::expected::{expect_line, expect_report};

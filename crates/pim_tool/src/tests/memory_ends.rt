@@ -1,4 +1,4 @@
-// Ends in memory: of a few bytes a call, and with one call that fails.
+//! Ends in memory: of a few bytes a call, and with one call that fails.
 ghost use Rattle.std.specs.Prelude.{Some};
 
 use crate::{Failed, Sink, Source};

@@ -1,4 +1,4 @@
-// Steps that are refused, replies that were recorded, and queues of mutexes that lend nothing.
+//! Steps that are refused, replies that were recorded, and queues of mutexes that lend nothing.
 
 use crate::Verdict::{Accepted, Rejected};
 use crate::tests::expected::expect_report;

@@ -1,4 +1,4 @@
-// Scripts: what they say, and the first line that can't stand in one.
+//! Scripts: what they say, and the first line that can't stand in one.
 
 use crate::{Fault, Text, parse_script};
 use pim_base::{MutexNo, Op, Prio, Protocol, Step, StepLine, TaskNo};

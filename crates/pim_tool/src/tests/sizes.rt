@@ -1,4 +1,4 @@
-// The longest texts that stand, those of one line more, and reports of several pieces.
+//! The longest texts that stand, those of one line more, and reports of several pieces.
 
 use crate::tests::expected::expect_line;
 use crate::tests::memory_ends::{MemoryReader, MemoryWriter, Trouble};
