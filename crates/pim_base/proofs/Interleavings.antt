@@ -1,6 +1,6 @@
 -- A log of one task beside scripts that it is an interleaving of, and that it is not. Nothing cites these theorems:
 -- they are checked with the crate, and show that the definition says what is meant.
-use Rattle.std.proofs.Common.{◌≡◌, ℕ, zero, suc, ◌≤◌, List, [], ◌∷◌, ◌++◌, Some, None, refl, ap, arith}
+use Rattle.std.proofs.Common.{◌≡◌, ℕ, zero, suc, ◌≤◌, List, [], ◌∷◌, ◌++◌, Some, refl, ap, arith}
 use Rattle.std.proofs.lemmas.List.Elements.{All-from_recursion}
 use Rattle.std.proofs.lemmas.Option.{same_Some}
 use Rattle.pim_base.specs.Lists.{nth}

@@ -5,7 +5,7 @@ use Rattle.pim_base.specs.State.{State, IsTask, wait_of, owned, with_owner, with
 use Rattle.pim_base.specs.Chains.{closes_cycle}
 use Rattle.pim_base.specs.Queues.{first_of}
 use Rattle.pim_base.specs.Checks.{unknown_task, is_waiting, is_owned, first_checks, checks, withdraws_itself}
-use Rattle.pim_base.specs.Steps.{unless, hand_over, handed, served, answer, changed, after}
+use Rattle.pim_base.specs.Steps.{unless, hand_over, handed, served, answer, after_reply, after}
 use Rattle.pim_base.specs.declared.steps.Op.{Op}
 use Rattle.pim_base.specs.declared.steps.Step.{Step}
 use Rattle.pim_base.specs.declared.steps.Refusal.{Refusal}
@@ -54,23 +54,15 @@ unless_cases (check ∷ checks) a = go check.0 refl (unless_cases checks a)
     go false e (inl r) = inl r
     go false e (inr h) = inr ((e, h.0), h.1)
 
-changed-refused : (S : State) (a : ℕ) (op : Op) (r : Refusal) → changed S a op (Reply.Refused r) ≡ S
-changed-refused S a (Op.Lock m) r = refl
-changed-refused S a (Op.Try m) r = refl
-changed-refused S a (Op.Unlock m) r = refl
-changed-refused S a Op.ReleaseAll r = refl
-changed-refused S a (Op.Cancel t) r = refl
-changed-refused S a (Op.SetBase t p) r = refl
-
 -- a refusal changes nothing, so what the reply of a served step does is what counts
 by_reply :
     (P : State → Type 0) (S : State) (a : ℕ) (op : Op) (tests : List (Bool × Refusal)) (r : Reply)
     → P S
-    → (AllFail tests → P (changed S a op r))
-    → P (changed S a op (unless tests r))
+    → (AllFail tests → P (after_reply S a op r))
+    → P (after_reply S a op (unless tests r))
 by_reply P S a op tests r ok served = elim (unless_cases tests r) [
-  | inl refused ↦ subst (λ x. P (changed S a op x)) (sym refused.1) (subst P (sym (changed-refused S a op refused.0)) ok)
-  | inr h ↦ subst (λ x. P (changed S a op x)) (sym h.1) (served h.0)
+  | inl refused ↦ subst (λ x. P (after_reply S a op x)) (sym refused.1) ok
+  | inr h ↦ subst (λ x. P (after_reply S a op x)) (sym h.1) (served h.0)
 ]
 
 pub idle_from_tests : (S : State) (a : ℕ) → (is_waiting S a && not false) ≡ false → wait_of S a ≡ None
@@ -87,16 +79,16 @@ served_kept :
     → (is_waiting S a && not (withdraws_itself a op)) ≡ false
     → P S
     → AllFail (checks S a op)
-    → P (changed S a op (served S a op))
+    → P (after_reply S a op (served S a op))
 served_kept P S a (Op.Lock m) kept task h ok f = go (is_owned S m) refl
   where
-    go : (b : Bool) → is_owned S m ≡ b → P (changed S a (Op.Lock m) (if b then Reply.Queued else Reply.Granted))
+    go : (b : Bool) → is_owned S m ≡ b → P (after_reply S a (Op.Lock m) (if b then Reply.Queued else Reply.Granted))
     go true owned = kept.enqueue S a m ok task (idle_from_tests S a h) f.1.0 owned
     go false free = kept.grant S a m ok (idle_from_tests S a h)
 served_kept P S a (Op.Try m) kept task h ok f = kept.grant S a m ok (idle_from_tests S a h)
 served_kept P S a (Op.Unlock m) kept task h ok f = go (first_of S m)
   where
-    go : (o : Option Waiter) → P (changed S a (Op.Unlock m) (handed o))
+    go : (o : Option Waiter) → P (after_reply S a (Op.Unlock m) (handed o))
     go None = kept.hand S m ok
     go (Some w) = kept.hand S m ok
 served_kept P S a Op.ReleaseAll kept task h ok f = hands_kept P kept (owned S a) S ok

@@ -6,7 +6,7 @@ use Rattle.std.proofs.lemmas.List.Folds.{Any-from_list_any, list_any_at}
 use Rattle.std.specs.List.{range_with_len, list_any}
 use Rattle.std.proofs.lemmas.Bool.{cases_lt, both_ways, eqb-true, eq-eqb, and_parts, and_from}
 use Rattle.std.proofs.lemmas.Option.{none-some, same_Some}
-use Rattle.pim_base.specs.Lists.{holds, head_of, numbers}
+use Rattle.pim_base.specs.Lists.{holds, first_item, numbers}
 use Rattle.pim_base.specs.State.{State, IsTask, IsMutex, base_of, owner_of, protocol_of, wait_of, owned}
 use Rattle.pim_base.specs.Chains.{heir, heir_in, heir_of}
 use Rattle.pim_base.specs.Priorities.{ceiling, ceiling_of, effective_priority}
@@ -105,7 +105,7 @@ first_lends :
     → (q : List Waiter)
     → queue_of S m ≡ q
     → list_any (λ w. eqb w.prio (effective_priority S t)) q ≡ true
-    → Gives S t (option_map_or (λ (w : Waiter). Reason.Waiter w.task m) (head_of q) Reason.Base)
+    → Gives S t (option_map_or (λ (w : Waiter). Reason.Waiter w.task m) (first_item q) Reason.Base)
 first_lends S t m ok task heir_is [] same any = cc
 first_lends S t m ok task heir_is (w ∷ q) same any = (to_t, at_m, le_antisymm low high)
   where

@@ -2,7 +2,7 @@
 -- cites these theorems: they are checked with the crate, and show that the definitions say what is meant.
 use Rattle.std.specs.Prelude.{◌≡◌, ℕ, ◌^◌, ◌-◌, List, [], ◌∷◌, ◌++◌, Option, Some, None, refl, ◌==◌, if◌then◌else◌}
 use Rattle.std.specs.List.{filter_map}
-use Rattle.pim_base.specs.State.{State, start, tasks}
+use Rattle.pim_base.specs.State.{State, start, task_numbers}
 use Rattle.pim_base.specs.Priorities.{effective_priority}
 use Rattle.pim_base.specs.Steps.{reply_of, after}
 use Rattle.pim_base.specs.Reasons.{reason_of}
@@ -31,7 +31,7 @@ report S [] = []
 report S (x ∷ xs) =
     let step : Step = record { actor = x.0; op = x.1 } in
     let S' : State = after S step in
-    (says (reply_of S step) ∷ filter_map (changed_line S S') (tasks S)) ++ report S' xs
+    (says (reply_of S step) ∷ filter_map (changed_line S S') (task_numbers S)) ++ report S' xs
 
 abbrev inherit : Protocol
 inherit = Protocol.Inherit

@@ -3,7 +3,7 @@ use Rattle.std.proofs.Common.{◌≡◌, ◌⊎◌, inl, inr, ℕ, zero, suc, �
 use Rattle.std.proofs.lemmas.List.{length-replicate}
 use Rattle.std.proofs.lemmas.Bool.Decides.{eqb_tells}
 use Rattle.std.proofs.lemmas.Option.{none-some, same_Some}
-use Rattle.pim_base.specs.Lists.{nth, put, head_of}
+use Rattle.pim_base.specs.Lists.{nth, put, first_item}
 use Rattle.pim_base.specs.State.{State, IsTask, start, owner_of, wait_of, with_owner, with_wait, with_base, queued}
 use Rattle.pim_base.specs.Chains.{blocker}
 use Rattle.pim_base.specs.Priorities.{effective_priority}
@@ -128,7 +128,7 @@ first_not_none S m t w ok e here none = go (queue_of S m) none there
     there : Contains (queue_of S m) it
     there = (queue_law S m ok.tickets).all t it (known (nth S.wait t) refl e) (waiter_of-waits S m t w e here)
 
-    go : (q : List Waiter) → head_of q ≡ None → Contains q it → ⊥
+    go : (q : List Waiter) → first_item q ≡ None → Contains q it → ⊥
     go [] h c = absurd (omega (arith, c.1))
     go (v ∷ q) h c = cc
 

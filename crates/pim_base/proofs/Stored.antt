@@ -2,7 +2,7 @@
 use Rattle.std.proofs.Common.{◌≡◌, ℕ, zero, suc, ◌+◌, ◌≤◌, max, true, length, map, filter, Option, Some, None, refl, ◌∙◌, ap, arith, option_and_then, le_trans, le_antisymm}
 use Rattle.std.proofs.lemmas.Bool.{eqb-true, eq-eqb}
 use Rattle.pim_base.specs.Lists.{contains, holds}
-use Rattle.pim_base.specs.State.{State, IsTask, tasks, wait_of, owner_of, protocol_of}
+use Rattle.pim_base.specs.State.{State, IsTask, task_numbers, wait_of, owner_of, protocol_of}
 use Rattle.pim_base.specs.Chains.{blocker, heir, heir_in, heir_of, inherit_chain}
 use Rattle.pim_base.specs.Priorities.{own_priority, effective_priority, local_priority}
 use Rattle.pim_base.specs.Laws.{IsSound, StoredLaw}
@@ -80,7 +80,7 @@ effective_priority-le S t b h =
 pub local_is :
     (S : State) (stored : ℕ → ℕ) (t : ℕ)
     → local_priority S stored t ≡ max (own_priority S t) (greatest_of stored (λ u. holds (heir S u) t) (length S.base))
-local_is S stored t = greatest-cons (own_priority S t) (map stored (filter (λ u. holds (heir S u) t) (tasks S)))
+local_is S stored t = greatest-cons (own_priority S t) (map stored (filter (λ u. holds (heir S u) t) (task_numbers S)))
 
 pub own_priority-le-local_priority : (S : State) (stored : ℕ → ℕ) (t : ℕ) → own_priority S t ≤ local_priority S stored t
 own_priority-le-local_priority S stored t = omega (arith, local_is S stored t)

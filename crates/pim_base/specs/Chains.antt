@@ -18,8 +18,9 @@ blocker S t = option_and_then (λ w. owner_of S w.mutex) (wait_of S t)
 -- who gets the waiters' priority: the owner, if the mutex is an INHERIT one. (POSIX.1-2017,
 -- pthread_mutexattr_getprotocol)
 abbrev pub heir_in : Protocol → Option ℕ → Option ℕ
+heir_in Protocol.None owner = None
 heir_in Protocol.Inherit owner = owner
-heir_in _ owner = None
+heir_in (Protocol.Protect c) owner = None
 
 -- who gets the priority of m's waiters
 abbrev pub heir_of : State → ℕ → Option ℕ

@@ -1,11 +1,12 @@
 -- What refuses a step: the tests, and their order. (POSIX.1-2017: the errors of pthread_mutex_lock,
 -- pthread_mutex_trylock, pthread_mutex_unlock and pthread_setschedprio)
-use Rattle.std.specs.Prelude.{ℕ, ◌==◌, ◌^◌, ◌-◌, nat_lt, nat_le, ◌&&◌, ◌||◌, not, is_some, Bool, false, List, [], ◌∷◌, length}
+use Rattle.std.specs.Prelude.{ℕ, ◌==◌, nat_lt, nat_le, ◌&&◌, ◌||◌, not, is_some, Bool, false, List, [], ◌∷◌, length}
 use Rattle.std.specs.Option.{option_map_or}
 use Rattle.pim_base.specs.Lists.{holds}
 use Rattle.pim_base.specs.State.{State, base_of, owner_of, wait_of, protocol_of}
 use Rattle.pim_base.specs.Chains.{closes_cycle}
 use Rattle.pim_base.specs.Priorities.{ceiling}
+use Rattle.pim_base.specs.declared.limits.TheConstants.{LAST_TICKET}
 use Rattle.pim_base.specs.declared.steps.Op.{Op}
 use Rattle.pim_base.specs.declared.steps.Step.{Step}
 use Rattle.pim_base.specs.declared.steps.Refusal.{Refusal}
@@ -31,14 +32,18 @@ is_owned S m = is_some (owner_of S m)
 abbrev pub above_ceiling : State → ℕ → ℕ → Bool
 above_ceiling S t m = option_map_or (λ c. nat_lt c (base_of S t)) (ceiling (protocol_of S m)) false
 
--- no ticket is left: the last one that is given out is 2^64 - 2
+-- no ticket is left
 abbrev pub no_tickets : State → Bool
-no_tickets S = S.next == 2 ^ 64 - 1
+no_tickets S = S.next == LAST_TICKET
 
 -- the step is the withdrawal of the actor itself
 abbrev pub withdraws_itself : ℕ → Op → Bool
+withdraws_itself a (Op.Lock m) = false
+withdraws_itself a (Op.Try m) = false
+withdraws_itself a (Op.Unlock m) = false
+withdraws_itself a Op.ReleaseAll = false
 withdraws_itself a (Op.Cancel t) = t == a
-withdraws_itself a _ = false
+withdraws_itself a (Op.SetBase t p) = false
 
 -- what refuses any step, in order
 abbrev pub first_checks : State → Step → List (Bool × Refusal)

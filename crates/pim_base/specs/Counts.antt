@@ -19,9 +19,9 @@ same_owner (Some t) (Some u) = t == u
 same_owner _ _ = false
 
 -- how many tasks have another effective priority
-abbrev pub changed_tasks : State → State → ℕ
-changed_tasks S T = differing (length S.base) (effective_priority S) (effective_priority T)
+abbrev pub changed_task_count : State → State → ℕ
+changed_task_count S T = differing (length S.base) (effective_priority S) (effective_priority T)
 
 -- how many mutexes have another owner, where none counts as one
-abbrev pub handed_mutexes : State → State → ℕ
-handed_mutexes S T = count (length S.protocol) (λ m. not (same_owner (owner_of S m) (owner_of T m)))
+abbrev pub handed_mutex_count : State → State → ℕ
+handed_mutex_count S T = count (length S.protocol) (λ m. not (same_owner (owner_of S m) (owner_of T m)))

@@ -30,9 +30,9 @@ holds None n = false
 holds (Some k) n = k == n
 
 -- the first item, if there is one
-abbrev pub head_of : {X : Type 0} → List X → Option X
-head_of [] = None
-head_of (x ∷ xs) = Some x
+abbrev pub first_item : {X : Type 0} → List X → Option X
+first_item [] = None
+first_item (x ∷ xs) = Some x
 
 -- the list in which the item stands in front of the first one that it comes before
 abbrev pub insert_by : {X : Type 0} → (X → X → Bool) → List X → X → List X

@@ -2,14 +2,15 @@
 use Rattle.std.specs.Prelude.{ℕ, List, ◌∷◌, map, Option, Some, None, unwrap_or}
 use Rattle.std.specs.List.{filter}
 use Rattle.pim_base.specs.Lists.{contains, greatest, holds}
-use Rattle.pim_base.specs.State.{State, tasks, base_of, protocol_of, owned}
+use Rattle.pim_base.specs.State.{State, task_numbers, base_of, protocol_of, owned}
 use Rattle.pim_base.specs.Chains.{heir, inherit_chain}
 use Rattle.pim_base.specs.declared.steps.Protocol.{Protocol}
 
 -- the ceiling of a PROTECT mutex
 abbrev pub ceiling : Protocol → Option ℕ
+ceiling Protocol.None = None
+ceiling Protocol.Inherit = None
 ceiling (Protocol.Protect c) = Some c
-ceiling _ = None
 
 -- the ceiling of the mutex, or 0
 abbrev pub ceiling_of : State → ℕ → ℕ
@@ -21,15 +22,15 @@ abbrev pub own_priority : State → ℕ → ℕ
 own_priority S t = greatest (base_of S t ∷ map (ceiling_of S) (owned S t))
 
 -- the tasks from which t inherits: t is on their inherit chain, as it is on its own
-abbrev pub heirs_of : State → ℕ → List ℕ
-heirs_of S t = filter (λ u. contains (inherit_chain S u) t) (tasks S)
+abbrev pub donors_of : State → ℕ → List ℕ
+donors_of S t = filter (λ u. contains (inherit_chain S u) t) (task_numbers S)
 
 -- the priority at which t executes: the greatest own priority among the tasks from which it inherits.
 -- (PTHREAD_PRIO_INHERIT; Sha, Rajkumar and Lehoczky 1990: priority inheritance is transitive)
 abbrev pub effective_priority : State → ℕ → ℕ
-effective_priority S t = greatest (map (own_priority S) (heirs_of S t))
+effective_priority S t = greatest (map (own_priority S) (donors_of S t))
 
 -- what t's own priority and the others' priorities in this map give it: the greatest of its own and those of the tasks
 -- that wait for its INHERIT mutexes. It alone is given a map: it says what one visit of a walk computes.
 abbrev pub local_priority : State → (ℕ → ℕ) → ℕ → ℕ
-local_priority S stored t = greatest (own_priority S t ∷ map stored (filter (λ u. holds (heir S u) t) (tasks S)))
+local_priority S stored t = greatest (own_priority S t ∷ map stored (filter (λ u. holds (heir S u) t) (task_numbers S)))

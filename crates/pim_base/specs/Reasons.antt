@@ -11,8 +11,9 @@ use Rattle.pim_base.specs.declared.steps.Reason.{Reason}
 
 -- it is PTHREAD_PRIO_INHERIT
 abbrev pub is_inherit : Protocol → Bool
+is_inherit Protocol.None = false
 is_inherit Protocol.Inherit = true
-is_inherit _ = false
+is_inherit (Protocol.Protect c) = false
 
 -- m is a PRIO_INHERIT mutex, and somebody waits for it at this priority
 abbrev pub lends : State → ℕ → ℕ → Bool

@@ -1,7 +1,7 @@
 -- The report of a text: each step's reply, the tasks whose priority it changed and why, and the verdict.
-use Rattle.std.specs.Prelude.{ℕ, ◌+◌, ◌-◌, ◌==◌, not, Bool, true, false, List, [], ◌∷◌, ◌++◌, codes, decimal, Option, Some, None, flat_map, if◌then◌else◌}
+use Rattle.std.specs.Prelude.{ℕ, ◌+◌, ◌-◌, ◌==◌, ◌&&◌, not, Bool, true, List, [], ◌∷◌, ◌++◌, codes, decimal, Option, Some, None, flat_map, if◌then◌else◌}
 use Rattle.std.specs.List.{filter, join_with_byte}
-use Rattle.pim_base.specs.State.{State, start, tasks}
+use Rattle.pim_base.specs.State.{State, start, task_numbers}
 use Rattle.pim_base.specs.Priorities.{effective_priority}
 use Rattle.pim_base.specs.Steps.{reply_of, after}
 use Rattle.pim_base.specs.Reasons.{reason_of}
@@ -49,8 +49,8 @@ accepted n = codes "accepted " ++ decimal n ++ codes "\n"
 -- ---- what a step shows
 
 -- the tasks whose effective priority differs, in rising number
-abbrev pub changed_between : State → State → List ℕ
-changed_between S T = filter (λ t. not (effective_priority S t == effective_priority T t)) (tasks S)
+abbrev pub changed_tasks : State → State → List ℕ
+changed_tasks S T = filter (λ t. not (effective_priority S t == effective_priority T t)) (task_numbers S)
 
 -- each refusal has a number of its own
 abbrev pub refusal_number : Refusal → ℕ
@@ -65,16 +65,31 @@ refusal_number Refusal.NotWaiting = 8
 refusal_number Refusal.Priority = 9
 refusal_number Refusal.Tickets = 10
 
+-- each kind of reply has a number of its own
+abbrev pub reply_kind : Reply → ℕ
+reply_kind Reply.Granted = 1
+reply_kind Reply.Queued = 2
+reply_kind Reply.Freed = 3
+reply_kind (Reply.Handed t) = 4
+reply_kind (Reply.Released k) = 5
+reply_kind Reply.Withdrawn = 6
+reply_kind Reply.Set = 7
+reply_kind (Reply.Refused r) = 8
+
+-- what a reply of some kind says besides: the task, the count, or the number of the refusal
+abbrev pub reply_detail : Reply → ℕ
+reply_detail Reply.Granted = 0
+reply_detail Reply.Queued = 0
+reply_detail Reply.Freed = 0
+reply_detail (Reply.Handed t) = t
+reply_detail (Reply.Released k) = k
+reply_detail Reply.Withdrawn = 0
+reply_detail Reply.Set = 0
+reply_detail (Reply.Refused r) = refusal_number r
+
+-- the replies are equal
 abbrev pub same_reply : Reply → Reply → Bool
-same_reply Reply.Granted Reply.Granted = true
-same_reply Reply.Queued Reply.Queued = true
-same_reply Reply.Freed Reply.Freed = true
-same_reply (Reply.Handed t) (Reply.Handed u) = t == u
-same_reply (Reply.Released k) (Reply.Released l) = k == l
-same_reply Reply.Withdrawn Reply.Withdrawn = true
-same_reply Reply.Set Reply.Set = true
-same_reply (Reply.Refused r) (Reply.Refused q) = refusal_number r == refusal_number q
-same_reply _ _ = false
+same_reply r q = (reply_kind r == reply_kind q) && (reply_detail r == reply_detail q)
 
 -- no reply was recorded, or this one
 abbrev pub agrees : Option Reply → Reply → Bool
@@ -85,7 +100,7 @@ agrees (Some recorded) reply = same_reply recorded reply
 abbrev pub answer_lines : ℕ → State → StepLine → List ℕ
 answer_lines k S line =
     let T : State = after S line.step in
-    reply_line k (reply_of S line.step) ++ flat_map (change_line T) (changed_between S T)
+    reply_line k (reply_of S line.step) ++ flat_map (change_line T) (changed_tasks S T)
 
 -- the reply beside the recorded one, and the rejection
 abbrev pub rejection_lines : ℕ → Reply → Option Reply → List ℕ

@@ -84,8 +84,9 @@ spelled line = join_with_byte SPACE (words_of line)
 -- ---- numbers in their ranges
 
 abbrev pub IsProtocol : Protocol → Type 0
+IsProtocol Protocol.None = Unit {0}
+IsProtocol Protocol.Inherit = Unit {0}
 IsProtocol (Protocol.Protect c) = IsPrio c
-IsProtocol _ = Unit {0}
 
 abbrev pub IsOp : Op → Type 0
 IsOp (Op.Lock m) = IsNumber m
@@ -97,9 +98,14 @@ IsOp (Op.SetBase t p) = IsNumber t × IsNumber p
 
 -- the count of a release may be 0
 abbrev pub IsReply : Reply → Type 0
+IsReply Reply.Granted = Unit {0}
+IsReply Reply.Queued = Unit {0}
+IsReply Reply.Freed = Unit {0}
 IsReply (Reply.Handed t) = IsNumber t
 IsReply (Reply.Released k) = k < 2 ^ 16
-IsReply _ = Unit {0}
+IsReply Reply.Withdrawn = Unit {0}
+IsReply Reply.Set = Unit {0}
+IsReply (Reply.Refused r) = Unit {0}
 
 abbrev pub IsRecorded : Option Reply → Type 0
 IsRecorded None = Unit {0}

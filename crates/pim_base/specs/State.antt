@@ -26,12 +26,12 @@ start bases protocols next = record {
 }
 
 -- the numbers of the tasks
-abbrev pub tasks : State → List ℕ
-tasks S = numbers (length S.base)
+abbrev pub task_numbers : State → List ℕ
+task_numbers S = numbers (length S.base)
 
 -- the numbers of the mutexes
-abbrev pub mutexes : State → List ℕ
-mutexes S = numbers (length S.protocol)
+abbrev pub mutex_numbers : State → List ℕ
+mutex_numbers S = numbers (length S.protocol)
 
 -- the base of a task, and 0 of an unknown one
 abbrev pub base_of : State → ℕ → ℕ
@@ -51,7 +51,7 @@ wait_of S t = unwrap_or (nth S.wait t) None
 
 -- the mutexes that the task owns, in rising number
 abbrev pub owned : State → ℕ → List ℕ
-owned S t = filter (λ m. holds (owner_of S m) t) (mutexes S)
+owned S t = filter (λ m. holds (owner_of S m) t) (mutex_numbers S)
 
 -- each task has an entry among the waits, and each mutex among the owners
 pub record IsState (S : State) : Type 0 where

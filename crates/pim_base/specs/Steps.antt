@@ -46,18 +46,44 @@ hand_over_to S m (Some w) = with_wait (with_owner S m (Some w.task)) w.task None
 abbrev pub hand_over : State → ℕ → State
 hand_over S m = hand_over_to S m (first_of S m)
 
--- the state after a step with this reply, by the actor and the operation: a refusal changes nothing
-abbrev pub changed : State → ℕ → Op → Reply → State
-changed S a (Op.Lock m) Reply.Granted = with_owner S m (Some a)
-changed S a (Op.Lock m) Reply.Queued = queued S a m
-changed S a (Op.Try m) Reply.Granted = with_owner S m (Some a)
-changed S a (Op.Unlock m) Reply.Freed = hand_over S m
-changed S a (Op.Unlock m) (Reply.Handed t) = hand_over S m
-changed S a Op.ReleaseAll (Reply.Released k) = fold hand_over S (owned S a)
-changed S a (Op.Cancel t) Reply.Withdrawn = with_wait S t None
-changed S a (Op.SetBase t p) Reply.Set = with_base S t p
-changed S a op _ = S
+-- the mutex that the operation names, or 0, which is the number of none
+abbrev pub mutex_of : Op → ℕ
+mutex_of (Op.Lock m) = m
+mutex_of (Op.Try m) = m
+mutex_of (Op.Unlock m) = m
+mutex_of Op.ReleaseAll = 0
+mutex_of (Op.Cancel t) = 0
+mutex_of (Op.SetBase t p) = 0
+
+-- the task that the operation is to change, or 0, which is the number of none
+abbrev pub target_of : Op → ℕ
+target_of (Op.Lock m) = 0
+target_of (Op.Try m) = 0
+target_of (Op.Unlock m) = 0
+target_of Op.ReleaseAll = 0
+target_of (Op.Cancel t) = t
+target_of (Op.SetBase t p) = t
+
+-- the base that the operation sets, or 0
+abbrev pub new_base_of : Op → ℕ
+new_base_of (Op.Lock m) = 0
+new_base_of (Op.Try m) = 0
+new_base_of (Op.Unlock m) = 0
+new_base_of Op.ReleaseAll = 0
+new_base_of (Op.Cancel t) = 0
+new_base_of (Op.SetBase t p) = p
+
+-- what the operation of this actor does when it is given this reply
+abbrev pub after_reply : State → ℕ → Op → Reply → State
+after_reply S a op Reply.Granted = with_owner S (mutex_of op) (Some a)
+after_reply S a op Reply.Queued = queued S a (mutex_of op)
+after_reply S a op Reply.Freed = hand_over S (mutex_of op)
+after_reply S a op (Reply.Handed t) = hand_over S (mutex_of op)
+after_reply S a op (Reply.Released k) = fold hand_over S (owned S a)
+after_reply S a op Reply.Withdrawn = with_wait S (target_of op) None
+after_reply S a op Reply.Set = with_base S (target_of op) (new_base_of op)
+after_reply S a op (Reply.Refused r) = S
 
 -- the state that the step leaves
 abbrev pub after : State → Step → State
-after S step = changed S step.actor step.op (reply_of S step)
+after S step = after_reply S step.actor step.op (reply_of S step)

@@ -1,6 +1,7 @@
 -- Which lists of lines are traces, and which line is the first that can't stand.
 use Rattle.std.specs.Prelude.{ℕ, ◌≡◌, ◌+◌, ◌-◌, ◌≤◌, ◌<◌, List, [], ◌∷◌, ◌++◌, map, length, take, ◌⊎◌, ◌==◌}
 use Rattle.std.specs.List.{AllByRecursion, slice_split}
+use Rattle.pim_base.specs.declared.limits.TheConstants.{MAX_TASKS, MAX_MUTEXES, MAX_STEPS}
 use Rattle.pim_base.specs.declared.steps.Protocol.{Protocol}
 use Rattle.pim_base.specs.declared.lines.StepLine.{StepLine}
 use Rattle.pim_base.specs.declared.lines.Line.{Line}
@@ -29,9 +30,9 @@ declared t = task_lines 1 t.bases ++ (mutex_lines 1 t.protocols ++ map lines.Ste
 
 -- a text within the limits on numbers and on how many lines each part has
 pub record IsWithinLimits (t : Trace) : Type 0 where
-  pub tasks : length t.bases ≤ 256
-  pub mutexes : length t.protocols ≤ 256
-  pub steps : length t.steps ≤ 65536
+  pub tasks : length t.bases ≤ MAX_TASKS
+  pub mutexes : length t.protocols ≤ MAX_MUTEXES
+  pub steps : length t.steps ≤ MAX_STEPS
   pub each : AllByRecursion IsLine (declared t)
 
 -- the lines are the one spelling of the text

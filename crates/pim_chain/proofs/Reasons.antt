@@ -4,7 +4,7 @@ use Rattle.std.specs.List.{find, list_any, AllByRecursion}
 use Rattle.std.specs.Option.{option_map_or}
 use Rattle.std.proofs.lemmas.Bool.{both_ways, cases_eq, eq-eqb, ne_eqb, or_left, or_from, and_parts}
 use Rattle.std.proofs.lemmas.Option.{none-some}
-use Rattle.pim_base.specs.Lists.{head_of}
+use Rattle.pim_base.specs.Lists.{first_item}
 use Rattle.pim_base.specs.State.{State, IsTask, IsMutex, base_of, owner_of, wait_of, protocol_of, owned}
 use Rattle.pim_base.specs.Chains.{heir_in, heir_of}
 use Rattle.pim_base.specs.Priorities.{ceiling_of, effective_priority}
@@ -144,4 +144,4 @@ module _ (v : View) (t : ℕ) (calm : Calm v) (known : IsTask v.state t) where
 -- the first waiter of the tables is the definitions'
 pub waiter_here : (v : View) (m : ℕ) → Calm v → IsMutex v.state m → first_reason v m ≡ waiter_reason v.state (Some m)
 waiter_here v m calm isk =
-    ap (λ ws. option_map_or (λ (w : Waiter). Reason.Waiter w.task m) (head_of ws) Reason.Base) (queue_is v m calm isk)
+    ap (λ ws. option_map_or (λ (w : Waiter). Reason.Waiter w.task m) (first_item ws) Reason.Base) (queue_is v m calm isk)

@@ -1,7 +1,7 @@
 -- What a task owns.
 use Rattle.std.specs.Prelude.{◌≡◌, ◌<◌, ◌==◌, ◌&&◌, ℕ, max, Bool, true, false, cond, is_some, Option, Some, None}
 use Rattle.std.specs.Option.{option_map_or}
-use Rattle.pim_base.specs.Lists.{holds, head_of}
+use Rattle.pim_base.specs.Lists.{holds, first_item}
 use Rattle.pim_base.specs.State.{owner_of, protocol_of}
 use Rattle.pim_base.specs.Chains.{heir_of}
 use Rattle.pim_base.specs.Priorities.{ceiling_of}
@@ -35,4 +35,4 @@ lends_now v p m = is_inherit (protocol_of v.state m) && (front_prio (queue_at v 
 
 -- the first of those who wait for the mutex, as a reason
 abbrev pub first_reason : View → ℕ → Reason
-first_reason v m = option_map_or (λ (w : Waiter). Reason.Waiter w.task m) (head_of (queue_at v m)) Reason.Base
+first_reason v m = option_map_or (λ (w : Waiter). Reason.Waiter w.task m) (first_item (queue_at v m)) Reason.Base

@@ -2,7 +2,7 @@
 use Rattle.std.specs.Prelude.{◌≡◌, ◌≤◌, ℕ, Bool, true, false, not, ◌==◌, List, [], Option, Some, length, replicate, unwrap_or}
 use Rattle.std.specs.List.{list_any, AllByRecursion}
 use Rattle.std.specs.Option.{option_map_or}
-use Rattle.pim_base.specs.Lists.{nth, put, head_of}
+use Rattle.pim_base.specs.Lists.{nth, put, first_item}
 use Rattle.pim_base.specs.State.{State, start, IsTask, IsMutex, wait_of, owner_of}
 use Rattle.pim_base.specs.Laws.{IsSound}
 use Rattle.pim_base.specs.declared.steps.Protocol.{Protocol}
@@ -56,7 +56,7 @@ put_queue lines m ws = put lines m (with_waiters (line_in lines m) ws)
 
 -- the priority of the first, and 0 where there is none
 abbrev pub front_prio : List Waiter → ℕ
-front_prio ws = option_map_or (λ (w : Waiter). w.prio) (head_of ws) 0
+front_prio ws = option_map_or (λ (w : Waiter). w.prio) (first_item ws) 0
 
 abbrev pub waits_for : (ℕ → Option Wait) → ℕ → ℕ → Bool
 waits_for wait m t = option_map_or (λ (w : Wait). w.mutex == m) (wait t) false

@@ -89,7 +89,7 @@ impl Tables {
     }
 
     /// Whether the wait of the task for the mutex would close a cycle.
-    pub fn closes(&self, task: TaskNo, mutex: MutexNo) -> bool
+    pub fn closes_cycle(&self, task: TaskNo, mutex: MutexNo) -> bool
         ensures { result ≡ closes_cycle self.now.state task mutex }
     {
         match self.owner(mutex) {

@@ -2,7 +2,7 @@
 
 ghost use Rattle.std.specs.Prelude.{◌≡◌, ◌≤◌, ◌<◌, length, replicate, [], false, IfOk, Some};
 ghost use Rattle.std.specs.List.{list_any, find};
-ghost use Rattle.pim_base.specs.Lists.{insert_by, head_of};
+ghost use Rattle.pim_base.specs.Lists.{insert_by, first_item};
 ghost use Rattle.pim_base.specs.Queues.{precedes};
 ghost use Rattle.pim_queue.specs.Waiters.{is_of, has_ticket, without, repositioned};
 ghost use Rattle.pim_chain.specs.Views.{line_in, queue_in, put_queue};
@@ -35,7 +35,7 @@ pub fn try_clone(alloc: Global, lines: &[Queue]) -> Result<Vec<Queue>, AllocErro
 
 /// The first of those who wait for the mutex.
 pub fn front(lines: &[Queue], mutex: MutexNo) -> Option<Waiter>
-    ensures { result ≡ head_of (queue_in lines.now mutex) }
+    ensures { result ≡ first_item (queue_in lines.now mutex) }
 {
     let place = (mutex.get() as usize).checked_sub(1)?;
     lines.get(place)?.front()

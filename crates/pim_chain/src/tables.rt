@@ -2,7 +2,7 @@
 
 ghost use Rattle.std.specs.Prelude.{◌≡◌, ◌≢◌, ◌≤◌, length, IfOk, None, Some, false, ℕ};
 ghost use Rattle.std.specs.Option.{option_copied};
-ghost use Rattle.pim_base.specs.Lists.{nth, holds, head_of};
+ghost use Rattle.pim_base.specs.Lists.{nth, holds, first_item};
 ghost use Rattle.pim_base.specs.State.{IsTask, IsMutex, base_of, owner_of, wait_of, with_owner, with_base};
 ghost use Rattle.pim_base.specs.Chains.{blocker, closes_cycle};
 ghost use Rattle.pim_base.specs.declared.steps.Wait.{Wait};
@@ -170,7 +170,7 @@ impl Tables {
 
     /// The first of those who wait for the mutex.
     pub fn front(&self, mutex: MutexNo) -> Option<Waiter>
-        ensures { result ≡ head_of (queue_at self.now mutex) }
+        ensures { result ≡ first_item (queue_at self.now mutex) }
     {
         lines::front(&self.queues, mutex)
     }

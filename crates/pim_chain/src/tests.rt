@@ -75,7 +75,7 @@ fn lock(rt: &impl Abort, tables: &mut Tables, task: TaskNo, mutex: MutexNo, tick
             tables.settle_from(task, &mut visits);
         }
         Some(owner) => {
-            assert!(rt; !tables.closes(task, mutex));
+            assert!(rt; !tables.closes_cycle(task, mutex));
             assert!(rt; !tables.has_ticket(mutex, ticket));
             tables.join(task, mutex, ticket);
             tables.settle_from(owner, &mut visits);
@@ -165,7 +165,7 @@ fn happen(rt: &impl Abort, tables: &mut Tables, event: Event, ticket: u64) -> u3
     match event {
         Event::Lock(task, mutex) => lock(rt, tables, TaskNo(task), MutexNo(mutex), ticket),
         Event::Deadlock(task, mutex) => {
-            assert!(rt; tables.closes(TaskNo(task), MutexNo(mutex)));
+            assert!(rt; tables.closes_cycle(TaskNo(task), MutexNo(mutex)));
             0
         }
         Event::Unlock(mutex) => unlock(rt, tables, MutexNo(mutex)),

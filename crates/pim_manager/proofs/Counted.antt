@@ -9,10 +9,10 @@ use Rattle.pim_base.specs.State.{with_owner, with_wait}
 use Rattle.pim_base.specs.Steps.{hand_over_to}
 use Rattle.pim_base.specs.declared.steps.Waiter.{Waiter}
 use Rattle.pim_base.proofs.NoCycle.{idle_now, unwrap_or-put_same}
-use Rattle.pim_base.specs.Lists.{head_of}
+use Rattle.pim_base.specs.Lists.{first_item}
 use Rattle.pim_manager.proofs.Passing.{freed_owner, first_waits}
 use Rattle.std.proofs.Common.{zero, suc, cond, Bool, true, eq-or-lt_of_le}
-use Rattle.pim_base.specs.Counts.{count, differing, changed_tasks, handed_mutexes, same_owner}
+use Rattle.pim_base.specs.Counts.{count, differing, changed_task_count, handed_mutex_count, same_owner}
 use Rattle.pim_base.specs.declared.steps.Wait.{Wait}
 use Rattle.pim_chain.specs.Views.{View, stored_at, stored_in, queue_at}
 use Rattle.pim_chain.specs.Settled.{changed}
@@ -25,7 +25,7 @@ pub counted :
     → Calm v
     → Calm w
     → length w.state.base ≡ length v.state.base
-    → changed v w ≡ changed_tasks (record v.state { next = n }) (record w.state { next = k })
+    → changed v w ≡ changed_task_count (record v.state { next = n }) (record w.state { next = k })
 counted v w n k calm after same =
     differing_same (length v.state.base) (stored_at v) (effective_priority v.state) (stored_at w) (effective_priority w.state)
     (λ u low high. (
@@ -35,7 +35,7 @@ counted v w n k calm after same =
     ))
 
 -- nothing changes from a state to itself
-pub unchanged : (S : State) → changed_tasks S S ≡ 0
+pub unchanged : (S : State) → changed_task_count S S ≡ 0
 unchanged S =
     count_none (length S.base) (λ t. not (eqb (effective_priority S t) (effective_priority S t)))
     (λ t. ap not (eq-eqb (effective_priority S t) (effective_priority S t) refl))
@@ -117,17 +117,17 @@ differ_by (Some u) t ne = ap not (ne_eqb t u (λ e. ne (ap Some (sym e))))
 
 pub handed_once :
     (v : View) (S : State) (m t : ℕ) (o : Option Waiter) (n : ℕ)
-    → Calm v → IsMutex v.state m → owner_of v.state m ≡ Some t → wait_of v.state t ≡ None → o ≡ head_of (queue_at v m)
+    → Calm v → IsMutex v.state m → owner_of v.state m ≡ Some t → wait_of v.state t ≡ None → o ≡ first_item (queue_at v m)
     → S ≡ hand_over_to v.state m o
-    → 1 ≤ handed_mutexes (record v.state { next = n }) (record S { next = n })
+    → 1 ≤ handed_mutex_count (record v.state { next = n }) (record S { next = n })
 handed_once v S m t o n calm known owned idle is same =
-    subst (λ (T : State). 1 ≤ handed_mutexes (record v.state { next = n }) (record T { next = n })) (sym same)
+    subst (λ (T : State). 1 ≤ handed_mutex_count (record v.state { next = n }) (record T { next = n })) (sym same)
     (count_one (length v.state.protocol)
     (λ k. not (same_owner (owner_of v.state k) (owner_of (hand_over_to v.state m o) k))) m known.0 known.1
     (ap (λ x. not (same_owner x (owner_of (hand_over_to v.state m o) m))) owned ∙ differ_by (owner_of (hand_over_to v.state m o) m) t
     (go o is)))
   where
-    go : (o : Option Waiter) → o ≡ head_of (queue_at v m) → owner_of (hand_over_to v.state m o) m ≡ Some t → ⊥
+    go : (o : Option Waiter) → o ≡ first_item (queue_at v m) → owner_of (hand_over_to v.state m o) m ≡ Some t → ⊥
     go None e h = none-some t (sym (freed_owner v.state m) ∙ h)
     go (Some w) e h = at (unwrap_or-put_same v.state.owner m (Some w.task))
       where
@@ -138,7 +138,7 @@ handed_once v S m t o n calm known owned idle is same =
             (sym idle ∙ ap (wait_of v.state) (same_Some t w.task (sym h ∙ it)) ∙ first_waits v m w calm.ready known (sym e))
 
 -- so any count is enough for it
-pub unchanged_least : (S : State) (n : ℕ) → changed_tasks S S ≤ n
+pub unchanged_least : (S : State) (n : ℕ) → changed_task_count S S ≤ n
 unchanged_least S n = omega (arith, unchanged S)
 
 -- changes of stored priorities, where the state shown is this one
@@ -148,9 +148,9 @@ pub counted_as :
     → Calm w
     → length w.state.base ≡ length v.state.base
     → record v.state { next = n } ≡ S
-    → changed v w ≡ changed_tasks S (record w.state { next = k })
+    → changed v w ≡ changed_task_count S (record w.state { next = k })
 counted_as v w n k S calm after same is =
-    counted v w n k calm after same ∙ ap (λ (T : State). changed_tasks T (record w.state { next = k })) is
+    counted v w n k calm after same ∙ ap (λ (T : State). changed_task_count T (record w.state { next = k })) is
 
 -- the same stored priorities are no change
 pub unchanged_stored : (v w : View) → w.stored ≡ v.stored → changed v w ≡ 0

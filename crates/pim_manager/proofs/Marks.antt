@@ -8,7 +8,7 @@ use Rattle.pim_base.specs.Lists.{numbers}
 use Rattle.pim_base.specs.State.{State, IsTask}
 use Rattle.pim_base.specs.Checks.{unknown_task}
 use Rattle.pim_base.specs.Priorities.{effective_priority}
-use Rattle.pim_base.specs.Reports.{changed_between}
+use Rattle.pim_base.specs.Reports.{changed_tasks}
 use Rattle.pim_base.specs.Steps.{after}
 use Rattle.pim_base.specs.declared.steps.Step.{Step}
 use Rattle.pim_base.proofs.Kept.{kept_by_step, known_from_tests}
@@ -124,7 +124,7 @@ pub changed_by_step :
     (S T : State) (marked : List ℕ)
     → AreMarked S marked
     → length T.base ≡ length S.base
-    → changed_since (record { state = T; marked = marked }) ≡ changed_between S T
+    → changed_since (record { state = T; marked = marked }) ≡ changed_tasks S T
 changed_by_step S T marked are same =
     ap (λ n. filter (is_changed (record { state = T; marked = marked })) (numbers n)) same
     ∙ filter-same (is_changed (record { state = T; marked = marked })) (λ t. not (eqb (effective_priority S t) (effective_priority T t)))

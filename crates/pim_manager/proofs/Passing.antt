@@ -1,7 +1,7 @@
 -- A task that leaves a queue, and a mutex that passes from its owner to the first of its queue.
 use Rattle.std.proofs.Common.{◌≡◌, ℕ, zero, suc, inl, inr, ◌+◌, ◌≤◌, refl, sym, ◌∙◌, ap, subst, arith, Option, Some, None, List, [], ◌∷◌, length, option_and_then, set}
 use Rattle.std.proofs.lemmas.Option.{same_Some}
-use Rattle.pim_base.specs.Lists.{put, head_of}
+use Rattle.pim_base.specs.Lists.{put, first_item}
 use Rattle.pim_base.specs.State.{State, IsTask, IsMutex, owner_of, wait_of, with_owner, with_wait}
 use Rattle.pim_base.specs.Chains.{heir, heir_of, blocker}
 use Rattle.pim_base.specs.Counts.{differing}
@@ -52,14 +52,14 @@ pub first_waits :
     (v : View) (m : ℕ) (w : Waiter)
     → Ready v
     → IsMutex v.state m
-    → head_of (queue_at v m) ≡ Some w
+    → first_item (queue_at v m) ≡ Some w
     → wait_of v.state w.task ≡ Some (record { mutex = m; ticket = w.ticket })
 first_waits v m w ready known e = go (queue_at v m) (ready.queues m known) e
   where
     go :
         (ws : List Waiter)
         → IsQueue (wait_of v.state) (stored_at v) m ws
-        → head_of ws ≡ Some w
+        → first_item ws ≡ Some w
         → wait_of v.state w.task ≡ Some (record { mutex = m; ticket = w.ticket })
     go [] q h = cc
     go (x ∷ xs) q h =
@@ -77,7 +77,7 @@ pub record Passing (v u x : View) (m : ℕ) (w : Waiter) : Type 0 where
 
 pub passing :
     (v u x : View) (m : ℕ) (w : Waiter) (o : Option ℕ)
-    → Calm v → IsMutex v.state m → head_of (queue_at v m) ≡ Some w
+    → Calm v → IsMutex v.state m → first_item (queue_at v m) ≡ Some w
     → u.state ≡ with_owner v.state m None
     → SettledBut u.state (stored_at u) None
     → HasLeft u x w.task

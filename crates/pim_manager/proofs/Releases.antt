@@ -5,7 +5,7 @@ use Rattle.pim_base.specs.Lists.{numbers, holds}
 use Rattle.pim_base.specs.State.{State, IsMutex, owned, owner_of, wait_of, with_owner, with_wait}
 use Rattle.pim_base.specs.Queues.{first_of}
 use Rattle.pim_base.specs.Steps.{hand_over, hand_over_to}
-use Rattle.pim_base.specs.Counts.{differing, same_owner, changed_tasks, handed_mutexes}
+use Rattle.pim_base.specs.Counts.{differing, same_owner, changed_task_count, handed_mutex_count}
 use Rattle.pim_base.specs.Priorities.{effective_priority}
 use Rattle.pim_base.specs.declared.steps.Waiter.{Waiter}
 use Rattle.pim_base.proofs.Places.{nth-put_other}
@@ -65,10 +65,10 @@ pub record ReleasedTo (S T : State) (a n released visits : ℕ) : Type 0 where
   pub later : (m : ℕ) → n < m → owner_of T m ≡ owner_of S m
   pub lost : (m : ℕ) → m ≤ n → holds (owner_of S m) a ≡ true → holds (owner_of T m) a ≡ false
   pub idle : wait_of T a ≡ None
-  pub least : changed_tasks S T ≤ visits
+  pub least : changed_task_count S T ≤ visits
   pub most : visits ≤ 2 * released
 
-pub released_none : (S : State) (a visits : ℕ) → wait_of S a ≡ None → visits ≡ 0 → changed_tasks S S ≡ 0 → ReleasedTo S S a 0 0 visits
+pub released_none : (S : State) (a visits : ℕ) → wait_of S a ≡ None → visits ≡ 0 → changed_task_count S S ≡ 0 → ReleasedTo S S a 0 0 visits
 released_none S a visits idle fresh same = record {
   state = refl;
   counted = refl;
@@ -95,7 +95,7 @@ pub released_next :
     → IsMutex T m
     → U ≡ hand_over T m
     → holds (owner_of U m) a ≡ false
-    → v + changed_tasks T U ≤ k
+    → v + changed_task_count T U ≤ k
     → k ≤ v + 2
     → ReleasedTo S U a m (r + 1) k
 released_next S T U a n m r v k before next known is gone least most = record {
@@ -148,7 +148,7 @@ released_next S T U a n m r v k before next known is gone least most = record {
 pub record Released (S T : State) (a released visits : ℕ) : Type 0 where
   pub state : T ≡ fold hand_over S (owned S a)
   pub counted : released ≡ length (owned S a)
-  pub most : visits ≤ 2 * handed_mutexes S T
+  pub most : visits ≤ 2 * handed_mutex_count S T
 
 lost_differs : (o r : Option ℕ) (a : ℕ) → o ≡ Some a → holds r a ≡ false → not (same_owner o r) ≡ true
 lost_differs o None a is h = ap (λ x. not (same_owner x None)) is
@@ -184,5 +184,5 @@ released_all S T a n r v done none = record {
         go (inl above) = absurd (both_ways (p k) (none_later k above) h)
         go (inr low) = lost_differs (owner_of S k) (owner_of T k) a (from_holds (owner_of S k) a h) (done.lost k low h)
 
-    few : length (owned S a) ≤ handed_mutexes S T
+    few : length (owned S a) ≤ handed_mutex_count S T
     few = length-le-count p (λ k. not (same_owner (owner_of S k) (owner_of T k))) (length S.protocol) passes

@@ -1,7 +1,7 @@
 -- A manager with the priorities of when they were marked last.
 use Rattle.std.specs.Prelude.{◌≡◌, ◌==◌, ◌&&◌, ℕ, not, Bool, List, length}
 use Rattle.std.specs.List.{filter}
-use Rattle.pim_base.specs.State.{State, IsTask, tasks}
+use Rattle.pim_base.specs.State.{State, IsTask, task_numbers}
 use Rattle.pim_base.specs.Checks.{unknown_task}
 use Rattle.pim_base.specs.Priorities.{effective_priority}
 use Rattle.pim_chain.specs.Views.{stored_in}
@@ -21,4 +21,4 @@ is_changed h t = not (unknown_task h.state t) && not (stored_in h.marked t == ef
 
 -- all such tasks, in rising number
 abbrev pub changed_since : Held → List ℕ
-changed_since h = filter (is_changed h) (tasks h.state)
+changed_since h = filter (is_changed h) (task_numbers h.state)

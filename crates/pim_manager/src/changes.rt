@@ -1,7 +1,7 @@
 //! The changes of a step, each with the walks from the tasks whose local priority it may have changed.
 
 ghost use Rattle.std.specs.Prelude.{◌≡◌, ◌≢◌, ◌≤◌, ◌+◌, ◌-◌, ◌^◌, Some, None, false, ℕ};
-ghost use Rattle.pim_base.specs.Lists.{head_of};
+ghost use Rattle.pim_base.specs.Lists.{first_item};
 ghost use Rattle.pim_base.specs.State.{IsTask, IsMutex, owner_of, wait_of, with_owner, with_wait, with_base};
 ghost use Rattle.pim_base.specs.Chains.{blocker, closes_cycle};
 ghost use Rattle.pim_base.specs.Steps.{hand_over_to};
@@ -96,7 +96,7 @@ pub fn hand_over(
     requires owned { owner_of tables.old.state mutex ≡ Some owner }
     requires idle { wait_of tables.old.state owner ≡ None }
     requires room { visits.old ≤ 2 ^ 32 - 1 - 257 }
-    ensures first { result ≡ head_of (queue_at tables.old mutex) }
+    ensures first { result ≡ first_item (queue_at tables.old mutex) }
     ensures state { tables.new.state ≡ hand_over_to tables.old.state mutex result }
     ensures calm { Calm tables.new }
     ensures least { visits.old + changed tables.old tables.new ≤ visits.new }
@@ -120,7 +120,7 @@ fn pass_on(
     requires mutex { IsMutex tables.old.state mutex }
     requires owned { owner_of tables.old.state mutex ≡ Some owner }
     requires idle { wait_of tables.old.state owner ≡ None }
-    requires first { first.now ≡ head_of (queue_at tables.old mutex) }
+    requires first { first.now ≡ first_item (queue_at tables.old mutex) }
     requires room { visits.old ≤ 2 ^ 32 - 1 - 257 }
     ensures state { tables.new.state ≡ hand_over_to tables.old.state mutex first.now }
     ensures calm { Calm tables.new }

@@ -13,7 +13,7 @@ ghost use Rattle.pim_base.specs.declared.steps.Wait.{Wait};
 ghost use Rattle.pim_manager.specs.Changed.{changed_task};
 ghost use Rattle.pim_manager.specs.Held.{AreMarked, is_changed, changed_since};
 ghost use Rattle.pim_manager.specs.Known.{of_task, of_mutex};
-ghost use Rattle.pim_base.specs.Counts.{changed_tasks, handed_mutexes};
+ghost use Rattle.pim_base.specs.Counts.{changed_task_count, handed_mutex_count};
 ghost use Rattle.pim_base.specs.Checks.{unknown_task, unknown_mutex, is_owned, is_waiting, above_ceiling};
 ghost use Rattle.pim_base.specs.Steps.{hand_over};
 ghost use Rattle.pim_chain.specs.Owned.{IsNext};
@@ -252,10 +252,10 @@ impl Inner {
     }
 
     // whether the wait of the task for the mutex would close a cycle
-    pub fn closes(&self, task: TaskNo, mutex: MutexNo) -> bool
+    pub fn closes_cycle(&self, task: TaskNo, mutex: MutexNo) -> bool
         ensures { result ≡ closes_cycle self.now.state task mutex }
     {
-        self.tables.closes(task, mutex)
+        self.tables.closes_cycle(task, mutex)
     }
 
     // whether the base of the task is above the ceiling of the mutex
@@ -283,7 +283,7 @@ impl Inner {
         requires free { owner_of self.old.state mutex ≡ None }
         requires room { visits.old ≤ 2 ^ 32 - 1 - 256 }
         ensures state { self.new.state ≡ with_owner self.old.state mutex (Some task) }
-        ensures least { visits.old + changed_tasks self.old.state self.new.state ≤ visits.new }
+        ensures least { visits.old + changed_task_count self.old.state self.new.state ≤ visits.new }
         ensures most { visits.new ≡ visits.old + 1 }
         ensures marked { self.new.marked ≡ self.old.marked }
     {
@@ -300,8 +300,8 @@ impl Inner {
         requires tickets { self.old.state.next < 2 ^ 64 - 1 }
         requires room { visits.old ≤ 2 ^ 32 - 1 - 256 }
         ensures state { self.new.state ≡ queued self.old.state task mutex }
-        ensures least { visits.old + changed_tasks self.old.state self.new.state ≤ visits.new }
-        ensures most { visits.new ≤ visits.old + 1 + changed_tasks self.old.state self.new.state }
+        ensures least { visits.old + changed_task_count self.old.state self.new.state ≤ visits.new }
+        ensures most { visits.new ≤ visits.old + 1 + changed_task_count self.old.state self.new.state }
         ensures marked { self.new.marked ≡ self.old.marked }
     {
         let ticket = self.next;
@@ -314,8 +314,8 @@ impl Inner {
         requires waits { wait_of self.old.state task ≢ None }
         requires room { visits.old ≤ 2 ^ 32 - 1 - 256 }
         ensures state { self.new.state ≡ with_wait self.old.state task None }
-        ensures least { visits.old + changed_tasks self.old.state self.new.state ≤ visits.new }
-        ensures most { visits.new ≤ visits.old + 1 + changed_tasks self.old.state self.new.state }
+        ensures least { visits.old + changed_task_count self.old.state self.new.state ≤ visits.new }
+        ensures most { visits.new ≤ visits.old + 1 + changed_task_count self.old.state self.new.state }
         ensures marked { self.new.marked ≡ self.old.marked }
     {
         changes::withdraw(&mut self.tables, task, visits);
@@ -326,8 +326,8 @@ impl Inner {
         requires known { IsTask self.old.state task }
         requires room { visits.old ≤ 2 ^ 32 - 1 - 256 }
         ensures state { self.new.state ≡ with_base self.old.state task prio }
-        ensures least { visits.old + changed_tasks self.old.state self.new.state ≤ visits.new }
-        ensures most { visits.new ≤ visits.old + 1 + changed_tasks self.old.state self.new.state }
+        ensures least { visits.old + changed_task_count self.old.state self.new.state ≤ visits.new }
+        ensures most { visits.new ≤ visits.old + 1 + changed_task_count self.old.state self.new.state }
         ensures marked { self.new.marked ≡ self.old.marked }
     {
         changes::rebase(&mut self.tables, task, prio, visits);
@@ -346,10 +346,10 @@ impl Inner {
         requires room { visits.old ≤ 2 ^ 32 - 1 - 257 }
         ensures first { result ≡ first_of self.old.state mutex }
         ensures state { self.new.state ≡ hand_over self.old.state mutex }
-        ensures least { visits.old + changed_tasks self.old.state self.new.state ≤ visits.new }
+        ensures least { visits.old + changed_task_count self.old.state self.new.state ≤ visits.new }
         ensures most { visits.new ≤ visits.old + 2 }
         ensures lost { holds (owner_of self.new.state mutex) owner ≡ false }
-        ensures handed { 1 ≤ handed_mutexes self.old.state self.new.state }
+        ensures handed { 1 ≤ handed_mutex_count self.old.state self.new.state }
         ensures marked { self.new.marked ≡ self.old.marked }
     {
         changes::hand_over(&mut self.tables, mutex, owner, visits)

@@ -8,9 +8,9 @@ ghost use Rattle.pim_base.specs.Queues.{queue_of};
 ghost use Rattle.pim_base.specs.Priorities.{effective_priority};
 ghost use Rattle.pim_base.specs.Reasons.{reason_of};
 ghost use Rattle.pim_base.specs.Laws.{IsSound};
-ghost use Rattle.pim_base.specs.Counts.{changed_tasks, handed_mutexes};
+ghost use Rattle.pim_base.specs.Counts.{changed_task_count, handed_mutex_count};
 ghost use Rattle.pim_base.specs.Steps.{reply_of, after};
-ghost use Rattle.pim_base.specs.Reports.{changed_between};
+ghost use Rattle.pim_base.specs.Reports.{changed_tasks};
 ghost use Rattle.pim_base.specs.declared.steps.Wait.{Wait};
 ghost use Rattle.pim_manager.specs.Changed.{changed_task};
 ghost use Rattle.pim_manager.specs.Known.{of_task, of_mutex};
@@ -160,8 +160,8 @@ impl Manager {
     pub fn step(&mut self, step: Step) -> Done
         ensures reply { result.reply ≡ reply_of self.old step }
         ensures state { self.new ≡ after self.old step }
-        ensures least { changed_tasks self.old self.new ≤ result.visits }
-        ensures most { result.visits ≤ 1 + changed_tasks self.old self.new + 2 * handed_mutexes self.old self.new }
+        ensures least { changed_task_count self.old self.new ≤ result.visits }
+        ensures most { result.visits ≤ 1 + changed_task_count self.old self.new + 2 * handed_mutex_count self.old self.new }
     {
         self.inner.step(step)
     }
@@ -171,9 +171,9 @@ impl Manager {
     pub fn step_with_changes(&mut self, step: Step, changed: &mut ChangedTasks) -> Done
         ensures reply { result.reply ≡ reply_of self.old step }
         ensures state { self.new ≡ after self.old step }
-        ensures least { changed_tasks self.old self.new ≤ result.visits }
-        ensures most { result.visits ≤ 1 + changed_tasks self.old self.new + 2 * handed_mutexes self.old self.new }
-        ensures changed { changed.new ≡ map (changed_task self.new) (changed_between self.old self.new) }
+        ensures least { changed_task_count self.old self.new ≤ result.visits }
+        ensures most { result.visits ≤ 1 + changed_task_count self.old self.new + 2 * handed_mutex_count self.old self.new }
+        ensures changed { changed.new ≡ map (changed_task self.new) (changed_tasks self.old self.new) }
     {
         self.inner.mark();
         let done = self.inner.step(step);

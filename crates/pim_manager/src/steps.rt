@@ -2,8 +2,8 @@
 
 ghost use Rattle.std.specs.Prelude.{◌≡◌, ◌≤◌, ◌+◌, ◌*◌, None};
 ghost use Rattle.pim_base.specs.State.{IsTask, wait_of};
-ghost use Rattle.pim_base.specs.Counts.{changed_tasks, handed_mutexes};
-ghost use Rattle.pim_base.specs.Steps.{answer, changed, reply_of, after};
+ghost use Rattle.pim_base.specs.Counts.{changed_task_count, handed_mutex_count};
+ghost use Rattle.pim_base.specs.Steps.{answer, after_reply, reply_of, after};
 
 use crate::checks::withdraws_itself;
 use crate::done::Done;
@@ -19,8 +19,8 @@ impl Inner {
     pub fn step(&mut self, step: Step) -> Done
         ensures reply { result.reply ≡ reply_of self.old.state step }
         ensures state { self.new.state ≡ after self.old.state step }
-        ensures least { changed_tasks self.old.state self.new.state ≤ result.visits }
-        ensures most { result.visits ≤ 1 + changed_tasks self.old.state self.new.state + 2 * handed_mutexes self.old.state self.new.state }
+        ensures least { changed_task_count self.old.state self.new.state ≤ result.visits }
+        ensures most { result.visits ≤ 1 + changed_task_count self.old.state self.new.state + 2 * handed_mutex_count self.old.state self.new.state }
         ensures marked { self.new.marked ≡ self.old.marked }
     {
         let mut visits = Visits::new();
@@ -37,8 +37,8 @@ impl Inner {
         requires { visits.old ≡ 0 }
         ensures reply { result ≡ reply_of self.old.state step }
         ensures state { self.new.state ≡ after self.old.state step }
-        ensures least { changed_tasks self.old.state self.new.state ≤ visits.new }
-        ensures most { visits.new ≤ 1 + changed_tasks self.old.state self.new.state + 2 * handed_mutexes self.old.state self.new.state }
+        ensures least { changed_task_count self.old.state self.new.state ≤ visits.new }
+        ensures most { visits.new ≤ 1 + changed_task_count self.old.state self.new.state + 2 * handed_mutex_count self.old.state self.new.state }
         ensures marked { self.new.marked ≡ self.old.marked }
     {
         let Step { actor, op } = step;
@@ -64,15 +64,15 @@ impl Inner {
         requires idle { wait_of self.old.state actor ≡ None }
         requires fresh { visits.old ≡ 0 }
         ensures reply { result ≡ answer self.old.state actor (Op.Lock mutex) }
-        ensures state { self.new.state ≡ changed self.old.state actor (Op.Lock mutex) result }
-        ensures least { changed_tasks self.old.state self.new.state ≤ visits.new }
-        ensures most { visits.new ≤ 1 + changed_tasks self.old.state self.new.state }
+        ensures state { self.new.state ≡ after_reply self.old.state actor (Op.Lock mutex) result }
+        ensures least { changed_task_count self.old.state self.new.state ≤ visits.new }
+        ensures most { visits.new ≤ 1 + changed_task_count self.old.state self.new.state }
         ensures marked { self.new.marked ≡ self.old.marked }
     {
         if self.is_unknown_mutex(mutex) {
             return Reply::Refused(Refusal::NoMutex);
         }
-        if self.closes(actor, mutex) {
+        if self.closes_cycle(actor, mutex) {
             return Reply::Refused(Refusal::Deadlock);
         }
         if self.is_above_ceiling(actor, mutex) {
@@ -95,9 +95,9 @@ impl Inner {
         requires idle { wait_of self.old.state actor ≡ None }
         requires fresh { visits.old ≡ 0 }
         ensures reply { result ≡ answer self.old.state actor (Op.Try mutex) }
-        ensures state { self.new.state ≡ changed self.old.state actor (Op.Try mutex) result }
-        ensures least { changed_tasks self.old.state self.new.state ≤ visits.new }
-        ensures most { visits.new ≤ 1 + changed_tasks self.old.state self.new.state }
+        ensures state { self.new.state ≡ after_reply self.old.state actor (Op.Try mutex) result }
+        ensures least { changed_task_count self.old.state self.new.state ≤ visits.new }
+        ensures most { visits.new ≤ 1 + changed_task_count self.old.state self.new.state }
         ensures marked { self.new.marked ≡ self.old.marked }
     {
         if self.is_unknown_mutex(mutex) {
@@ -118,9 +118,9 @@ impl Inner {
         requires idle { wait_of self.old.state actor ≡ None }
         requires fresh { visits.old ≡ 0 }
         ensures reply { result ≡ answer self.old.state actor (Op.Unlock mutex) }
-        ensures state { self.new.state ≡ changed self.old.state actor (Op.Unlock mutex) result }
-        ensures least { changed_tasks self.old.state self.new.state ≤ visits.new }
-        ensures most { visits.new ≤ 2 * handed_mutexes self.old.state self.new.state }
+        ensures state { self.new.state ≡ after_reply self.old.state actor (Op.Unlock mutex) result }
+        ensures least { changed_task_count self.old.state self.new.state ≤ visits.new }
+        ensures most { visits.new ≤ 2 * handed_mutex_count self.old.state self.new.state }
         ensures marked { self.new.marked ≡ self.old.marked }
     {
         if self.is_unknown_mutex(mutex) {
@@ -140,9 +140,9 @@ impl Inner {
         requires idle { wait_of self.old.state actor ≡ None }
         requires fresh { visits.old ≡ 0 }
         ensures reply { result ≡ answer self.old.state actor Op.ReleaseAll }
-        ensures state { self.new.state ≡ changed self.old.state actor Op.ReleaseAll result }
-        ensures least { changed_tasks self.old.state self.new.state ≤ visits.new }
-        ensures most { visits.new ≤ 2 * handed_mutexes self.old.state self.new.state }
+        ensures state { self.new.state ≡ after_reply self.old.state actor Op.ReleaseAll result }
+        ensures least { changed_task_count self.old.state self.new.state ≤ visits.new }
+        ensures most { visits.new ≤ 2 * handed_mutex_count self.old.state self.new.state }
         ensures marked { self.new.marked ≡ self.old.marked }
     {
         let mut released = 0;
@@ -159,9 +159,9 @@ impl Inner {
     fn cancel(&mut self, actor: TaskNo, task: TaskNo, visits: &mut Visits) -> Reply
         requires { visits.old ≡ 0 }
         ensures reply { result ≡ answer self.old.state actor (Op.Cancel task) }
-        ensures state { self.new.state ≡ changed self.old.state actor (Op.Cancel task) result }
-        ensures least { changed_tasks self.old.state self.new.state ≤ visits.new }
-        ensures most { visits.new ≤ 1 + changed_tasks self.old.state self.new.state }
+        ensures state { self.new.state ≡ after_reply self.old.state actor (Op.Cancel task) result }
+        ensures least { changed_task_count self.old.state self.new.state ≤ visits.new }
+        ensures most { visits.new ≤ 1 + changed_task_count self.old.state self.new.state }
         ensures marked { self.new.marked ≡ self.old.marked }
     {
         if self.is_unknown_task(task) {
@@ -178,9 +178,9 @@ impl Inner {
     fn set_base(&mut self, actor: TaskNo, task: TaskNo, level: u16, visits: &mut Visits) -> Reply
         requires { visits.old ≡ 0 }
         ensures reply { result ≡ answer self.old.state actor (Op.SetBase task level) }
-        ensures state { self.new.state ≡ changed self.old.state actor (Op.SetBase task level) result }
-        ensures least { changed_tasks self.old.state self.new.state ≤ visits.new }
-        ensures most { visits.new ≤ 1 + changed_tasks self.old.state self.new.state }
+        ensures state { self.new.state ≡ after_reply self.old.state actor (Op.SetBase task level) result }
+        ensures least { changed_task_count self.old.state self.new.state ≤ visits.new }
+        ensures most { visits.new ≤ 1 + changed_task_count self.old.state self.new.state }
         ensures marked { self.new.marked ≡ self.old.marked }
     {
         if self.is_unknown_task(task) {

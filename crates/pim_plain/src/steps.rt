@@ -2,7 +2,7 @@
 
 ghost use Rattle.std.specs.Prelude.{◌≡◌};
 ghost use Rattle.pim_base.specs.Queues.{first_of};
-ghost use Rattle.pim_base.specs.Steps.{answer, changed, hand_over, reply_of, after};
+ghost use Rattle.pim_base.specs.Steps.{answer, after_reply, hand_over, reply_of, after};
 
 use crate::checks::withdraws_itself;
 use crate::tables::Tables;
@@ -33,7 +33,7 @@ impl Tables {
 
     fn lock(&mut self, actor: TaskNo, mutex: MutexNo) -> Reply
         ensures reply { result ≡ answer self.old actor (Op.Lock mutex) }
-        ensures state { self.new ≡ changed self.old actor (Op.Lock mutex) result }
+        ensures state { self.new ≡ after_reply self.old actor (Op.Lock mutex) result }
     {
         if self.is_unknown_mutex(mutex) {
             return Reply::Refused(Refusal::NoMutex);
@@ -57,7 +57,7 @@ impl Tables {
 
     fn try_lock(&mut self, actor: TaskNo, mutex: MutexNo) -> Reply
         ensures reply { result ≡ answer self.old actor (Op.Try mutex) }
-        ensures state { self.new ≡ changed self.old actor (Op.Try mutex) result }
+        ensures state { self.new ≡ after_reply self.old actor (Op.Try mutex) result }
     {
         if self.is_unknown_mutex(mutex) {
             return Reply::Refused(Refusal::NoMutex);
@@ -74,7 +74,7 @@ impl Tables {
 
     fn unlock(&mut self, actor: TaskNo, mutex: MutexNo) -> Reply
         ensures reply { result ≡ answer self.old actor (Op.Unlock mutex) }
-        ensures state { self.new ≡ changed self.old actor (Op.Unlock mutex) result }
+        ensures state { self.new ≡ after_reply self.old actor (Op.Unlock mutex) result }
     {
         if self.is_unknown_mutex(mutex) {
             return Reply::Refused(Refusal::NoMutex);
@@ -91,7 +91,7 @@ impl Tables {
     /// Unlocks all mutexes of the actor, in rising number.
     fn release_all(&mut self, actor: TaskNo) -> Reply
         ensures reply { result ≡ answer self.old actor Op.ReleaseAll }
-        ensures state { self.new ≡ changed self.old actor Op.ReleaseAll result }
+        ensures state { self.new ≡ after_reply self.old actor Op.ReleaseAll result }
     {
         let mut released = 0;
         for number in 1..self.mutex_count() + 1 {
@@ -106,7 +106,7 @@ impl Tables {
 
     fn cancel(&mut self, actor: TaskNo, task: TaskNo) -> Reply
         ensures reply { result ≡ answer self.old actor (Op.Cancel task) }
-        ensures state { self.new ≡ changed self.old actor (Op.Cancel task) result }
+        ensures state { self.new ≡ after_reply self.old actor (Op.Cancel task) result }
     {
         if self.is_unknown_task(task) {
             return Reply::Refused(Refusal::NoTask);
@@ -120,7 +120,7 @@ impl Tables {
 
     fn change_base(&mut self, actor: TaskNo, task: TaskNo, level: u16) -> Reply
         ensures reply { result ≡ answer self.old actor (Op.SetBase task level) }
-        ensures state { self.new ≡ changed self.old actor (Op.SetBase task level) result }
+        ensures state { self.new ≡ after_reply self.old actor (Op.SetBase task level) result }
     {
         if self.is_unknown_task(task) {
             return Reply::Refused(Refusal::NoTask);

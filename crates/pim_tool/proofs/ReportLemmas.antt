@@ -5,7 +5,7 @@ use Rattle.std.proofs.lemmas.List.{drop_all}
 use Rattle.std.proofs.lemmas.List.Folds.{flat_map-map}
 use Rattle.pim_base.specs.State.{State}
 use Rattle.pim_base.specs.Steps.{after, reply_of}
-use Rattle.pim_base.specs.Reports.{agrees, reply_line, rejection_lines, change_line, changed_between, step_lines, accepted, report_from, verdict_from}
+use Rattle.pim_base.specs.Reports.{agrees, reply_line, rejection_lines, change_line, changed_tasks, step_lines, accepted, report_from, verdict_from}
 use Rattle.pim_base.specs.declared.steps.Reply.{Reply}
 use Rattle.pim_base.specs.declared.lines.StepLine.{StepLine}
 use Rattle.pim_base.specs.declared.lines.Verdict.TheVariants as verdicts
@@ -35,23 +35,23 @@ lines_are S ts = flat_map-map line_of (changed_task S) ts
 shown_is :
     (k : ℕ) (S : State) (line : StepLine) →
     let T : State = after S line.step in
-    shown_lines k (reply_of S line.step) line.recorded (map (changed_task T) (changed_between S T)) ≡ step_lines k S line
+    shown_lines k (reply_of S line.step) line.recorded (map (changed_task T) (changed_tasks S T)) ≡ step_lines k S line
 unfolding shown_lines
 shown_is k S line =
     let T : State = after S line.step in
     ap (λ bytes. if agrees line.recorded (reply_of S line.step) then reply_line k (reply_of S line.step) ++ bytes else rejection_lines k (reply_of S line.step) line.recorded)
-    (lines_are T (changed_between S T))
+    (lines_are T (changed_tasks S T))
 
 shows_step :
     (k : ℕ) (S T : State) (line : StepLine) (reply : Reply) (cs : List ChangedTask)
     → reply ≡ reply_of S line.step
     → T ≡ after S line.step
-    → cs ≡ map (changed_task T) (changed_between S T)
+    → cs ≡ map (changed_task T) (changed_tasks S T)
     → shown_lines k reply line.recorded cs ≡ step_lines k S line
 shows_step k S T line reply cs is next are =
     ap (λ (r : Reply). shown_lines k r line.recorded cs) is
     ∙ ap (shown_lines k (reply_of S line.step) line.recorded) are
-    ∙ ap (λ (U : State). shown_lines k (reply_of S line.step) line.recorded (map (changed_task U) (changed_between S U))) next
+    ∙ ap (λ (U : State). shown_lines k (reply_of S line.step) line.recorded (map (changed_task U) (changed_tasks S U))) next
     ∙ shown_is k S line
 
 pub prints_step :
@@ -59,7 +59,7 @@ pub prints_step :
     → Prints a b (page ++ shown_lines k reply line.recorded cs) left r
     → reply ≡ reply_of S line.step
     → U ≡ after S line.step
-    → cs ≡ map (changed_task U) (changed_between S U)
+    → cs ≡ map (changed_task U) (changed_tasks S U)
     → Prints a b (page ++ step_lines k S line) left r
 prints_step r a b left page k S U line reply cs h is next are = prints_as a b left page _ _ r (shows_step k S U line reply cs is next are) h
 

@@ -2,7 +2,7 @@ use Rattle.std.proofs.Common.{◌≡◌, ◌≤◌, ◌+◌, ◌∙◌, ap, sym,
 use Rattle.pim_base.specs.State.{State, IsTask, IsMutex, wait_of, owner_of}
 use Rattle.pim_base.specs.Chains.{closes_cycle}
 use Rattle.pim_base.specs.State.{queued}
-use Rattle.pim_base.specs.Counts.{changed_tasks}
+use Rattle.pim_base.specs.Counts.{changed_task_count}
 use Rattle.pim_manager.specs.Held.{Held}
 use Rattle.pim_manager.proofs.Counted.{counted, given_more, fresh_ticket}
 use Rattle.pim_manager.proofs.inner.Inner.enqueue.Goals as goal
@@ -50,7 +50,7 @@ returns-clause-least c =
     let same =
     counted c.self.inside.tables c.enqueue.new.tables c.self.inside.next
     (c.self.inside.next + 1) c.self.invariant.calm c.enqueue.ensures.calm (ap (λ (S : State). length S.base) c.enqueue.ensures.state) in
-    subst (λ (S : State). c.args.visits.now + changed_tasks S
+    subst (λ (S : State). c.args.visits.now + changed_task_count S
     (record c.enqueue.new.tables.state { next = c.self.inside.next + 1 }) ≤ c.enqueue.new.visits)
     (ap (λ (h : Held). h.state) c.self.view_is)
     (subst (λ k. c.args.visits.now + k ≤ c.enqueue.new.visits) same c.enqueue.ensures.least)
@@ -60,6 +60,6 @@ returns-clause-most c =
     let same =
     counted c.self.inside.tables c.enqueue.new.tables c.self.inside.next
     (c.self.inside.next + 1) c.self.invariant.calm c.enqueue.ensures.calm (ap (λ (S : State). length S.base) c.enqueue.ensures.state) in
-    subst (λ (S : State). c.enqueue.new.visits ≤ c.args.visits.now + 1 + changed_tasks S
+    subst (λ (S : State). c.enqueue.new.visits ≤ c.args.visits.now + 1 + changed_task_count S
     (record c.enqueue.new.tables.state { next = c.self.inside.next + 1 })) (ap (λ (h : Held). h.state) c.self.view_is)
     (subst (λ k. c.enqueue.new.visits ≤ c.args.visits.now + 1 + k) same (let most = c.enqueue.ensures.most in omega (arith, most)))

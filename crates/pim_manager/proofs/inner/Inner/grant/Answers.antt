@@ -1,7 +1,7 @@
 use Rattle.std.proofs.Common.{◌≡◌, ◌≤◌, ◌+◌, ◌∙◌, ap, sym, subst, Some, None, length}
 use Rattle.pim_base.specs.State.{State, IsTask, wait_of, owner_of}
 use Rattle.pim_base.specs.State.{with_owner}
-use Rattle.pim_base.specs.Counts.{changed_tasks}
+use Rattle.pim_base.specs.Counts.{changed_task_count}
 use Rattle.pim_manager.specs.Held.{Held}
 use Rattle.pim_manager.proofs.Counted.{counted}
 use Rattle.pim_manager.proofs.inner.Inner.grant.Goals as goal
@@ -37,6 +37,6 @@ returns-clause-least c =
     let same =
     counted c.self.inside.tables c.grant.new.tables c.self.inside.next c.self.inside.next c.self.invariant.calm c.grant.ensures.calm
     (ap (λ (S : State). length S.base) c.grant.ensures.state) in
-    subst (λ (S : State). c.args.visits.now + changed_tasks S
+    subst (λ (S : State). c.args.visits.now + changed_task_count S
     (record c.grant.new.tables.state { next = c.self.inside.next }) ≤ c.grant.new.visits) (ap (λ (h : Held). h.state) c.self.view_is)
     (subst (λ k. c.args.visits.now + k ≤ c.grant.new.visits) same c.grant.ensures.least)

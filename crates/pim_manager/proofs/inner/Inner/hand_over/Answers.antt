@@ -1,9 +1,9 @@
 use Rattle.std.proofs.Common.{◌≡◌, ◌≤◌, ◌+◌, ◌∙◌, ap, sym, subst, Some, None, length}
-use Rattle.pim_base.specs.Lists.{head_of}
+use Rattle.pim_base.specs.Lists.{first_item}
 use Rattle.pim_base.specs.State.{State, IsMutex, wait_of, owner_of}
 use Rattle.pim_base.specs.Queues.{first_of}
 use Rattle.pim_base.specs.Steps.{hand_over, hand_over_to}
-use Rattle.pim_base.specs.Counts.{changed_tasks, handed_mutexes}
+use Rattle.pim_base.specs.Counts.{changed_task_count, handed_mutex_count}
 use Rattle.pim_manager.specs.Held.{Held}
 use Rattle.pim_manager.proofs.Counted.{counted, given_handed, bases_handed, next_handed, handed_once}
 use Rattle.pim_chain.proofs.Models.{queue_is}
@@ -32,7 +32,7 @@ invariant_of-self c = record {
 
 pub returns-clause-first : goal.returns-clause-first
 returns-clause-first c =
-    c.hand_over.ensures.first ∙ ap head_of
+    c.hand_over.ensures.first ∙ ap first_item
     (queue_is c.self.inside.tables c.args.mutex c.self.invariant.calm
     (subst (λ (S : State). IsMutex S c.args.mutex) (sym (ap (λ (h : Held). h.state) c.self.view_is)) c.requires.mutex))
     ∙ ap (λ (S : State). first_of S c.args.mutex) (ap (λ (h : Held). h.state) c.self.view_is)
@@ -42,7 +42,7 @@ returns-clause-state c =
     ap (λ (S : State). record S { next = c.self.inside.next }) c.hand_over.ensures.state
     ∙ next_handed c.self.inside.tables.state c.args.mutex c.hand_over.result c.self.inside.next
     ∙ ap (hand_over_to (record c.self.inside.tables.state { next = c.self.inside.next }) c.args.mutex)
-    (c.hand_over.ensures.first ∙ ap head_of
+    (c.hand_over.ensures.first ∙ ap first_item
     (queue_is c.self.inside.tables c.args.mutex c.self.invariant.calm
     (subst (λ (S : State). IsMutex S c.args.mutex) (sym (ap (λ (h : Held). h.state) c.self.view_is)) c.requires.mutex)))
     ∙ ap (λ (S : State). hand_over S c.args.mutex) (ap (λ (h : Held). h.state) c.self.view_is)
@@ -51,14 +51,14 @@ pub returns-clause-least : goal.returns-clause-least
 returns-clause-least c =
     let same =
     counted c.self.inside.tables c.hand_over.new.tables c.self.inside.next c.self.inside.next c.self.invariant.calm c.hand_over.ensures.calm (ap (λ (S : State). length S.base) c.hand_over.ensures.state ∙ bases_handed c.self.inside.tables.state c.args.mutex c.hand_over.result) in
-    subst (λ (S : State). c.args.visits.now + changed_tasks S
+    subst (λ (S : State). c.args.visits.now + changed_task_count S
     (record c.hand_over.new.tables.state { next = c.self.inside.next }) ≤ c.hand_over.new.visits)
     (ap (λ (h : Held). h.state) c.self.view_is)
     (subst (λ k. c.args.visits.now + k ≤ c.hand_over.new.visits) same c.hand_over.ensures.least)
 
 pub returns-clause-handed : goal.returns-clause-handed
 returns-clause-handed c =
-    subst (λ (S : State). 1 ≤ handed_mutexes S (record c.hand_over.new.tables.state { next = c.self.inside.next }))
+    subst (λ (S : State). 1 ≤ handed_mutex_count S (record c.hand_over.new.tables.state { next = c.self.inside.next }))
     (ap (λ (h : Held). h.state) c.self.view_is)
     (handed_once c.self.inside.tables c.hand_over.new.tables.state c.args.mutex c.args.owner c.hand_over.result c.self.inside.next c.self.invariant.calm
     (subst (λ (S : State). IsMutex S c.args.mutex) (sym (ap (λ (h : Held). h.state) c.self.view_is)) c.requires.mutex)

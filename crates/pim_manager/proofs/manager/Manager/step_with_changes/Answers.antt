@@ -1,6 +1,6 @@
 use Rattle.std.proofs.Common.{◌≡◌, ◌∙◌, ap, sym, length, map}
 use Rattle.pim_base.specs.State.{State}
-use Rattle.pim_base.specs.Reports.{changed_between}
+use Rattle.pim_base.specs.Reports.{changed_tasks}
 use Rattle.pim_manager.specs.Changed.{changed_task}
 use Rattle.pim_manager.specs.Held.{changed_since}
 use Rattle.pim_manager.proofs.Marks.{bases_after, changed_by_step}
@@ -23,4 +23,4 @@ returns-clause-changed c =
     ∙ ap (map (changed_task T))
     (ap (λ marked. changed_since (record { state = T; marked = marked })) c.step-done.ensures.marked
     ∙ changed_by_step S T c.mark.new.self.marked c.mark.ensures.marked same
-    ∙ ap (λ (S : State). changed_between S T) c.self.view_is)
+    ∙ ap (λ (S : State). changed_tasks S T) c.self.view_is)
