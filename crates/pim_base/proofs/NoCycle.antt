@@ -51,7 +51,7 @@ none_returns_still :
 none_returns_still hop again n acyclic change t k le e =
     let f = first_hop again k t t e in acyclic t k le (old_way hop again change (suc k) t t f.0 e f.1)
 
--- the same of states
+-- no cycle stands where each blocker is an old one or leads to an end
 no_cycle_still :
     (S S' : State)
     → length S'.base ≡ length S.base
@@ -105,7 +105,7 @@ owner_sound S m o idle ok = record {
       | inr other ↦ inl (ap (λ v. unwrap_or v None) (nth-put_other S.owner m w.mutex o other.1))
     ]
 
--- a task waits no more
+-- a task stops waiting
 pub idle_sound : (S : State) (t : ℕ) → IsSound S → IsSound (with_wait S t None)
 idle_sound S t ok = record {
   lists = record { waits = length-put S.wait t None ∙ ok.lists.waits; owners = ok.lists.owners };

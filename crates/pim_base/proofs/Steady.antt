@@ -183,7 +183,7 @@ none-replicate zero i = refl
 none-replicate (suc n) zero = refl
 none-replicate (suc n) (suc i) = none-replicate n i
 
--- nobody waits at the start
+-- no task waits at the start
 idle_at_start : (bases : List ℕ) (protocols : List Protocol) (next t : ℕ) → wait_of (start bases protocols next) t ≡ None
 idle_at_start bases protocols next zero = refl
 idle_at_start bases protocols next (suc i) = none-replicate (length bases) i

@@ -17,7 +17,7 @@ abbrev pub ceiling_of : State → ℕ → ℕ
 ceiling_of S m = unwrap_or (ceiling (protocol_of S m)) 0
 
 -- the task's base or the highest ceiling of the PROTECT mutexes that it owns, whichever is the higher, whether or not
--- anybody waits for these. (PTHREAD_PRIO_PROTECT)
+-- a task waits for these. (PTHREAD_PRIO_PROTECT)
 abbrev pub own_priority : State → ℕ → ℕ
 own_priority S t = greatest (base_of S t ∷ map (ceiling_of S) (owned S t))
 

@@ -15,7 +15,7 @@ is_inherit Protocol.None = false
 is_inherit Protocol.Inherit = true
 is_inherit (Protocol.Protect c) = false
 
--- m is a PRIO_INHERIT mutex, and somebody waits for it at this priority
+-- m is a PRIO_INHERIT mutex, and a task waits for it at this priority
 abbrev pub lends : State → ℕ → ℕ → Bool
 lends S p m = is_inherit (protocol_of S m) && list_any (λ w. w.prio == p) (queue_of S m)
 

@@ -48,7 +48,7 @@ accepted n = codes "accepted " ++ decimal n ++ codes "\n"
 
 -- ---- what a step shows
 
--- the tasks whose effective priority differs, in rising number
+-- the tasks whose effective priority differs, in ascending order
 abbrev pub changed_tasks : State → State → List ℕ
 changed_tasks S T = filter (λ t. not (effective_priority S t == effective_priority T t)) (task_numbers S)
 

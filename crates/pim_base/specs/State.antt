@@ -15,7 +15,7 @@ pub record State : Type 0 where
   pub wait : List (Option Wait)
   pub next : ℕ
 
--- these bases and protocols, with nothing owned and nobody waiting
+-- these bases and protocols, where no mutex is owned and no task waits
 abbrev pub start : List ℕ → List Protocol → ℕ → State
 start bases protocols next = record {
   base = bases;
@@ -49,7 +49,7 @@ owner_of S m = unwrap_or (nth S.owner m) None
 abbrev pub wait_of : State → ℕ → Option Wait
 wait_of S t = unwrap_or (nth S.wait t) None
 
--- the mutexes that the task owns, in rising number
+-- the mutexes that the task owns, in ascending order
 abbrev pub owned : State → ℕ → List ℕ
 owned S t = filter (λ m. holds (owner_of S m) t) (mutex_numbers S)
 
@@ -80,7 +80,7 @@ with_wait S t w = record S { wait = put S.wait t w }
 abbrev pub with_base : State → ℕ → ℕ → State
 with_base S t p = record S { base = put S.base t p }
 
--- t waits for m with the next ticket, and the next ticket rises by one
+-- t waits for m with the next ticket, which is then one more
 abbrev pub queued : State → ℕ → ℕ → State
 queued S t m = record S {
   wait = put S.wait t (Some (record { mutex = m; ticket = S.next }));

@@ -1,4 +1,4 @@
--- One step: what it is answered, and the state that it leaves.
+-- One step: the reply to it, and the state after it.
 use Rattle.std.specs.Prelude.{ℕ, Bool, List, [], ◌∷◌, length, Option, Some, None, if◌then◌else◌}
 use Rattle.std.specs.List.{fold}
 use Rattle.pim_base.specs.State.{State, owned, with_owner, with_wait, with_base, queued}
@@ -33,11 +33,11 @@ served S a (Op.SetBase t p) = Reply.Set
 abbrev pub answer : State → ℕ → Op → Reply
 answer S a op = unless (checks S a op) (served S a op)
 
--- what the step is answered
+-- the reply to the step
 abbrev pub reply_of : State → Step → Reply
 reply_of S step = unless (first_checks S step) (answer S step.actor step.op)
 
--- m goes to this waiter, who waits no more, or is free
+-- m goes to this waiter, which stops waiting, or is free
 abbrev pub hand_over_to : State → ℕ → Option Waiter → State
 hand_over_to S m None = with_owner S m None
 hand_over_to S m (Some w) = with_wait (with_owner S m (Some w.task)) w.task None
@@ -84,6 +84,6 @@ after_reply S a op Reply.Withdrawn = with_wait S (target_of op) None
 after_reply S a op Reply.Set = with_base S (target_of op) (new_base_of op)
 after_reply S a op (Reply.Refused r) = S
 
--- the state that the step leaves
+-- the state after the step
 abbrev pub after : State → Step → State
 after S step = after_reply S step.actor step.op (reply_of S step)

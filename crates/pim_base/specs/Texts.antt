@@ -1,4 +1,4 @@
--- Which lists of lines are traces, and which line is the first that can't stand.
+-- Which lists of lines are traces, and which line is the first invalid one.
 use Rattle.std.specs.Prelude.{ℕ, ◌≡◌, ◌+◌, ◌-◌, ◌≤◌, ◌<◌, List, [], ◌∷◌, ◌++◌, map, length, take, ◌⊎◌, ◌==◌}
 use Rattle.std.specs.List.{AllByRecursion, slice_split}
 use Rattle.pim_base.specs.declared.limits.TheConstants.{MAX_TASKS, MAX_MUTEXES, MAX_STEPS}

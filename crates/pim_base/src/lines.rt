@@ -1,4 +1,4 @@
-//! What the lines of a text say, and what a report says in the end.
+//! The lines of a text, and the verdict of a report.
 
 use crate::numbers::{MutexNo, Prio, TaskNo};
 use crate::steps::{Protocol, Reply, Step};
@@ -6,22 +6,22 @@ use crate::steps::{Protocol, Reply, Step};
 /// What a line of a text says, below the first line, which names the version.
 #[derive(Clone, Copy, Debug, PartialEq, Eq)]
 pub enum Line {
-    /// The declaration of a task with its base priority.
+    /// Declares a task with its base priority.
     Task { number: TaskNo, base: Prio },
-    /// The declaration of a mutex with its protocol.
+    /// Declares a mutex with its protocol.
     Mutex { number: MutexNo, protocol: Protocol },
-    /// A step, perhaps with the reply that was recorded for it.
+    /// A step, with the recorded reply if there is one.
     Step(StepLine),
 }
 
-/// A step of a text, with the reply that was recorded for it, if any was.
+/// A step of a text, with the reply that was recorded for it, if there is one.
 #[derive(Clone, Copy, Debug, PartialEq, Eq)]
 pub struct StepLine {
     pub step: Step,
     pub recorded: Option<Reply>,
 }
 
-/// What a report says in its last line.
+/// The last line of a report.
 #[derive(Clone, Copy, Debug, PartialEq, Eq)]
 pub enum Verdict {
     /// No recorded reply differs from the model's; the number of step lines, at most 65,536.
