@@ -1,5 +1,5 @@
 -- A spelled line is cut into its words again, and no two lines are spelled alike.
-use Rattle.std.proofs.Common.{◌≡◌, ◌^◌, ℕ, ◌<◌, ◌≤◌, ◌==◌, List, [], ◌∷◌, ◌++◌, codes, arith, rules, refl, get_or, ap, sym, ◌∙◌, length, Bool, true, false, Option, Some, None, if◌then◌else◌}
+use Rattle.std.proofs.Common.{◌≡◌, ◌^◌, ℕ, ◌<◌, ◌≤◌, ◌==◌, List, [], ◌∷◌, ◌++◌, codes, arith, rules, refl, get_or, ap, sym, ◌∙◌, length, Bool, true, false, Option, Some, None, unwrap_or, find, if◌then◌else◌}
 use Rattle.std.specs.Fmt.{decimal}
 use Rattle.std.specs.List.{AllByRecursion, join_with_byte}
 use Rattle.std.specs.Str.{bytes_eq}
@@ -13,6 +13,7 @@ use Rattle.std.proofs.lemmas.List.Elements.{All-from_recursion, recursion_from_A
 use Rattle.pim_base.specs.declared.steps.Protocol.{Protocol}
 use Rattle.pim_base.specs.declared.steps.Op.{Op}
 use Rattle.pim_base.specs.declared.steps.Refusal.{Refusal}
+use Rattle.pim_base.specs.declared.steps.TheConstants.Refusal.{ALL}
 use Rattle.pim_base.specs.declared.steps.Reply.{Reply}
 use Rattle.pim_base.specs.declared.lines.StepLine.{StepLine}
 use Rattle.pim_base.specs.declared.lines.Line.{Line}
@@ -169,18 +170,9 @@ behind-words Op.ReleaseAll ws = refl
 behind-words (Op.Cancel t) ws = refl
 behind-words (Op.SetBase t p) ws = refl
 
+-- the refusal of this name
 refusal_in : List ℕ → Refusal
-refusal_in w =
-    if bytes_eq w (codes "no-task") then Refusal.NoTask
-    else if bytes_eq w (codes "waiting") then Refusal.Waiting
-    else if bytes_eq w (codes "no-mutex") then Refusal.NoMutex
-    else if bytes_eq w (codes "deadlock") then Refusal.Deadlock
-    else if bytes_eq w (codes "ceiling") then Refusal.Ceiling
-    else if bytes_eq w (codes "busy") then Refusal.Busy
-    else if bytes_eq w (codes "not-owner") then Refusal.NotOwner
-    else if bytes_eq w (codes "not-waiting") then Refusal.NotWaiting
-    else if bytes_eq w (codes "priority") then Refusal.Priority
-    else Refusal.Tickets
+refusal_in w = unwrap_or (find (λ r. bytes_eq w (refusal_word r)) ALL) Refusal.NoTask
 
 refusal_in-word : (r : Refusal) → refusal_in (refusal_word r) ≡ r
 unfolding refusal_in

@@ -66,31 +66,12 @@ fn reply_with(word: &[u8], argument: &[u8]) -> Option<Reply>
     }
 }
 
-/// The refusal of this name.
+/// Returns the refusal of this name.
 fn refusal_of(name: &[u8]) -> Option<Refusal>
     ensures { MatchOption result ((r : Refusal) → name.now ≡ refusal_word r → ⊥) (λ r. name.now ≡ refusal_word r) }
 {
-    if name == b"no-task".as_slice() {
-        Some(Refusal::NoTask)
-    } else if name == b"waiting".as_slice() {
-        Some(Refusal::Waiting)
-    } else if name == b"no-mutex".as_slice() {
-        Some(Refusal::NoMutex)
-    } else if name == b"deadlock".as_slice() {
-        Some(Refusal::Deadlock)
-    } else if name == b"ceiling".as_slice() {
-        Some(Refusal::Ceiling)
-    } else if name == b"busy".as_slice() {
-        Some(Refusal::Busy)
-    } else if name == b"not-owner".as_slice() {
-        Some(Refusal::NotOwner)
-    } else if name == b"not-waiting".as_slice() {
-        Some(Refusal::NotWaiting)
-    } else if name == b"priority".as_slice() {
-        Some(Refusal::Priority)
-    } else if name == b"tickets".as_slice() {
-        Some(Refusal::Tickets)
-    } else {
-        None
-    }
+    Refusal::ALL
+        .iter()
+        .copied()
+        .find(|refusal| refusal.name().as_bytes() == name)
 }

@@ -71,12 +71,11 @@ impl Text {
     pub(crate) fn allows(&self, line: &Line, kind: TextKind) -> bool
         ensures { MatchBool result (Allows kind (trace_of self.now) line.now) (Allows kind (trace_of self.now) line.now → ⊥) }
     {
-        match (kind, line) {
-            (TextKind::Script, Line::Step(line)) => {
+        match line {
+            Line::Step(line) if kind == TextKind::Script => {
                 line.recorded.is_none() && usize::from(line.step.actor.get()) <= self.bases.len()
             }
-            (TextKind::Trace, _) | (TextKind::Script, Line::Task { .. } | Line::Mutex { .. }) =>
-                true,
+            Line::Step(_) | Line::Task { .. } | Line::Mutex { .. } => true,
         }
     }
 
