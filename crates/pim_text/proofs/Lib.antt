@@ -6,4 +6,6 @@ pub mod LineLemmas
 pub mod OpLemmas
 pub mod ReplyLemmas
 pub mod TraceLemmas
+pub mod GrowthLemmas
 pub mod ReadingLemmas
+pub mod FirstBadLemmas

@@ -8,7 +8,8 @@ use Rattle.pim_base.specs.Texts.{Trace, FirstBad, without_empty_last, lines_of}
 use Rattle.pim_text.specs.Reading.{pieces}
 use Rattle.pim_text.specs.declared.kind.TextKind.{TextKind}
 use Rattle.pim_text.specs.Kinds.{SpellsAs, IsOf}
-use Rattle.pim_text.proofs.TraceLemmas.{first_alone, length_valid}
+use Rattle.pim_text.proofs.TraceLemmas.{length_valid}
+use Rattle.pim_text.proofs.GrowthLemmas.{first_alone}
 
 abbrev parts : List ℕ → List (List ℕ)
 parts bytes = slice_split (λ b. eqb b NEWLINE) bytes

@@ -42,7 +42,7 @@ word_decimal n small =
     digit_at (decimal n) i (digits_decimal numerals n (omega arith)) inside in
     ne_eqb (get_or (decimal n) i 0) SPACE (λ e. let space : get_or (decimal n) i 0 ≡ 32 = e in omega arith)))
 
-all_append : {A : Type 0} (P : A → Type 0) (xs ys : List A) → AllByRecursion P xs → AllByRecursion P ys → AllByRecursion P (xs ++ ys)
+pub all_append : {A : Type 0} (P : A → Type 0) (xs ys : List A) → AllByRecursion P xs → AllByRecursion P ys → AllByRecursion P (xs ++ ys)
 all_append P [] ys h k = k
 all_append P (x ∷ xs) ys h k = (h.0, all_append P xs ys h.1 k)
 

@@ -14,6 +14,7 @@
 
 mod fault;
 mod kind;
+mod laws;
 mod line;
 mod op;
 mod reading;
@@ -22,6 +23,7 @@ mod text;
 mod word;
 
 pub use fault::TextFault;
+pub use laws::{first_bad_line_law, first_bad_script_line_law};
 pub use pim_base::StepLine;
 pub use reading::{parse, parse_script};
 pub use text::Text;

@@ -1,4 +1,4 @@
-use Rattle.pim_text.proofs.TraceLemmas.{adds_line, no_line_read, not_allowed}
+use Rattle.pim_text.proofs.GrowthLemmas.{adds_line, no_line_read, not_allowed}
 use Rattle.pim_text.proofs.reading.add_line.Goals as goal
 
 pub returns-in_default : goal.returns-in_default
