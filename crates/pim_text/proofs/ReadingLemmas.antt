@@ -3,6 +3,7 @@ use Rattle.std.proofs.Common.{◌≡◌, ℕ, ◌+◌, ◌-◌, ◌<◌, ◌≤�
 use Rattle.std.specs.Bool.{MatchBool}
 use Rattle.std.specs.List.{slice_split, join_with_byte}
 use Rattle.std.proofs.lemmas.List.Splits.{length-slice_split, join_with_byte-slice_split}
+use Rattle.pim_base.specs.declared.limits.TheConstants.{MAX_TASKS, MAX_MUTEXES, MAX_STEPS}
 use Rattle.pim_base.specs.Spelling.{NEWLINE, version_line}
 use Rattle.pim_base.specs.Texts.{Trace, FirstBad, without_empty_last, lines_of}
 use Rattle.pim_text.specs.Reading.{pieces}
@@ -108,7 +109,7 @@ goes_on {kind} {all} {left} {t} {count} added u Q line rest next half taken add 
 }
 
 -- they are few
-pub count_small : {kind : TextKind} {all rest : List (List ℕ)} {t : Trace} {count : ℕ} → Halfway kind all rest t count → count ≤ 66049
+pub count_small : {kind : TextKind} {all rest : List (List ℕ)} {t : Trace} {count : ℕ} → Halfway kind all rest t count → count ≤ 1 + MAX_TASKS + MAX_MUTEXES + MAX_STEPS
 count_small {kind} {all} {rest} {t} {count} half = omega (arith, half.many, length_valid half.done t half.spells.0)
 
 -- the first line is the version

@@ -7,11 +7,9 @@ use Rattle.pim_base.specs.Spelling.{IsNumber, IsReply, reply_words, refusal_word
 use Rattle.pim_text.specs.Reading.{words, ReadsAs}
 use Rattle.pim_text.proofs.WordLemmas.{not_both, some_word, only_word}
 
--- ---- recorded replies
+-- ---- replies of a word and its argument
 
--- ---- replies of a word and what belongs to it
-
--- a word with what belongs to it, where none of these is spelled
+-- a word with an argument, where none of these is spelled
 no_argument :
     (w argument : List ℕ) (rest : List (List ℕ))
     → rest ≡ words argument
@@ -53,7 +51,7 @@ no_refused w argument is none =
     (λ k small e f. not_both w (codes "refused") (codes "released") refl is e)
     (λ r e f. none r f)
 
--- it is none of the words to which something belongs
+-- it is none of the words that have an argument
 pub no_such_reply :
     (w argument : List ℕ)
     → (w ≡ codes "handed" → ⊥)

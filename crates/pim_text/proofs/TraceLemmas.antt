@@ -6,6 +6,7 @@ use Rattle.pim_base.specs.declared.steps.Protocol.{Protocol}
 use Rattle.pim_base.specs.declared.lines.StepLine.{StepLine}
 use Rattle.pim_base.specs.declared.lines.Line.{Line}
 use Rattle.pim_base.specs.declared.lines.Line.TheVariants as lines
+use Rattle.pim_base.specs.declared.limits.TheConstants.{MAX_TASKS, MAX_MUTEXES, MAX_STEPS}
 use Rattle.pim_base.specs.Spelling.{IsLine, spelled}
 use Rattle.pim_base.specs.Texts.{Trace, declared, task_lines, mutex_lines, IsWithinLimits, Spells}
 use Rattle.pim_text.specs.Reading.{with_line, MayFollow}
@@ -123,7 +124,7 @@ length-declared t =
     )
 
 -- a valid text is short
-pub length_valid : (ls : List (List ℕ)) (t : Trace) → Spells ls t → length ls ≤ 66049
+pub length_valid : (ls : List (List ℕ)) (t : Trace) → Spells ls t → length ls ≤ 1 + MAX_TASKS + MAX_MUTEXES + MAX_STEPS
 length_valid ls t spells =
     let e = ap length spells.1 in
     let is = spells.0 in

@@ -1,5 +1,5 @@
 //! One line of a text, below the first.
-ghost use Rattle.std.specs.Prelude.{◌≡◌, ◌≢◌, ◌^◌, ℕ, codes, ◌∷◌, ◌++◌, ◌==◌, List, MatchOption, IfSome, length, ◌<◌};
+ghost use Rattle.std.specs.Prelude.{◌≢◌, codes, ◌∷◌};
 ghost use Rattle.pim_base.specs.Spelling.{IsProtocol, protocol_words};
 ghost use Rattle.pim_text.specs.Reading.{words, Reads, ReadsBytes, ReadsAs};
 
@@ -8,7 +8,7 @@ use crate::reply::read_recorded;
 use crate::word::{cut, number_of, prio_of};
 use pim_base::{Line, MutexNo, Protocol, Step, StepLine, TaskNo};
 
-/// What the line says, if it is spelled as one.
+/// Returns what the bytes say, if they are a line below the first.
 pub(crate) fn read_line(bytes: &[u8]) -> Option<Line>
     ensures { ReadsBytes bytes.now result }
 {
@@ -16,7 +16,7 @@ pub(crate) fn read_line(bytes: &[u8]) -> Option<Line>
     read_words(first, rest?)
 }
 
-/// What the words say, of which the first was cut off.
+/// Returns what the words say, of which the first was cut off.
 fn read_words(first: &[u8], rest: &[u8]) -> Option<Line>
     ensures { Reads (first.now ∷ words rest.now) result }
 {
@@ -29,7 +29,7 @@ fn read_words(first: &[u8], rest: &[u8]) -> Option<Line>
     }
 }
 
-/// `task <n> <prio>`, from the number on.
+/// Reads `task <n> <prio>`, from the number on.
 fn read_task(rest: &[u8]) -> Option<Line>
     ensures { Reads (codes "task" ∷ words rest.now) result }
 {
@@ -42,7 +42,7 @@ fn read_task(rest: &[u8]) -> Option<Line>
     })
 }
 
-/// `mutex <n> <protocol>`, from the number on.
+/// Reads `mutex <n> <protocol>`, from the number on.
 fn read_mutex(rest: &[u8]) -> Option<Line>
     ensures { Reads (codes "mutex" ∷ words rest.now) result }
 {
@@ -55,7 +55,7 @@ fn read_mutex(rest: &[u8]) -> Option<Line>
     })
 }
 
-/// `none`, `inherit` or `protect <ceiling>`.
+/// Reads `none`, `inherit` or `protect <ceiling>`.
 fn read_protocol(rest: &[u8]) -> Option<Protocol>
     ensures { ReadsAs IsProtocol protocol_words (words rest.now) result }
 {
@@ -74,7 +74,7 @@ fn read_protocol(rest: &[u8]) -> Option<Protocol>
     }
 }
 
-/// `<a> <operation>`, perhaps with ` = <reply>` behind it.
+/// Reads `<a> <operation>`, perhaps with ` = <reply>` behind it, from the operation on.
 fn read_step(first: &[u8], rest: &[u8]) -> Option<Line>
     requires no_task { first.now ≢ codes "task" }
     requires no_mutex { first.now ≢ codes "mutex" }

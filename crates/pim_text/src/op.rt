@@ -1,4 +1,4 @@
-//! What the actor of a step line asks for.
+//! The operation of a step line: what its actor asks for.
 ghost use Rattle.std.specs.Prelude.{◌≡◌, ℕ, ◌∷◌, ◌++◌, List, MatchOption, decimal};
 ghost use Rattle.pim_base.specs.Spelling.{SPACE, IsNumber, IsOp, op_words};
 ghost use Rattle.pim_text.specs.Reading.{pieces};
@@ -6,7 +6,7 @@ ghost use Rattle.pim_text.specs.Reading.{pieces};
 use crate::word::{cut, number_of};
 use pim_base::{MutexNo, Op, TaskNo};
 
-/// The operation that the words begin with, of which the first was cut off, and what stands behind it.
+/// Returns the operation that the words begin with, of which the first was cut off, and the words behind it.
 pub(crate) fn read_op<'a>(word: &[u8], tail: Option<&'a [u8]>) -> Option<(Op, Option<&'a [u8]>)>
     ensures { MatchOption result
         ((op : Op) (ws : List (List ℕ)) → IsOp op → word.now ∷ pieces SPACE tail.entry ≡ op_words op ++ ws → ⊥)
@@ -32,7 +32,7 @@ pub(crate) fn read_op<'a>(word: &[u8], tail: Option<&'a [u8]>) -> Option<(Op, Op
     }
 }
 
-/// The number that the words begin with, and what stands behind it.
+/// Returns the number that the words begin with, and the words behind it.
 fn read_target(tail: Option<&[u8]>) -> Option<(u16, Option<&[u8]>)>
     ensures { MatchOption result
         ((n : ℕ) (ws : List (List ℕ)) → IsNumber n → pieces SPACE tail.entry ≡ decimal n ∷ ws → ⊥)

@@ -1,5 +1,5 @@
 //! A whole text: what it declares, and its steps.
-ghost use Rattle.std.specs.Prelude.{◌≡◌, IfOk};
+ghost use Rattle.std.specs.Prelude.{◌≡◌, [], IfOk};
 ghost use Rattle.std.specs.Bool.{MatchBool};
 ghost use Rattle.pim_text.specs.Reading.{trace_of, with_line, MayFollow};
 ghost use Rattle.pim_text.specs.Kinds.{Allows};
@@ -20,8 +20,6 @@ pub struct Text {
 }
 
 impl Text {
-    ghost use Rattle.std.specs.Prelude.{[]};
-
     /// Returns the text of the version line alone. It takes no memory.
     pub(crate) fn new(alloc: Global) -> Text
         ensures { trace_of result ≡ record { bases = []; protocols = []; steps = [] } }

@@ -6,7 +6,7 @@ ghost use Rattle.pim_text.specs.Reading.{pieces};
 
 use pim_base::Prio;
 
-/// The bytes before the first separator and, if there is one, those behind it.
+/// Returns the bytes before the first separator and, if there is one, those behind it.
 #[inline]
 pub(crate) fn cut(bytes: &[u8], separator: u8) -> (&[u8], Option<&[u8]>)
     ensures parts { slice_split (λ b. b == separator) bytes.now ≡ result.0.now ∷ pieces separator result.1 }
@@ -18,7 +18,7 @@ pub(crate) fn cut(bytes: &[u8], separator: u8) -> (&[u8], Option<&[u8]>)
     }
 }
 
-/// The place of the first separator.
+/// Returns the place of the first separator.
 #[inline]
 fn place_of(bytes: &[u8], separator: u8) -> Option<usize>
     ensures { result ≡ position (λ b. b == separator) bytes.now }
@@ -26,7 +26,7 @@ fn place_of(bytes: &[u8], separator: u8) -> Option<usize>
     bytes.iter().position(|byte| *byte == separator)
 }
 
-/// The declared priority that a word spells.
+/// Returns the priority, 1 to 99, that the word spells, if it spells one.
 pub(crate) fn prio_of(word: &[u8]) -> Option<Prio>
     ensures { MatchOption result
         ((p : ℕ) → IsPrio p → word.now ≡ decimal p → ⊥)
@@ -35,7 +35,7 @@ pub(crate) fn prio_of(word: &[u8]) -> Option<Prio>
     Prio::new(number_of(word)?)
 }
 
-/// The number, 1 to 65535, that a word spells.
+/// Returns the number, 1 to 65535, that the word spells, if it spells one.
 pub(crate) fn number_of(word: &[u8]) -> Option<u16>
     ensures { MatchOption result
         ((n : ℕ) → IsNumber n → word.now ≡ decimal n → ⊥)
@@ -47,7 +47,7 @@ pub(crate) fn number_of(word: &[u8]) -> Option<u16>
     }
 }
 
-/// The count, 0 to 65535, that a word spells.
+/// Returns the count, 0 to 65535, that the word spells, if it spells one.
 pub(crate) fn count_of(word: &[u8]) -> Option<u16>
     ensures { MatchOption result
         ((n : ℕ) → n < 2 ^ 16 → word.now ≡ decimal n → ⊥)

@@ -1,4 +1,5 @@
-use Rattle.std.proofs.Common.{◌≤◌, arith}
+use Rattle.std.proofs.Common.{◌+◌, ◌≤◌, arith}
+use Rattle.pim_base.specs.declared.limits.TheConstants.{MAX_TASKS, MAX_MUTEXES, MAX_STEPS}
 use Rattle.pim_text.specs.Reading.{trace_of}
 use Rattle.pim_text.proofs.WordLemmas.{agreeing_bytes}
 use Rattle.pim_text.proofs.ReadingLemmas.{begins, bad_next, goes_on, count_small}
@@ -8,7 +9,7 @@ pub loop-rest-init : goal.loop-rest-init
 loop-rest-init c = begins _ _ _ _ _ c.next_line.ensures.lines (agreeing_bytes _ _ _ c.if-ne.ensures c.as_slice.ensures) c.new-text.ensures
 
 pub overflow_add-number : goal.overflow_add-number
-overflow_add-number c = let small : c.loop-rest.number ≤ 66049 = count_small c.loop-rest.invariant in omega arith
+overflow_add-number c = let small : c.loop-rest.number ≤ 1 + MAX_TASKS + MAX_MUTEXES + MAX_STEPS = count_small c.loop-rest.invariant in omega arith
 
 pub returns-then-not-branch : goal.returns-then-not-branch
 returns-then-not-branch c =
