@@ -4,7 +4,7 @@ ghost use Rattle.pim_base.specs.State.{start};
 ghost use Rattle.pim_base.specs.Texts.{Trace, lines_of, Spells, IsWithinLimits, FirstBadLine};
 ghost use Rattle.pim_base.specs.Reports.{report_of, verdict_of};
 ghost use Rattle.pim_tool.specs.Ends.{Happened, Fails, Appends, AppendsFront, Prints};
-ghost use Rattle.pim_tool.specs.Reading.{trace_of};
+ghost use Rattle.pim_text.specs.Reading.{trace_of};
 ghost use Rattle.pim_tool.specs.Status.{status_of};
 
 use crate::ends::{Sink, Source};
@@ -12,10 +12,10 @@ use crate::fault::Fault;
 use crate::page::Page;
 use crate::printing::print_report;
 use crate::reading::parse;
-use crate::text::Text;
 use crate::transfer::read_all;
 use pim_base::Verdict;
 use pim_manager::{ChangedTasks, Manager};
+use pim_text::Text;
 use std::alloc::Global;
 
 /// Reads a trace to its end, and writes its report.

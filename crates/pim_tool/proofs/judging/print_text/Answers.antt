@@ -1,6 +1,6 @@
 use Rattle.std.proofs.Common.{refl}
 use Rattle.pim_base.specs.Reports.{report_of}
-use Rattle.pim_tool.specs.Reading.{trace_of}
+use Rattle.pim_text.specs.Reading.{trace_of}
 use Rattle.pim_tool.proofs.PrintingLemmas.{prints_err, stops_memory, stops_fault, puts_none}
 use Rattle.pim_tool.proofs.judging.print_text.Goals as goal
 

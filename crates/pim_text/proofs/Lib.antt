@@ -1,0 +1,11 @@
+pub mod CutLemmas
+pub mod NumberLemmas
+pub mod SpellingLemmas
+pub mod WordLemmas
+pub mod LineLemmas
+pub mod OpLemmas
+pub mod ReplyLemmas
+pub mod TraceLemmas
+pub mod GrowthLemmas
+pub mod ReadingLemmas
+pub mod FirstBadLemmas

@@ -1,0 +1,131 @@
+-- The lines of a text tell it, and how they grow with it.
+use Rattle.std.proofs.Common.{◌≡◌, ℕ, ◌+◌, ◌≤◌, List, [], ◌∷◌, ◌++◌, arith, refl, ap, sym, ◌∙◌, length, map, append_assoc, length-append}
+use Rattle.std.specs.List.{AllByRecursion}
+use Rattle.std.proofs.lemmas.List.{length-map, map-append, append-nil}
+use Rattle.pim_base.specs.declared.steps.Protocol.{Protocol}
+use Rattle.pim_base.specs.declared.lines.StepLine.{StepLine}
+use Rattle.pim_base.specs.declared.lines.Line.{Line}
+use Rattle.pim_base.specs.declared.lines.Line.TheVariants as lines
+use Rattle.pim_base.specs.declared.limits.TheConstants.{MAX_TASKS, MAX_MUTEXES, MAX_STEPS}
+use Rattle.pim_base.specs.Spelling.{IsLine, spelled}
+use Rattle.pim_base.specs.Texts.{Trace, declared, task_lines, mutex_lines, IsWithinLimits, Spells}
+use Rattle.pim_text.specs.Reading.{with_line, MayFollow}
+use Rattle.pim_text.proofs.SpellingLemmas.{spelled_same}
+
+-- ---- the lines of a text tell it
+
+-- the text with this line in front of those of its part
+abbrev onto : Line → Trace → Trace
+onto (lines.Task n p) t = record t { bases = p ∷ t.bases }
+onto (lines.Mutex n p) t = record t { protocols = p ∷ t.protocols }
+onto (lines.Step s) t = record t { steps = s ∷ t.steps }
+
+abbrev pub empty : Trace
+empty = record { bases = []; protocols = []; steps = [] }
+
+-- the text whose lines these are, in whatever order they stand
+abbrev collect : List Line → Trace
+collect [] = empty
+collect (l ∷ ls) = onto l (collect ls)
+
+abbrev joined : List ℕ → List Protocol → List StepLine → Trace → Trace
+joined bs ps ss t = record { bases = bs ++ t.bases; protocols = ps ++ t.protocols; steps = ss ++ t.steps }
+
+collect-task_lines : (n : ℕ) (bs : List ℕ) (rest : List Line) → collect (task_lines n bs ++ rest) ≡ joined bs [] [] (collect rest)
+collect-task_lines n [] rest = refl
+collect-task_lines n (b ∷ bs) rest = ap (onto (lines.Task n b)) (collect-task_lines (n + 1) bs rest)
+
+collect-mutex_lines : (n : ℕ) (ps : List Protocol) (rest : List Line) → collect (mutex_lines n ps ++ rest) ≡ joined [] ps [] (collect rest)
+collect-mutex_lines n [] rest = refl
+collect-mutex_lines n (p ∷ ps) rest = ap (onto (lines.Mutex n p)) (collect-mutex_lines (n + 1) ps rest)
+
+collect-steps : (ss : List StepLine) → collect (map lines.Step ss) ≡ joined [] [] ss empty
+collect-steps [] = refl
+collect-steps (s ∷ ss) = ap (onto (lines.Step s)) (collect-steps ss)
+
+collect-declared : (t : Trace) → collect (declared t) ≡ t
+collect-declared t =
+    collect-task_lines 1 t.bases (mutex_lines 1 t.protocols ++ map lines.Step t.steps)
+    ∙ ap (joined t.bases [] []) (collect-mutex_lines 1 t.protocols (map lines.Step t.steps) ∙ ap (joined [] t.protocols []) (collect-steps t.steps))
+    ∙ ap (λ (bs : List ℕ). let r : Trace = record { bases = bs; protocols = t.protocols ++ []; steps = t.steps ++ [] } in r) (append-nil t.bases)
+    ∙ ap (λ (ps : List Protocol). let r : Trace = record { bases = t.bases; protocols = ps; steps = t.steps ++ [] } in r) (append-nil t.protocols)
+    ∙ ap (λ (ss : List StepLine). let r : Trace = record { bases = t.bases; protocols = t.protocols; steps = ss } in r) (append-nil t.steps)
+
+-- lines that are spelled alike are the same
+map-spelled_same : (ls ms : List Line) → AllByRecursion IsLine ls → AllByRecursion IsLine ms → map spelled ls ≡ map spelled ms → ls ≡ ms
+map-spelled_same [] [] hl hm e = refl
+map-spelled_same [] (m ∷ ms) hl hm e = cc
+map-spelled_same (l ∷ ls) [] hl hm e = cc
+map-spelled_same (l ∷ ls) (m ∷ ms) hl hm e =
+    let a : l ≡ m = spelled_same l m hl.0 hm.0 (cc) in
+    let b : ls ≡ ms = map-spelled_same ls ms hl.1 hm.1 (cc) in cc
+
+-- a trace is known by the spelled lines below its first
+pub spelled_once : (t u : Trace) → IsWithinLimits t → IsWithinLimits u → map spelled (declared t) ≡ map spelled (declared u) → t ≡ u
+spelled_once t u it iu e = sym (collect-declared t) ∙ ap collect (map-spelled_same (declared t) (declared u) it.each iu.each e) ∙ collect-declared u
+
+-- ---- one more line of each part
+
+task_lines-append_one : (n : ℕ) (bs : List ℕ) (p : ℕ) → task_lines n (bs ++ p ∷ []) ≡ task_lines n bs ++ lines.Task (n + length bs) p ∷ []
+task_lines-append_one n [] p = ap (λ k. lines.Task k p ∷ []) (omega arith)
+task_lines-append_one n (b ∷ bs) p =
+    ap (λ ls. lines.Task n b ∷ ls)
+    (task_lines-append_one (n + 1) bs p ∙ ap (λ k. task_lines (n + 1) bs ++ lines.Task k p ∷ []) (omega arith))
+
+mutex_lines-append_one : (n : ℕ) (ps : List Protocol) (p : Protocol) → mutex_lines n (ps ++ p ∷ []) ≡ mutex_lines n ps ++ lines.Mutex (n + length ps) p ∷ []
+mutex_lines-append_one n [] p = ap (λ k. lines.Mutex k p ∷ []) (omega arith)
+mutex_lines-append_one n (b ∷ bs) p =
+    ap (λ ls. lines.Mutex n b ∷ ls)
+    (mutex_lines-append_one (n + 1) bs p ∙ ap (λ k. mutex_lines (n + 1) bs ++ lines.Mutex k p ∷ []) (omega arith))
+
+with_task : (bs : List ℕ) (p n : ℕ) → n ≡ length bs + 1 → task_lines 1 (bs ++ p ∷ []) ++ [] ≡ (task_lines 1 bs ++ []) ++ lines.Task n p ∷ []
+with_task bs p n e =
+    append-nil _ ∙ task_lines-append_one 1 bs p ∙ ap (λ k. task_lines 1 bs ++ lines.Task k p ∷ []) (omega arith)
+    ∙ ap (λ ls. ls ++ lines.Task n p ∷ []) (sym (append-nil (task_lines 1 bs)))
+
+with_mutex :
+    (ts : List Line) (ps : List Protocol) (p : Protocol) (n : ℕ)
+    → n ≡ length ps + 1
+    → ts ++ (mutex_lines 1 (ps ++ p ∷ []) ++ []) ≡ (ts ++ (mutex_lines 1 ps ++ [])) ++ lines.Mutex n p ∷ []
+with_mutex ts ps p n e =
+    let k : mutex_lines 1 (ps ++ p ∷ []) ++ [] ≡ (mutex_lines 1 ps ++ []) ++ lines.Mutex n p ∷ [] =
+    append-nil _ ∙ mutex_lines-append_one 1 ps p ∙ ap (λ k. mutex_lines 1 ps ++ lines.Mutex k p ∷ []) (omega arith)
+    ∙ ap (λ ls. ls ++ lines.Mutex n p ∷ []) (sym (append-nil (mutex_lines 1 ps))) in
+    ap (λ ls. ts ++ ls) k ∙ sym (append_assoc ts (mutex_lines 1 ps ++ []) (lines.Mutex n p ∷ []))
+
+-- a line that may follow does
+pub declared-with_line : (t : Trace) (m : Line) → MayFollow t m → declared (with_line t m) ≡ declared t ++ m ∷ []
+declared-with_line t (lines.Task n p) may = rw (may.2, may.3) (with_task t.bases p n may.1)
+declared-with_line t (lines.Mutex n p) may = rw may.2 (with_mutex (task_lines 1 t.bases) t.protocols p n may.1)
+declared-with_line t (lines.Step s) may =
+    ap (λ ls. task_lines 1 t.bases ++ (mutex_lines 1 t.protocols ++ ls)) (map-append lines.Step t.steps (s ∷ []))
+    ∙ ap (λ ls. task_lines 1 t.bases ++ ls) (sym (append_assoc (mutex_lines 1 t.protocols) (map lines.Step t.steps) (lines.Step s ∷ [])))
+    ∙ sym (append_assoc (task_lines 1 t.bases) (mutex_lines 1 t.protocols ++ map lines.Step t.steps) (lines.Step s ∷ []))
+
+-- ---- how many lines a text has
+
+length-task_lines : (n : ℕ) (bs : List ℕ) → length (task_lines n bs) ≡ length bs
+length-task_lines n [] = refl
+length-task_lines n (b ∷ bs) = omega (arith, length-task_lines (n + 1) bs)
+
+length-mutex_lines : (n : ℕ) (ps : List Protocol) → length (mutex_lines n ps) ≡ length ps
+length-mutex_lines n [] = refl
+length-mutex_lines n (p ∷ ps) = omega (arith, length-mutex_lines (n + 1) ps)
+
+length-declared : (t : Trace) → length (declared t) ≡ length t.bases + length t.protocols + length t.steps
+length-declared t =
+    omega (
+      arith,
+      length-append (task_lines 1 t.bases) (mutex_lines 1 t.protocols ++ map lines.Step t.steps),
+      length-append (mutex_lines 1 t.protocols) (map lines.Step t.steps),
+      length-task_lines 1 t.bases,
+      length-mutex_lines 1 t.protocols,
+      length-map t.steps lines.Step,
+    )
+
+-- a valid text is short
+pub length_valid : (ls : List (List ℕ)) (t : Trace) → Spells ls t → length ls ≤ 1 + MAX_TASKS + MAX_MUTEXES + MAX_STEPS
+length_valid ls t spells =
+    let e = ap length spells.1 in
+    let is = spells.0 in
+    omega (arith, length-declared t, length-map (declared t) spelled, is.tasks, is.mutexes, is.steps)

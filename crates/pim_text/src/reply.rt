@@ -1,0 +1,77 @@
+//! The reply that was recorded for a step.
+ghost use Rattle.std.specs.Prelude.{◌≡◌, ◌∷◌, [], MatchOption};
+ghost use Rattle.pim_base.specs.Spelling.{SPACE, IsRecorded, IsReply, recorded_words, reply_words, refusal_word};
+ghost use Rattle.pim_text.specs.Reading.{pieces, words, ReadsAs};
+
+use crate::word::{count_of, cut, number_of};
+use pim_base::{Refusal, Reply, TaskNo};
+
+/// Reads `= <reply>`, or nothing: the reply that was recorded, if one was.
+pub(crate) fn read_recorded(tail: Option<&[u8]>) -> Option<Option<Reply>>
+    ensures { ReadsAs IsRecorded recorded_words (pieces SPACE tail.entry) result }
+{
+    let Some(rest) = tail else {
+        return Some(None);
+    };
+    let (word, rest) = cut(rest, b' ');
+    if word != b"=".as_slice() {
+        return None;
+    }
+    let reply = read_reply(rest?)?;
+    Some(Some(reply))
+}
+
+/// Reads a reply.
+fn read_reply(rest: &[u8]) -> Option<Reply>
+    ensures { ReadsAs IsReply reply_words (words rest.now) result }
+{
+    let (word, argument) = cut(rest, b' ');
+    match argument {
+        None => plain_reply(word),
+        Some(argument) => reply_with(word, argument),
+    }
+}
+
+/// Reads a reply of one word.
+fn plain_reply(word: &[u8]) -> Option<Reply>
+    ensures { ReadsAs IsReply reply_words (word.now ∷ []) result }
+{
+    if word == b"granted".as_slice() {
+        Some(Reply::Granted)
+    } else if word == b"queued".as_slice() {
+        Some(Reply::Queued)
+    } else if word == b"freed".as_slice() {
+        Some(Reply::Freed)
+    } else if word == b"withdrawn".as_slice() {
+        Some(Reply::Withdrawn)
+    } else if word == b"set".as_slice() {
+        Some(Reply::Set)
+    } else {
+        None
+    }
+}
+
+/// Reads a reply of a word and its argument.
+fn reply_with(word: &[u8], argument: &[u8]) -> Option<Reply>
+    ensures { ReadsAs IsReply reply_words (word.now ∷ words argument.now) result }
+{
+    if word == b"handed".as_slice() {
+        Some(Reply::Handed(TaskNo(number_of(argument)?)))
+    } else if word == b"released".as_slice() {
+        Some(Reply::Released(count_of(argument)?))
+    } else if word == b"refused".as_slice() {
+        Some(Reply::Refused(refusal_of(argument)?))
+    } else {
+        None
+    }
+}
+
+/// Returns the refusal that has this name.
+fn refusal_of(name: &[u8]) -> Option<Refusal>
+    ensures { MatchOption result ((r : Refusal) → name.now ≡ refusal_word r → ⊥) (λ r. name.now ≡ refusal_word r) }
+{
+    Refusal::ALL
+        .iter()
+        .copied()
+        .find(|refusal| refusal.name().as_bytes() == name)
+}
