@@ -1,10 +1,11 @@
 #!/usr/bin/env python3
-"""bench/measure.py [--repeat 7] [--only NAME] [--beside PROGRAM] [PROGRAM]: how fast traces of 65,536 steps are judged.
+"""bench/measure.py [--repeat 7] [--only NAME] [--beside PROGRAM] [PROGRAM]: how fast traces are judged.
 
-Times the repository's program, built by ./pim, or another one, beside a judge in C++ (judge.cpp, by g++ -O2), or beside
-the program of --beside. Each trace of texts.py is judged by both, which must write the same bytes; then they run by turns,
-the trace from a file and the report to /dev/null. Prints the least time of each and their ratio, the peak memory of each
-where there is GNU time to tell it, and how long the report is. 'its' are the columns of the other one.
+Times the repository's program, built by ./pim, or another one, beside a judge in C++ (judge.cpp, by
+g++ -O2), or beside the program of --beside. Each trace of texts.py, of 65,536 steps, is judged by both,
+which must write the same bytes; then they run by turns, the trace from a file and the report to
+/dev/null. Prints the least time of each and their ratio, the peak memory of each where there is GNU
+time to tell it, and how long the report is. 'its' are the columns of the other one.
 """
 import argparse
 import hashlib
@@ -33,7 +34,9 @@ def judge(folder):
 def answer(program, trace):
     """Returns a digest of what the program writes, how many bytes that is, and its status."""
     digest, length = hashlib.sha256(), 0
-    with open(trace, "rb") as stdin, subprocess.Popen([program], stdin=stdin, stdout=subprocess.PIPE) as run:
+    with open(trace, "rb") as stdin:
+        run = subprocess.Popen([program], stdin=stdin, stdout=subprocess.PIPE)
+    with run:
         while block := run.stdout.read(1 << 20):
             digest.update(block)
             length += len(block)
@@ -52,8 +55,8 @@ def megabytes(program, trace):
     if not os.path.exists(TIME):
         return float("nan")
     with open(trace, "rb") as stdin:
-        command = [TIME, "-f", "%M", program]
-        run = subprocess.run(command, stdin=stdin, stdout=subprocess.DEVNULL, stderr=subprocess.PIPE)
+        how = {"stdin": stdin, "stdout": subprocess.DEVNULL, "stderr": subprocess.PIPE}
+        run = subprocess.run([TIME, "-f", "%M", program], **how)
     return int(run.stderr.split()[-1]) / 1024
 
 
@@ -64,14 +67,14 @@ def measure(name, programs, trace, repeat):
         sys.exit(f"{name}: the reports differ")
     runs = [[seconds(program, trace) for program in programs] for _ in range(repeat)]
     ours, theirs = (min(column) for column in zip(*runs))
-    memory = [megabytes(program, trace) for program in programs]
-    length = answers.pop()[1] / 1e6
-    row = f"{ours * 1000:10.2f}{theirs * 1000:10.2f}{ours / theirs:8.2f}{memory[0]:8.1f}{memory[1]:8.1f}{length:12.2f}"
-    print(f"{name:8}{row}", flush=True)
+    memory = "".join(f"{megabytes(program, trace):8.1f}" for program in programs)
+    times = f"{ours * 1000:10.2f}{theirs * 1000:10.2f}{ours / theirs:8.2f}"
+    print(f"{name:8}{times}{memory}{answers.pop()[1] / 1e6:12.2f}", flush=True)
 
 
 def main():
-    parser = argparse.ArgumentParser(description=__doc__, formatter_class=argparse.RawDescriptionHelpFormatter)
+    as_written = argparse.RawDescriptionHelpFormatter
+    parser = argparse.ArgumentParser(description=__doc__, formatter_class=as_written)
     parser.add_argument("program", nargs="?", default=PIM)
     parser.add_argument("--beside", metavar="PROGRAM")
     parser.add_argument("--repeat", type=int, default=7)
@@ -82,7 +85,7 @@ def main():
     with tempfile.TemporaryDirectory() as folder:
         beside = os.path.abspath(options.beside) if options.beside else judge(folder)
         programs = [os.path.abspath(options.program), beside]
-        print(f"{'trace':8}{'ms':>10}{'its ms':>10}{'ratio':>8}{'MB':>8}{'its MB':>8}{'report MB':>12}")
+        print("trace           ms    its ms   ratio      MB  its MB   report MB")
         for name in [options.only] if options.only else TEXTS:
             trace = pathlib.Path(folder, f"{name}.pim")
             trace.write_text(TEXTS[name](TASKS, STEPS))

@@ -11,7 +11,7 @@ def start(tasks, steps):
 
 
 def free(tasks, steps):
-    """Tasks that lock and unlock mutexes, half of them INHERIT, of which nobody else has the one they ask for."""
+    """Tasks that lock and unlock mutexes, half of them INHERIT, that nobody else owns."""
     draw, owned, lines = random.Random(1), {}, []
     free_ones = list(range(1, tasks + 1))
     while len(lines) < steps:
@@ -31,7 +31,10 @@ def free(tasks, steps):
 
 
 def wide(tasks, steps):
-    """All tasks but one in the queue of one INHERIT mutex: handed over, withdrawn and queued again, raised and lowered."""
+    """All tasks but one in the queue of one INHERIT mutex.
+
+    They are handed it, withdraw and queue again, and are raised and lowered.
+    """
     draw = random.Random(2)
     declared = some_bases(draw, tasks)
     bases = dict(enumerate(declared, 1))
@@ -55,74 +58,91 @@ def wide(tasks, steps):
 
 
 def mixed(tasks, steps, seed=3):
-    """All protocols and all steps, of tasks that mostly unlock what they own and mostly do not wait.
-
-    Who owns what and who waits is guessed, by base priorities alone; a wrong guess is one more refusal.
-    """
+    """All protocols and steps, of tasks that mostly unlock what they own and mostly don't wait."""
     draw = random.Random(seed)
-    declared = some_bases(draw, tasks)
-    ceilings = {mutex: draw.randint(60, 99) for mutex in range(4, tasks + 1, 4)}
-    protocols = ["inherit", "none", "inherit"] * tasks
-    protocols = [f"protect {ceilings[mutex]}" if mutex in ceilings else protocols[mutex] for mutex in range(1, tasks + 1)]
-    bases, owner, waits, lines = dict(enumerate(declared, 1)), {}, {}, []
-
-    def hand_over(mutex):
-        del owner[mutex]
-        queue = [task for task, waited_for in waits.items() if waited_for == mutex]
-        if queue:
-            owner[mutex] = max(queue, key=bases.get)
-            del waits[owner[mutex]]
-
-    def reaches(task, mutex):
-        while mutex in owner and owner[mutex] != task:
-            mutex = waits.get(owner[mutex])
-        return mutex in owner
-
+    bases = some_bases(draw, tasks)
+    guess = Guess(bases, {mutex: draw.randint(60, 99) for mutex in range(4, tasks + 1, 4)})
+    kinds = ["inherit", "none", "inherit"] * tasks
+    for mutex, ceiling in guess.ceilings.items():
+        kinds[mutex] = f"protect {ceiling}"
+    lines = []
     while len(lines) < steps:
-        task, mutex, chosen = draw.randint(1, tasks), draw.randint(1, tasks), draw.random()
-        if task in waits:
-            if chosen < 0.2:
-                lines.append(f"{task} cancel {task}")
-                del waits[task]
-            elif chosen < 0.25:
-                lines.append(f"{task} lock {mutex}")
-        elif chosen < 0.45:
-            lines.append(f"{task} lock {mutex}")
-            if reaches(task, mutex) or bases[task] > ceilings.get(mutex, 99):
-                continue
-            if mutex in owner:
-                waits[task] = mutex
-            else:
-                owner[mutex] = task
-        elif chosen < 0.7 and owner:
-            mutex = draw.choice(list(owner))
-            lines.append(f"{owner[mutex]} unlock {mutex}")
-            if owner[mutex] not in waits:
-                hand_over(mutex)
-        elif chosen < 0.8:
-            prio = draw.randint(1, 104)
-            lines.append(f"{task} base {mutex} {prio}")
-            bases[mutex] = prio if prio <= 99 else bases[mutex]
-        elif chosen < 0.87:
-            lines.append(f"{task} try {mutex}")
-            if bases[task] <= ceilings.get(mutex, 99):
-                owner.setdefault(mutex, task)
-        elif chosen < 0.9:
-            lines.append(f"{task} release")
-            for owned in [owned for owned, its in owner.items() if its == task]:
-                hand_over(owned)
-        elif chosen < 0.91:
-            lines.append(f"{tasks + draw.randint(0, 1)} unlock {tasks + draw.randint(0, 1)}")
+        line = some_step(draw, guess, tasks)
+        lines += [line] if line else []
+    return text(bases, kinds[1 : tasks + 1], lines)
+
+
+class Guess:
+    """Who owns what and who waits, by base priorities alone. A wrong guess is one more refusal."""
+
+    def __init__(self, bases, ceilings):
+        self.bases, self.ceilings = dict(enumerate(bases, 1)), ceilings
+        self.owner, self.waits = {}, {}
+
+    def may_have(self, task, mutex):
+        return self.bases[task] <= self.ceilings.get(mutex, 99)
+
+    def reaches(self, task, mutex):
+        while mutex in self.owner and self.owner[mutex] != task:
+            mutex = self.waits.get(self.owner[mutex])
+        return mutex in self.owner
+
+    def lock(self, task, mutex):
+        if self.reaches(task, mutex) or not self.may_have(task, mutex):
+            return
+        if mutex in self.owner:
+            self.waits[task] = mutex
         else:
-            lines.append(f"{task} cancel {task}")
-    return text(declared, protocols, lines)
+            self.owner[mutex] = task
+
+    def hand_over(self, mutex):
+        del self.owner[mutex]
+        queue = [task for task, waited_for in self.waits.items() if waited_for == mutex]
+        if queue:
+            self.owner[mutex] = max(queue, key=self.bases.get)
+            del self.waits[self.owner[mutex]]
+
+
+def some_step(draw, guess, tasks):
+    """Returns a step line, or None where the chosen task waits on."""
+    task, mutex, chosen = draw.randint(1, tasks), draw.randint(1, tasks), draw.random()
+    if task in guess.waits:
+        if chosen < 0.2:
+            del guess.waits[task]
+            return f"{task} cancel {task}"
+        return f"{task} lock {mutex}" if chosen < 0.25 else None
+    if chosen < 0.45:
+        guess.lock(task, mutex)
+        return f"{task} lock {mutex}"
+    if chosen < 0.7 and guess.owner:
+        mutex = draw.choice(list(guess.owner))
+        task = guess.owner[mutex]
+        if task not in guess.waits:
+            guess.hand_over(mutex)
+        return f"{task} unlock {mutex}"
+    if chosen < 0.8:
+        prio = draw.randint(1, 104)
+        guess.bases[mutex] = prio if prio <= 99 else guess.bases[mutex]
+        return f"{task} base {mutex} {prio}"
+    if chosen < 0.87:
+        if guess.may_have(task, mutex):
+            guess.owner.setdefault(mutex, task)
+        return f"{task} try {mutex}"
+    if chosen < 0.9:
+        for owned in [owned for owned, owner in guess.owner.items() if owner == task]:
+            guess.hand_over(owned)
+        return f"{task} release"
+    if chosen < 0.91:
+        return f"{tasks + draw.randint(0, 1)} unlock {tasks + draw.randint(0, 1)}"
+    return f"{task} cancel {task}"
 
 
 def chain(tasks, steps):
     """A chain of all tasks, along all of which priorities rise and fall."""
     lines = [f"{task} lock {task}" for task in range(1, tasks)]
     lines += [f"{task} lock {task - 1}" for task in range(2, tasks + 1)]
-    again = [f"1 base {tasks} 99", f"{tasks} cancel {tasks}", f"{tasks} lock {tasks - 1}", f"1 base {tasks} 50"]
+    again = [f"1 base {tasks} 99", f"{tasks} cancel {tasks}"]
+    again += [f"{tasks} lock {tasks - 1}", f"1 base {tasks} 50"]
     lines += again * (steps // len(again))
     return text([1 + task % 40 for task in range(tasks)], ["inherit"] * (tasks - 1), lines[:steps])
 

@@ -1,4 +1,4 @@
-"""What the scripts beside this file share: a line for each check, the program, and runs in which calls fail."""
+"""What the scripts beside this file share: lines of checks, the program, and calls that fail."""
 import os
 import pathlib
 import subprocess
@@ -15,7 +15,7 @@ def check(name, why=None):
 
 
 def difference(got, wanted):
-    """Says where two tuples of the same length differ, in a line, or returns None where they are equal."""
+    """Says where two tuples of the same length first differ, or returns None where they don't."""
     return next((f"{short(a)} in place of {short(b)}" for a, b in zip(got, wanted) if a != b), None)
 
 
@@ -30,10 +30,11 @@ def end():
 
 
 def program():
-    """Returns the path of the program that is tested: the script's first word, or else the repository's own, built."""
+    """Returns the path of the program to test: the script's first word, or the repository's own."""
     if len(sys.argv) > 1:
         return str(pathlib.Path(sys.argv[1]).resolve())
-    subprocess.run([ROOT / "pim", "--version"], check=True, stdout=subprocess.DEVNULL)
+    if subprocess.run([ROOT / "pim", "--version"], stdout=subprocess.DEVNULL).returncode:
+        sys.exit("the program was not built")
     return str(ROOT / "crates/pim/out/pim")
 
 
@@ -52,7 +53,8 @@ class Faulty:
         self.library = compiled(ROOT / "tests/faults.cpp", folder, *flags)
 
     def run(self, command, call, kind, number, text=b""):
-        """Returns status, standard output and standard error of the command, where a call of this number goes wrong."""
-        environment = {"LD_PRELOAD": self.library, "FAULT_CALL": call, "FAULT_KIND": kind, "FAULT_AT": str(number)}
+        """Returns status and both outputs of the command, where the call of this number goes wrong."""
+        fault = {"FAULT_CALL": call, "FAULT_KIND": kind, "FAULT_AT": str(number)}
+        environment = {"LD_PRELOAD": self.library, **fault}
         done = subprocess.run(command, input=text, capture_output=True, env=environment, timeout=60)
         return done.returncode, done.stdout, done.stderr

@@ -1,7 +1,8 @@
 // One call of a program that does not do what was asked: LD_PRELOAD loads this beside the program.
 //
-// FAULT_CALL names the call: alloc, or a read of standard input or a write to standard output, as read and write.
-// FAULT_KIND says what happens to it: fail, interrupt, nothing (0 bytes) or short (a single byte); an alloc fails.
+// FAULT_CALL names the call: alloc, read (of standard input) or write (to standard output).
+// FAULT_KIND says what happens to it: fail, interrupt, nothing (0 bytes) or short (a single byte);
+// an alloc fails.
 // FAULT_AT is the number of the call that it happens to, counted from 1, or 0 for each of them.
 
 #include <sys/syscall.h>
