@@ -1,0 +1,587 @@
+// The report of a trace by a plain judge in C++, written for speed and not proved: what `pim` is compared with.
+//
+//   g++ -O2 -std=c++17 judge.cpp -o judge
+//
+// One pass over the bytes finds the first invalid line; one pass over the steps mends the priorities that each of them
+// changes, by a walk along the chain of waiting tasks that ends where nothing changes, and writes the report by pages.
+
+#include <sys/stat.h>
+#include <unistd.h>
+
+#include <algorithm>
+#include <array>
+#include <cerrno>
+#include <cstdint>
+#include <cstdio>
+#include <cstring>
+#include <optional>
+#include <string>
+#include <string_view>
+#include <vector>
+
+namespace {
+
+using std::uint16_t;
+using std::uint32_t;
+using std::uint64_t;
+using std::uint8_t;
+
+constexpr size_t MOST_TASKS = 256;
+constexpr size_t MOST_MUTEXES = 256;
+constexpr size_t MOST_STEPS = 65536;
+constexpr unsigned HIGHEST_PRIO = 99;
+constexpr unsigned HIGHEST_NUMBER = 65535;
+
+enum class Protocol : uint8_t { None, Inherit, Protect };
+enum class Op : uint8_t { Lock, Try, Unlock, Release, Cancel, Base };
+enum class Answer : uint8_t {
+    Granted, Queued, Freed, Withdrawn, Set, NoTask, Waiting, NoMutex, Deadlock,
+    Ceiling, Busy, NotOwner, NotWaiting, Priority, Tickets, Handed, Released,
+};
+
+// The texts of the answers, in their order. A number follows the last two.
+constexpr std::string_view ANSWERS[] = {
+    "granted", "queued", "freed", "withdrawn", "set",
+    "refused no-task", "refused waiting", "refused no-mutex", "refused deadlock", "refused ceiling",
+    "refused busy", "refused not-owner", "refused not-waiting", "refused priority", "refused tickets",
+    "handed ", "released ",
+};
+
+struct Reply {
+    Answer answer;
+    uint16_t number = 0;
+
+    bool has_number() const { return answer >= Answer::Handed; }
+    bool operator==(const Reply& other) const { return answer == other.answer && number == other.number; }
+};
+
+struct Step {
+    uint16_t actor = 0, first = 0, second = 0;
+    Op op = Op::Lock;
+    std::optional<Reply> recorded;
+};
+
+struct Declared {
+    Protocol protocol = Protocol::None;
+    uint8_t ceiling = 0;
+};
+
+struct Text {
+    std::vector<uint8_t> bases;
+    std::vector<Declared> mutexes;
+    std::vector<Step> steps;
+};
+
+// ---------------------------------------------------------------- reading
+
+// What is left of a line.
+struct Cursor {
+    const char* at;
+    const char* end;
+
+    bool is_done() const { return at == end; }
+
+    bool eat(std::string_view word) {
+        if (size_t(end - at) < word.size() || std::memcmp(at, word.data(), word.size()) != 0) return false;
+        at += word.size();
+        return true;
+    }
+
+    // Reads a number without leading zeros, from 1 to the highest; or 0, where that is allowed.
+    bool number(uint16_t& out, unsigned highest = HIGHEST_NUMBER, bool may_be_zero = false) {
+        if (is_done() || *at < '0' || *at > '9') return false;
+        if (*at == '0') {
+            ++at;
+            out = 0;
+            return may_be_zero;
+        }
+        unsigned value = 0;
+        while (!is_done() && *at >= '0' && *at <= '9') {
+            value = value * 10 + unsigned(*at++ - '0');
+            if (value > highest) return false;
+        }
+        out = uint16_t(value);
+        return true;
+    }
+};
+
+bool read_reply(Cursor& line, Reply& reply) {
+    for (size_t i = 0; i < std::size(ANSWERS); ++i) {
+        reply = {Answer(i)};
+        if (!line.eat(ANSWERS[i])) continue;
+        if (!reply.has_number()) return line.is_done();
+        return line.number(reply.number, HIGHEST_NUMBER, reply.answer == Answer::Released) && line.is_done();
+    }
+    return false;
+}
+
+bool read_op(Cursor& line, Step& step) {
+    if (line.eat(" lock ")) step.op = Op::Lock;
+    else if (line.eat(" unlock ")) step.op = Op::Unlock;
+    else if (line.eat(" try ")) step.op = Op::Try;
+    else if (line.eat(" cancel ")) step.op = Op::Cancel;
+    else if (line.eat(" base ")) step.op = Op::Base;
+    else if (line.eat(" release")) step.op = Op::Release;
+    else return false;
+    if (step.op == Op::Release) return true;
+    if (!line.number(step.first)) return false;
+    return step.op != Op::Base || (line.eat(" ") && line.number(step.second));
+}
+
+bool read_step(Cursor& line, Step& step) {
+    if (!line.number(step.actor) || !read_op(line, step)) return false;
+    if (line.is_done()) return true;
+    return line.eat(" = ") && read_reply(line, step.recorded.emplace());
+}
+
+bool read_protocol(Cursor& line, Declared& declared) {
+    uint16_t ceiling = 0;
+    if (line.eat("none")) declared.protocol = Protocol::None;
+    else if (line.eat("inherit")) declared.protocol = Protocol::Inherit;
+    else if (line.eat("protect ") && line.number(ceiling, HIGHEST_PRIO)) declared.protocol = Protocol::Protect;
+    else return false;
+    declared.ceiling = uint8_t(ceiling);
+    return line.is_done();
+}
+
+// Adds a line below the first, and returns whether it is valid there.
+bool add_line(Cursor line, Text& text) {
+    uint16_t number = 0, prio = 0;
+    if (line.eat("task ")) {
+        if (!text.mutexes.empty() || !text.steps.empty() || text.bases.size() == MOST_TASKS) return false;
+        if (!line.number(number) || number != text.bases.size() + 1 || !line.eat(" ")) return false;
+        if (!line.number(prio, HIGHEST_PRIO) || !line.is_done()) return false;
+        text.bases.push_back(uint8_t(prio));
+    } else if (line.eat("mutex ")) {
+        Declared declared;
+        if (!text.steps.empty() || text.mutexes.size() == MOST_MUTEXES) return false;
+        if (!line.number(number) || number != text.mutexes.size() + 1 || !line.eat(" ")) return false;
+        if (!read_protocol(line, declared)) return false;
+        text.mutexes.push_back(declared);
+    } else {
+        Step step;
+        if (!read_step(line, step) || text.steps.size() == MOST_STEPS) return false;
+        text.steps.push_back(step);
+    }
+    return true;
+}
+
+// Returns 0 where the text is valid, else the number of the first invalid line.
+uint32_t parse(const char* data, size_t size, Text& text) {
+    const char* at = data;
+    const char* end = data + size;
+    if (size == 0) return 1;
+    for (uint32_t n = 1; at != end; ++n) {
+        auto stop = static_cast<const char*>(std::memchr(at, '\n', size_t(end - at)));
+        Cursor line{at, stop ? stop : end};
+        at = stop ? stop + 1 : end;
+        const bool is_valid = n == 1 ? line.eat("pim 1") && line.is_done() : add_line(line, text);
+        if (!is_valid) return n;
+    }
+    return 0;
+}
+
+// ---------------------------------------------------------------- writing
+
+class Output {
+public:
+    bool flush() {
+        const char* at = page.data();
+        const char* end = at + used;
+        while (at != end) {
+            const ssize_t count = write(STDOUT_FILENO, at, size_t(end - at));
+            if (count < 0 && errno == EINTR) continue;
+            if (count <= 0) return false;
+            at += count;
+        }
+        used = 0;
+        return true;
+    }
+
+    // Makes room for one line of the report.
+    bool room() { return used + LONGEST_LINE <= page.size() || flush(); }
+
+    void text(std::string_view words) {
+        std::memcpy(page.data() + used, words.data(), words.size());
+        used += words.size();
+    }
+
+    void number(uint32_t value) {
+        char* at = page.data() + used;
+        if (value < 10) {
+            at[0] = char('0' + value);
+            used += 1;
+        } else if (value < 100) {
+            at[0] = char('0' + value / 10);
+            at[1] = char('0' + value % 10);
+            used += 2;
+        } else if (value < 1000) {
+            at[0] = char('0' + value / 100);
+            at[1] = char('0' + value / 10 % 10);
+            at[2] = char('0' + value % 10);
+            used += 3;
+        } else {
+            text(std::to_string(value));
+        }
+    }
+
+    void reply(const Reply& reply) {
+        text(ANSWERS[size_t(reply.answer)]);
+        if (reply.has_number()) number(reply.number);
+    }
+
+private:
+    static constexpr size_t LONGEST_LINE = 128;
+
+    std::array<char, 1 << 16> page;
+    size_t used = 0;
+};
+
+// ---------------------------------------------------------------- the manager
+
+struct Waiter {
+    uint64_t ticket;
+    uint16_t task;
+    uint8_t prio;
+};
+
+bool precedes(const Waiter& one, const Waiter& other) {
+    return one.prio != other.prio ? one.prio > other.prio : one.ticket < other.ticket;
+}
+
+struct Task {
+    uint8_t base = 0, stored = 0, stored_before = 0;
+    bool is_touched = false;
+    uint16_t waits_for = 0;  // a mutex, or 0
+    uint64_t ticket = 0;
+    std::array<uint64_t, MOST_MUTEXES / 64> owned = {};  // a bit for each mutex
+};
+
+struct Mutex {
+    Declared declared;
+    uint16_t owner = 0;  // a task, or 0
+    std::vector<Waiter> queue;
+
+    bool inherits() const { return declared.protocol == Protocol::Inherit; }
+    bool protects() const { return declared.protocol == Protocol::Protect; }
+    uint8_t first_prio() const { return queue.empty() ? 0 : queue.front().prio; }
+    uint8_t lends() const { return protects() ? declared.ceiling : inherits() ? first_prio() : 0; }
+};
+
+class Manager {
+public:
+    explicit Manager(const Text& text) : tasks(text.bases.size() + 1), mutexes(text.mutexes.size() + 1) {
+        for (size_t t = 1; t < tasks.size(); ++t) tasks[t].base = tasks[t].stored = text.bases[t - 1];
+        for (size_t m = 1; m < mutexes.size(); ++m) mutexes[m].declared = text.mutexes[m - 1];
+        touched.reserve(MOST_TASKS);
+    }
+
+    Reply step(const Step& step) {
+        if (!has_task(step.actor)) return {Answer::NoTask};
+        const bool withdraws = step.op == Op::Cancel && step.first == step.actor;
+        if (tasks[step.actor].waits_for && !withdraws) return {Answer::Waiting};
+        switch (step.op) {
+            case Op::Lock: return lock(step.actor, step.first);
+            case Op::Try: return try_lock(step.actor, step.first);
+            case Op::Unlock: return unlock(step.actor, step.first);
+            case Op::Release: return release(step.actor);
+            case Op::Cancel: return cancel(step.first);
+            case Op::Base: return set_base(step.first, step.second);
+        }
+        __builtin_unreachable();
+    }
+
+    // Writes a line for each task whose priority the last step changed, in ascending order, and forgets them.
+    bool write_changes(Output& out) {
+        sort_touched();
+        for (uint16_t t : touched) {
+            Task& task = tasks[t];
+            task.is_touched = false;
+            if (task.stored == task.stored_before) continue;
+            if (!out.room()) return false;
+            out.text("  task ");
+            out.number(t);
+            out.text(" at ");
+            out.number(task.stored);
+            write_reason(out, task);
+        }
+        touched.clear();
+        return true;
+    }
+
+private:
+    std::vector<Task> tasks;      // from 1 on
+    std::vector<Mutex> mutexes;   // from 1 on
+    std::vector<uint16_t> touched;
+    uint64_t next_ticket = 1;
+
+    bool has_task(uint16_t t) const { return t >= 1 && t < tasks.size(); }
+    bool has_mutex(uint16_t m) const { return m >= 1 && m < mutexes.size(); }
+
+    // Many are found in order by their marks, few are sorted.
+    void sort_touched() {
+        constexpr size_t FEW = 16;
+        if (touched.size() <= FEW) return std::sort(touched.begin(), touched.end());
+        touched.clear();
+        for (size_t t = 1; t < tasks.size(); ++t)
+            if (tasks[t].is_touched) touched.push_back(uint16_t(t));
+    }
+
+    // Calls f for each owned mutex, in ascending order, as long as it answers true.
+    template <class F>
+    static void each_owned(const Task& task, F f) {
+        for (size_t word = 0; word < task.owned.size(); ++word)
+            for (uint64_t bits = task.owned[word]; bits; bits &= bits - 1)
+                if (!f(uint16_t(word * 64 + size_t(__builtin_ctzll(bits)) + 1))) return;
+    }
+
+    // Returns the first owned mutex that passes the test, or 0.
+    template <class F>
+    static uint16_t first_owned(const Task& task, F passes) {
+        uint16_t found = 0;
+        each_owned(task, [&](uint16_t m) {
+            if (passes(m)) found = m;
+            return found == 0;
+        });
+        return found;
+    }
+
+    uint8_t priority(const Task& task) const {
+        uint8_t highest = task.base;
+        each_owned(task, [&](uint16_t m) {
+            highest = std::max(highest, mutexes[m].lends());
+            return true;
+        });
+        return highest;
+    }
+
+    // Stores the priority of a task, and of those along the chain from it, as far as they change.
+    void settle_from(uint16_t t) {
+        for (;;) {
+            Task& task = tasks[t];
+            const uint8_t prio = priority(task);
+            if (prio == task.stored) return;
+            touch(t);
+            const Waiter waiter{task.ticket, t, task.stored};
+            task.stored = prio;
+            if (!task.waits_for) return;
+            Mutex& mutex = mutexes[task.waits_for];
+            const uint8_t first_prio = mutex.first_prio();
+            reposition(mutex.queue, waiter, prio);
+            if (!mutex.inherits() || mutex.first_prio() == first_prio) return;
+            t = mutex.owner;
+        }
+    }
+
+    void touch(uint16_t t) {
+        Task& task = tasks[t];
+        if (task.is_touched) return;
+        task.is_touched = true;
+        task.stored_before = task.stored;
+        touched.push_back(t);
+    }
+
+    static void reposition(std::vector<Waiter>& queue, Waiter waiter, uint8_t prio) {
+        const auto from = std::lower_bound(queue.begin(), queue.end(), waiter, precedes);
+        waiter.prio = prio;
+        if (prio > from->prio) {
+            const auto to = std::lower_bound(queue.begin(), from, waiter, precedes);
+            std::move_backward(to, from, from + 1);
+            *to = waiter;
+        } else {
+            const auto to = std::lower_bound(from + 1, queue.end(), waiter, precedes);
+            std::move(from + 1, to, from);
+            *(to - 1) = waiter;
+        }
+    }
+
+    void bind(uint16_t m, uint16_t t) {
+        mutexes[m].owner = t;
+        tasks[t].owned[(m - 1u) / 64] |= uint64_t(1) << (m - 1u) % 64;
+    }
+
+    void unbind(uint16_t m) {
+        tasks[mutexes[m].owner].owned[(m - 1u) / 64] &= ~(uint64_t(1) << (m - 1u) % 64);
+        mutexes[m].owner = 0;
+    }
+
+    // Returns whether the chain from the owner of a mutex reaches the task.
+    bool closes_cycle(uint16_t actor, const Mutex& mutex) const {
+        for (uint16_t t = mutex.owner;; t = mutexes[tasks[t].waits_for].owner) {
+            if (t == actor) return true;
+            if (!tasks[t].waits_for) return false;
+        }
+    }
+
+    bool is_above_ceiling(uint16_t actor, const Mutex& mutex) const {
+        return mutex.protects() && tasks[actor].base > mutex.declared.ceiling;
+    }
+
+    Reply grant(uint16_t actor, uint16_t m) {
+        bind(m, actor);
+        settle_from(actor);
+        return {Answer::Granted};
+    }
+
+    Reply lock(uint16_t actor, uint16_t m) {
+        if (!has_mutex(m)) return {Answer::NoMutex};
+        Mutex& mutex = mutexes[m];
+        if (mutex.owner && closes_cycle(actor, mutex)) return {Answer::Deadlock};
+        if (is_above_ceiling(actor, mutex)) return {Answer::Ceiling};
+        if (!mutex.owner) return grant(actor, m);
+        if (next_ticket == UINT64_MAX) return {Answer::Tickets};
+        Task& task = tasks[actor];
+        task.waits_for = m;
+        task.ticket = next_ticket++;
+        const Waiter waiter{task.ticket, actor, task.stored};
+        mutex.queue.insert(std::lower_bound(mutex.queue.begin(), mutex.queue.end(), waiter, precedes), waiter);
+        settle_from(mutex.owner);
+        return {Answer::Queued};
+    }
+
+    Reply try_lock(uint16_t actor, uint16_t m) {
+        if (!has_mutex(m)) return {Answer::NoMutex};
+        if (is_above_ceiling(actor, mutexes[m])) return {Answer::Ceiling};
+        if (mutexes[m].owner) return {Answer::Busy};
+        return grant(actor, m);
+    }
+
+    // Frees a mutex or hands it over to its first waiter, and returns that task, or 0.
+    uint16_t hand_over(uint16_t m) {
+        Mutex& mutex = mutexes[m];
+        const uint16_t owner = mutex.owner;
+        unbind(m);
+        settle_from(owner);
+        if (mutex.queue.empty()) return 0;
+        const uint16_t t = mutex.queue.front().task;
+        mutex.queue.erase(mutex.queue.begin());
+        tasks[t].waits_for = 0;
+        bind(m, t);
+        settle_from(t);
+        return t;
+    }
+
+    Reply unlock(uint16_t actor, uint16_t m) {
+        if (!has_mutex(m)) return {Answer::NoMutex};
+        if (mutexes[m].owner != actor) return {Answer::NotOwner};
+        const uint16_t t = hand_over(m);
+        return t ? Reply{Answer::Handed, t} : Reply{Answer::Freed};
+    }
+
+    Reply release(uint16_t actor) {
+        const Task before = tasks[actor];
+        Reply reply{Answer::Released};
+        each_owned(before, [&](uint16_t m) {
+            hand_over(m);
+            ++reply.number;
+            return true;
+        });
+        return reply;
+    }
+
+    Reply cancel(uint16_t t) {
+        if (!has_task(t)) return {Answer::NoTask};
+        Task& task = tasks[t];
+        if (!task.waits_for) return {Answer::NotWaiting};
+        Mutex& mutex = mutexes[task.waits_for];
+        const Waiter waiter{task.ticket, t, task.stored};
+        mutex.queue.erase(std::lower_bound(mutex.queue.begin(), mutex.queue.end(), waiter, precedes));
+        task.waits_for = 0;
+        settle_from(mutex.owner);
+        return {Answer::Withdrawn};
+    }
+
+    Reply set_base(uint16_t t, uint16_t prio) {
+        if (!has_task(t)) return {Answer::NoTask};
+        if (prio < 1 || prio > HIGHEST_PRIO) return {Answer::Priority};
+        tasks[t].base = uint8_t(prio);
+        settle_from(t);
+        return {Answer::Set};
+    }
+
+    void write_reason(Output& out, const Task& task) const {
+        if (task.stored == task.base) return out.text(" base\n");
+        uint16_t m = first_owned(task, [&](uint16_t m) {
+            return mutexes[m].protects() && mutexes[m].declared.ceiling == task.stored;
+        });
+        if (m) {
+            out.text(" ceiling ");
+        } else {
+            m = first_owned(task, [&](uint16_t m) {
+                return mutexes[m].inherits() && mutexes[m].first_prio() == task.stored;
+            });
+            out.text(" waiter ");
+            out.number(mutexes[m].queue.front().task);
+            out.text(" mutex ");
+        }
+        out.number(m);
+        out.text("\n");
+    }
+};
+
+// ---------------------------------------------------------------- the program
+
+enum Status { ACCEPTED = 0, REJECTED = 1, FAULT = 2 };
+
+int fault(const char* text) {
+    std::fprintf(stderr, "pim: %s\n", text);
+    return FAULT;
+}
+
+// Writes the last line of a report.
+int end(Output& out, std::string_view verdict, uint32_t number, Status status) {
+    if (!out.room()) return fault("write");
+    out.text(verdict);
+    out.number(number);
+    out.text("\n");
+    return out.flush() ? status : fault("write");
+}
+
+int report(const Text& text, Output& out) {
+    Manager manager(text);
+    uint32_t number = 0;
+    for (const Step& step : text.steps) {
+        const Reply reply = manager.step(step);
+        if (!out.room()) return fault("write");
+        out.number(++number);
+        out.text(" ");
+        out.reply(reply);
+        const bool differs = step.recorded && !(*step.recorded == reply);
+        if (differs) {
+            out.text(" but recorded ");
+            out.reply(*step.recorded);
+        }
+        out.text("\n");
+        if (differs) return end(out, "rejected ", number, REJECTED);
+        if (!manager.write_changes(out)) return fault("write");
+    }
+    return end(out, "accepted ", number, ACCEPTED);
+}
+
+bool read_all(std::vector<char>& data, size_t& size) {
+    struct stat info {};
+    const bool is_known = fstat(STDIN_FILENO, &info) == 0 && info.st_size > 0;
+    data.resize(is_known ? size_t(info.st_size) + 1 : 1 << 16);
+    for (size = 0;;) {
+        if (size == data.size()) data.resize(2 * size);
+        const ssize_t count = read(STDIN_FILENO, data.data() + size, data.size() - size);
+        if (count < 0 && errno == EINTR) continue;
+        if (count <= 0) return count == 0;
+        size += size_t(count);
+    }
+}
+
+}  // namespace
+
+int main() {
+    std::vector<char> data;
+    size_t size = 0;
+    if (!read_all(data, size)) return fault("read");
+    Text text;
+    if (uint32_t n = parse(data.data(), size, text)) {
+        std::fprintf(stderr, "pim: line %u\n", unsigned(n));
+        return FAULT;
+    }
+    static Output out;
+    return report(text, out);
+}

@@ -1,0 +1,160 @@
+"""Traces of any size, the same at each run, for bench/measure.py and tests/judge.
+
+Each is made of a number of tasks (2 to 256) and of steps.
+"""
+import random
+
+
+def start(tasks, steps):
+    """The version line alone, so that the start of the program is all that there is."""
+    return "pim 1\n"
+
+
+def free(tasks, steps):
+    """Tasks that lock and unlock mutexes, half of them INHERIT, that nobody else owns."""
+    draw, owned, lines = random.Random(1), {}, []
+    free_ones = list(range(1, tasks + 1))
+    while len(lines) < steps:
+        task = draw.randint(1, tasks)
+        if task in owned and draw.random() < 0.5:
+            mutex = owned[task].pop()
+            free_ones.append(mutex)
+            lines.append(f"{task} unlock {mutex}")
+            if not owned[task]:
+                del owned[task]
+        elif free_ones:
+            mutex = free_ones.pop(draw.randrange(len(free_ones)))
+            owned.setdefault(task, []).append(mutex)
+            lines.append(f"{task} lock {mutex}")
+    protocols = ["inherit" if mutex % 2 else "none" for mutex in range(tasks)]
+    return text(some_bases(draw, tasks), protocols, lines[:steps])
+
+
+def wide(tasks, steps):
+    """All tasks but one in the queue of one INHERIT mutex.
+
+    They are handed it, withdraw and queue again, and are raised and lowered.
+    """
+    draw = random.Random(2)
+    declared = some_bases(draw, tasks)
+    bases = dict(enumerate(declared, 1))
+    owner, queue = 1, list(range(2, tasks + 1))  # in the order of their tickets
+    lines = [f"{task} lock 1" for task in range(1, tasks + 1)]
+    while len(lines) < steps:
+        task = draw.choice(queue)
+        chosen = draw.random()
+        if chosen < 0.15:
+            bases[task] = draw.randint(1, 99)
+            lines.append(f"{owner} base {task} {bases[task]}")
+            continue
+        if chosen < 0.25:
+            task, owner = owner, max(queue, key=bases.get)  # the first of the highest
+            lines.append(f"{task} unlock 1")
+        else:
+            lines.append(f"{task} cancel {task}")
+        lines.append(f"{task} lock 1")
+        queue = [waiter for waiter in queue if waiter not in (task, owner)] + [task]
+    return text(declared, ["inherit"], lines[:steps])
+
+
+def mixed(tasks, steps, seed=3):
+    """All protocols and steps, of tasks that mostly unlock what they own and mostly don't wait."""
+    draw = random.Random(seed)
+    bases = some_bases(draw, tasks)
+    guess = Guess(bases, {mutex: draw.randint(60, 99) for mutex in range(4, tasks + 1, 4)})
+    kinds = ["inherit", "none", "inherit"] * tasks
+    for mutex, ceiling in guess.ceilings.items():
+        kinds[mutex] = f"protect {ceiling}"
+    lines = []
+    while len(lines) < steps:
+        line = some_step(draw, guess, tasks)
+        lines += [line] if line else []
+    return text(bases, kinds[1 : tasks + 1], lines)
+
+
+class Guess:
+    """Who owns what and who waits, by base priorities alone. A wrong guess is one more refusal."""
+
+    def __init__(self, bases, ceilings):
+        self.bases, self.ceilings = dict(enumerate(bases, 1)), ceilings
+        self.owner, self.waits = {}, {}
+
+    def may_have(self, task, mutex):
+        return self.bases[task] <= self.ceilings.get(mutex, 99)
+
+    def reaches(self, task, mutex):
+        while mutex in self.owner and self.owner[mutex] != task:
+            mutex = self.waits.get(self.owner[mutex])
+        return mutex in self.owner
+
+    def lock(self, task, mutex):
+        if self.reaches(task, mutex) or not self.may_have(task, mutex):
+            return
+        if mutex in self.owner:
+            self.waits[task] = mutex
+        else:
+            self.owner[mutex] = task
+
+    def hand_over(self, mutex):
+        del self.owner[mutex]
+        queue = [task for task, waited_for in self.waits.items() if waited_for == mutex]
+        if queue:
+            self.owner[mutex] = max(queue, key=self.bases.get)
+            del self.waits[self.owner[mutex]]
+
+
+def some_step(draw, guess, tasks):
+    """Returns a step line, or None where the chosen task waits on."""
+    task, mutex, chosen = draw.randint(1, tasks), draw.randint(1, tasks), draw.random()
+    if task in guess.waits:
+        if chosen < 0.2:
+            del guess.waits[task]
+            return f"{task} cancel {task}"
+        return f"{task} lock {mutex}" if chosen < 0.25 else None
+    if chosen < 0.45:
+        guess.lock(task, mutex)
+        return f"{task} lock {mutex}"
+    if chosen < 0.7 and guess.owner:
+        mutex = draw.choice(list(guess.owner))
+        task = guess.owner[mutex]
+        if task not in guess.waits:
+            guess.hand_over(mutex)
+        return f"{task} unlock {mutex}"
+    if chosen < 0.8:
+        prio = draw.randint(1, 104)
+        guess.bases[mutex] = prio if prio <= 99 else guess.bases[mutex]
+        return f"{task} base {mutex} {prio}"
+    if chosen < 0.87:
+        if guess.may_have(task, mutex):
+            guess.owner.setdefault(mutex, task)
+        return f"{task} try {mutex}"
+    if chosen < 0.9:
+        for owned in [owned for owned, owner in guess.owner.items() if owner == task]:
+            guess.hand_over(owned)
+        return f"{task} release"
+    if chosen < 0.91:
+        return f"{tasks + draw.randint(0, 1)} unlock {tasks + draw.randint(0, 1)}"
+    return f"{task} cancel {task}"
+
+
+def chain(tasks, steps):
+    """A chain of all tasks, along all of which priorities rise and fall."""
+    lines = [f"{task} lock {task}" for task in range(1, tasks)]
+    lines += [f"{task} lock {task - 1}" for task in range(2, tasks + 1)]
+    again = [f"1 base {tasks} 99", f"{tasks} cancel {tasks}"]
+    again += [f"{tasks} lock {tasks - 1}", f"1 base {tasks} 50"]
+    lines += again * (steps // len(again))
+    return text([1 + task % 40 for task in range(tasks)], ["inherit"] * (tasks - 1), lines[:steps])
+
+
+def some_bases(draw, tasks):
+    return [draw.randint(1, 99) for _ in range(tasks)]
+
+
+def text(bases, protocols, lines):
+    declared = [f"task {number} {base}" for number, base in enumerate(bases, 1)]
+    declared += [f"mutex {number} {protocol}" for number, protocol in enumerate(protocols, 1)]
+    return "\n".join(["pim 1", *declared, *lines]) + "\n"
+
+
+TEXTS = {make.__name__: make for make in (start, free, wide, mixed, chain)}

@@ -1,0 +1,89 @@
+//! The calls of a manager.
+
+use crate::{REFUSED_BEFORE, REFUSED_IN_CALL};
+use pim_base::{MutexNo, Op, Prio, Protocol, Reply, Step, TaskNo};
+use pim_manager::{MakeFault, Manager};
+use std::alloc::Global;
+use std::test::Fail;
+
+const PROTOCOLS: [Protocol; 2] = [Protocol::Inherit, Protocol::None];
+
+fn bases() -> Result<[Prio; 3], Fail> {
+    Ok([Prio::new(10).ok_or("a priority")?; 3])
+}
+
+fn lock(task: u16) -> Step {
+    Step {
+        actor: TaskNo(task),
+        op: Op::Lock(MutexNo(1)),
+    }
+}
+
+/// A manager whose task 1 owns mutex 1, for which task 2 waits.
+fn waited_for(alloc: Global) -> Result<Manager, Fail> {
+    let mut manager = Manager::new(alloc, &bases()?, &PROTOCOLS).map_err(|_fault| REFUSED_BEFORE)?;
+    manager.run(&[lock(1), lock(2)]);
+    Ok(manager)
+}
+
+#[test]
+fn new_refused(rt: HostRuntime) -> Result<(), Fail> {
+    match Manager::new(rt.alloc(), &bases()?, &PROTOCOLS) {
+        Ok(manager) => {
+            assert_eq!(rt; manager.tasks(), 3);
+            assert_eq!(rt; manager.next_ticket(), 1);
+        }
+        Err(fault) => {
+            assert_eq!(rt; fault, MakeFault::Memory);
+            Err(REFUSED_IN_CALL)?
+        }
+    }
+    Ok(())
+}
+
+#[test]
+fn with_next_ticket_refused(rt: HostRuntime) -> Result<(), Fail> {
+    match Manager::with_next_ticket(rt.alloc(), &bases()?, &PROTOCOLS, 7) {
+        Ok(manager) => {
+            assert_eq!(rt; manager.mutexes(), 2);
+            assert_eq!(rt; manager.next_ticket(), 7);
+        }
+        Err(fault) => {
+            assert_eq!(rt; fault, MakeFault::Memory);
+            Err(REFUSED_IN_CALL)?
+        }
+    }
+    Ok(())
+}
+
+#[test]
+fn try_clone_refused(rt: HostRuntime) -> Result<(), Fail> {
+    let mut manager = waited_for(rt.alloc())?;
+    let copy = manager.try_clone(rt.alloc());
+    // The manager steps on, whether it was copied or not.
+    assert_eq!(rt; manager.step(lock(3)).reply, Reply::Queued);
+    assert_eq!(rt; manager.next_ticket(), 3);
+    let copy = copy.map_err(|_error| REFUSED_IN_CALL)?;
+    assert_eq!(rt; copy.waits_for(TaskNo(2)), Some(Some(MutexNo(1))));
+    assert_eq!(rt; copy.waits_for(TaskNo(3)), Some(None));
+    assert_eq!(rt; copy.next_ticket(), 2);
+    Ok(())
+}
+
+#[test]
+fn run_replies_refused(rt: HostRuntime) -> Result<(), Fail> {
+    let mut manager = waited_for(rt.alloc())?;
+    match manager.run_replies(rt.alloc(), &[lock(3); 100]) {
+        Ok(replies) => {
+            assert_eq!(rt; replies.len(), 100);
+            assert_eq!(rt; replies.first().copied(), Some(Reply::Queued));
+            assert_eq!(rt; manager.next_ticket(), 3);
+        }
+        Err(_) => {
+            assert_eq!(rt; manager.waits_for(TaskNo(3)), Some(None));
+            assert_eq!(rt; manager.next_ticket(), 2);
+            Err(REFUSED_IN_CALL)?
+        }
+    }
+    Ok(())
+}
