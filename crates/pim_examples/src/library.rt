@@ -11,15 +11,14 @@ use std::alloc::Global;
 pub fn contend(alloc: Global, one: Prio, two: Prio) -> Result<Manager, MakeFault>
     ensures { IfOk result (λ manager. effective_priority manager 1 ≡ max one two) }
 {
-    let op = Op::Lock(MutexNo(1));
     let mut manager = Manager::new(alloc, &[one, two], &[Protocol::Inherit])?;
     manager.step(Step {
         actor: TaskNo(1),
-        op,
+        op: Op::Lock(MutexNo(1)),
     }); // Granted
     manager.step(Step {
         actor: TaskNo(2),
-        op,
+        op: Op::Lock(MutexNo(1)),
     }); // Queued
     Ok(manager)
 }
