@@ -1,6 +1,9 @@
 //! Judges each example trace, and says whether its report is the one that is stored beside it.
 #![tactic(auto)]
 
+#[cfg(test)]
+mod library;
+
 use pim_tool::{Input, Output, judge};
 use std::fs::File;
 use std::{fs, io};
