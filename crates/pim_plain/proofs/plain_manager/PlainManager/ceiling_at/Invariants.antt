@@ -1,0 +1,14 @@
+use Rattle.std.proofs.Common.{◌≡◌, ◌==◌, ◌+◌, ◌-◌, filter, length, find}
+use Rattle.std.specs.List.{range_with_len}
+use Rattle.pim_base.specs.Lists.{holds}
+use Rattle.pim_base.specs.State.{owner_of, owned}
+use Rattle.pim_base.specs.Priorities.{ceiling_of}
+use Rattle.pim_plain.proofs.plain_manager.PlainManager.ceiling_at.Given as goal
+
+-- the answer is the one among the mutexes that are left
+abbrev pub invariant-loop-number : goal.invariant-loop-number
+invariant-loop-number l =
+    find (λ m. ceiling_of l.self m == l.prio) (owned l.self l.task)
+    ≡ find
+    (λ m. ceiling_of l.self m == l.prio)
+    (filter (λ m. holds (owner_of l.self m) l.task) (range_with_len l.number (length l.self.protocol + 1 - l.number)))
