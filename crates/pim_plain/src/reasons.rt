@@ -1,6 +1,6 @@
 //! Why a task has its effective priority.
 
-ghost use Rattle.std.specs.Prelude.{◌≡◌, ◌==◌, IsTrue};
+ghost use Rattle.std.specs.Prelude.{◌≡◌, ◌==◌, ℕ, Bool, IsTrue};
 ghost use Rattle.std.specs.List.{find, list_any};
 ghost use Rattle.pim_base.specs.State.{IsTask, owned};
 ghost use Rattle.pim_base.specs.Checks.{unknown_task};
@@ -39,30 +39,33 @@ impl PlainManager {
         }
     }
 
-    /// Returns the least mutex that the task owns whose ceiling is that priority.
-    fn ceiling_at(&self, task: TaskNo, prio: Prio) -> Option<MutexNo>
-        ensures { result ≡ find (λ m. ceiling_of self.now m == prio) (owned self.now task) }
+    /// Returns the least mutex that the task owns and that passes: that for which `p` is true, where the calls of `passes`
+    /// answer as `p` does.
+    fn least_owned<F: Fn(MutexNo) -> bool>(&self, task: TaskNo, passes: F) -> Option<MutexNo>
+        requires { F.IsAlwaysCallable passes }
+        ensures { (p : ℕ → Bool) → ((m : ℕ) (b : Bool) → F.post passes m b → b ≡ p m) → result ≡ find p (owned self.now task) }
     {
         for number in 1..self.mutexes() + 1 {
             let mutex = MutexNo(number);
-            if self.owns(task, mutex) && self.has_ceiling(mutex, prio) {
+            if self.owns(task, mutex) && passes(mutex) {
                 return Some(mutex);
             }
         }
         None
     }
 
+    /// Returns the least mutex that the task owns whose ceiling is that priority.
+    fn ceiling_at(&self, task: TaskNo, prio: Prio) -> Option<MutexNo>
+        ensures { result ≡ find (λ m. ceiling_of self.now m == prio) (owned self.now task) }
+    {
+        self.least_owned(task, |mutex| self.has_ceiling(mutex, prio))
+    }
+
     /// Returns the least INHERIT mutex that the task owns for which somebody waits at that priority.
     fn lender_at(&self, task: TaskNo, prio: Prio) -> Option<MutexNo>
         ensures { result ≡ find (lends self.now prio) (owned self.now task) }
     {
-        for number in 1..self.mutexes() + 1 {
-            let mutex = MutexNo(number);
-            if self.owns(task, mutex) && self.lends(mutex, prio) {
-                return Some(mutex);
-            }
-        }
-        None
+        self.least_owned(task, |mutex| self.lends(mutex, prio))
     }
 
     /// Returns the first waiter for this mutex as the reason.
