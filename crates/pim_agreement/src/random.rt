@@ -71,7 +71,7 @@ fn expect_same_tasks(
 fn expect_same_mutexes(rt: &impl Abort, both: &Both) -> Result<(), Fail> {
     for number in 1..MUTEXES + 1 {
         let mutex = MutexNo(number);
-        let owner = both.plain.owner(mutex);
+        let owner = both.plain.owner_of(mutex);
         assert_eq!(rt; both.manager.owner(mutex), Some(owner), "{mutex:?}");
         both.queue(rt, mutex)?;
     }

@@ -319,7 +319,7 @@ fn last_ticket(rt: HostRuntime) -> Result<(), Fail> {
     let queue = both.queue(&rt, MutexNo(1))?;
     let ticket = queue.first().map(|waiter| waiter.ticket);
     assert_eq!(rt; ticket, Some(u64::MAX - 1));
-    let ticket = both.plain.wait(TaskNo(2)).map(|wait| wait.ticket);
+    let ticket = both.plain.wait_of(TaskNo(2)).map(|wait| wait.ticket);
     assert_eq!(rt; ticket, Some(u64::MAX - 1));
     assert_eq!(rt; both.manager.next_ticket(), u64::MAX);
     assert_eq!(rt; both.plain.next_ticket(), u64::MAX);
@@ -327,38 +327,41 @@ fn last_ticket(rt: HostRuntime) -> Result<(), Fail> {
 }
 
 #[test]
-fn what_the_tables_show(rt: HostRuntime) -> Result<(), Fail> {
+fn what_the_plain_manager_shows(rt: HostRuntime) -> Result<(), Fail> {
     let mut both = Both::new(rt.alloc(), &[20, 40, 90], &[protect(&rt, 50), INHERIT])?;
     for step in [lock(1, 1), lock(2, 2), lock(2, 1), lock(3, 2)] {
         both.step(&rt, step);
     }
-    let tables = &both.plain;
+    let plain = &both.plain;
     let [one, two, three] = [TaskNo(1), TaskNo(2), TaskNo(3)];
     let [protected, inherited] = [MutexNo(1), MutexNo(2)];
-    assert_eq!(rt; tables.task_count(), 3);
-    assert_eq!(rt; tables.mutex_count(), 2);
-    assert_eq!(rt; tables.next_ticket(), 3);
-    assert_eq!(rt; tables.base(two), Prio::new(40));
-    assert_eq!(rt; tables.protocol(inherited), Some(INHERIT));
-    assert_eq!(rt; tables.ceiling(protected), Prio::new(50));
-    assert_eq!(rt; tables.owner(inherited), Some(two));
-    assert_eq!(rt; tables.wait(three).map(|wait| wait.mutex), Some(inherited));
-    assert!(rt; tables.owns(one, protected));
-    assert!(rt; !tables.is_unknown_task(three));
-    assert!(rt; !tables.is_unknown_mutex(inherited));
-    assert!(rt; tables.is_owned(protected));
-    assert!(rt; tables.is_waiting(two));
-    assert!(rt; tables.is_above_ceiling(three, protected));
-    assert_eq!(rt; tables.blocker(two), Some(one));
-    assert_eq!(rt; tables.heir(two), None);
-    assert_eq!(rt; tables.heir(three), Some(two));
-    assert!(rt; tables.on_chain(three, one));
-    assert!(rt; tables.inherits(three, two));
-    assert!(rt; !tables.inherits(three, one));
-    assert!(rt; tables.closes_cycle(one, inherited));
+    assert_eq!(rt; plain.tasks(), 3);
+    assert_eq!(rt; plain.mutexes(), 2);
+    assert_eq!(rt; plain.next_ticket(), 3);
+    assert_eq!(rt; plain.base(two), Prio::new(40));
+    assert_eq!(rt; plain.protocol(inherited), Some(INHERIT));
+    assert_eq!(rt; plain.ceiling(protected), Prio::new(50));
+    assert_eq!(rt; plain.owner_of(inherited), Some(two));
+    assert_eq!(rt;
+        plain.wait_of(three).map(|wait| wait.mutex),
+        Some(inherited)
+    );
+    assert!(rt; plain.owns(one, protected));
+    assert!(rt; !plain.is_unknown_task(three));
+    assert!(rt; !plain.is_unknown_mutex(inherited));
+    assert!(rt; plain.is_owned(protected));
+    assert!(rt; plain.is_waiting(two));
+    assert!(rt; plain.is_above_ceiling(three, protected));
+    assert_eq!(rt; plain.blocker(two), Some(one));
+    assert_eq!(rt; plain.heir(two), None);
+    assert_eq!(rt; plain.heir(three), Some(two));
+    assert!(rt; plain.on_chain(three, one));
+    assert!(rt; plain.on_inherit_chain(three, two));
+    assert!(rt; !plain.on_inherit_chain(three, one));
+    assert!(rt; plain.closes_cycle(one, inherited));
     assert_eq!(rt; both.effective(&rt, one), Prio::new(50));
-    assert_eq!(rt; tables.wait(three).map(|wait| wait.ticket), Some(2));
-    let first = tables.first(inherited).map(|waiter| waiter.task);
+    assert_eq!(rt; plain.wait_of(three).map(|wait| wait.ticket), Some(2));
+    let first = plain.first_of(inherited).map(|waiter| waiter.task);
     assert_eq!(rt; first, Some(three));
     Ok(())
 }

@@ -4,7 +4,7 @@ ghost use Rattle.std.specs.Prelude.{◌≤◌};
 
 use pim_base::{MutexNo, Op, Prio, Protocol, Reason, Reply, Step, TaskNo, Waiter};
 use pim_manager::{Done, Manager};
-use pim_plain::Tables;
+use pim_plain::PlainManager;
 use std::alloc::Global;
 use std::process::Abort;
 use std::test::Fail;
@@ -108,7 +108,7 @@ pub fn waiter(prio: u16, task: u16, mutex: u16) -> Seen {
 #[derive(Drop)]
 pub struct Both {
     pub manager: Manager,
-    pub plain: Tables,
+    pub plain: PlainManager,
     alloc: Global,
 }
 
@@ -136,7 +136,7 @@ impl Both {
         }
         Ok(Both {
             manager: Manager::with_next_ticket(alloc, &prios, protocols, next)?,
-            plain: Tables::new(alloc, &prios, protocols, next)?,
+            plain: PlainManager::new(alloc, &prios, protocols, next)?,
             alloc,
         })
     }
@@ -165,7 +165,7 @@ impl Both {
     /// Those who wait for the mutex, in order.
     pub fn queue(&self, rt: &impl Abort, mutex: MutexNo) -> Result<&[Waiter], Fail> {
         let waiters = self.manager.waiters(mutex).ok_or("a known mutex")?;
-        let queue = self.plain.queue(self.alloc, mutex)?;
+        let queue = self.plain.queue_of(self.alloc, mutex)?;
         assert!(rt; queue.as_slice() == waiters, "{mutex:?}");
         Ok(waiters)
     }

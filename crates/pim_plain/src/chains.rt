@@ -1,57 +1,59 @@
-//! The chains from a task to those that it waits for, and to those that inherit from it.
+//! The chains from a task: whom it waits for, and who inherits from it.
 
 ghost use Rattle.std.specs.Prelude.{◌≡◌};
 ghost use Rattle.pim_base.specs.Lists.{contains};
 ghost use Rattle.pim_base.specs.Chains.{chain, blocker, heir, waits_chain, inherit_chain, closes_cycle};
 
-use crate::tables::Tables;
-use pim_base::{MutexNo, Protocol, TaskNo};
+use crate::plain_manager::PlainManager;
+use pim_base::{MutexNo, TaskNo};
 
-impl Tables {
-    /// The owner of the mutex that the task waits for.
+impl PlainManager {
+    /// Returns the task that this one waits for: the owner of its mutex.
     pub fn blocker(&self, task: TaskNo) -> Option<TaskNo>
         ensures { result ≡ blocker self.now task }
     {
-        self.owner(self.wait(task)?.mutex)
+        self.owner_of(self.wait_of(task)?.mutex)
     }
 
-    /// The same, where that mutex is an INHERIT mutex: the task that inherits from this one.
+    /// Returns the task that inherits from this one: the owner of the INHERIT mutex that it waits for.
     pub fn heir(&self, task: TaskNo) -> Option<TaskNo>
         ensures { result ≡ heir self.now task }
     {
-        let wait = self.wait(task)?;
-        match self.protocol(wait.mutex)? {
-            Protocol::Inherit => self.owner(wait.mutex),
-            Protocol::None | Protocol::Protect(_) => None,
+        let wait = self.wait_of(task)?;
+        if self.protocol(wait.mutex)?.is_inherit() {
+            self.owner_of(wait.mutex)
+        } else {
+            None
         }
     }
 
-    /// Whether the task is `from`, or is reached from it by waits and owners.
+    /// Returns whether the task is `from`, or is reached from it by hops through mutexes of any protocol.
     pub fn on_chain(&self, from: TaskNo, task: TaskNo) -> bool
         ensures { result ≡ contains (waits_chain self.now from) task }
     {
-        self.reaches_within(self.task_count(), from, task)
+        self.waits_chain_within(self.tasks(), from, task)
     }
 
-    /// Whether the task is `from`, or is reached from it through INHERIT mutexes alone.
-    pub fn inherits(&self, from: TaskNo, task: TaskNo) -> bool
+    /// Returns whether the task is `from`, or is reached from it by hops through INHERIT mutexes alone: whether it
+    /// inherits from `from`.
+    pub fn on_inherit_chain(&self, from: TaskNo, task: TaskNo) -> bool
         ensures { result ≡ contains (inherit_chain self.now from) task }
     {
-        self.inherits_within(self.task_count(), from, task)
+        self.inherit_chain_within(self.tasks(), from, task)
     }
 
-    /// Whether the wait of the task for the mutex would close a cycle of waits.
+    /// Returns whether the wait of the task for the mutex would close a cycle of waits.
     pub fn closes_cycle(&self, task: TaskNo, mutex: MutexNo) -> bool
         ensures { result ≡ closes_cycle self.now task mutex }
     {
-        match self.owner(mutex) {
+        match self.owner_of(mutex) {
             Some(owner) => self.on_chain(owner, task),
             None => false,
         }
     }
 
-    /// The same as `on_chain`, by at most so many hops.
-    fn reaches_within(&self, hops: u16, from: TaskNo, task: TaskNo) -> bool
+    /// Returns what `on_chain` does, for a chain of at most so many hops.
+    fn waits_chain_within(&self, hops: u16, from: TaskNo, task: TaskNo) -> bool
         ensures { result ≡ contains (chain (blocker self.now) hops from) task }
     {
         let mut at = from;
@@ -67,8 +69,8 @@ impl Tables {
         task == at
     }
 
-    /// The same as `inherits`, by at most so many hops.
-    fn inherits_within(&self, hops: u16, from: TaskNo, task: TaskNo) -> bool
+    /// Returns what `on_inherit_chain` does, for a chain of at most so many hops.
+    fn inherit_chain_within(&self, hops: u16, from: TaskNo, task: TaskNo) -> bool
         ensures { result ≡ contains (chain (heir self.now) hops from) task }
     {
         let mut at = from;

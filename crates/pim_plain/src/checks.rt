@@ -1,41 +1,41 @@
 //! The tests that refuse a step.
 
 ghost use Rattle.std.specs.Prelude.{◌≡◌};
-ghost use Rattle.pim_base.specs.Checks.{unknown_task, unknown_mutex, is_owned, is_waiting, above_ceiling, withdraws_itself};
+ghost use Rattle.pim_base.specs.Checks.{unknown_task, unknown_mutex, is_owned, is_waiting, above_ceiling};
 
-use crate::tables::Tables;
-use pim_base::{MutexNo, Op, TaskNo};
+use crate::plain_manager::PlainManager;
+use pim_base::{MutexNo, TaskNo};
 
-impl Tables {
-    /// Whether the number is 0 or above the count of the tasks.
+impl PlainManager {
+    /// Returns whether no task has this number.
     pub fn is_unknown_task(&self, task: TaskNo) -> bool
         ensures { result ≡ unknown_task self.now task }
     {
-        task.get() == 0 || self.task_count() < task.get()
+        task.get() == 0 || self.tasks() < task.get()
     }
 
-    /// Whether the number is 0 or above the count of the mutexes.
+    /// Returns whether no mutex has this number.
     pub fn is_unknown_mutex(&self, mutex: MutexNo) -> bool
         ensures { result ≡ unknown_mutex self.now mutex }
     {
-        mutex.get() == 0 || self.mutex_count() < mutex.get()
+        mutex.get() == 0 || self.mutexes() < mutex.get()
     }
 
-    /// Whether the mutex has an owner.
+    /// Returns whether the mutex has an owner.
     pub fn is_owned(&self, mutex: MutexNo) -> bool
         ensures { result ≡ is_owned self.now mutex }
     {
-        self.owner(mutex).is_some()
+        self.owner_of(mutex).is_some()
     }
 
-    /// Whether the task waits.
+    /// Returns whether the task waits.
     pub fn is_waiting(&self, task: TaskNo) -> bool
         ensures { result ≡ is_waiting self.now task }
     {
-        self.wait(task).is_some()
+        self.wait_of(task).is_some()
     }
 
-    /// Whether the mutex is a PROTECT mutex whose ceiling is below the task's base.
+    /// Returns whether the mutex is a PROTECT mutex whose ceiling is below the task's base.
     pub fn is_above_ceiling(&self, task: TaskNo, mutex: MutexNo) -> bool
         ensures { result ≡ above_ceiling self.now task mutex }
     {
@@ -43,15 +43,5 @@ impl Tables {
             (Some(ceiling), Some(base)) => ceiling < base,
             _ => false,
         }
-    }
-}
-
-/// Whether the operation is the withdrawal of the actor itself.
-pub fn withdraws_itself(actor: TaskNo, op: &Op) -> bool
-    ensures { result ≡ withdraws_itself actor op.now }
-{
-    match op {
-        Op::Cancel(task) => *task == actor,
-        _ => false,
     }
 }

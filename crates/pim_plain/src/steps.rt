@@ -1,15 +1,16 @@
-//! One step: what it is answered, and what it changes.
+//! One step: its reply, and what it changes.
 
 ghost use Rattle.std.specs.Prelude.{◌≡◌};
 ghost use Rattle.pim_base.specs.Queues.{first_of};
 ghost use Rattle.pim_base.specs.Steps.{answer, after_reply, hand_over, reply_of, after};
 
-use crate::checks::withdraws_itself;
-use crate::tables::Tables;
-use pim_base::{MutexNo, Op, Prio, Refusal, Reply, Step, TaskNo, Waiter};
+use crate::plain_manager::PlainManager;
+use pim_base::{LAST_TICKET, MutexNo, Op, Prio, Refusal, Reply, Step, TaskNo, Waiter};
 
-impl Tables {
-    /// Makes one step and gives its reply; a refused step changes nothing.
+impl PlainManager {
+    /// Makes one step and returns its reply; a refused step changes nothing.
+    ///
+    /// The checks of each operation stand in the order of the definition `checks`.
     pub fn step(&mut self, step: Step) -> Reply
         ensures reply { result ≡ reply_of self.old step }
         ensures state { self.new ≡ after self.old step }
@@ -18,7 +19,7 @@ impl Tables {
         if self.is_unknown_task(actor) {
             return Reply::Refused(Refusal::NoTask);
         }
-        if self.is_waiting(actor) && !withdraws_itself(actor, &op) {
+        if self.is_waiting(actor) && !op.withdraws(actor) {
             return Reply::Refused(Refusal::Waiting);
         }
         match op {
@@ -27,10 +28,11 @@ impl Tables {
             Op::Unlock(mutex) => self.unlock(actor, mutex),
             Op::ReleaseAll => self.release_all(actor),
             Op::Cancel(task) => self.cancel(actor, task),
-            Op::SetBase(task, level) => self.change_base(actor, task, level),
+            Op::SetBase(task, level) => self.set_base(actor, task, level),
         }
     }
 
+    /// Gives the actor the mutex where it is free, else lets the actor wait for it.
     fn lock(&mut self, actor: TaskNo, mutex: MutexNo) -> Reply
         ensures reply { result ≡ answer self.old actor (Op.Lock mutex) }
         ensures state { self.new ≡ after_reply self.old actor (Op.Lock mutex) result }
@@ -45,16 +47,17 @@ impl Tables {
             return Reply::Refused(Refusal::Ceiling);
         }
         if !self.is_owned(mutex) {
-            self.set_owner(mutex, Some(actor));
+            self.put_owner(mutex, Some(actor));
             return Reply::Granted;
         }
-        if self.next_ticket() == u64::MAX {
+        if self.next_ticket() == LAST_TICKET {
             return Reply::Refused(Refusal::Tickets);
         }
-        self.enqueue(actor, mutex);
+        self.join(actor, mutex);
         Reply::Queued
     }
 
+    /// Gives the actor the mutex where it is free.
     fn try_lock(&mut self, actor: TaskNo, mutex: MutexNo) -> Reply
         ensures reply { result ≡ answer self.old actor (Op.Try mutex) }
         ensures state { self.new ≡ after_reply self.old actor (Op.Try mutex) result }
@@ -68,10 +71,11 @@ impl Tables {
         if self.is_owned(mutex) {
             return Reply::Refused(Refusal::Busy);
         }
-        self.set_owner(mutex, Some(actor));
+        self.put_owner(mutex, Some(actor));
         Reply::Granted
     }
 
+    /// Hands the actor's mutex over.
     fn unlock(&mut self, actor: TaskNo, mutex: MutexNo) -> Reply
         ensures reply { result ≡ answer self.old actor (Op.Unlock mutex) }
         ensures state { self.new ≡ after_reply self.old actor (Op.Unlock mutex) result }
@@ -88,13 +92,13 @@ impl Tables {
         }
     }
 
-    /// Unlocks all mutexes of the actor, in rising number.
+    /// Hands all mutexes of the actor over, in ascending order.
     fn release_all(&mut self, actor: TaskNo) -> Reply
         ensures reply { result ≡ answer self.old actor Op.ReleaseAll }
         ensures state { self.new ≡ after_reply self.old actor Op.ReleaseAll result }
     {
         let mut released = 0;
-        for number in 1..self.mutex_count() + 1 {
+        for number in 1..self.mutexes() + 1 {
             let mutex = MutexNo(number);
             if self.owns(actor, mutex) {
                 self.hand_over(mutex);
@@ -104,6 +108,7 @@ impl Tables {
         Reply::Released(released)
     }
 
+    /// Ends the wait of the task.
     fn cancel(&mut self, actor: TaskNo, task: TaskNo) -> Reply
         ensures reply { result ≡ answer self.old actor (Op.Cancel task) }
         ensures state { self.new ≡ after_reply self.old actor (Op.Cancel task) result }
@@ -114,11 +119,12 @@ impl Tables {
         if !self.is_waiting(task) {
             return Reply::Refused(Refusal::NotWaiting);
         }
-        self.end_wait(task);
+        self.leave(task);
         Reply::Withdrawn
     }
 
-    fn change_base(&mut self, actor: TaskNo, task: TaskNo, level: u16) -> Reply
+    /// Gives the task this base where it is a priority.
+    fn set_base(&mut self, actor: TaskNo, task: TaskNo, level: u16) -> Reply
         ensures reply { result ≡ answer self.old actor (Op.SetBase task level) }
         ensures state { self.new ≡ after_reply self.old actor (Op.SetBase task level) result }
     {
@@ -127,26 +133,26 @@ impl Tables {
         }
         match Prio::new(level) {
             Some(prio) => {
-                self.set_base(task, prio);
+                self.put_base(task, prio);
                 Reply::Set
             }
             None => Reply::Refused(Refusal::Priority),
         }
     }
 
-    /// The mutex goes to the first of its queue, who waits no more, or is free; the answer is the new owner.
+    /// Gives the mutex to its first waiter, who stops waiting, or frees it; returns that waiter.
     fn hand_over(&mut self, mutex: MutexNo) -> Option<Waiter>
         ensures first { result ≡ first_of self.old mutex }
         ensures state { self.new ≡ hand_over self.old mutex }
     {
-        let first = self.first(mutex);
+        let first = self.first_of(mutex);
         match &first {
             Some(waiter) => {
                 let task = waiter.task;
-                self.set_owner(mutex, Some(task));
-                self.end_wait(task);
+                self.put_owner(mutex, Some(task));
+                self.leave(task);
             }
-            None => self.set_owner(mutex, None),
+            None => self.put_owner(mutex, None),
         }
         first
     }

@@ -1,9 +1,10 @@
-//! All the memory that there is.
+//! All the memory that there is, and a call that is tried until enough of it is given back.
 
 use std::alloc::{AllocError, Global};
+use std::test::Fail;
 
 /// How many grains there are to give back.
-pub const GRAINS: u32 = 128;
+const GRAINS: usize = 128;
 
 /// The size of a grain, in bytes.
 const GRAIN: usize = 4096;
@@ -16,17 +17,17 @@ const LARGEST: usize = 1 << 34;
 
 /// All the memory that there is, of which a grain at a time is given back.
 #[derive(Drop)]
-pub struct Hoard {
+struct Hoard {
     blocks: Vec<Vec<u8>>,
     grains: Vec<Vec<u8>>,
 }
 
 impl Hoard {
     /// Takes what there is: large blocks first, then smaller ones.
-    pub fn new(alloc: Global) -> Result<Hoard, AllocError> {
+    fn new(alloc: Global) -> Result<Hoard, AllocError> {
         let mut hoard = Hoard {
             blocks: Vec::with_capacity(alloc, BLOCKS)?,
-            grains: Vec::with_capacity(alloc, GRAINS as usize)?,
+            grains: Vec::with_capacity(alloc, GRAINS)?,
         };
         for _ in 0..GRAINS {
             hoard.grains.push(Vec::with_capacity(alloc, GRAIN)?)?;
@@ -38,7 +39,7 @@ impl Hoard {
     }
 
     /// Gives one grain back.
-    pub fn give_back(&mut self) {
+    fn give_back(&mut self) {
         let _grain = self.grains.pop();
     }
 
@@ -52,4 +53,29 @@ impl Hoard {
         }
         Ok(())
     }
+}
+
+/// Returns what the call answers once there is enough memory. It answers None where memory is refused, and is tried again
+/// after each grain that is given back.
+///
+/// # Errors
+///
+/// Where memory is not refused at first, or still is with all grains given back.
+pub fn served_at_last<T: Drop, F: FnMut() -> Option<T>>(
+    alloc: Global,
+    mut call: F,
+) -> Result<T, Fail>
+    requires { F.IsAlwaysCallable call }
+{
+    let mut hoard = Hoard::new(alloc)?;
+    if call().is_some() {
+        return Err("it was served with no memory")?;
+    }
+    for _ in 0..GRAINS {
+        hoard.give_back();
+        if let Some(answer) = call() {
+            return Ok(answer);
+        }
+    }
+    Err("it was refused with enough memory")?
 }

@@ -1,14 +1,15 @@
-//! Shows what the calls that take memory answer while memory is refused: their error, with nothing changed, until there
-//! is enough, and then the ordinary answer.
+//! Tests of the calls that take memory: what they answer while it is refused, and that they are served where there is
+//! enough, at every size.
 //!
-//! A `Hoard` takes all of the process's address space, and gives back a grain at a time. No thread may start while
-//! it stands.
+//! While memory is refused a call answers its error and changes nothing; once there is enough it gives the ordinary answer.
+//! For this a `Hoard` takes all of the process's address space, and gives back a grain at a time. No thread may start
+//! while it stands.
 //!
 //! ```text
-//! let mut hoard = Hoard::new(alloc)?;
-//! Manager::new(alloc, &bases, &protocols); // Err(MakeFault::Memory)
-//! hoard.give_back();
-//! Manager::new(alloc, &bases, &protocols); // refused at a later allocation, or made
+//! let manager = served_at_last(alloc, || match Manager::new(alloc, &bases, &protocols) {
+//!     Err(MakeFault::Memory) => None, // a grain is given back, and the call is tried again
+//!     answer => Some(answer),
+//! })?;
 //! ```
 #![tactic(auto)]
 
@@ -16,5 +17,7 @@
 mod hoard;
 #[cfg(test)]
 mod managers;
+#[cfg(test)]
+mod sizes;
 #[cfg(test)]
 mod texts;

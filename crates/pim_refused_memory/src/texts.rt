@@ -1,8 +1,10 @@
-//! The calls on texts.
+//! The calls on texts while memory is refused.
 
-use crate::hoard::{GRAINS, Hoard};
-use pim_tool::{Fault, Input, Output, Verdict, judge, parse, parse_script};
-use std::alloc::{AllocError, Global};
+use crate::hoard::served_at_last;
+use crate::managers::step;
+use pim_base::{MutexNo, Op, Prio, Protocol, StepLine, TaskNo};
+use pim_tool::{Fault, Input, Output, Text, Verdict, judge, parse, parse_script};
+use std::process::Abort;
 use std::test::Fail;
 
 const TEXT: &[u8] = b"pim 1
@@ -30,67 +32,66 @@ const REPORT: &str = "\
 accepted 5
 ";
 
-/// How often memory was refused with nothing written, and what was answered and written then.
-fn judged_by_grains(alloc: Global) -> Result<(u32, Result<Verdict, Fault>, Vec<u8>), AllocError> {
-    let mut writer = Output::new(Vec::with_capacity(alloc, 4096)?);
-    let mut hoard = Hoard::new(alloc)?;
-    for refusals in 0..GRAINS {
-        let answer = judge(alloc, &mut Input::new(TEXT), &mut writer);
-        if answer != Err(Fault::Memory) {
-            return Ok((refusals, answer, writer.into_inner()));
-        }
-        hoard.give_back();
+// what the text says
+fn expect_text(rt: &impl Abort, text: &Text) {
+    for (base, level) in text.bases.iter().zip([20, 40, 90]) {
+        assert_eq!(rt; base.get(), level);
     }
-    Ok((GRAINS, Err(Fault::Memory), writer.into_inner()))
+    assert_eq!(rt; text.bases.len(), 3);
+    let ceiling = Prio::new(50).expect(rt, "a ceiling");
+    let protocols = [Protocol::Protect(ceiling), Protocol::Inherit];
+    assert!(rt; text.protocols.as_slice() == protocols.as_slice());
+    let steps = [
+        step(1, Op::Lock(MutexNo(1))),
+        step(2, Op::Lock(MutexNo(2))),
+        step(2, Op::Lock(MutexNo(1))),
+        step(3, Op::Lock(MutexNo(2))),
+        step(1, Op::Unlock(MutexNo(1))),
+    ];
+    assert_eq!(rt; text.lines.len(), 5);
+    for (line, step) in text.lines.iter().zip(steps) {
+        assert_eq!(rt;
+            *line,
+            StepLine {
+                step,
+                recorded: None
+            }
+        );
+    }
 }
 
-#[test]
-fn judge_answers_memory_until_there_is_enough(rt: HostRuntime) -> Result<(), Fail> {
-    let (refusals, answer, written) = judged_by_grains(rt.alloc())?;
-    assert_eq!(rt; answer, Ok(Verdict::Accepted(5)), "after {refusals}");
-    assert!(rt; written.as_slice() == REPORT.as_bytes());
-    assert!(rt; refusals > 0);
-    Ok(())
-}
-
-/// How often memory was refused, and how many step lines were read then.
-fn read_by_grains(alloc: Global) -> Result<(u32, Result<usize, Fault>), AllocError> {
-    let mut hoard = Hoard::new(alloc)?;
-    for refusals in 0..GRAINS {
-        let answer = parse(alloc, TEXT).map(|text| text.lines.len());
-        if answer != Err(Fault::Memory) {
-            return Ok((refusals, answer));
-        }
-        hoard.give_back();
+// the answer, unless memory was refused
+fn served<T: Drop>(answer: Result<T, Fault>) -> Option<Result<T, Fault>> {
+    match answer {
+        Err(Fault::Memory) => None,
+        answer => Some(answer),
     }
-    Ok((GRAINS, Err(Fault::Memory)))
 }
 
 #[test]
 fn parse_answers_memory_until_there_is_enough(rt: HostRuntime) -> Result<(), Fail> {
-    let (refusals, answer) = read_by_grains(rt.alloc())?;
-    assert_eq!(rt; answer, Ok(5), "after {refusals}");
-    assert!(rt; refusals > 0);
+    let alloc = rt.alloc();
+    let text = served_at_last(alloc, || served(parse(alloc, TEXT)))?;
+    expect_text(&rt, &text?);
     Ok(())
-}
-
-/// The same for a script.
-fn script_by_grains(alloc: Global) -> Result<(u32, Result<usize, Fault>), AllocError> {
-    let mut hoard = Hoard::new(alloc)?;
-    for refusals in 0..GRAINS {
-        let answer = parse_script(alloc, TEXT).map(|script| script.lines.len());
-        if answer != Err(Fault::Memory) {
-            return Ok((refusals, answer));
-        }
-        hoard.give_back();
-    }
-    Ok((GRAINS, Err(Fault::Memory)))
 }
 
 #[test]
 fn parse_script_answers_memory_until_there_is_enough(rt: HostRuntime) -> Result<(), Fail> {
-    let (refusals, answer) = script_by_grains(rt.alloc())?;
-    assert_eq!(rt; answer, Ok(5), "after {refusals}");
-    assert!(rt; refusals > 0);
+    let alloc = rt.alloc();
+    let script = served_at_last(alloc, || served(parse_script(alloc, TEXT)))?;
+    expect_text(&rt, &script?);
+    Ok(())
+}
+
+#[test]
+fn judge_writes_nothing_until_there_is_enough(rt: HostRuntime) -> Result<(), Fail> {
+    let alloc = rt.alloc();
+    let mut writer = Output::new(Vec::with_capacity(alloc, 4096)?);
+    let verdict = served_at_last(alloc, || {
+        served(judge(alloc, &mut Input::new(TEXT), &mut writer))
+    })?;
+    assert_eq!(rt; verdict, Ok(Verdict::Accepted(5)));
+    assert!(rt; writer.into_inner().as_slice() == REPORT.as_bytes());
     Ok(())
 }
