@@ -1,5 +1,5 @@
 -- Words cut off the front of a line, and what single words spell.
-use Rattle.std.proofs.Common.{◌≡◌, ◌<◌, ◌≤◌, ◌^◌, ℕ, zero, suc, List, [], ◌∷◌, codes, arith, refl, sym, ◌∙◌, ap, Option, Some, None, MatchOption, Bool, true, false, not, Bor, eqb, length}
+use Rattle.std.proofs.Common.{◌≡◌, ◌<◌, ◌≤◌, ◌^◌, ℕ, zero, suc, List, [], ◌∷◌, codes, arith, sym, ◌∙◌, ap, Option, Some, None, MatchOption, Bool, true, false, Bor, eqb, length}
 use Rattle.std.specs.Fmt.{decimal}
 use Rattle.std.specs.List.{join_with_byte}
 use Rattle.std.specs.Option.{SomeIff}
@@ -12,28 +12,6 @@ use Rattle.std.proofs.lemmas.List.Elements.{All-from_recursion}
 use Rattle.pim_base.specs.Spelling.{SPACE, IsNumber, IsPrio}
 use Rattle.pim_text.specs.Reading.{words, pieces}
 use Rattle.pim_text.proofs.SpellingLemmas.{IsWord, word_decimal, value-decimal}
-
--- ---- tests of bytes
-
--- one that holds
-pub same_bytes : (a b c : List ℕ) → true ≡ bytes_eq a b → b ≡ c → a ≡ c
-same_bytes a b c test e = (bytes_eq-Decides a b).0 (sym test) ∙ e
-
--- one that fails
-pub other_bytes : (a b c : List ℕ) → false ≡ bytes_eq a b → b ≡ c → a ≡ c → ⊥
-other_bytes a b c test e same = differ (bytes_eq a b) ((bytes_eq-Decides a b).1 (same ∙ sym e)) test
-  where
-    differ : (t : Bool) → t ≡ true → false ≡ t → ⊥
-    differ true h e = cc
-    differ false h e = cc
-
--- one that the bytes differ, and fails
-pub agreeing_bytes : (a b c : List ℕ) → false ≡ not (bytes_eq a b) → b ≡ c → a ≡ c
-agreeing_bytes a b c test e = same_bytes a b c (holds (bytes_eq a b) test) e
-  where
-    holds : (t : Bool) → false ≡ not t → true ≡ t
-    holds true h = refl
-    holds false h = cc
 
 -- bytes are not two different words
 pub not_both : (w a b : List ℕ) → bytes_eq a b ≡ false → w ≡ a → w ≡ b → ⊥

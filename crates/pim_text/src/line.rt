@@ -5,7 +5,7 @@ ghost use Rattle.pim_text.specs.Reading.{words, Reads, ReadsBytes, ReadsAs};
 
 use crate::op::read_op;
 use crate::reply::read_recorded;
-use crate::word::{cut, number_of, prio_of};
+use crate::word::{cut, is, number_of, prio_of};
 use pim_base::{Line, MutexNo, Protocol, Step, StepLine, TaskNo};
 
 /// Returns what the bytes say, if they are a line below the first.
@@ -20,9 +20,9 @@ pub(crate) fn read_line(bytes: &[u8]) -> Option<Line>
 fn read_words(first: &[u8], rest: &[u8]) -> Option<Line>
     ensures { Reads (first.now ∷ words rest.now) result }
 {
-    if first == b"task".as_slice() {
+    if is(first, "task") {
         read_task(rest)
-    } else if first == b"mutex".as_slice() {
+    } else if is(first, "mutex") {
         read_mutex(rest)
     } else {
         read_step(first, rest)
@@ -59,15 +59,15 @@ fn read_mutex(rest: &[u8]) -> Option<Line>
 fn read_protocol(rest: &[u8]) -> Option<Protocol>
     ensures { ReadsAs IsProtocol protocol_words (words rest.now) result }
 {
-    if rest == b"none".as_slice() {
+    if is(rest, "none") {
         return Some(Protocol::None);
     }
-    if rest == b"inherit".as_slice() {
+    if is(rest, "inherit") {
         return Some(Protocol::Inherit);
     }
     let (word, ceiling) = cut(rest, b' ');
     let ceiling = prio_of(ceiling?)?;
-    if word == b"protect".as_slice() {
+    if is(word, "protect") {
         Some(Protocol::Protect(ceiling))
     } else {
         None

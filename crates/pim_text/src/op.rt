@@ -3,7 +3,7 @@ ghost use Rattle.std.specs.Prelude.{◌≡◌, ℕ, ◌∷◌, ◌++◌, List, M
 ghost use Rattle.pim_base.specs.Spelling.{SPACE, IsNumber, IsOp, op_words};
 ghost use Rattle.pim_text.specs.Reading.{pieces};
 
-use crate::word::{cut, number_of};
+use crate::word::{cut, is, number_of};
 use pim_base::{MutexNo, Op, TaskNo};
 
 /// Returns the operation that the words begin with, of which the first was cut off, and the words behind it.
@@ -12,19 +12,19 @@ pub(crate) fn read_op<'a>(word: &[u8], tail: Option<&'a [u8]>) -> Option<(Op, Op
         ((op : Op) (ws : List (List ℕ)) → IsOp op → word.now ∷ pieces SPACE tail.entry ≡ op_words op ++ ws → ⊥)
         (λ read. IsOp read.0 × (word.now ∷ pieces SPACE tail.entry ≡ op_words read.0 ++ pieces SPACE read.1)) }
 {
-    if word == b"release".as_slice() {
+    if is(word, "release") {
         return Some((Op::ReleaseAll, tail));
     }
     let (number, tail) = read_target(tail)?;
-    if word == b"lock".as_slice() {
+    if is(word, "lock") {
         Some((Op::Lock(MutexNo(number)), tail))
-    } else if word == b"unlock".as_slice() {
+    } else if is(word, "unlock") {
         Some((Op::Unlock(MutexNo(number)), tail))
-    } else if word == b"try".as_slice() {
+    } else if is(word, "try") {
         Some((Op::Try(MutexNo(number)), tail))
-    } else if word == b"cancel".as_slice() {
+    } else if is(word, "cancel") {
         Some((Op::Cancel(TaskNo(number)), tail))
-    } else if word == b"base".as_slice() {
+    } else if is(word, "base") {
         let (level, tail) = read_target(tail)?;
         Some((Op::SetBase(TaskNo(number), level), tail))
     } else {

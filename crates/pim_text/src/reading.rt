@@ -10,7 +10,7 @@ use crate::fault::TextFault;
 use crate::kind::TextKind;
 use crate::line::read_line;
 use crate::text::Text;
-use crate::word::cut;
+use crate::word::{cut, is};
 use std::alloc::{AllocError, Global};
 
 /// Returns the trace that the bytes spell, line by line.
@@ -54,7 +54,7 @@ fn read(alloc: Global, bytes: &[u8], kind: TextKind) -> Result<Text, TextFault>
         return Err(TextFault::Line(1));
     }
     let (first, mut rest) = next_line(bytes);
-    if first != b"pim 1".as_slice() {
+    if !is(first, "pim 1") {
         return Err(TextFault::Line(1));
     }
     let mut text = Text::new(alloc);

@@ -3,7 +3,7 @@ ghost use Rattle.std.specs.Prelude.{◌≡◌, ◌∷◌, [], MatchOption};
 ghost use Rattle.pim_base.specs.Spelling.{SPACE, IsRecorded, IsReply, recorded_words, reply_words, refusal_word};
 ghost use Rattle.pim_text.specs.Reading.{pieces, words, ReadsAs};
 
-use crate::word::{count_of, cut, number_of};
+use crate::word::{count_of, cut, is, number_of};
 use pim_base::{Refusal, Reply, TaskNo};
 
 /// Reads `= <reply>`, or nothing: the reply that was recorded, if one was.
@@ -14,7 +14,7 @@ pub(crate) fn read_recorded(tail: Option<&[u8]>) -> Option<Option<Reply>>
         return Some(None);
     };
     let (word, rest) = cut(rest, b' ');
-    if word != b"=".as_slice() {
+    if !is(word, "=") {
         return None;
     }
     let reply = read_reply(rest?)?;
@@ -36,15 +36,15 @@ fn read_reply(rest: &[u8]) -> Option<Reply>
 fn plain_reply(word: &[u8]) -> Option<Reply>
     ensures { ReadsAs IsReply reply_words (word.now ∷ []) result }
 {
-    if word == b"granted".as_slice() {
+    if is(word, "granted") {
         Some(Reply::Granted)
-    } else if word == b"queued".as_slice() {
+    } else if is(word, "queued") {
         Some(Reply::Queued)
-    } else if word == b"freed".as_slice() {
+    } else if is(word, "freed") {
         Some(Reply::Freed)
-    } else if word == b"withdrawn".as_slice() {
+    } else if is(word, "withdrawn") {
         Some(Reply::Withdrawn)
-    } else if word == b"set".as_slice() {
+    } else if is(word, "set") {
         Some(Reply::Set)
     } else {
         None
@@ -55,11 +55,11 @@ fn plain_reply(word: &[u8]) -> Option<Reply>
 fn reply_with(word: &[u8], argument: &[u8]) -> Option<Reply>
     ensures { ReadsAs IsReply reply_words (word.now ∷ words argument.now) result }
 {
-    if word == b"handed".as_slice() {
+    if is(word, "handed") {
         Some(Reply::Handed(TaskNo(number_of(argument)?)))
-    } else if word == b"released".as_slice() {
+    } else if is(word, "released") {
         Some(Reply::Released(count_of(argument)?))
-    } else if word == b"refused".as_slice() {
+    } else if is(word, "refused") {
         Some(Reply::Refused(refusal_of(argument)?))
     } else {
         None
@@ -73,5 +73,5 @@ fn refusal_of(name: &[u8]) -> Option<Refusal>
     Refusal::ALL
         .iter()
         .copied()
-        .find(|refusal| refusal.name().as_bytes() == name)
+        .find(|refusal| is(name, refusal.name()))
 }

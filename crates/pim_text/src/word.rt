@@ -1,5 +1,6 @@
 //! The words of a line, and the numbers that they spell.
-ghost use Rattle.std.specs.Prelude.{◌≡◌, ℕ, ◌∷◌, ◌==◌, ◌<◌, ◌^◌, length, MatchOption, IfSome, decimal, position};
+ghost use Rattle.std.specs.Prelude.{◌≡◌, ◌≢◌, ℕ, ◌∷◌, ◌==◌, ◌<◌, ◌^◌, length, MatchOption, IfSome, decimal, position};
+ghost use Rattle.std.specs.Bool.{MatchBool};
 ghost use Rattle.std.specs.List.{slice_split};
 ghost use Rattle.pim_base.specs.Spelling.{IsNumber, IsPrio};
 ghost use Rattle.pim_text.specs.Reading.{pieces};
@@ -24,6 +25,14 @@ fn place_of(bytes: &[u8], separator: u8) -> Option<usize>
     ensures { result ≡ position (λ b. b == separator) bytes.now }
 {
     bytes.iter().position(|byte| *byte == separator)
+}
+
+/// Returns whether the word is this one.
+#[inline(always)]
+pub(crate) fn is(word: &[u8], name: &str) -> bool
+    ensures { MatchBool result (word.now ≡ name.now) (word.now ≢ name.now) }
+{
+    word == name.as_bytes()
 }
 
 /// Returns the priority, 1 to 99, that the word spells, if it spells one.
@@ -53,7 +62,7 @@ pub(crate) fn count_of(word: &[u8]) -> Option<u16>
         ((n : ℕ) → n < 2 ^ 16 → word.now ≡ decimal n → ⊥)
         (λ n. (n < 2 ^ 16) × (word.now ≡ decimal n)) }
 {
-    if word == b"0".as_slice() {
+    if is(word, "0") {
         Some(0)
     } else {
         number_of(word)
