@@ -1,9 +1,11 @@
-// The report of a trace by a plain judge in C++, written for speed and not proved: what `pim` is compared with.
+// The report of a trace by a plain judge in C++, written for speed and not proved: what `pim` is
+// compared with.
 //
 //   g++ -O2 -std=c++17 judge.cpp -o judge
 //
-// One pass over the bytes finds the first invalid line; one pass over the steps mends the priorities that each of them
-// changes, by a walk along the chain of waiting tasks that ends where nothing changes, and writes the report by pages.
+// One pass over the bytes finds the first invalid line; one pass over the steps mends the
+// priorities that each of them changes, by a walk along the chain of waiting tasks that ends where
+// nothing changes, and writes the report by pages.
 
 #include <sys/stat.h>
 #include <unistd.h>
@@ -35,16 +37,44 @@ constexpr unsigned HIGHEST_NUMBER = 65535;
 enum class Protocol : uint8_t { None, Inherit, Protect };
 enum class Op : uint8_t { Lock, Try, Unlock, Release, Cancel, Base };
 enum class Answer : uint8_t {
-    Granted, Queued, Freed, Withdrawn, Set, NoTask, Waiting, NoMutex, Deadlock,
-    Ceiling, Busy, NotOwner, NotWaiting, Priority, Tickets, Handed, Released,
+    Granted,
+    Queued,
+    Freed,
+    Withdrawn,
+    Set,
+    NoTask,
+    Waiting,
+    NoMutex,
+    Deadlock,
+    Ceiling,
+    Busy,
+    NotOwner,
+    NotWaiting,
+    Priority,
+    Tickets,
+    Handed,
+    Released,
 };
 
 // The texts of the answers, in their order. A number follows the last two.
 constexpr std::string_view ANSWERS[] = {
-    "granted", "queued", "freed", "withdrawn", "set",
-    "refused no-task", "refused waiting", "refused no-mutex", "refused deadlock", "refused ceiling",
-    "refused busy", "refused not-owner", "refused not-waiting", "refused priority", "refused tickets",
-    "handed ", "released ",
+    "granted",
+    "queued",
+    "freed",
+    "withdrawn",
+    "set",
+    "refused no-task",
+    "refused waiting",
+    "refused no-mutex",
+    "refused deadlock",
+    "refused ceiling",
+    "refused busy",
+    "refused not-owner",
+    "refused not-waiting",
+    "refused priority",
+    "refused tickets",
+    "handed ",
+    "released ",
 };
 
 struct Reply {
@@ -52,7 +82,9 @@ struct Reply {
     uint16_t number = 0;
 
     bool has_number() const { return answer >= Answer::Handed; }
-    bool operator==(const Reply& other) const { return answer == other.answer && number == other.number; }
+    bool operator==(const Reply& other) const {
+        return answer == other.answer && number == other.number;
+    }
 };
 
 struct Step {
@@ -82,7 +114,8 @@ struct Cursor {
     bool is_done() const { return at == end; }
 
     bool eat(std::string_view word) {
-        if (size_t(end - at) < word.size() || std::memcmp(at, word.data(), word.size()) != 0) return false;
+        if (size_t(end - at) < word.size() || std::memcmp(at, word.data(), word.size()) != 0)
+            return false;
         at += word.size();
         return true;
     }
@@ -110,7 +143,8 @@ bool read_reply(Cursor& line, Reply& reply) {
         reply = {Answer(i)};
         if (!line.eat(ANSWERS[i])) continue;
         if (!reply.has_number()) return line.is_done();
-        return line.number(reply.number, HIGHEST_NUMBER, reply.answer == Answer::Released) && line.is_done();
+        return line.number(reply.number, HIGHEST_NUMBER, reply.answer == Answer::Released) &&
+               line.is_done();
     }
     return false;
 }
@@ -138,7 +172,8 @@ bool read_protocol(Cursor& line, Declared& declared) {
     uint16_t ceiling = 0;
     if (line.eat("none")) declared.protocol = Protocol::None;
     else if (line.eat("inherit")) declared.protocol = Protocol::Inherit;
-    else if (line.eat("protect ") && line.number(ceiling, HIGHEST_PRIO)) declared.protocol = Protocol::Protect;
+    else if (line.eat("protect ") && line.number(ceiling, HIGHEST_PRIO))
+        declared.protocol = Protocol::Protect;
     else return false;
     declared.ceiling = uint8_t(ceiling);
     return line.is_done();
@@ -148,14 +183,16 @@ bool read_protocol(Cursor& line, Declared& declared) {
 bool add_line(Cursor line, Text& text) {
     uint16_t number = 0, prio = 0;
     if (line.eat("task ")) {
-        if (!text.mutexes.empty() || !text.steps.empty() || text.bases.size() == MOST_TASKS) return false;
+        if (!text.mutexes.empty() || !text.steps.empty() || text.bases.size() == MOST_TASKS)
+            return false;
         if (!line.number(number) || number != text.bases.size() + 1 || !line.eat(" ")) return false;
         if (!line.number(prio, HIGHEST_PRIO) || !line.is_done()) return false;
         text.bases.push_back(uint8_t(prio));
     } else if (line.eat("mutex ")) {
         Declared declared;
         if (!text.steps.empty() || text.mutexes.size() == MOST_MUTEXES) return false;
-        if (!line.number(number) || number != text.mutexes.size() + 1 || !line.eat(" ")) return false;
+        if (!line.number(number) || number != text.mutexes.size() + 1 || !line.eat(" "))
+            return false;
         if (!read_protocol(line, declared)) return false;
         text.mutexes.push_back(declared);
     } else {
@@ -270,8 +307,10 @@ struct Mutex {
 
 class Manager {
 public:
-    explicit Manager(const Text& text) : tasks(text.bases.size() + 1), mutexes(text.mutexes.size() + 1) {
-        for (size_t t = 1; t < tasks.size(); ++t) tasks[t].base = tasks[t].stored = text.bases[t - 1];
+    explicit Manager(const Text& text)
+        : tasks(text.bases.size() + 1), mutexes(text.mutexes.size() + 1) {
+        for (size_t t = 1; t < tasks.size(); ++t)
+            tasks[t].base = tasks[t].stored = text.bases[t - 1];
         for (size_t m = 1; m < mutexes.size(); ++m) mutexes[m].declared = text.mutexes[m - 1];
         touched.reserve(MOST_TASKS);
     }
@@ -291,7 +330,8 @@ public:
         __builtin_unreachable();
     }
 
-    // Writes a line for each task whose priority the last step changed, in ascending order, and forgets them.
+    // Writes a line for each task whose priority the last step changed, in ascending order, and
+    // forgets them.
     bool write_changes(Output& out) {
         sort_touched();
         for (uint16_t t : touched) {
@@ -310,8 +350,8 @@ public:
     }
 
 private:
-    std::vector<Task> tasks;      // from 1 on
-    std::vector<Mutex> mutexes;   // from 1 on
+    std::vector<Task> tasks;     // from 1 on
+    std::vector<Mutex> mutexes;  // from 1 on
     std::vector<uint16_t> touched;
     uint64_t next_ticket = 1;
 
@@ -434,7 +474,8 @@ private:
         task.waits_for = m;
         task.ticket = next_ticket++;
         const Waiter waiter{task.ticket, actor, task.stored};
-        mutex.queue.insert(std::lower_bound(mutex.queue.begin(), mutex.queue.end(), waiter, precedes), waiter);
+        mutex.queue.insert(
+            std::lower_bound(mutex.queue.begin(), mutex.queue.end(), waiter, precedes), waiter);
         settle_from(mutex.owner);
         return {Answer::Queued};
     }
@@ -485,7 +526,8 @@ private:
         if (!task.waits_for) return {Answer::NotWaiting};
         Mutex& mutex = mutexes[task.waits_for];
         const Waiter waiter{task.ticket, t, task.stored};
-        mutex.queue.erase(std::lower_bound(mutex.queue.begin(), mutex.queue.end(), waiter, precedes));
+        mutex.queue.erase(
+            std::lower_bound(mutex.queue.begin(), mutex.queue.end(), waiter, precedes));
         task.waits_for = 0;
         settle_from(mutex.owner);
         return {Answer::Withdrawn};
