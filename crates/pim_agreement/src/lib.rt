@@ -1,10 +1,10 @@
-//! Runs the manager and the plain manager side by side, over scenarios that are told and over pseudo-random steps.
+//! Runs the manager and the plain manager side by side, over worked scenarios and over pseudo-random steps.
 //!
 //! Both are proved against the same definitions, so they can't differ where their contracts speak. These tests run
-//! what the proofs are about. A scenario is told once, with what was worked out by hand from the definitions: after
-//! each step its reply, its visits, and the priority of each task with its reason. The random steps are thousands,
-//! from fixed seeds, with unknown numbers among them, and after each step every reply, priority, reason, owner and
-//! queue is compared, and the list of changed tasks.
+//! what the proofs are about. A scenario says, as worked out by hand from the definitions, after each step its reply,
+//! its visits, and the priority of each task with its reason. The random steps are 5,000, from five fixed seeds, with
+//! unknown numbers among them: after each, every reply, priority, reason, owner and queue is compared, and the list of
+//! changed tasks.
 //!
 //! ```text
 //! manager.step(step).reply == plain.step(step)

@@ -12,87 +12,75 @@ use std::test::Fail;
 
 #[test]
 fn unknown_numbers_are_refused(rt: HostRuntime) -> Result<(), Fail> {
-    let mut both = Both::new(rt.alloc(), &[10], &[NONE])?;
-    for (step, refusal) in [
-        (lock(2, 1), NoTask),
-        (lock(0, 1), NoTask),
-        (lock(1, 9), NoMutex),
-        (try_lock(1, 2), NoMutex),
-        (unlock(1, 0), NoMutex),
-        (cancel(1, 2), NoTask),
-        (set_base(1, 2, 50), NoTask),
+    let mut both = Both::new(&rt, rt.alloc(), &[10], &[NONE])?;
+    for (step, reply, visits, tasks) in [
+        (lock(2, 1), Refused(NoTask), 0, [base(10)]),
+        (lock(0, 1), Refused(NoTask), 0, [base(10)]),
+        (lock(1, 9), Refused(NoMutex), 0, [base(10)]),
+        (try_lock(1, 2), Refused(NoMutex), 0, [base(10)]),
+        (unlock(1, 0), Refused(NoMutex), 0, [base(10)]),
+        (cancel(1, 2), Refused(NoTask), 0, [base(10)]),
+        (set_base(1, 2, 50), Refused(NoTask), 0, [base(10)]),
     ] {
-        both.expect_step(&rt, step, Refused(refusal), 0, &[base(10)]);
+        both.expect_step(step, reply, visits, &tasks);
     }
     Ok(())
 }
 
 #[test]
-fn highest_waiter_first_on_a_none_mutex(rt: HostRuntime) -> Result<(), Fail> {
-    let mut both = Both::new(rt.alloc(), &[10, 30, 20], &[NONE])?;
+fn waiters_are_served_by_priority_and_ask_for_nothing(rt: HostRuntime) -> Result<(), Fail> {
+    let mut both = Both::new(&rt, rt.alloc(), &[10, 30, 20], &[NONE])?;
     let bases = [base(10), base(30), base(20)];
-    for (step, reply, visits) in [
-        (lock(1, 1), Granted, 1),
-        (lock(3, 1), Queued, 1),
-        (lock(2, 1), Queued, 1),
-        (unlock(2, 1), Refused(Waiting), 0),
-        (unlock(1, 1), handed(2), 2),
-        (unlock(2, 1), handed(3), 2),
-        (unlock(3, 1), Freed, 1),
-        (unlock(3, 1), Refused(NotOwner), 0),
+    for (step, reply, visits, tasks) in [
+        (lock(1, 1), Granted, 1, bases),
+        (lock(3, 1), Queued, 1, bases),
+        (lock(2, 1), Queued, 1, bases),
+        (unlock(2, 1), Refused(Waiting), 0, bases),
+        (unlock(1, 1), handed(2), 2, bases),
+        (unlock(2, 1), handed(3), 2, bases),
+        (unlock(3, 1), Freed, 1, bases),
+        (unlock(3, 1), Refused(NotOwner), 0, bases),
     ] {
-        both.expect_step(&rt, step, reply, visits, &bases);
+        both.expect_step(step, reply, visits, &tasks);
     }
     Ok(())
 }
 
 #[test]
 fn medium_task_cannot_delay_boosted_owner(rt: HostRuntime) -> Result<(), Fail> {
-    let mut both = Both::new(rt.alloc(), &[10, 50, 90], &[INHERIT])?;
+    let mut both = Both::new(&rt, rt.alloc(), &[10, 50, 90], &[INHERIT])?;
     let bases = [base(10), base(50), base(90)];
+    let boosted = [waiter(90, 3, 1), base(50), base(90)];
     for (step, reply, visits, tasks) in [
         (lock(1, 1), Granted, 1, bases),
-        (
-            lock(3, 1),
-            Queued,
-            1,
-            [waiter(90, 3, 1), base(50), base(90)],
-        ),
+        (lock(3, 1), Queued, 1, boosted),
         (unlock(1, 1), handed(3), 2, bases),
     ] {
-        both.expect_step(&rt, step, reply, visits, &tasks);
+        both.expect_step(step, reply, visits, &tasks);
     }
     Ok(())
 }
 
 #[test]
-fn deadlock_of_two_and_of_an_owner(rt: HostRuntime) -> Result<(), Fail> {
-    let mut both = Both::new(rt.alloc(), &[10, 20], &[INHERIT, INHERIT])?;
+fn deadlock_is_refused_across_two_mutexes_and_to_the_owner(rt: HostRuntime) -> Result<(), Fail> {
+    let mut both = Both::new(&rt, rt.alloc(), &[10, 20], &[INHERIT, INHERIT])?;
+    let bases = [base(10), base(20)];
+    let boosted = [waiter(20, 2, 1), base(20)];
     for (step, reply, visits, tasks) in [
-        (lock(1, 1), Granted, 1, [base(10), base(20)]),
-        (lock(2, 2), Granted, 1, [base(10), base(20)]),
-        (lock(2, 1), Queued, 1, [waiter(20, 2, 1), base(20)]),
-        (
-            lock(1, 2),
-            Refused(Deadlock),
-            0,
-            [waiter(20, 2, 1), base(20)],
-        ),
-        (
-            lock(1, 1),
-            Refused(Deadlock),
-            0,
-            [waiter(20, 2, 1), base(20)],
-        ),
+        (lock(1, 1), Granted, 1, bases),
+        (lock(2, 2), Granted, 1, bases),
+        (lock(2, 1), Queued, 1, boosted),
+        (lock(1, 2), Refused(Deadlock), 0, boosted),
+        (lock(1, 1), Refused(Deadlock), 0, boosted),
     ] {
-        both.expect_step(&rt, step, reply, visits, &tasks);
+        both.expect_step(step, reply, visits, &tasks);
     }
     Ok(())
 }
 
 #[test]
-fn deadlock_of_three_is_busy_for_a_try(rt: HostRuntime) -> Result<(), Fail> {
-    let mut both = Both::new(rt.alloc(), &[10, 20, 30], &[INHERIT, NONE, INHERIT])?;
+fn try_answers_busy_where_lock_answers_deadlock(rt: HostRuntime) -> Result<(), Fail> {
+    let mut both = Both::new(&rt, rt.alloc(), &[10, 20, 30], &[INHERIT, NONE, INHERIT])?;
     let bases = [base(10), base(20), base(30)];
     let boosted = [waiter(20, 2, 1), base(20), base(30)];
     for (step, reply, visits, tasks) in [
@@ -105,162 +93,148 @@ fn deadlock_of_three_is_busy_for_a_try(rt: HostRuntime) -> Result<(), Fail> {
         (try_lock(1, 3), Refused(Busy), 0, boosted),
         (try_lock(1, 1), Refused(Busy), 0, boosted),
     ] {
-        both.expect_step(&rt, step, reply, visits, &tasks);
+        both.expect_step(step, reply, visits, &tasks);
     }
     Ok(())
 }
 
 #[test]
-fn deadlock_through_none_and_protect_mutexes(rt: HostRuntime) -> Result<(), Fail> {
-    let mut both = Both::new(rt.alloc(), &[10, 20], &[NONE, protect(&rt, 30)])?;
+fn deadlock_is_refused_through_mutexes_that_lend_nothing(rt: HostRuntime) -> Result<(), Fail> {
+    let mut both = Both::new(&rt, rt.alloc(), &[10, 20], &[NONE, protect(&rt, 30)])?;
     for (step, reply, visits, tasks) in [
         (lock(1, 1), Granted, 1, [base(10), base(20)]),
         (lock(2, 2), Granted, 1, [base(10), ceiling(30, 2)]),
         (lock(2, 1), Queued, 1, [base(10), ceiling(30, 2)]),
         (lock(1, 2), Refused(Deadlock), 0, [base(10), ceiling(30, 2)]),
     ] {
-        both.expect_step(&rt, step, reply, visits, &tasks);
+        both.expect_step(step, reply, visits, &tasks);
     }
     Ok(())
 }
 
 #[test]
-fn no_boost_through_a_protect_mutex(rt: HostRuntime) -> Result<(), Fail> {
-    let mut both = Both::new(rt.alloc(), &[20, 40, 90], &[protect(&rt, 50), INHERIT])?;
+fn boost_stops_at_a_protect_mutex(rt: HostRuntime) -> Result<(), Fail> {
+    let mut both = Both::new(&rt, rt.alloc(), &[20, 40, 90], &[protect(&rt, 50), INHERIT])?;
+    let [t1, t2, t3] = [ceiling(50, 1), base(40), base(90)];
+    let boosted = waiter(90, 3, 2);
     for (step, reply, visits, tasks) in [
-        (lock(1, 1), Granted, 1, [ceiling(50, 1), base(40), base(90)]),
-        (lock(2, 2), Granted, 1, [ceiling(50, 1), base(40), base(90)]),
-        (lock(2, 1), Queued, 1, [ceiling(50, 1), base(40), base(90)]),
-        (
-            lock(3, 2),
-            Queued,
-            1,
-            [ceiling(50, 1), waiter(90, 3, 2), base(90)],
-        ),
-        (
-            unlock(1, 1),
-            handed(2),
-            2,
-            [base(20), waiter(90, 3, 2), base(90)],
-        ),
+        (lock(1, 1), Granted, 1, [t1, t2, t3]),
+        (lock(2, 2), Granted, 1, [t1, t2, t3]),
+        (lock(2, 1), Queued, 1, [t1, t2, t3]),
+        (lock(3, 2), Queued, 1, [t1, boosted, t3]),
+        (unlock(1, 1), handed(2), 2, [base(20), boosted, t3]),
     ] {
-        both.expect_step(&rt, step, reply, visits, &tasks);
+        both.expect_step(step, reply, visits, &tasks);
     }
     Ok(())
 }
 
 #[test]
-fn raised_waiter_moves_to_the_front_of_a_none_mutex(rt: HostRuntime) -> Result<(), Fail> {
-    let mut both = Both::new(rt.alloc(), &[10, 40, 30, 90], &[NONE, INHERIT])?;
+fn raised_waiter_is_handed_a_mutex_that_lends_nothing(rt: HostRuntime) -> Result<(), Fail> {
+    let mut both = Both::new(&rt, rt.alloc(), &[10, 40, 30, 90], &[NONE, INHERIT])?;
     let bases = [base(10), base(40), base(30), base(90)];
     let boosted = [base(10), base(40), waiter(90, 4, 2), base(90)];
-    for (step, reply) in [
-        (lock(1, 1), Granted),
-        (lock(3, 2), Granted),
-        (lock(2, 1), Queued),
-        (lock(3, 1), Queued),
-    ] {
-        both.expect_step(&rt, step, reply, 1, &bases);
-    }
-    both.expect_queue(&rt, 1, &[2, 3])?;
-    both.expect_step(&rt, lock(4, 2), Queued, 1, &boosted);
-    both.expect_queue(&rt, 1, &[3, 2])?;
-    both.expect_step(&rt, unlock(1, 1), handed(3), 2, &boosted);
-    both.expect_queue(&rt, 1, &[2])?;
-    Ok(())
-}
-
-#[test]
-fn withdrawals_end_the_boost(rt: HostRuntime) -> Result<(), Fail> {
-    let mut both = Both::new(rt.alloc(), &[10, 50, 50], &[INHERIT])?;
-    for (step, reply, tasks) in [
-        (lock(1, 1), Granted, [base(10), base(50), base(50)]),
-        (lock(2, 1), Queued, [waiter(50, 2, 1), base(50), base(50)]),
-        (lock(3, 1), Queued, [waiter(50, 2, 1), base(50), base(50)]),
-        (
-            cancel(2, 2),
-            Withdrawn,
-            [waiter(50, 3, 1), base(50), base(50)],
-        ),
-        (cancel(3, 3), Withdrawn, [base(10), base(50), base(50)]),
-    ] {
-        both.expect_step(&rt, step, reply, 1, &tasks);
-    }
-    Ok(())
-}
-
-#[test]
-fn ceiling_compared_with_the_base(rt: HostRuntime) -> Result<(), Fail> {
-    let mut both = Both::new(rt.alloc(), &[60], &[protect(&rt, 59), protect(&rt, 60)])?;
-    for (step, reply, visits, seen) in [
-        (lock(1, 1), Refused(Refusal::Ceiling), 0, base(60)),
-        (lock(1, 2), Granted, 1, base(60)),
-        (set_base(1, 1, 99), Set, 1, base(99)),
-        (set_base(1, 1, 100), Refused(Priority), 0, base(99)),
-        (set_base(1, 1, 0), Refused(Priority), 0, base(99)),
-        (set_base(1, 1, 59), Set, 1, ceiling(60, 2)),
-        (try_lock(1, 1), Granted, 1, ceiling(60, 2)),
-    ] {
-        both.expect_step(&rt, step, reply, visits, &[seen]);
-    }
-    Ok(())
-}
-
-#[test]
-fn highest_of_all_protocols(rt: HostRuntime) -> Result<(), Fail> {
-    let protocols = [protect(&rt, 30), protect(&rt, 50), INHERIT];
-    let mut both = Both::new(rt.alloc(), &[10, 40], &protocols)?;
-    for (step, reply, visits, seen) in [
-        (lock(1, 1), Granted, 1, ceiling(30, 1)),
-        (lock(1, 3), Granted, 1, ceiling(30, 1)),
-        (lock(2, 3), Queued, 1, waiter(40, 2, 3)),
-        (lock(1, 2), Granted, 1, ceiling(50, 2)),
-        (unlock(1, 2), Freed, 1, waiter(40, 2, 3)),
-        (unlock(1, 3), handed(2), 2, ceiling(30, 1)),
-    ] {
-        both.expect_step(&rt, step, reply, visits, &[seen, base(40)]);
-    }
-    Ok(())
-}
-
-#[test]
-fn hand_over_ignores_the_ceiling(rt: HostRuntime) -> Result<(), Fail> {
-    let mut both = Both::new(rt.alloc(), &[10, 20, 30], &[protect(&rt, 40)])?;
     for (step, reply, visits, tasks) in [
-        (lock(1, 1), Granted, 1, [ceiling(40, 1), base(20), base(30)]),
-        (lock(2, 1), Queued, 1, [ceiling(40, 1), base(20), base(30)]),
-        (lock(3, 1), Queued, 1, [ceiling(40, 1), base(20), base(30)]),
-        (
-            set_base(1, 3, 50),
-            Set,
-            1,
-            [ceiling(40, 1), base(20), base(50)],
-        ),
-        (
-            set_base(1, 2, 50),
-            Set,
-            1,
-            [ceiling(40, 1), base(50), base(50)],
-        ),
-        (unlock(1, 1), handed(2), 2, [base(10), base(50), base(50)]),
-        (unlock(2, 1), handed(3), 2, [base(10), base(50), base(50)]),
+        (lock(1, 1), Granted, 1, bases),
+        (lock(3, 2), Granted, 1, bases),
+        (lock(2, 1), Queued, 1, bases),
+        (lock(3, 1), Queued, 1, bases),
     ] {
-        both.expect_step(&rt, step, reply, visits, &tasks);
+        both.expect_step(step, reply, visits, &tasks);
+    }
+    both.expect_queue(1, &[2, 3])?;
+    both.expect_step(lock(4, 2), Queued, 1, &boosted);
+    both.expect_queue(1, &[3, 2])?;
+    both.expect_step(unlock(1, 1), handed(3), 2, &boosted);
+    both.expect_queue(1, &[2])?;
+    Ok(())
+}
+
+#[test]
+fn boost_lasts_until_the_last_equal_waiter_withdraws(rt: HostRuntime) -> Result<(), Fail> {
+    let mut both = Both::new(&rt, rt.alloc(), &[10, 50, 50], &[INHERIT])?;
+    let [t1, t2, t3] = [base(10), base(50), base(50)];
+    for (step, reply, visits, tasks) in [
+        (lock(1, 1), Granted, 1, [t1, t2, t3]),
+        (lock(2, 1), Queued, 1, [waiter(50, 2, 1), t2, t3]),
+        (lock(3, 1), Queued, 1, [waiter(50, 2, 1), t2, t3]),
+        (cancel(2, 2), Withdrawn, 1, [waiter(50, 3, 1), t2, t3]),
+        (cancel(3, 3), Withdrawn, 1, [t1, t2, t3]),
+    ] {
+        both.expect_step(step, reply, visits, &tasks);
     }
     Ok(())
 }
 
 #[test]
-fn ceiling_is_a_reason_before_a_waiter(rt: HostRuntime) -> Result<(), Fail> {
-    let mut both = Both::new(rt.alloc(), &[10, 50], &[protect(&rt, 50), INHERIT])?;
-    for (step, reply, visits, seen) in [
-        (lock(1, 2), Granted, 1, base(10)),
-        (lock(2, 2), Queued, 1, waiter(50, 2, 2)),
-        (lock(1, 1), Granted, 1, ceiling(50, 1)),
-        (unlock(1, 2), handed(2), 2, ceiling(50, 1)),
-        (unlock(1, 1), Freed, 1, base(10)),
+fn ceiling_is_compared_with_the_base_at_the_lock_alone(rt: HostRuntime) -> Result<(), Fail> {
+    let mut both = Both::new(
+        &rt,
+        rt.alloc(),
+        &[60],
+        &[protect(&rt, 59), protect(&rt, 60)],
+    )?;
+    for (step, reply, visits, tasks) in [
+        (lock(1, 1), Refused(Refusal::Ceiling), 0, [base(60)]),
+        (lock(1, 2), Granted, 1, [base(60)]),
+        (set_base(1, 1, 99), Set, 1, [base(99)]),
+        (set_base(1, 1, 100), Refused(Priority), 0, [base(99)]),
+        (set_base(1, 1, 0), Refused(Priority), 0, [base(99)]),
+        (set_base(1, 1, 59), Set, 1, [ceiling(60, 2)]),
+        (try_lock(1, 1), Granted, 1, [ceiling(60, 2)]),
     ] {
-        both.expect_step(&rt, step, reply, visits, &[seen, base(50)]);
+        both.expect_step(step, reply, visits, &tasks);
+    }
+    Ok(())
+}
+
+#[test]
+fn owner_executes_at_the_highest_of_ceilings_and_waiters(rt: HostRuntime) -> Result<(), Fail> {
+    let protocols = [protect(&rt, 30), protect(&rt, 50), INHERIT];
+    let mut both = Both::new(&rt, rt.alloc(), &[10, 40], &protocols)?;
+    for (step, reply, visits, tasks) in [
+        (lock(1, 1), Granted, 1, [ceiling(30, 1), base(40)]),
+        (lock(1, 3), Granted, 1, [ceiling(30, 1), base(40)]),
+        (lock(2, 3), Queued, 1, [waiter(40, 2, 3), base(40)]),
+        (lock(1, 2), Granted, 1, [ceiling(50, 2), base(40)]),
+        (unlock(1, 2), Freed, 1, [waiter(40, 2, 3), base(40)]),
+        (unlock(1, 3), handed(2), 2, [ceiling(30, 1), base(40)]),
+    ] {
+        both.expect_step(step, reply, visits, &tasks);
+    }
+    Ok(())
+}
+
+#[test]
+fn hand_over_above_the_ceiling_goes_by_ticket(rt: HostRuntime) -> Result<(), Fail> {
+    let mut both = Both::new(&rt, rt.alloc(), &[10, 20, 30], &[protect(&rt, 40)])?;
+    let [t1, t2, t3] = [ceiling(40, 1), base(20), base(30)];
+    let [high2, high3] = [base(50), base(50)];
+    for (step, reply, visits, tasks) in [
+        (lock(1, 1), Granted, 1, [t1, t2, t3]),
+        (lock(2, 1), Queued, 1, [t1, t2, t3]),
+        (lock(3, 1), Queued, 1, [t1, t2, t3]),
+        (set_base(1, 3, 50), Set, 1, [t1, t2, high3]),
+        (set_base(1, 2, 50), Set, 1, [t1, high2, high3]),
+        (unlock(1, 1), handed(2), 2, [base(10), high2, high3]),
+        (unlock(2, 1), handed(3), 2, [base(10), high2, high3]),
+    ] {
+        both.expect_step(step, reply, visits, &tasks);
+    }
+    Ok(())
+}
+
+#[test]
+fn ceiling_is_the_reason_before_a_waiter(rt: HostRuntime) -> Result<(), Fail> {
+    let mut both = Both::new(&rt, rt.alloc(), &[10, 50], &[protect(&rt, 50), INHERIT])?;
+    for (step, reply, visits, tasks) in [
+        (lock(1, 2), Granted, 1, [base(10), base(50)]),
+        (lock(2, 2), Queued, 1, [waiter(50, 2, 2), base(50)]),
+        (lock(1, 1), Granted, 1, [ceiling(50, 1), base(50)]),
+        (unlock(1, 2), handed(2), 2, [ceiling(50, 1), base(50)]),
+        (unlock(1, 1), Freed, 1, [base(10), base(50)]),
+    ] {
+        both.expect_step(step, reply, visits, &tasks);
     }
     Ok(())
 }
@@ -268,7 +242,7 @@ fn ceiling_is_a_reason_before_a_waiter(rt: HostRuntime) -> Result<(), Fail> {
 #[test]
 fn release_hands_all_mutexes_over(rt: HostRuntime) -> Result<(), Fail> {
     let protocols = [protect(&rt, 40), protect(&rt, 50), NONE];
-    let mut both = Both::new(rt.alloc(), &[10, 20, 30], &protocols)?;
+    let mut both = Both::new(&rt, rt.alloc(), &[10, 20, 30], &protocols)?;
     let raised = [ceiling(50, 2), base(20), base(30)];
     let released = [base(10), ceiling(40, 1), ceiling(50, 2)];
     for (step, reply, visits, tasks) in [
@@ -280,33 +254,34 @@ fn release_hands_all_mutexes_over(rt: HostRuntime) -> Result<(), Fail> {
         (release(1), Released(3), 5, released),
         (release(1), Released(0), 0, released),
     ] {
-        both.expect_step(&rt, step, reply, visits, &tasks);
+        both.expect_step(step, reply, visits, &tasks);
     }
     Ok(())
 }
 
 #[test]
-fn who_may_unlock_try_and_cancel(rt: HostRuntime) -> Result<(), Fail> {
-    let mut both = Both::new(rt.alloc(), &[10, 20], &[NONE, NONE])?;
-    for (step, reply, visits) in [
-        (lock(1, 1), Granted, 1),
-        (unlock(2, 1), Refused(NotOwner), 0),
-        (lock(2, 1), Queued, 1),
-        (try_lock(2, 2), Refused(Waiting), 0),
-        (cancel(2, 1), Refused(Waiting), 0),
-        (cancel(1, 1), Refused(NotWaiting), 0),
-        (unlock(1, 1), handed(2), 2),
-        (unlock(2, 1), Freed, 1),
+fn only_owners_unlock_and_only_waiters_withdraw(rt: HostRuntime) -> Result<(), Fail> {
+    let mut both = Both::new(&rt, rt.alloc(), &[10, 20], &[NONE, NONE])?;
+    let bases = [base(10), base(20)];
+    for (step, reply, visits, tasks) in [
+        (lock(1, 1), Granted, 1, bases),
+        (unlock(2, 1), Refused(NotOwner), 0, bases),
+        (lock(2, 1), Queued, 1, bases),
+        (try_lock(2, 2), Refused(Waiting), 0, bases),
+        (cancel(2, 1), Refused(Waiting), 0, bases),
+        (cancel(1, 1), Refused(NotWaiting), 0, bases),
+        (unlock(1, 1), handed(2), 2, bases),
+        (unlock(2, 1), Freed, 1, bases),
     ] {
-        both.expect_step(&rt, step, reply, visits, &[base(10), base(20)]);
+        both.expect_step(step, reply, visits, &tasks);
     }
     Ok(())
 }
 
 #[test]
-fn last_ticket(rt: HostRuntime) -> Result<(), Fail> {
+fn last_ticket_is_given_out_and_no_more(rt: HostRuntime) -> Result<(), Fail> {
     let bases = [10, 20, 30];
-    let mut both = Both::with_next_ticket(rt.alloc(), &bases, &[INHERIT], u64::MAX - 1)?;
+    let mut both = Both::with_next_ticket(&rt, rt.alloc(), &bases, &[INHERIT], u64::MAX - 1)?;
     let boosted = [waiter(20, 2, 1), base(20), base(30)];
     for (step, reply, visits, tasks) in [
         (lock(1, 1), Granted, 1, [base(10), base(20), base(30)]),
@@ -314,23 +289,22 @@ fn last_ticket(rt: HostRuntime) -> Result<(), Fail> {
         (lock(3, 1), Refused(Tickets), 0, boosted),
         (try_lock(3, 1), Refused(Busy), 0, boosted),
     ] {
-        both.expect_step(&rt, step, reply, visits, &tasks);
+        both.expect_step(step, reply, visits, &tasks);
     }
-    let queue = both.queue(&rt, MutexNo(1))?;
-    let ticket = queue.first().map(|waiter| waiter.ticket);
-    assert_eq!(rt; ticket, Some(u64::MAX - 1));
-    let ticket = both.plain.wait_of(TaskNo(2)).map(|wait| wait.ticket);
-    assert_eq!(rt; ticket, Some(u64::MAX - 1));
+    let first = both.queue(MutexNo(1))?.first();
+    assert_eq!(rt; first.map(|waiter| waiter.ticket), Some(u64::MAX - 1));
+    let wait = both.plain.wait_of(TaskNo(2));
+    assert_eq!(rt; wait.map(|wait| wait.ticket), Some(u64::MAX - 1));
     assert_eq!(rt; both.manager.next_ticket(), u64::MAX);
     assert_eq!(rt; both.plain.next_ticket(), u64::MAX);
     Ok(())
 }
 
 #[test]
-fn what_the_plain_manager_shows(rt: HostRuntime) -> Result<(), Fail> {
-    let mut both = Both::new(rt.alloc(), &[20, 40, 90], &[protect(&rt, 50), INHERIT])?;
+fn plain_manager_shows_each_fact(rt: HostRuntime) -> Result<(), Fail> {
+    let mut both = Both::new(&rt, rt.alloc(), &[20, 40, 90], &[protect(&rt, 50), INHERIT])?;
     for step in [lock(1, 1), lock(2, 2), lock(2, 1), lock(3, 2)] {
-        both.step(&rt, step);
+        both.step(step);
     }
     let plain = &both.plain;
     let [one, two, three] = [TaskNo(1), TaskNo(2), TaskNo(3)];
@@ -359,7 +333,7 @@ fn what_the_plain_manager_shows(rt: HostRuntime) -> Result<(), Fail> {
     assert!(rt; plain.on_inherit_chain(three, two));
     assert!(rt; !plain.on_inherit_chain(three, one));
     assert!(rt; plain.closes_cycle(one, inherited));
-    assert_eq!(rt; both.effective(&rt, one), Prio::new(50));
+    assert_eq!(rt; both.effective(one), Prio::new(50));
     assert_eq!(rt; plain.wait_of(three).map(|wait| wait.ticket), Some(2));
     let first = plain.first_of(inherited).map(|waiter| waiter.task);
     assert_eq!(rt; first, Some(three));

@@ -1,5 +1,5 @@
 -- Mutexes handed over one after another, in ascending order.
-use Rattle.std.proofs.Common.{◌≡◌, ◌≢◌, ◌⊎◌, inl, inr, ℕ, zero, suc, ◌+◌, ◌-◌, ◌<◌, ◌≤◌, arith, sym, Bool, true, false, cond, [], ◌∷◌, ◌++◌, filter, length, length-append, Option, Some, None, refl, ◌∙◌, ap, fold, unwrap_or, eq-or-lt_of_le}
+use Rattle.std.proofs.Common.{◌≡◌, ◌≢◌, ◌⊎◌, inl, inr, ℕ, zero, suc, ◌+◌, ◌<◌, ◌≤◌, arith, sym, Bool, true, false, cond, [], ◌∷◌, ◌++◌, filter, length, length-append, Option, Some, None, refl, ◌∙◌, ap, fold, unwrap_or, eq-or-lt_of_le}
 use Rattle.std.proofs.lemmas.Bool.{cases_eq}
 use Rattle.pim_base.specs.Lists.{holds, numbers}
 use Rattle.pim_base.specs.State.{State, owner_of, wait_of, with_owner, with_wait}
