@@ -5,5 +5,6 @@ pub mod Reading
 pub mod Scripts
 pub mod Ends
 pub mod Printed
+pub mod Reported
 pub mod Status
 pub mod Words

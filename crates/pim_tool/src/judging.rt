@@ -1,20 +1,21 @@
 //! From a reader to a writer.
-ghost use Rattle.std.specs.Prelude.{◌≡◌, ℕ, ◌⊎◌, [], IfOk, IfSome, Err, MatchResult};
+ghost use Rattle.std.specs.Prelude.{◌≡◌, ◌<◌, ◌^◌, ℕ, ◌⊎◌, [], length, Some, IfOk, IfSome, Err, MatchOption, MatchResult, true, false};
 ghost use Rattle.pim_base.specs.State.{start};
 ghost use Rattle.pim_base.specs.Texts.{Trace, lines_of, Spells, IsWithinLimits, FirstBadLine};
-ghost use Rattle.pim_base.specs.Reports.{report_of, verdict_of};
+ghost use Rattle.pim_base.specs.Reports.{agrees, report_from, report_of, verdict_from, verdict_of};
 ghost use Rattle.pim_tool.specs.Ends.{Happened, Fails, Appends, AppendsFront, Prints};
 ghost use Rattle.pim_tool.specs.Reading.{trace_of};
+ghost use Rattle.pim_tool.specs.Reported.{Takes};
 ghost use Rattle.pim_tool.specs.Status.{status_of};
 
 use crate::ends::{Sink, Source};
 use crate::fault::Fault;
 use crate::page::Page;
-use crate::printing::print_report;
 use crate::reading::parse;
+use crate::report::Report;
 use crate::text::Text;
 use crate::transfer::read_all;
-use pim_base::Verdict;
+use pim_base::{Reply, StepLine, Verdict};
 use pim_manager::{ChangedTasks, Manager};
 use std::alloc::Global;
 
@@ -75,7 +76,47 @@ fn print_text<W: Sink>(alloc: Global, writer: &mut W, text: &Text) -> Result<Ver
     let mut page = Page::new(alloc)?;
     let mut manager = manager_of(alloc, text)?;
     let mut changed = ChangedTasks::new(alloc)?;
-    print_report(&mut page, writer, &mut manager, &mut changed, &text.lines)
+    let mut report = Report::new(writer, &mut page);
+    let verdict = make_steps(&mut report, &mut manager, &mut changed, &text.lines)?;
+    report.write()?;
+    Ok(verdict)
+}
+
+/// Makes the steps, and reports on each, up to the first whose recorded reply differs.
+fn make_steps<W: Sink>(
+    report: &mut Report<'_, W>,
+    manager: &mut Manager,
+    changed: &mut ChangedTasks,
+    lines: &[StepLine],
+) -> Result<Verdict, Fault>
+    requires few { length lines.now < 2 ^ 32 }
+    ensures report { Takes W.told report.old report.new (report_from 1 manager.old lines.now) result }
+    ensures verdict { IfOk result (λ verdict. verdict ≡ verdict_from 1 manager.old lines.now) }
+{
+    for (index, line) in lines.iter().enumerate() {
+        let number = index as u32 + 1;
+        let reply = manager.step_with_changes(line.step, changed).reply;
+        if let Some(recorded) = differing(line, &reply) {
+            report.rejection(number, &reply, recorded)?;
+            return Ok(Verdict::Rejected(number));
+        }
+        report.answer(number, &reply, changed.as_slice())?;
+    }
+    let count = lines.len() as u32;
+    report.accepted(count)?;
+    Ok(Verdict::Accepted(count))
+}
+
+/// Returns the recorded reply, where it differs from the model's.
+fn differing<'a>(line: &'a StepLine, reply: &Reply) -> Option<&'a Reply>
+    ensures { MatchOption result
+        (agrees line.now.recorded reply.now ≡ true)
+        (λ recorded. (line.now.recorded ≡ Some recorded.now) × (agrees line.now.recorded reply.now ≡ false)) }
+{
+    match &line.recorded {
+        Some(recorded) if recorded != reply => Some(recorded),
+        _ => None,
+    }
 }
 
 /// The manager of what a text declares, in which all mutexes are free.

@@ -14,16 +14,15 @@
 //! ```
 #![tactic(auto)]
 
-mod agreement;
 mod command_line;
 mod ends;
 mod fault;
 mod judging;
 mod line;
 mod page;
-mod printing;
 mod reading;
 mod reply;
+mod report;
 mod request;
 mod streams;
 mod text;
