@@ -12,5 +12,6 @@ pub mod Steady
 pub mod Laws
 pub mod Spelling
 pub mod Texts
+pub mod Scripts
 pub mod Reports
 pub mod RunLaws

@@ -43,10 +43,14 @@ Spells ls t = IsWithinLimits t × (ls ≡ version_line ∷ map spelled (declared
 abbrev pub IsTrace : List (List ℕ) → Type 0
 IsTrace ls = (t : Trace) × Spells ls t
 
--- lines 1 to n - 1 are those of a trace, and lines 1 to n are not; n is 1 where there is no line, or the first alone
--- is no trace
+-- lines 1 to n - 1 are as they are to be, and lines 1 to n are not; n is 1 where there is no line, or the first alone
+-- is not
+abbrev pub FirstBad : (List (List ℕ) → Type 0) → List (List ℕ) → ℕ → Type 0
+FirstBad Is ls n = ((n ≡ 1) ⊎ Is (take (n - 1) ls)) × (0 < n) × (Is (take n ls) → ⊥)
+
+-- line n is the first that keeps the lines from being those of a trace
 abbrev pub FirstBadLine : List (List ℕ) → ℕ → Type 0
-FirstBadLine ls n = ((n ≡ 1) ⊎ IsTrace (take (n - 1) ls)) × (0 < n) × (IsTrace (take n ls) → ⊥)
+FirstBadLine ls n = FirstBad IsTrace ls n
 
 -- the parts between newlines, without the last where that is empty
 abbrev pub without_empty_last : List (List ℕ) → List (List ℕ)

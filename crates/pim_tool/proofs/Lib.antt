@@ -1,12 +1,3 @@
-pub mod CutLemmas
-pub mod NumberLemmas
-pub mod SpellingLemmas
-pub mod WordLemmas
-pub mod LineLemmas
-pub mod RequestLemmas
-pub mod ReplyLemmas
-pub mod TraceLemmas
-pub mod ReadingLemmas
 pub mod EndsLemmas
 pub mod DecimalLemmas
 pub mod PrintingLemmas

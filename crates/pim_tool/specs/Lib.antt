@@ -1,8 +1,9 @@
 pub use Rattle.pim_base.specs.State
 pub use Rattle.pim_base.specs.Texts
+pub use Rattle.pim_base.specs.Scripts
+pub use Rattle.pim_text.specs.Reading
 pub use Rattle.pim_base.specs.Reports
-pub mod Reading
-pub mod Scripts
+pub mod Faults
 pub mod Ends
 pub mod Printed
 pub mod Reported

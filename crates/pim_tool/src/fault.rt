@@ -1,6 +1,8 @@
 ghost use Rattle.std.specs.Prelude.{◌≡◌};
+ghost use Rattle.pim_tool.specs.Faults.{fault_of};
 ghost use Rattle.pim_tool.specs.declared.fault.Fault.TheVariants.{Memory};
 
+use pim_text::TextFault;
 use std::alloc::{AllocError, AllocFailed};
 use thiserror::Error;
 
@@ -19,6 +21,17 @@ pub enum Fault {
     /// Memory was refused. A beginning of the report was written, perhaps an empty one.
     #[error("memory")]
     Memory,
+}
+
+impl From<TextFault> for Fault {
+    ghost from_gives = { λ of_text fault. fault ≡ fault_of of_text };
+
+    fn from(fault: TextFault) -> Fault {
+        match fault {
+            TextFault::Line(number) => Fault::Line(number),
+            TextFault::Memory => Fault::Memory,
+        }
+    }
 }
 
 impl From<AllocError> for Fault {

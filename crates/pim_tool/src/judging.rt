@@ -4,7 +4,7 @@ ghost use Rattle.pim_base.specs.State.{start};
 ghost use Rattle.pim_base.specs.Texts.{Trace, lines_of, Spells, IsWithinLimits, FirstBadLine};
 ghost use Rattle.pim_base.specs.Reports.{agrees, report_from, report_of, verdict_from, verdict_of};
 ghost use Rattle.pim_tool.specs.Ends.{Happened, Fails, Appends, AppendsFront, Prints};
-ghost use Rattle.pim_tool.specs.Reading.{trace_of};
+ghost use Rattle.pim_text.specs.Reading.{trace_of};
 ghost use Rattle.pim_tool.specs.Reported.{Takes};
 ghost use Rattle.pim_tool.specs.Status.{status_of};
 
@@ -13,10 +13,10 @@ use crate::fault::Fault;
 use crate::page::Page;
 use crate::reading::parse;
 use crate::report::Report;
-use crate::text::Text;
 use crate::transfer::read_all;
 use pim_base::{Reply, StepLine, Verdict};
 use pim_manager::{ChangedTasks, Manager};
+use pim_text::Text;
 use std::alloc::Global;
 
 /// Reads a trace to its end, and writes its report.

@@ -18,25 +18,20 @@ mod command_line;
 mod ends;
 mod fault;
 mod judging;
-mod line;
 mod page;
 mod reading;
-mod reply;
 mod report;
-mod request;
 mod streams;
-mod text;
 mod transfer;
-mod word;
 
 pub use command_line::{Job, command};
 pub use ends::{Failed, Sink, Source};
 pub use fault::Fault;
 pub use judging::{judge, status};
 pub use pim_base::{StepLine, Verdict};
+pub use pim_text::Text;
 pub use reading::{parse, parse_script};
 pub use streams::{Input, Output};
-pub use text::Text;
 
 #[cfg(test)]
 mod tests;

@@ -1,0 +1,26 @@
+-- Which lists of lines are scripts: traces in which no reply was recorded and each actor is declared.
+use Rattle.std.specs.Prelude.{ℕ, ◌≡◌, ◌≤◌, List, length, None}
+use Rattle.std.specs.List.{AllByRecursion}
+use Rattle.pim_base.specs.Texts.{Trace, Spells, FirstBad}
+use Rattle.pim_base.specs.declared.lines.StepLine.{StepLine}
+
+-- no reply was recorded for the step, and its actor is one of so many tasks
+pub record StandsInScript (tasks : ℕ) (line : StepLine) : Type 0 where
+  pub unrecorded : line.recorded ≡ None
+  pub declared : line.step.actor ≤ tasks
+
+-- all steps of the trace are steps of a script
+abbrev pub KeepsScriptRules : Trace → Type 0
+KeepsScriptRules t = AllByRecursion (StandsInScript (length t.bases)) t.steps
+
+-- the lines are the one spelling of the trace, which is a script
+abbrev pub SpellsScript : List (List ℕ) → Trace → Type 0
+SpellsScript ls t = Spells ls t × KeepsScriptRules t
+
+-- the lines are those of a script
+abbrev pub IsScript : List (List ℕ) → Type 0
+IsScript ls = (t : Trace) × SpellsScript ls t
+
+-- line n is the first that keeps the lines from being those of a script
+abbrev pub FirstBadScriptLine : List (List ℕ) → ℕ → Type 0
+FirstBadScriptLine ls n = FirstBad IsScript ls n

@@ -1,0 +1,9 @@
+pub mod CutLemmas
+pub mod NumberLemmas
+pub mod SpellingLemmas
+pub mod WordLemmas
+pub mod LineLemmas
+pub mod OpLemmas
+pub mod ReplyLemmas
+pub mod TraceLemmas
+pub mod ReadingLemmas

@@ -1,0 +1,275 @@
+-- A spelled line is cut into its words again, and no two lines are spelled alike.
+use Rattle.std.proofs.Common.{◌≡◌, ◌^◌, ℕ, ◌<◌, ◌≤◌, ◌==◌, List, [], ◌∷◌, ◌++◌, codes, arith, rules, refl, get_or, ap, sym, ◌∙◌, length, Bool, true, false, Option, Some, None, if◌then◌else◌}
+use Rattle.std.specs.Fmt.{decimal}
+use Rattle.std.specs.List.{AllByRecursion, join_with_byte}
+use Rattle.std.specs.Str.{bytes_eq}
+use Rattle.std.specs.Str.Parse.{digits_value}
+use Rattle.std.proofs.lemmas.List.Splits.{slice_split_none, slice_split_at, join_with_byte-slice_split}
+use Rattle.std.proofs.lemmas.Fmt.{digits_decimal, digits_value-decimal}
+use Rattle.std.proofs.lemmas.Str.Parse.{digit_at}
+use Rattle.std.proofs.lemmas.Bool.{ne_eqb}
+use Rattle.std.proofs.lemmas.Slice.Eq.{bytes_eq-Decides}
+use Rattle.std.proofs.lemmas.List.Elements.{All-from_recursion, recursion_from_All, All-from_get_or}
+use Rattle.pim_base.specs.declared.steps.Protocol.{Protocol}
+use Rattle.pim_base.specs.declared.steps.Op.{Op}
+use Rattle.pim_base.specs.declared.steps.Refusal.{Refusal}
+use Rattle.pim_base.specs.declared.steps.Reply.{Reply}
+use Rattle.pim_base.specs.declared.lines.StepLine.{StepLine}
+use Rattle.pim_base.specs.declared.lines.Line.{Line}
+use Rattle.pim_base.specs.declared.lines.Line.TheVariants as lines
+use Rattle.pim_base.specs.Spelling.{SPACE, IsNumber, IsProtocol, IsOp, IsReply, IsRecorded, IsLine, words_of, protocol_words, op_words, refusal_word, reply_words, recorded_words, spelled}
+use Rattle.pim_text.specs.Reading.{words, Reads, ReadsBytes}
+use Rattle.pim_text.proofs.NumberLemmas.{numerals, no_number}
+
+-- ---- the words of a spelled line
+
+-- a word without a space
+abbrev pub IsWord : List ℕ → Type 0
+IsWord word = AllByRecursion (λ b. (b == SPACE) ≡ false) word
+
+split_joined : (ws : List (List ℕ)) → AllByRecursion IsWord ws → 0 < length ws → words (join_with_byte SPACE ws) ≡ ws
+split_joined [] each some = absurd (omega arith)
+split_joined (x ∷ []) each some = slice_split_none (λ b. b == SPACE) x (All-from_recursion _ x each.0)
+split_joined (x ∷ y ∷ xs) each some =
+    slice_split_at (λ b. b == SPACE) x SPACE (join_with_byte SPACE (y ∷ xs)) (All-from_recursion _ x each.0) refl
+    ∙ ap (λ ws. x ∷ ws) (split_joined (y ∷ xs) each.1 (omega arith))
+
+pub word_decimal : (n : ℕ) → n < 2 ^ 16 → IsWord (decimal n)
+word_decimal n small =
+    recursion_from_All (λ b. (b == SPACE) ≡ false) (decimal n) (All-from_get_or (λ b. (b == SPACE) ≡ false) (decimal n) 0 (λ i inside.
+    let digit : (48 ≤ get_or (decimal n) i 0) × (get_or (decimal n) i 0 ≤ 57) =
+    digit_at (decimal n) i (digits_decimal numerals n (omega arith)) inside in
+    ne_eqb (get_or (decimal n) i 0) SPACE (λ e. let space : get_or (decimal n) i 0 ≡ 32 = e in omega arith)))
+
+all_append : {A : Type 0} (P : A → Type 0) (xs ys : List A) → AllByRecursion P xs → AllByRecursion P ys → AllByRecursion P (xs ++ ys)
+all_append P [] ys h k = k
+all_append P (x ∷ xs) ys h k = (h.0, all_append P xs ys h.1 k)
+
+protocol_split : (p : Protocol) → IsProtocol p → AllByRecursion IsWord (protocol_words p)
+protocol_split Protocol.None is = search rules
+protocol_split Protocol.Inherit is = search rules
+protocol_split (Protocol.Protect c) is = (search rules, (word_decimal c (omega (arith, is.1)), tt))
+
+op_split : (op : Op) → IsOp op → AllByRecursion IsWord (op_words op)
+op_split (Op.Lock m) is = (search rules, (word_decimal m is.1, tt))
+op_split (Op.Try m) is = (search rules, (word_decimal m is.1, tt))
+op_split (Op.Unlock m) is = (search rules, (word_decimal m is.1, tt))
+op_split Op.ReleaseAll is = (search rules, tt)
+op_split (Op.Cancel t) is = (search rules, (word_decimal t is.1, tt))
+op_split (Op.SetBase t p) is = (search rules, (word_decimal t is.0.1, (word_decimal p is.1.1, tt)))
+
+pub refusal_split : (r : Refusal) → IsWord (refusal_word r)
+refusal_split Refusal.NoTask = search rules
+refusal_split Refusal.Waiting = search rules
+refusal_split Refusal.NoMutex = search rules
+refusal_split Refusal.Deadlock = search rules
+refusal_split Refusal.Ceiling = search rules
+refusal_split Refusal.Busy = search rules
+refusal_split Refusal.NotOwner = search rules
+refusal_split Refusal.NotWaiting = search rules
+refusal_split Refusal.Priority = search rules
+refusal_split Refusal.Tickets = search rules
+
+reply_split : (r : Reply) → IsReply r → AllByRecursion IsWord (reply_words r)
+reply_split Reply.Granted is = (search rules, tt)
+reply_split Reply.Queued is = (search rules, tt)
+reply_split Reply.Freed is = (search rules, tt)
+reply_split (Reply.Handed t) is = (search rules, (word_decimal t is.1, tt))
+reply_split (Reply.Released k) is = (search rules, (word_decimal k is, tt))
+reply_split Reply.Withdrawn is = (search rules, tt)
+reply_split Reply.Set is = (search rules, tt)
+reply_split (Reply.Refused r) is = (search rules, (refusal_split r, tt))
+
+recorded_split : (r : Option Reply) → IsRecorded r → AllByRecursion IsWord (recorded_words r)
+recorded_split None is = tt
+recorded_split (Some r) is = (search rules, reply_split r is)
+
+words_split : (line : Line) → IsLine line → AllByRecursion IsWord (words_of line)
+words_split (lines.Task n p) is = (search rules, (word_decimal n is.0.1, (word_decimal p (omega arith), tt)))
+words_split (lines.Mutex n p) is = (search rules, (word_decimal n is.0.1, protocol_split p is.1))
+words_split (lines.Step line) is = (
+  word_decimal line.step.actor is.0.1,
+  all_append IsWord (op_words line.step.op) (recorded_words line.recorded) (op_split line.step.op is.1) (recorded_split line.recorded is.2),
+)
+
+some_words : (line : Line) → 0 < length (words_of line)
+some_words (lines.Task n p) = omega arith
+some_words (lines.Mutex n p) = omega arith
+some_words (lines.Step line) = omega arith
+
+pub split_spelled : (line : Line) → IsLine line → words (spelled line) ≡ words_of line
+split_spelled line is = split_joined (words_of line) (words_split line is) (some_words line)
+
+-- what the words of the bytes say, the bytes say
+pub bytes_read : (bytes : List ℕ) (ws : List (List ℕ)) (r : Option Line) → words bytes ≡ ws → Reads ws r → ReadsBytes bytes r
+bytes_read bytes ws None same reads = λ line is e. reads line is (sym same ∙ ap words e ∙ split_spelled line is)
+bytes_read bytes ws (Some l) same reads =
+    (reads.0, sym (join_with_byte-slice_split SPACE bytes) ∙ ap (join_with_byte SPACE) (same ∙ reads.1))
+
+-- ---- no two lines are spelled alike: their words tell them again
+
+pub value-decimal : (n : ℕ) → n < 2 ^ 16 → digits_value 10 (decimal n) ≡ n
+value-decimal n small = digits_value-decimal numerals n (omega arith)
+
+-- the number of the first word
+number_at : List (List ℕ) → ℕ
+number_at [] = 0
+number_at (w ∷ ws) = digits_value 10 w
+
+rest_of : List (List ℕ) → List (List ℕ)
+rest_of [] = []
+rest_of (w ∷ ws) = ws
+
+protocol_in : List (List ℕ) → Protocol
+protocol_in [] = Protocol.None
+protocol_in (w ∷ ws) =
+    if bytes_eq w (codes "inherit") then Protocol.Inherit
+    else if bytes_eq w (codes "protect") then Protocol.Protect (number_at ws)
+    else Protocol.None
+
+protocol_in-words : (p : Protocol) → IsProtocol p → protocol_in (protocol_words p) ≡ p
+unfolding protocol_in number_at
+protocol_in-words Protocol.None is = refl
+protocol_in-words Protocol.Inherit is = refl
+protocol_in-words (Protocol.Protect c) is = ap Protocol.Protect (value-decimal c (omega (arith, is.1)))
+
+op_in : List (List ℕ) → Op
+op_in [] = Op.ReleaseAll
+op_in (w ∷ ws) =
+    if bytes_eq w (codes "lock") then Op.Lock (number_at ws)
+    else if bytes_eq w (codes "try") then Op.Try (number_at ws)
+    else if bytes_eq w (codes "unlock") then Op.Unlock (number_at ws)
+    else if bytes_eq w (codes "cancel") then Op.Cancel (number_at ws)
+    else if bytes_eq w (codes "base") then Op.SetBase (number_at ws) (number_at (rest_of ws))
+    else Op.ReleaseAll
+
+op_in-words : (op : Op) (ws : List (List ℕ)) → IsOp op → op_in (op_words op ++ ws) ≡ op
+unfolding op_in number_at rest_of
+op_in-words (Op.Lock m) ws is = ap Op.Lock (value-decimal m is.1)
+op_in-words (Op.Try m) ws is = ap Op.Try (value-decimal m is.1)
+op_in-words (Op.Unlock m) ws is = ap Op.Unlock (value-decimal m is.1)
+op_in-words Op.ReleaseAll ws is = refl
+op_in-words (Op.Cancel t) ws is = ap Op.Cancel (value-decimal t is.1)
+op_in-words (Op.SetBase t p) ws is = let x = value-decimal t is.0.1 in let y = value-decimal p is.1.1 in cc
+
+-- the words behind those of an operation
+behind : List (List ℕ) → List (List ℕ)
+behind [] = []
+behind (w ∷ ws) =
+    if bytes_eq w (codes "release") then ws
+    else if bytes_eq w (codes "base") then rest_of (rest_of ws)
+    else rest_of ws
+
+behind-words : (op : Op) (ws : List (List ℕ)) → behind (op_words op ++ ws) ≡ ws
+unfolding behind rest_of
+behind-words (Op.Lock m) ws = refl
+behind-words (Op.Try m) ws = refl
+behind-words (Op.Unlock m) ws = refl
+behind-words Op.ReleaseAll ws = refl
+behind-words (Op.Cancel t) ws = refl
+behind-words (Op.SetBase t p) ws = refl
+
+refusal_in : List ℕ → Refusal
+refusal_in w =
+    if bytes_eq w (codes "no-task") then Refusal.NoTask
+    else if bytes_eq w (codes "waiting") then Refusal.Waiting
+    else if bytes_eq w (codes "no-mutex") then Refusal.NoMutex
+    else if bytes_eq w (codes "deadlock") then Refusal.Deadlock
+    else if bytes_eq w (codes "ceiling") then Refusal.Ceiling
+    else if bytes_eq w (codes "busy") then Refusal.Busy
+    else if bytes_eq w (codes "not-owner") then Refusal.NotOwner
+    else if bytes_eq w (codes "not-waiting") then Refusal.NotWaiting
+    else if bytes_eq w (codes "priority") then Refusal.Priority
+    else Refusal.Tickets
+
+refusal_in-word : (r : Refusal) → refusal_in (refusal_word r) ≡ r
+unfolding refusal_in
+refusal_in-word Refusal.NoTask = refl
+refusal_in-word Refusal.Waiting = refl
+refusal_in-word Refusal.NoMutex = refl
+refusal_in-word Refusal.Deadlock = refl
+refusal_in-word Refusal.Ceiling = refl
+refusal_in-word Refusal.Busy = refl
+refusal_in-word Refusal.NotOwner = refl
+refusal_in-word Refusal.NotWaiting = refl
+refusal_in-word Refusal.Priority = refl
+refusal_in-word Refusal.Tickets = refl
+
+word_at : List (List ℕ) → List ℕ
+word_at [] = []
+word_at (w ∷ ws) = w
+
+reply_in : List (List ℕ) → Reply
+reply_in [] = Reply.Granted
+reply_in (w ∷ ws) =
+    if bytes_eq w (codes "queued") then Reply.Queued
+    else if bytes_eq w (codes "freed") then Reply.Freed
+    else if bytes_eq w (codes "handed") then Reply.Handed (number_at ws)
+    else if bytes_eq w (codes "released") then Reply.Released (number_at ws)
+    else if bytes_eq w (codes "withdrawn") then Reply.Withdrawn
+    else if bytes_eq w (codes "set") then Reply.Set
+    else if bytes_eq w (codes "refused") then Reply.Refused (refusal_in (word_at ws))
+    else Reply.Granted
+
+reply_in-words : (r : Reply) → IsReply r → reply_in (reply_words r) ≡ r
+unfolding reply_in number_at word_at
+reply_in-words Reply.Granted is = refl
+reply_in-words Reply.Queued is = refl
+reply_in-words Reply.Freed is = refl
+reply_in-words (Reply.Handed t) is = ap Reply.Handed (value-decimal t is.1)
+reply_in-words (Reply.Released k) is = ap Reply.Released (value-decimal k is)
+reply_in-words Reply.Withdrawn is = refl
+reply_in-words Reply.Set is = refl
+reply_in-words (Reply.Refused r) is = ap Reply.Refused (refusal_in-word r)
+
+recorded_in : List (List ℕ) → Option Reply
+recorded_in [] = None
+recorded_in (equals ∷ ws) = Some (reply_in ws)
+
+recorded_in-words : (r : Option Reply) → IsRecorded r → recorded_in (recorded_words r) ≡ r
+unfolding recorded_in
+recorded_in-words None is = refl
+recorded_in-words (Some r) is = ap Some (reply_in-words r is)
+
+step_in : List ℕ → List (List ℕ) → StepLine
+step_in first ws = record { step = record { actor = digits_value 10 first; op = op_in ws }; recorded = recorded_in (behind ws) }
+
+step_in-words : (line : StepLine) → IsLine (lines.Step line) → step_in (decimal line.step.actor) (op_words line.step.op ++ recorded_words line.recorded) ≡ line
+unfolding step_in
+step_in-words line is =
+    let ws : List (List ℕ) = op_words line.step.op ++ recorded_words line.recorded in
+    ap (λ (a : ℕ). let l : StepLine = record { step = record { actor = a; op = op_in ws }; recorded = recorded_in (behind ws) } in l) (value-decimal line.step.actor is.0.1)
+    ∙ ap (λ (o : Op). let l : StepLine = record { step = record { actor = line.step.actor; op = o }; recorded = recorded_in (behind ws) } in l)
+    (op_in-words line.step.op (recorded_words line.recorded) is.1)
+    ∙ ap (λ (r : Option Reply). let l : StepLine = record { step = line.step; recorded = r } in l)
+    (ap recorded_in (behind-words line.step.op (recorded_words line.recorded)) ∙ recorded_in-words line.recorded is.2)
+
+-- the line of these words
+line_in : List (List ℕ) → Line
+line_in [] = lines.Task 0 0
+line_in (first ∷ ws) =
+    if bytes_eq first (codes "task") then lines.Task (number_at ws) (number_at (rest_of ws))
+    else if bytes_eq first (codes "mutex") then lines.Mutex (number_at ws) (protocol_in (rest_of ws))
+    else lines.Step (step_in first ws)
+
+-- a number is no word that begins with a letter
+number_not_word : (n : ℕ) (w : List ℕ) → IsNumber n → 57 < get_or w 0 0 → bytes_eq (decimal n) w ≡ false
+number_not_word n w is high = go (bytes_eq (decimal n) w) refl
+  where
+    go : (b : Bool) → bytes_eq (decimal n) w ≡ b → b ≡ false
+    go false e = refl
+    go true e = absurd (no_number n w is (sym ((bytes_eq-Decides (decimal n) w).0 e)) high)
+
+line_in-words : (line : Line) → IsLine line → line_in (words_of line) ≡ line
+unfolding line_in number_at rest_of
+line_in-words (lines.Task n p) is = let x = value-decimal n is.0.1 in let y = value-decimal p (omega (arith, is.1.1)) in cc
+line_in-words (lines.Mutex n p) is = let x = value-decimal n is.0.1 in let y = protocol_in-words p is.1 in cc
+line_in-words (lines.Step line) is =
+    rw
+    (number_not_word line.step.actor (codes "task") is.0 (omega arith), number_not_word line.step.actor (codes "mutex") is.0 (omega arith))
+    (ap lines.Step (step_in-words line is))
+
+pub spelled_same : (l m : Line) → IsLine l → IsLine m → spelled l ≡ spelled m → l ≡ m
+spelled_same l m is im e =
+    let same : words_of l ≡ words_of m = sym (split_spelled l is) ∙ ap words e ∙ split_spelled m im in
+    sym (line_in-words l is) ∙ ap line_in same ∙ line_in-words m im

@@ -1,0 +1,115 @@
+-- Words cut off the front of a line, and what single words spell.
+use Rattle.std.proofs.Common.{◌≡◌, ◌<◌, ◌≤◌, ◌^◌, ℕ, zero, suc, List, [], ◌∷◌, codes, arith, refl, sym, ◌∙◌, ap, Option, Some, None, MatchOption, Bool, true, false, not, Bor, eqb, length}
+use Rattle.std.specs.Fmt.{decimal}
+use Rattle.std.specs.List.{join_with_byte}
+use Rattle.std.specs.Option.{SomeIff}
+use Rattle.std.specs.Str.{bytes_eq}
+use Rattle.std.specs.Str.Parse.{digits_value}
+use Rattle.std.proofs.lemmas.Fmt.{decimal_digit}
+use Rattle.std.proofs.lemmas.Slice.Eq.{bytes_eq-Decides}
+use Rattle.std.proofs.lemmas.List.Splits.{join_with_byte-slice_split, slice_split_none, length-slice_split}
+use Rattle.std.proofs.lemmas.List.Elements.{All-from_recursion}
+use Rattle.pim_base.specs.Spelling.{SPACE, IsNumber, IsPrio}
+use Rattle.pim_text.specs.Reading.{words, pieces}
+use Rattle.pim_text.proofs.SpellingLemmas.{IsWord, word_decimal, value-decimal}
+
+-- ---- tests of bytes
+
+-- one that holds
+pub same_bytes : (a b c : List ℕ) → true ≡ bytes_eq a b → b ≡ c → a ≡ c
+same_bytes a b c test e = (bytes_eq-Decides a b).0 (sym test) ∙ e
+
+-- one that fails
+pub other_bytes : (a b c : List ℕ) → false ≡ bytes_eq a b → b ≡ c → a ≡ c → ⊥
+other_bytes a b c test e same = differ (bytes_eq a b) ((bytes_eq-Decides a b).1 (same ∙ sym e)) test
+  where
+    differ : (t : Bool) → t ≡ true → false ≡ t → ⊥
+    differ true h e = cc
+    differ false h e = cc
+
+-- one that the bytes differ, and fails
+pub agreeing_bytes : (a b c : List ℕ) → false ≡ not (bytes_eq a b) → b ≡ c → a ≡ c
+agreeing_bytes a b c test e = same_bytes a b c (holds (bytes_eq a b) test) e
+  where
+    holds : (t : Bool) → false ≡ not t → true ≡ t
+    holds true h = refl
+    holds false h = cc
+
+-- bytes are not two different words
+pub not_both : (w a b : List ℕ) → bytes_eq a b ≡ false → w ≡ a → w ≡ b → ⊥
+not_both w a b differ e f = absurd_test (bytes_eq a b) ((bytes_eq-Decides a b).1 (sym e ∙ f)) differ
+  where
+    absurd_test : (t : Bool) → t ≡ true → t ≡ false → ⊥
+    absurd_test true h k = cc
+    absurd_test false h k = cc
+
+-- ---- the first word, and the others
+
+pub same_first : (v w : List ℕ) (vs ws : List (List ℕ)) → v ∷ vs ≡ w ∷ ws → v ≡ w
+same_first v w vs ws e = cc
+
+pub same_rest : (v w : List ℕ) (vs ws : List (List ℕ)) → v ∷ vs ≡ w ∷ ws → vs ≡ ws
+same_rest v w vs ws e = cc
+
+-- bytes have a word
+pub some_word : (bytes : List ℕ) → words bytes ≡ [] → ⊥
+some_word bytes e =
+    let size = length-slice_split (λ b. eqb b SPACE) bytes in
+    let none : length (words bytes) ≡ 0 = ap length e in
+    omega (arith, size, none)
+
+-- what stands behind the first word
+pub cut_some : (ws : List (List ℕ)) (first : List ℕ) (o : Option (Bor (List ℕ))) (rest : Bor (List ℕ)) → ws ≡ first ∷ pieces SPACE o → o ≡ Some rest → ws ≡ first ∷ words rest.now
+cut_some ws first o rest cut some = cut ∙ ap (λ o. first ∷ pieces SPACE o) some
+
+-- nothing stands behind it
+pub cut_none : (ws : List (List ℕ)) (first : List ℕ) (o : Option (Bor (List ℕ))) → ws ≡ first ∷ pieces SPACE o → o ≡ None → ws ≡ first ∷ []
+cut_none ws first o cut none = cut ∙ ap (λ o. first ∷ pieces SPACE o) none
+
+-- ---- a single word
+
+pub one_word : (w : List ℕ) → IsWord w → words w ≡ w ∷ []
+one_word w is = slice_split_none _ w (All-from_recursion _ w is)
+
+-- bytes that are such a word
+pub word_alone : (bytes w : List ℕ) → IsWord w → bytes ≡ w → words bytes ≡ w ∷ []
+word_alone bytes w is e = ap words e ∙ one_word w is
+
+pub one_number : (w : List ℕ) (n : ℕ) → n < 2 ^ 16 → w ≡ decimal n → words w ≡ decimal n ∷ []
+one_number w n small e = word_alone w (decimal n) (word_decimal n small) e
+
+pub one_prio : (w : List ℕ) (p : ℕ) → IsPrio p → w ≡ decimal p → words w ≡ decimal p ∷ []
+one_prio w p is e = one_number w p (omega (arith, is.1)) e
+
+-- bytes of one word are that word
+pub only_word : (bytes w : List ℕ) → words bytes ≡ w ∷ [] → bytes ≡ w
+only_word bytes w e = sym (join_with_byte-slice_split SPACE bytes) ∙ ap (join_with_byte SPACE) e
+
+-- the priority that a number is, if it is one
+pub prio_read :
+    (word : List ℕ) (n : ℕ) (r : Option ℕ)
+    → IsNumber n × (word ≡ decimal n)
+    → SomeIff r ((1 ≤ n) × (n ≤ 99)) n
+    → MatchOption r ((p : ℕ) → IsPrio p → word ≡ decimal p → ⊥) (λ p. IsPrio p × (word ≡ decimal p))
+prio_read word n (Some p) read h = ((omega (arith, h.1, read.0.0), omega (arith, h.0.1, h.1)), read.1 ∙ ap decimal (sym h.1))
+prio_read word n None read h =
+    λ p is e.
+    let same : p ≡ n =
+    sym (value-decimal p (omega (arith, is.1))) ∙ ap (digits_value 10) (sym e ∙ read.1) ∙ value-decimal n read.0.1 in
+    h (omega (arith, same, read.0.0), omega (arith, same, is.1))
+
+-- the count that is no 0, if it is a number
+pub zero_read : (word : List ℕ) → word ≡ codes "0" → (0 < 2 ^ 16) × (word ≡ decimal 0)
+zero_read word e = (omega arith, e ∙ sym (decimal_digit 0 (omega arith)))
+
+pub count_read :
+    (word : List ℕ) (r : Option ℕ)
+    → (word ≡ codes "0" → ⊥)
+    → MatchOption r ((n : ℕ) → IsNumber n → word ≡ decimal n → ⊥) (λ n. IsNumber n × (word ≡ decimal n))
+    → MatchOption r ((n : ℕ) → n < 2 ^ 16 → word ≡ decimal n → ⊥) (λ n. (n < 2 ^ 16) × (word ≡ decimal n))
+count_read word (Some n) other h = (h.0.1, h.1)
+count_read word None other h = none
+  where
+    none : (n : ℕ) → n < 2 ^ 16 → word ≡ decimal n → ⊥
+    none zero small e = other (e ∙ decimal_digit 0 (omega arith))
+    none (suc n) small e = h (suc n) (omega arith, small) e

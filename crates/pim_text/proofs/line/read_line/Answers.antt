@@ -1,0 +1,13 @@
+use Rattle.std.proofs.Common.{None}
+use Rattle.pim_text.proofs.WordLemmas.{cut_some, cut_none}
+use Rattle.pim_text.proofs.LineLemmas.{no_single}
+use Rattle.pim_text.proofs.SpellingLemmas.{bytes_read}
+use Rattle.pim_text.proofs.line.read_line.Goals as goal
+
+pub returns-in_err-rest : goal.returns-in_err-rest
+returns-in_err-rest c =
+    rw c.from_residual.ensures
+    (bytes_read c.args.bytes.now _ None (cut_none _ _ _ c.cut.ensures.parts c.in_err-rest.was) (no_single c.cut.result.0.now))
+
+pub returns : goal.returns
+returns c = bytes_read c.args.bytes.now _ _ (cut_some _ _ _ _ c.cut.ensures.parts c.in_ok-rest.was) c.read_words.ensures

@@ -1,0 +1,4 @@
+pub use Rattle.pim_base.specs.Texts
+pub use Rattle.pim_base.specs.Scripts
+pub mod Reading
+pub mod Kinds

@@ -1,0 +1,49 @@
+-- What the reading of a text comes to, one line after another.
+use Rattle.std.specs.Prelude.{ℕ, ◌≡◌, ◌+◌, ◌<◌, ◌==◌, List, [], ◌∷◌, ◌++◌, length, Option, Some, None, MatchOption}
+use Rattle.std.specs.List.{slice_split}
+use Rattle.std.specs.Borrow.{Bor}
+use Rattle.pim_base.specs.Spelling.{SPACE, IsLine, words_of, spelled}
+use Rattle.pim_base.specs.declared.limits.TheConstants.{MAX_TASKS, MAX_MUTEXES, MAX_STEPS}
+use Rattle.pim_base.specs.Texts.{Trace}
+use Rattle.pim_base.specs.declared.lines.Line.{Line}
+use Rattle.pim_base.specs.declared.lines.Line.TheVariants as lines
+use Rattle.pim_text.specs.declared.text.Text.{Text}
+
+-- what a text declares, and its steps, wherever they lie in memory
+abbrev pub trace_of : Text → Trace
+trace_of text = record { bases = text.bases.items; protocols = text.protocols.items; steps = text.lines.items }
+
+-- the parts of what stands behind a separator: none where there was none
+abbrev pub pieces : ℕ → Option (Bor (List ℕ)) → List (List ℕ)
+pieces separator None = []
+pieces separator (Some rest) = slice_split (λ b. b == separator) rest.now
+
+-- the words of these bytes
+abbrev pub words : List ℕ → List (List ℕ)
+words bytes = slice_split (λ b. b == SPACE) bytes
+
+-- what these words spell: nothing if they spell none of those
+abbrev pub ReadsAs : {X : Type 0} → (X → Type 0) → (X → List (List ℕ)) → List (List ℕ) → Option X → Type 0
+ReadsAs {X} Is spelling ws result = MatchOption result ((x : X) → Is x → ws ≡ spelling x → ⊥) (λ x. Is x × (ws ≡ spelling x))
+
+-- the line that these words spell
+abbrev pub Reads : List (List ℕ) → Option Line → Type 0
+Reads ws result = ReadsAs IsLine words_of ws result
+
+-- what a line of these bytes says: nothing if no line is spelled so
+abbrev pub ReadsBytes : List ℕ → Option Line → Type 0
+ReadsBytes bytes result = MatchOption result
+    ((line : Line) → IsLine line → bytes ≡ spelled line → ⊥)
+    (λ line. IsLine line × (bytes ≡ spelled line))
+
+-- one more line at the end of a text
+abbrev pub with_line : Trace → Line → Trace
+with_line t (lines.Task n base) = record t { bases = t.bases ++ base ∷ [] }
+with_line t (lines.Mutex n protocol) = record t { protocols = t.protocols ++ protocol ∷ [] }
+with_line t (lines.Step step) = record t { steps = t.steps ++ step ∷ [] }
+
+-- the line may stand below those of the text
+abbrev pub MayFollow : Trace → Line → Type 0
+MayFollow t (lines.Task n base) = (length t.bases < MAX_TASKS) × (n ≡ length t.bases + 1) × (t.protocols ≡ []) × (t.steps ≡ [])
+MayFollow t (lines.Mutex n protocol) = (length t.protocols < MAX_MUTEXES) × (n ≡ length t.protocols + 1) × (t.steps ≡ [])
+MayFollow t (lines.Step step) = length t.steps < MAX_STEPS

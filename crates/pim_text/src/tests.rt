@@ -1,0 +1,5 @@
+//! What texts say, the first invalid line, and the longest texts.
+
+mod first_bad_lines;
+mod parts;
+mod sizes;

@@ -1,0 +1,100 @@
+//! A whole text: what it declares, and its steps.
+ghost use Rattle.std.specs.Prelude.{◌≡◌, IfOk};
+ghost use Rattle.std.specs.Bool.{MatchBool};
+ghost use Rattle.pim_text.specs.Reading.{trace_of, with_line, MayFollow};
+ghost use Rattle.pim_text.specs.Kinds.{Allows};
+
+use crate::kind::TextKind;
+use pim_base::{Line, MAX_MUTEXES, MAX_STEPS, MAX_TASKS, Prio, Protocol, Step, StepLine};
+use std::alloc::{AllocError, Global};
+
+/// What a valid text says: what it declares, and its steps.
+#[derive(Debug, Drop)]
+pub struct Text {
+    /// The base priority of each task, that of task 1 first.
+    pub bases: Vec<Prio>,
+    /// The protocol of each mutex, that of mutex 1 first.
+    pub protocols: Vec<Protocol>,
+    /// The step lines, in order.
+    pub lines: Vec<StepLine>,
+}
+
+impl Text {
+    ghost use Rattle.std.specs.Prelude.{[]};
+
+    /// Returns the text of the version line alone. It takes no memory.
+    pub(crate) fn new(alloc: Global) -> Text
+        ensures { trace_of result ≡ record { bases = []; protocols = []; steps = [] } }
+    {
+        Text {
+            bases: Vec::new(alloc),
+            protocols: Vec::new(alloc),
+            lines: Vec::new(alloc),
+        }
+    }
+
+    /// Takes one more line, and returns whether it may stand below those of the text.
+    pub(crate) fn add(&mut self, line: &Line) -> Result<bool, AllocError>
+        ensures added { IfOk result (λ added. MatchBool added
+            (MayFollow (trace_of self.old) line.now × (trace_of self.new ≡ with_line (trace_of self.old) line.now))
+            (MayFollow (trace_of self.old) line.now → ⊥)) }
+    {
+        match line {
+            Line::Task { number, base } => {
+                let next = self.bases.len() + 1;
+                if next > MAX_TASKS
+                    || usize::from(number.get()) != next
+                    || !self.protocols.is_empty()
+                    || !self.lines.is_empty()
+                {
+                    return Ok(false);
+                }
+                self.bases.push(*base)?;
+                Ok(true)
+            }
+            Line::Mutex { number, protocol } => {
+                let next = self.protocols.len() + 1;
+                if next > MAX_MUTEXES
+                    || usize::from(number.get()) != next
+                    || !self.lines.is_empty()
+                {
+                    return Ok(false);
+                }
+                self.protocols.push(*protocol)?;
+                Ok(true)
+            }
+            Line::Step(line) => self.add_step(line),
+        }
+    }
+
+    /// Returns whether a text of this kind may have the line below those of this text, as far as the kind goes.
+    pub(crate) fn allows(&self, line: &Line, kind: TextKind) -> bool
+        ensures { MatchBool result (Allows kind (trace_of self.now) line.now) (Allows kind (trace_of self.now) line.now → ⊥) }
+    {
+        match (kind, line) {
+            (TextKind::Script, Line::Step(line)) => {
+                line.recorded.is_none() && usize::from(line.step.actor.get()) <= self.bases.len()
+            }
+            (TextKind::Trace, _) | (TextKind::Script, Line::Task { .. } | Line::Mutex { .. }) =>
+                true,
+        }
+    }
+
+    /// Takes one more step line, if there is room for it within the limit.
+    fn add_step(&mut self, line: &StepLine) -> Result<bool, AllocError>
+        ensures added { IfOk result (λ added. MatchBool added
+            (MayFollow (trace_of self.old) (Line.Step line.now) × (trace_of self.new ≡ with_line (trace_of self.old) (Line.Step line.now)))
+            (MayFollow (trace_of self.old) (Line.Step line.now) → ⊥)) }
+    {
+        if self.lines.len() >= MAX_STEPS {
+            return Ok(false);
+        }
+        // Taken apart, since the generated proof copies an operation only where it stands by itself.
+        let Step { actor, op } = line.step;
+        self.lines.push(StepLine {
+            step: Step { actor, op },
+            recorded: line.recorded,
+        })?;
+        Ok(true)
+    }
+}

@@ -1,0 +1,61 @@
+//! The words of a line, and the numbers that they spell.
+ghost use Rattle.std.specs.Prelude.{◌≡◌, ℕ, ◌∷◌, ◌==◌, ◌<◌, ◌^◌, length, MatchOption, IfSome, decimal, position};
+ghost use Rattle.std.specs.List.{slice_split};
+ghost use Rattle.pim_base.specs.Spelling.{IsNumber, IsPrio};
+ghost use Rattle.pim_text.specs.Reading.{pieces};
+
+use pim_base::Prio;
+
+/// The bytes before the first separator and, if there is one, those behind it.
+#[inline]
+pub(crate) fn cut(bytes: &[u8], separator: u8) -> (&[u8], Option<&[u8]>)
+    ensures parts { slice_split (λ b. b == separator) bytes.now ≡ result.0.now ∷ pieces separator result.1 }
+    ensures shorter { IfSome result.1 (λ rest. length rest.now < length bytes.now) }
+{
+    match place_of(bytes, separator) {
+        Some(place) => (&bytes[..place], Some(&bytes[place + 1..])),
+        None => (bytes, None),
+    }
+}
+
+/// The place of the first separator.
+#[inline]
+fn place_of(bytes: &[u8], separator: u8) -> Option<usize>
+    ensures { result ≡ position (λ b. b == separator) bytes.now }
+{
+    bytes.iter().position(|byte| *byte == separator)
+}
+
+/// The declared priority that a word spells.
+pub(crate) fn prio_of(word: &[u8]) -> Option<Prio>
+    ensures { MatchOption result
+        ((p : ℕ) → IsPrio p → word.now ≡ decimal p → ⊥)
+        (λ p. IsPrio p × (word.now ≡ decimal p)) }
+{
+    Prio::new(number_of(word)?)
+}
+
+/// The number, 1 to 65535, that a word spells.
+pub(crate) fn number_of(word: &[u8]) -> Option<u16>
+    ensures { MatchOption result
+        ((n : ℕ) → IsNumber n → word.now ≡ decimal n → ⊥)
+        (λ n. IsNumber n × (word.now ≡ decimal n)) }
+{
+    match word {
+        [b'1'..=b'9', ..] => std::str::from_utf8(word).ok()?.parse().ok(),
+        _ => None,
+    }
+}
+
+/// The count, 0 to 65535, that a word spells.
+pub(crate) fn count_of(word: &[u8]) -> Option<u16>
+    ensures { MatchOption result
+        ((n : ℕ) → n < 2 ^ 16 → word.now ≡ decimal n → ⊥)
+        (λ n. (n < 2 ^ 16) × (word.now ≡ decimal n)) }
+{
+    if word == b"0".as_slice() {
+        Some(0)
+    } else {
+        number_of(word)
+    }
+}

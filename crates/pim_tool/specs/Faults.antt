@@ -1,0 +1,19 @@
+-- Why a text is not read, in the faults of this crate.
+use Rattle.std.specs.Prelude.{ℕ, List}
+use Rattle.pim_base.specs.Texts.{FirstBad}
+use Rattle.pim_text.specs.declared.fault.TextFault.{TextFault}
+use Rattle.pim_text.specs.declared.fault.TextFault.TheVariants as text_faults
+use Rattle.pim_tool.specs.declared.fault.Fault.{Fault}
+use Rattle.pim_tool.specs.declared.fault.Fault.TheVariants as faults
+
+-- the fault of this crate for that of the text
+abbrev pub fault_of : TextFault → Fault
+fault_of (text_faults.Line n) = faults.Line n
+fault_of text_faults.Memory = faults.Memory
+
+-- why lines that are to be such are not read: the first that is invalid, or out of memory
+abbrev pub IsParseFault : (List (List ℕ) → Type 0) → List (List ℕ) → Fault → Type 0
+IsParseFault Is ls (faults.Line n) = FirstBad Is ls n
+IsParseFault Is ls faults.Memory = Unit {0}
+IsParseFault Is ls faults.Read = ⊥
+IsParseFault Is ls faults.Write = ⊥

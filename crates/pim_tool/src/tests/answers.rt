@@ -1,0 +1,72 @@
+//! What the calls of this crate answer for a text: parts, faults, statuses.
+
+use crate::Verdict::{Accepted, Rejected};
+use crate::tests::expected::{expect_line, expect_report};
+use crate::{Fault, Text, parse, parse_script, status};
+use std::test::Fail;
+
+#[test]
+fn statuses_of_verdicts_and_faults(rt: HostRuntime) {
+    assert_eq!(rt; status(&Ok(Accepted(3))), 0);
+    assert_eq!(rt; status(&Ok(Rejected(3))), 1);
+    for fault in [Fault::Line(1), Fault::Read, Fault::Write, Fault::Memory] {
+        assert_eq!(rt; status(&Err(fault)), 2, "{fault:?}");
+    }
+}
+
+#[test]
+fn faults_are_printed_in_words(rt: HostRuntime) -> Result<(), Fail> {
+    for (fault, words) in [
+        (Fault::Line(258), "line 258"),
+        (Fault::Read, "read"),
+        (Fault::Write, "write"),
+        (Fault::Memory, "memory"),
+    ] {
+        let printed = format!(in rt.alloc(); "{fault}")?;
+        assert_eq!(rt; printed.as_str(), words);
+    }
+    Ok(())
+}
+
+#[test]
+fn texts_are_read_or_their_first_bad_line_is_named(rt: HostRuntime) {
+    let text = b"pim 1\ntask 1 10\n1 release\n1 release = freed\n2 release\n";
+    let steps = |text: Text| text.lines.len();
+    assert_eq!(rt; parse(rt.alloc(), text).map(steps), Ok(3));
+    assert_eq!(rt;
+        parse(rt.alloc(), &text[1..]).map(steps),
+        Err(Fault::Line(1))
+    );
+    let script = &text[..26];
+    assert_eq!(rt; parse_script(rt.alloc(), script).map(steps), Ok(1));
+    assert_eq!(rt;
+        parse_script(rt.alloc(), text).map(steps),
+        Err(Fault::Line(4))
+    );
+}
+
+#[test]
+fn version_alone_is_accepted_and_no_line_is_not(rt: HostRuntime) {
+    expect_line(&rt, b"", 1);
+    expect_report(&rt, "pim 1", "accepted 0\n", Accepted(0));
+    expect_report(&rt, "pim 1\n", "accepted 0\n", Accepted(0));
+    expect_line(&rt, b"pim 1\n\n", 2);
+}
+
+#[test]
+fn report_stops_before_the_first_line_of_an_invalid_text(rt: HostRuntime) {
+    let text = b"pim 1\ntask 1 10\nmutex 1 none\n2 lock 1\n1 lock 0";
+    expect_line(&rt, text, 5);
+    expect_report(
+        &rt,
+        "pim 1\n1 lock 65535",
+        "1 refused no-task\naccepted 1\n",
+        Accepted(1),
+    );
+    expect_report(
+        &rt,
+        "pim 1\n1 release = released 0",
+        "1 refused no-task but recorded released 0\nrejected 1\n",
+        Rejected(1),
+    );
+}
