@@ -1,15 +1,17 @@
 //! From a reader to a writer.
 ghost use Rattle.std.specs.Prelude.{◌≡◌, ◌<◌, ◌^◌, ℕ, ◌⊎◌, [], length, Some, IfOk, IfSome, Err, MatchOption, MatchResult, true, false};
 ghost use Rattle.pim_base.specs.State.{start};
-ghost use Rattle.pim_base.specs.Texts.{Trace, lines_of, Spells, IsWithinLimits, FirstBadLine};
+ghost use Rattle.pim_base.specs.Texts.{Trace, lines_of, Spells, IsTrace, IsWithinLimits, FirstBadLine};
 ghost use Rattle.pim_base.specs.Reports.{agrees, report_from, report_of, verdict_from, verdict_of};
 ghost use Rattle.pim_tool.specs.Ends.{Happened, Fails, Appends, AppendsFront, Prints};
 ghost use Rattle.pim_text.specs.Reading.{trace_of};
+ghost use Rattle.pim_tool.specs.Faults.{IsParseFault};
 ghost use Rattle.pim_tool.specs.Reported.{Takes};
 ghost use Rattle.pim_tool.specs.Status.{status_of};
 
 use crate::ends::{Sink, Source};
 use crate::fault::Fault;
+use crate::memory_ends::MemoryWriter;
 use crate::page::Page;
 use crate::reading::parse;
 use crate::report::Report;
@@ -32,6 +34,9 @@ pub fn judge<R: Source, W: Sink>(
     // What was read is a trace, its report was written and nothing else, and the verdict is the report's.
     ensures ok { IfOk result (λ verdict. IfSome (R.remaining reader.old) (λ bytes. (t : Trace) × Spells (lines_of bytes) t
         × Appends (W.told writer.old).contents (W.told writer.new).contents (report_of t) × (verdict ≡ verdict_of t))) }
+
+    // The reader is at its end.
+    ensures end { IfOk result (λ _. IfSome (R.remaining reader.old) (λ _. R.remaining reader.new ≡ Some [])) }
 
     // Line n is the first that can't stand, and nothing was written.
     ensures line { (n : ℕ) → result ≡ Err (Fault.Line n) → IfSome (R.remaining reader.old) (λ bytes. FirstBadLine (lines_of bytes) n) }
@@ -59,12 +64,45 @@ pub fn judge<R: Source, W: Sink>(
 fn read_text<R: Source>(alloc: Global, reader: &mut R) -> Result<Text, Fault>
     ensures ok { IfOk result (λ text. IfSome (R.remaining reader.old) (λ bytes. Spells (lines_of bytes) (trace_of text))) }
     ensures limits { IfOk result (λ text. IsWithinLimits (trace_of text)) }
+    ensures end { IfOk result (λ _. IfSome (R.remaining reader.old) (λ _. R.remaining reader.new ≡ Some [])) }
     ensures line { (n : ℕ) → result ≡ Err (Fault.Line n) → IfSome (R.remaining reader.old) (λ bytes. FirstBadLine (lines_of bytes) n) }
     ensures read { result ≡ Err Fault.Read → Happened (R.failures reader.old) (R.failures reader.new) }
     ensures write { result ≡ Err Fault.Write → ⊥ }
 {
     let bytes = read_all(alloc, reader)?;
     parse(alloc, &bytes)
+}
+
+/// What the judge says of a trace.
+#[derive(Debug, Drop)]
+pub struct Judged {
+    /// The bytes of the report.
+    pub report: Vec<u8>,
+    /// What the report says in the end.
+    pub verdict: Verdict,
+}
+
+/// Judges a trace in memory.
+///
+/// # Errors
+///
+/// `Fault::Line(n)` exactly where line n, counted from 1, is the first invalid one; `Fault::Memory` where memory runs
+/// out. There is no other fault.
+pub fn judge_bytes(alloc: Global, bytes: &[u8]) -> Result<Judged, Fault>
+    ensures { MatchResult result
+        (λ judged. (t : Trace) × Spells (lines_of bytes.now) t × (judged.report.items ≡ report_of t) × (judged.verdict ≡ verdict_of t))
+        (IsParseFault IsTrace (lines_of bytes.now)) }
+{
+    let text = parse(alloc, bytes)?;
+    let mut writer = MemoryWriter::new(alloc);
+    match print_text(alloc, &mut writer, &text) {
+        Ok(verdict) => Ok(Judged {
+            report: writer.into_bytes(),
+            verdict,
+        }),
+        // A writer in memory fails only where memory was refused.
+        Err(_) => Err(Fault::Memory),
+    }
 }
 
 /// Writes the report of a text.

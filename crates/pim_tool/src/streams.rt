@@ -1,5 +1,5 @@
 //! The readers and writers of std as ends that know no bytes.
-ghost use Rattle.std.specs.Prelude.{None};
+ghost use Rattle.std.specs.Prelude.{◌≡◌, None};
 
 use crate::ends::{Failed, Sink, Source};
 use std::io::{ErrorKind, Read, Write};
@@ -12,8 +12,10 @@ pub struct Input<R> {
 }
 
 impl<R: Read> Input<R> {
-    /// A reader of which no read has failed.
-    pub fn new(reader: R) -> Input<R> {
+    /// Returns the reader as an end of which no read has failed.
+    pub fn new(reader: R) -> Input<R>
+        ensures { ⟦<Input<R> as Source>⟧.failures result ≡ 0 }
+    {
         Input {
             reader,
             failures: 0,
@@ -48,8 +50,10 @@ pub struct Output<W> {
 }
 
 impl<W: Write> Output<W> {
-    /// A writer of which no write has failed or taken nothing.
-    pub fn new(writer: W) -> Output<W> {
+    /// Returns the writer as an end of which no write has failed or taken nothing.
+    pub fn new(writer: W) -> Output<W>
+        ensures { ⟦<Output<W> as Sink>⟧.told result ≡ record { contents = None; failures = 0; stalls = 0 } }
+    {
         Output {
             writer,
             failures: 0,
@@ -59,7 +63,7 @@ impl<W: Write> Output<W> {
 }
 
 impl<W> Output<W> {
-    /// The writer.
+    /// Returns the writer.
     pub fn into_inner(self) -> W {
         let Output {
             writer,

@@ -5,6 +5,5 @@ mod boosts;
 mod ceilings;
 mod expected;
 mod failing_ends;
-mod memory_ends;
 mod refusals;
 mod sizes;

@@ -1,7 +1,6 @@
 //! What the judge is expected to answer and to write.
 
-use crate::tests::memory_ends::{MemoryReader, MemoryWriter};
-use crate::{Fault, Verdict, judge};
+use crate::{Fault, MemoryReader, MemoryWriter, Verdict, judge};
 use std::alloc::AllocGlobal;
 use std::process::Abort;
 

@@ -1,7 +1,6 @@
 //! Ends of one byte a call, and ends of which each call in turn goes wrong.
 
-use crate::tests::memory_ends::{MemoryReader, MemoryWriter, Trouble};
-use crate::{Fault, Verdict, judge};
+use crate::{Fault, MemoryReader, MemoryWriter, Trouble, Verdict, judge};
 use std::alloc::AllocGlobal;
 use std::process::Abort;
 

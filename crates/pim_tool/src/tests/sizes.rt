@@ -1,7 +1,6 @@
 //! The report of a text of full size, and reports of several pieces.
 
-use crate::tests::memory_ends::{MemoryReader, MemoryWriter, Trouble};
-use crate::{Fault, Verdict, judge};
+use crate::{Fault, MemoryReader, MemoryWriter, Trouble, Verdict, judge};
 use std::alloc::{AllocGlobal, Global};
 use std::process::Abort;
 use std::test::Fail;
