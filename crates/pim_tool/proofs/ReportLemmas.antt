@@ -8,7 +8,6 @@ use Rattle.pim_base.specs.Steps.{after, reply_of}
 use Rattle.pim_base.specs.Reports.{agrees, reply_line, differing_line, rejected, rejection_lines, change_line, changed_tasks, answer_lines, accepted, report_from, verdict_from}
 use Rattle.pim_base.specs.declared.steps.Reply.{Reply}
 use Rattle.pim_base.specs.declared.lines.StepLine.{StepLine}
-use Rattle.pim_base.specs.declared.lines.Verdict.{Verdict}
 use Rattle.pim_base.specs.declared.lines.Verdict.TheVariants as verdicts
 use Rattle.pim_tool.specs.Printed.{changed_line, line_of}
 use Rattle.pim_manager.specs.Changed.{changed_task}

@@ -23,8 +23,13 @@ use std::alloc::Global;
 
 /// Reads a trace to its end, and writes its report.
 ///
-/// The clauses speak of the bytes of a reader and a writer that tell them. Nothing is written before the whole text was
-/// read and found valid. `Fault::Memory` is answered only where memory was refused.
+/// The clauses on bytes speak of a reader and a writer that tell them, as those of `MemoryReader` and `MemoryWriter`.
+/// Nothing is written before the whole text was read and found valid. The report is gathered in pages of 64 KiB.
+///
+/// # Errors
+///
+/// `Fault::Line(n)` where line n, counted from 1, is the first invalid one; `Fault::Read` and `Fault::Write` where a read
+/// or a write of this call failed; `Fault::Memory` where memory runs out.
 #[tactic(auto, using(crate::proofs::PrintingLemmas::puts_whole, crate::proofs::PrintingLemmas::stops_front))]
 pub fn judge<R: Source, W: Sink>(
     alloc: Global,
@@ -38,7 +43,7 @@ pub fn judge<R: Source, W: Sink>(
     // The reader is at its end.
     ensures end { IfOk result (λ _. IfSome (R.remaining reader.old) (λ _. R.remaining reader.new ≡ Some [])) }
 
-    // Line n is the first that can't stand, and nothing was written.
+    // Line n is the first invalid one, and nothing was written.
     ensures line { (n : ℕ) → result ≡ Err (Fault.Line n) → IfSome (R.remaining reader.old) (λ bytes. FirstBadLine (lines_of bytes) n) }
     ensures line_unwritten { (n : ℕ) → result ≡ Err (Fault.Line n) → (W.told writer.new).contents ≡ (W.told writer.old).contents }
 
@@ -46,12 +51,12 @@ pub fn judge<R: Source, W: Sink>(
     ensures read { result ≡ Err Fault.Read → Happened (R.failures reader.old) (R.failures reader.new) }
     ensures read_unwritten { result ≡ Err Fault.Read → (W.told writer.new).contents ≡ (W.told writer.old).contents }
 
-    // A write failed in this call, or took no byte of a piece that wasn't empty, and a beginning of the report was written.
+    // A write failed in this call, or took no byte of a piece that wasn't empty, and a prefix of the report was written.
     ensures write { result ≡ Err Fault.Write → Fails (W.told writer.old) (W.told writer.new) }
     ensures write_front { result ≡ Err Fault.Write → IfSome (R.remaining reader.old) (λ bytes. (t : Trace) × Spells (lines_of bytes) t
         × AppendsFront (W.told writer.old).contents (W.told writer.new).contents (report_of t)) }
 
-    // Nothing was written, or a beginning of the report.
+    // Nothing was written, or a prefix of the report.
     ensures memory { result ≡ Err Fault.Memory → ((W.told writer.new).contents ≡ (W.told writer.old).contents)
         ⊎ IfSome (R.remaining reader.old) (λ bytes. (t : Trace) × Spells (lines_of bytes) t
         × AppendsFront (W.told writer.old).contents (W.told writer.new).contents (report_of t)) }
@@ -60,7 +65,7 @@ pub fn judge<R: Source, W: Sink>(
     print_text(alloc, writer, &text)
 }
 
-/// The text that a reader has, of which only what it declares is kept.
+/// Reads the text that a reader has. Its bytes are not kept.
 fn read_text<R: Source>(alloc: Global, reader: &mut R) -> Result<Text, Fault>
     ensures ok { IfOk result (λ text. IfSome (R.remaining reader.old) (λ bytes. Spells (lines_of bytes) (trace_of text))) }
     ensures limits { IfOk result (λ text. IsWithinLimits (trace_of text)) }
@@ -120,7 +125,7 @@ fn print_text<W: Sink>(alloc: Global, writer: &mut W, text: &Text) -> Result<Ver
     Ok(verdict)
 }
 
-/// Makes the steps, and reports on each, up to the first whose recorded reply differs.
+/// Makes the steps, and reports on each, up to the first whose recorded reply differs from the model's.
 fn make_steps<W: Sink>(
     report: &mut Report<'_, W>,
     manager: &mut Manager,
@@ -157,7 +162,7 @@ fn differing<'a>(line: &'a StepLine, reply: &Reply) -> Option<&'a Reply>
     }
 }
 
-/// The manager of what a text declares, in which all mutexes are free.
+/// Returns the manager of what a text declares, in which all mutexes are free.
 fn manager_of(alloc: Global, text: &Text) -> Result<Manager, Fault>
     requires limits { IsWithinLimits (trace_of text.now) }
     ensures { MatchResult result
@@ -170,7 +175,8 @@ fn manager_of(alloc: Global, text: &Text) -> Result<Manager, Fault>
     }
 }
 
-/// The exit status for an answer of `judge`: 0 where the trace was accepted, 1 where it was rejected, 2 for a fault.
+/// Returns the exit status for an answer of `judge`: 0 where the trace was accepted, 1 where it was rejected, 2 for a
+/// fault.
 pub fn status(answer: &Result<Verdict, Fault>) -> u8
     ensures { result ≡ status_of answer.now }
 {

@@ -4,7 +4,7 @@ ghost use Rattle.std.specs.Prelude.{◌≡◌, None};
 use crate::ends::{Failed, Sink, Source};
 use std::io::{ErrorKind, Read, Write};
 
-/// A reader that counts its failures. A read that a signal interrupts is made again.
+/// A reader of std as an end. It counts the reads that failed; a read that a signal interrupts is made again.
 #[derive(Drop)]
 pub struct Input<R> {
     reader: R,
@@ -41,7 +41,8 @@ impl<R: Read> Source for Input<R> {
     }
 }
 
-/// A writer that counts its failures, and the writes that took nothing. A write that a signal interrupts is made again.
+/// A writer of std as an end. It counts the writes that failed, and those that took nothing; a write that a signal
+/// interrupts is made again.
 #[derive(Drop)]
 pub struct Output<W> {
     writer: W,

@@ -1,6 +1,4 @@
-use Rattle.std.proofs.Common.{◌≡◌, ◌++◌, List, ℕ, length, arith, subst, ◌∙◌}
-use Rattle.pim_base.specs.Reports.{report_from}
-use Rattle.pim_tool.specs.Ends.{Puts}
+use Rattle.std.proofs.Common.{◌≡◌, length, arith, ◌∙◌}
 use Rattle.pim_tool.proofs.PrintingLemmas.{prints_err, stops_next, puts_next, puts_last}
 use Rattle.pim_tool.proofs.ReportLemmas.{report_goes_on, report_stops, verdict_goes_on, verdict_stops, report_end}
 use Rattle.pim_tool.proofs.judging.make_steps.Goals as goal

@@ -1,4 +1,4 @@
-use Rattle.std.proofs.Common.{rules, ◌≡◌, ◌++◌, List, ℕ, subst, refl, ◌∙◌}
+use Rattle.std.proofs.Common.{rules, ◌≡◌, refl}
 use Rattle.pim_base.specs.Reports.{report_of}
 use Rattle.pim_text.specs.Reading.{trace_of}
 use Rattle.pim_tool.specs.Ends.{Puts}
