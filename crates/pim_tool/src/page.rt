@@ -1,9 +1,10 @@
 //! The bytes of a report that are not yet written.
 ghost use Rattle.std.specs.Prelude.{◌≡◌, ◌++◌, ◌<◌, ◌+◌, List, ℕ, [], decimal, flat_map, OnOk, IfOk};
+ghost use Rattle.pim_base.specs.Spelling.{refusal_word};
 ghost use Rattle.pim_base.specs.Reports.{reply_text, reply_line, differing_line, rejected, accepted};
 ghost use Rattle.pim_tool.specs.Printed.{reason_text, line_of};
 
-use pim_base::{Reason, Reply};
+use pim_base::{Reason, Refusal, Reply};
 use pim_manager::ChangedTask;
 use std::alloc::{AllocError, Global};
 use std::marker::Model;
@@ -164,9 +165,17 @@ impl Page {
             Reply::Set => self.word(b"set"),
             Reply::Refused(refusal) => {
                 self.word(b"refused ")?;
-                self.word(refusal.name().as_bytes())
+                self.refusal(*refusal)
             }
         }
+    }
+
+    /// Adds the name of a refusal. A function of its own, so that the other replies pay nothing for it.
+    #[inline(never)]
+    fn refusal(&mut self, refusal: Refusal) -> Result<(), AllocError>
+        ensures { OnOk result (self.new ≡ self.old ++ refusal_word refusal) }
+    {
+        self.word(refusal.name().as_bytes())
     }
 
     fn reason(&mut self, reason: Reason) -> Result<(), AllocError>
