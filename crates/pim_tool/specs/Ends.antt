@@ -42,7 +42,7 @@ abbrev pub AppendsBut : Option (List ℕ) → Option (List ℕ) → List ℕ →
 AppendsBut None new bytes rest = Unit {0}
 AppendsBut (Some had) new bytes rest = (front : List ℕ) × (bytes ≡ front ++ rest) × (new ≡ Some (had ++ front))
 
--- a beginning of the bytes was put at the end
+-- a prefix of the bytes was put at the end
 abbrev pub AppendsFront : Option (List ℕ) → Option (List ℕ) → List ℕ → Type 0
 AppendsFront old new bytes = (rest : List ℕ) × AppendsBut old new bytes rest
 
@@ -56,12 +56,12 @@ pub record Puts (old new : Told) (bytes rest : List ℕ) : Type 0 where
   pub failures : new.failures ≡ old.failures
   pub stalls : new.stalls ≡ old.stalls
 
--- a beginning of the bytes was put at the end, until a write failed or memory was wanting
+-- a prefix of the bytes was put at the end, until a write failed or memory was refused
 pub record Stops (old new : Told) (bytes : List ℕ) (fault : Fault) : Type 0 where
   pub contents : AppendsFront old.contents new.contents bytes
   pub write : fault ≡ faults.Write → Fails old new
   pub others : (fault ≡ faults.Write) ⊎ (fault ≡ faults.Memory)
 
--- the bytes went to the end of the page, and what is in the page no more was written; else it stopped
+-- the bytes were put at the end, but for those that are still in the page; else it stopped
 abbrev pub Prints : {T : Type 0} → Told → Told → List ℕ → List ℕ → Result T Fault → Type 0
 Prints {T} old new bytes page result = MatchResult result (λ done. Puts old new bytes page) (Stops old new bytes)

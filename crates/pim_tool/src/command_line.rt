@@ -17,7 +17,7 @@ pub enum Job {
     Check,
 }
 
-/// What stands below the options in `--help`.
+/// The text below the options in `--help`.
 const MORE: &str = "\
 A trace declares tasks with their base priorities and mutexes with their protocols, and has a step a line:
 
@@ -28,18 +28,20 @@ A trace declares tasks with their base priorities and mutexes with their protoco
     accepted 2
 
 Lines: task <n> <base>; mutex <n> none | inherit | protect <ceiling>; <task> lock | try | unlock <mutex>;
-<task> release; <task> cancel <task>; <task> base <task> <priority>. Behind a step ' = <reply>' is what was
-recorded; the report ends at the first reply that differs.
+<task> release; <task> cancel <task>; <task> base <task> <priority>. A step may be followed by ' = <reply>', the
+reply that was recorded; the report ends at the first that differs.
 
 Input is standard input, results go to standard output, faults to standard error.
-Exit status: 0 accepted, 1 rejected, 2 any fault (the first line that can't stand, a failed read or write,
-want of memory, a wrong command line).";
+Exit status: 0 accepted, 1 rejected, 2 any fault: 'pim: line <n>' where line n is the first that is invalid,
+'pim: read' or 'pim: write' where that failed, 'pim: memory' when out of memory; or a wrong command line.";
 
-/// What the words ask for, the program's name first.
+/// Returns what the words ask for, the program's name first: Judge for the name alone, and Judge, Run or Check for the
+/// name followed by just `judge`, `run` or `check`.
 ///
-/// For the program's name alone, or followed by just `judge`, `run` or `check`, it answers Judge, Judge, Run or Check;
-/// the only error then is want of memory. Other words are an error with the text that is to be shown: help, the version,
-/// or what is wrong.
+/// # Errors
+///
+/// For those words the only error is out of memory. Other words are an error with the text that is to be shown: help,
+/// the version, or what is wrong.
 pub fn command<'a>(alloc: Global, words: &'a [&'a str]) -> Result<Job, Error>
     ensures none { (name : List ℕ) → map (λ word. word.now) words.now ≡ name ∷ [] → Answers result Job.Judge }
     ensures judge { (name : List ℕ) → map (λ word. word.now) words.now ≡ name ∷ codes "judge" ∷ [] → Answers result Job.Judge }
@@ -50,7 +52,7 @@ pub fn command<'a>(alloc: Global, words: &'a [&'a str]) -> Result<Job, Error>
     Ok(job_of(matches.subcommand_name()))
 }
 
-/// The program's command line.
+/// Returns the program's command line.
 fn pim<'a>(alloc: Global) -> Result<Command<'a>, AllocError>
     ensures { IfOk result (λ command. app_of command ≡ pim_app) }
 {
@@ -66,7 +68,7 @@ fn pim<'a>(alloc: Global) -> Result<Command<'a>, AllocError>
         .subcommand(check)
 }
 
-/// The job that a subcommand names: judge, if there is none.
+/// Returns the job that a subcommand names: judge, if there is none.
 fn job_of(subcommand: Option<&str>) -> Job
     ensures { result ≡ job_named (option_map (λ name. name.now) subcommand.entry) }
 {

@@ -2,7 +2,7 @@
 ghost use Rattle.std.specs.Prelude.{◌≡◌, ℕ, ◌<◌, ◌≤◌, List, length, take, Option, IfOk, OnOk, OnErr, Ok};
 ghost use Rattle.pim_tool.specs.Ends.{Told, one_more, TakesOff, IsAtEnd, Appends};
 
-/// A read or a write failed.
+/// The error of a read or a write that failed.
 #[derive(Clone, Copy, Debug, PartialEq, Eq)]
 pub struct Failed;
 
@@ -14,7 +14,12 @@ pub trait Source {
     /// How many reads have failed.
     ghost failures: { Self → ℕ };
 
-    /// Hands over the next bytes: none only at the end, or where the buffer has no room.
+    /// Reads the next bytes into the front of the buffer, and returns their number: 0 only at the end, or where the
+    /// buffer is empty.
+    ///
+    /// # Errors
+    ///
+    /// `Failed` where the read failed. No byte is lost.
     fn read(&mut self, buffer: &mut [u8]) -> Result<usize, Failed>
         ensures count { IfOk result (λ count. count ≤ length buffer.old) }
         ensures bytes { IfOk result (λ count. TakesOff (remaining self.old) (remaining self.new) (take count buffer.new)) }
@@ -29,7 +34,11 @@ pub trait Sink {
     /// The bytes that were written, where they are known, and how many writes failed or took nothing.
     ghost told: { Self → Told };
 
-    /// Takes the first bytes of the piece, and says how many.
+    /// Writes the first bytes of the piece, and returns their number.
+    ///
+    /// # Errors
+    ///
+    /// `Failed` where the write failed. No byte was written.
     fn write(&mut self, piece: &[u8]) -> Result<usize, Failed>
         ensures count { IfOk result (λ count. count ≤ length piece.now) }
         ensures bytes { IfOk result (λ count. Appends (told self.old).contents (told self.new).contents (take count piece.now)) }

@@ -1,3 +1,5 @@
+//! What keeps the judge from a report.
+
 ghost use Rattle.std.specs.Prelude.{◌≡◌};
 ghost use Rattle.pim_tool.specs.Faults.{fault_of};
 ghost use Rattle.pim_tool.specs.declared.fault.Fault.TheVariants.{Memory};
@@ -6,19 +8,19 @@ use pim_text::TextFault;
 use std::alloc::{AllocError, AllocFailed};
 use thiserror::Error;
 
-/// Why there is no report, or only a beginning of it.
+/// Why there is no report, or only a prefix of it.
 #[derive(Clone, Copy, Debug, PartialEq, Eq, Error)]
 pub enum Fault {
-    /// This line, counted from 1, is the first that can't stand. Nothing was written.
+    /// This line, counted from 1, is the first invalid one. Nothing was written.
     #[error("line {0}")]
     Line(u32),
     /// A read failed. Nothing was written.
     #[error("read")]
     Read,
-    /// A write failed, or took no byte of a piece that wasn't empty. A beginning of the report was written.
+    /// A write failed, or took no byte of a piece that wasn't empty. A prefix of the report was written.
     #[error("write")]
     Write,
-    /// Memory was refused. A beginning of the report was written, perhaps an empty one.
+    /// Out of memory. A prefix of the report was written, perhaps an empty one.
     #[error("memory")]
     Memory,
 }

@@ -1,27 +1,35 @@
 //! From a reader to a writer.
-ghost use Rattle.std.specs.Prelude.{◌≡◌, ℕ, ◌⊎◌, [], IfOk, IfSome, Err, MatchResult};
+ghost use Rattle.std.specs.Prelude.{◌≡◌, ◌<◌, ◌^◌, ℕ, ◌⊎◌, [], length, Some, IfOk, IfSome, Err, MatchOption, MatchResult, true, false};
 ghost use Rattle.pim_base.specs.State.{start};
-ghost use Rattle.pim_base.specs.Texts.{Trace, lines_of, Spells, IsWithinLimits, FirstBadLine};
-ghost use Rattle.pim_base.specs.Reports.{report_of, verdict_of};
+ghost use Rattle.pim_base.specs.Texts.{Trace, lines_of, Spells, IsTrace, IsWithinLimits, FirstBadLine};
+ghost use Rattle.pim_base.specs.Reports.{agrees, report_from, report_of, verdict_from, verdict_of};
 ghost use Rattle.pim_tool.specs.Ends.{Happened, Fails, Appends, AppendsFront, Prints};
 ghost use Rattle.pim_text.specs.Reading.{trace_of};
+ghost use Rattle.pim_tool.specs.Faults.{IsParseFault};
+ghost use Rattle.pim_tool.specs.Reported.{Takes};
 ghost use Rattle.pim_tool.specs.Status.{status_of};
 
 use crate::ends::{Sink, Source};
 use crate::fault::Fault;
+use crate::memory_ends::MemoryWriter;
 use crate::page::Page;
-use crate::printing::print_report;
 use crate::reading::parse;
+use crate::report::Report;
 use crate::transfer::read_all;
-use pim_base::Verdict;
+use pim_base::{Reply, StepLine, Verdict};
 use pim_manager::{ChangedTasks, Manager};
 use pim_text::Text;
 use std::alloc::Global;
 
 /// Reads a trace to its end, and writes its report.
 ///
-/// The clauses speak of the bytes of a reader and a writer that tell them. Nothing is written before the whole text was
-/// read and found valid. `Fault::Memory` is answered only where memory was refused.
+/// The clauses on bytes speak of a reader and a writer that tell them, as those of `MemoryReader` and `MemoryWriter`.
+/// Nothing is written before the whole text was read and found valid. The report is gathered in pages of 64 KiB.
+///
+/// # Errors
+///
+/// `Fault::Line(n)` where line n, counted from 1, is the first invalid one; `Fault::Read` and `Fault::Write` where a read
+/// or a write of this call failed; `Fault::Memory` where memory runs out.
 #[tactic(auto, using(crate::proofs::PrintingLemmas::puts_whole, crate::proofs::PrintingLemmas::stops_front))]
 pub fn judge<R: Source, W: Sink>(
     alloc: Global,
@@ -32,7 +40,10 @@ pub fn judge<R: Source, W: Sink>(
     ensures ok { IfOk result (λ verdict. IfSome (R.remaining reader.old) (λ bytes. (t : Trace) × Spells (lines_of bytes) t
         × Appends (W.told writer.old).contents (W.told writer.new).contents (report_of t) × (verdict ≡ verdict_of t))) }
 
-    // Line n is the first that can't stand, and nothing was written.
+    // The reader is at its end.
+    ensures end { IfOk result (λ _. IfSome (R.remaining reader.old) (λ _. R.remaining reader.new ≡ Some [])) }
+
+    // Line n is the first invalid one, and nothing was written.
     ensures line { (n : ℕ) → result ≡ Err (Fault.Line n) → IfSome (R.remaining reader.old) (λ bytes. FirstBadLine (lines_of bytes) n) }
     ensures line_unwritten { (n : ℕ) → result ≡ Err (Fault.Line n) → (W.told writer.new).contents ≡ (W.told writer.old).contents }
 
@@ -40,12 +51,12 @@ pub fn judge<R: Source, W: Sink>(
     ensures read { result ≡ Err Fault.Read → Happened (R.failures reader.old) (R.failures reader.new) }
     ensures read_unwritten { result ≡ Err Fault.Read → (W.told writer.new).contents ≡ (W.told writer.old).contents }
 
-    // A write failed in this call, or took no byte of a piece that wasn't empty, and a beginning of the report was written.
+    // A write failed in this call, or took no byte of a piece that wasn't empty, and a prefix of the report was written.
     ensures write { result ≡ Err Fault.Write → Fails (W.told writer.old) (W.told writer.new) }
     ensures write_front { result ≡ Err Fault.Write → IfSome (R.remaining reader.old) (λ bytes. (t : Trace) × Spells (lines_of bytes) t
         × AppendsFront (W.told writer.old).contents (W.told writer.new).contents (report_of t)) }
 
-    // Nothing was written, or a beginning of the report.
+    // Nothing was written, or a prefix of the report.
     ensures memory { result ≡ Err Fault.Memory → ((W.told writer.new).contents ≡ (W.told writer.old).contents)
         ⊎ IfSome (R.remaining reader.old) (λ bytes. (t : Trace) × Spells (lines_of bytes) t
         × AppendsFront (W.told writer.old).contents (W.told writer.new).contents (report_of t)) }
@@ -54,16 +65,49 @@ pub fn judge<R: Source, W: Sink>(
     print_text(alloc, writer, &text)
 }
 
-/// The text that a reader has, of which only what it declares is kept.
+/// Reads the text that a reader has. Its bytes are not kept.
 fn read_text<R: Source>(alloc: Global, reader: &mut R) -> Result<Text, Fault>
     ensures ok { IfOk result (λ text. IfSome (R.remaining reader.old) (λ bytes. Spells (lines_of bytes) (trace_of text))) }
     ensures limits { IfOk result (λ text. IsWithinLimits (trace_of text)) }
+    ensures end { IfOk result (λ _. IfSome (R.remaining reader.old) (λ _. R.remaining reader.new ≡ Some [])) }
     ensures line { (n : ℕ) → result ≡ Err (Fault.Line n) → IfSome (R.remaining reader.old) (λ bytes. FirstBadLine (lines_of bytes) n) }
     ensures read { result ≡ Err Fault.Read → Happened (R.failures reader.old) (R.failures reader.new) }
     ensures write { result ≡ Err Fault.Write → ⊥ }
 {
     let bytes = read_all(alloc, reader)?;
     parse(alloc, &bytes)
+}
+
+/// What the judge says of a trace.
+#[derive(Debug, Drop)]
+pub struct Judged {
+    /// The bytes of the report.
+    pub report: Vec<u8>,
+    /// What the report says in the end.
+    pub verdict: Verdict,
+}
+
+/// Judges a trace in memory.
+///
+/// # Errors
+///
+/// `Fault::Line(n)` exactly where line n, counted from 1, is the first invalid one; `Fault::Memory` where memory runs
+/// out. There is no other fault.
+pub fn judge_bytes(alloc: Global, bytes: &[u8]) -> Result<Judged, Fault>
+    ensures { MatchResult result
+        (λ judged. (t : Trace) × Spells (lines_of bytes.now) t × (judged.report.items ≡ report_of t) × (judged.verdict ≡ verdict_of t))
+        (IsParseFault IsTrace (lines_of bytes.now)) }
+{
+    let text = parse(alloc, bytes)?;
+    let mut writer = MemoryWriter::new(alloc);
+    match print_text(alloc, &mut writer, &text) {
+        Ok(verdict) => Ok(Judged {
+            report: writer.into_bytes(),
+            verdict,
+        }),
+        // A writer in memory fails only where memory was refused.
+        Err(_) => Err(Fault::Memory),
+    }
 }
 
 /// Writes the report of a text.
@@ -75,10 +119,50 @@ fn print_text<W: Sink>(alloc: Global, writer: &mut W, text: &Text) -> Result<Ver
     let mut page = Page::new(alloc)?;
     let mut manager = manager_of(alloc, text)?;
     let mut changed = ChangedTasks::new(alloc)?;
-    print_report(&mut page, writer, &mut manager, &mut changed, &text.lines)
+    let mut report = Report::new(writer, &mut page);
+    let verdict = make_steps(&mut report, &mut manager, &mut changed, &text.lines)?;
+    report.write()?;
+    Ok(verdict)
 }
 
-/// The manager of what a text declares, in which all mutexes are free.
+/// Makes the steps, and reports on each, up to the first whose recorded reply differs from the model's.
+fn make_steps<W: Sink>(
+    report: &mut Report<'_, W>,
+    manager: &mut Manager,
+    changed: &mut ChangedTasks,
+    lines: &[StepLine],
+) -> Result<Verdict, Fault>
+    requires few { length lines.now < 2 ^ 32 }
+    ensures report { Takes W.told report.old report.new (report_from 1 manager.old lines.now) result }
+    ensures verdict { IfOk result (λ verdict. verdict ≡ verdict_from 1 manager.old lines.now) }
+{
+    for (index, line) in lines.iter().enumerate() {
+        let number = index as u32 + 1;
+        let reply = manager.step_with_changes(line.step, changed).reply;
+        if let Some(recorded) = differing(line, &reply) {
+            report.rejection(number, &reply, recorded)?;
+            return Ok(Verdict::Rejected(number));
+        }
+        report.answer(number, &reply, changed.as_slice())?;
+    }
+    let count = lines.len() as u32;
+    report.accepted(count)?;
+    Ok(Verdict::Accepted(count))
+}
+
+/// Returns the recorded reply, where it differs from the model's.
+fn differing<'a>(line: &'a StepLine, reply: &Reply) -> Option<&'a Reply>
+    ensures { MatchOption result
+        (agrees line.now.recorded reply.now ≡ true)
+        (λ recorded. (line.now.recorded ≡ Some recorded.now) × (agrees line.now.recorded reply.now ≡ false)) }
+{
+    match &line.recorded {
+        Some(recorded) if recorded != reply => Some(recorded),
+        _ => None,
+    }
+}
+
+/// Returns the manager of what a text declares, in which all mutexes are free.
 fn manager_of(alloc: Global, text: &Text) -> Result<Manager, Fault>
     requires limits { IsWithinLimits (trace_of text.now) }
     ensures { MatchResult result
@@ -91,7 +175,8 @@ fn manager_of(alloc: Global, text: &Text) -> Result<Manager, Fault>
     }
 }
 
-/// The exit status for an answer of `judge`: 0 where the trace was accepted, 1 where it was rejected, 2 for a fault.
+/// Returns the exit status for an answer of `judge`: 0 where the trace was accepted, 1 where it was rejected, 2 for a
+/// fault.
 pub fn status(answer: &Result<Verdict, Fault>) -> u8
     ensures { result ≡ status_of answer.now }
 {

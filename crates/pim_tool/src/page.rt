@@ -1,5 +1,5 @@
 //! The bytes of a report that are not yet written.
-ghost use Rattle.std.specs.Prelude.{◌≡◌, ◌++◌, ◌<◌, ◌+◌, [], decimal, OnOk, IfOk};
+ghost use Rattle.std.specs.Prelude.{◌≡◌, ◌++◌, ◌<◌, ◌+◌, List, ℕ, [], decimal, flat_map, OnOk, IfOk};
 ghost use Rattle.pim_base.specs.Spelling.{refusal_word};
 ghost use Rattle.pim_base.specs.Reports.{reply_text, reply_line, differing_line, rejected, accepted};
 ghost use Rattle.pim_tool.specs.Printed.{reason_text, line_of};
@@ -7,39 +7,98 @@ ghost use Rattle.pim_tool.specs.Printed.{reason_text, line_of};
 use pim_base::{Reason, Refusal, Reply};
 use pim_manager::ChangedTask;
 use std::alloc::{AllocError, Global};
+use std::marker::Model;
 
 /// How many bytes are gathered before they are written.
 const FULL: usize = 65_536;
 
-/// More than the longest line has.
-const LINE: usize = 128;
+/// More than one step adds: the line of its reply, and 256 of at most 38 bytes.
+const STEP: usize = 10_240;
 
-/// Lines that wait to be written.
+/// The bytes of whole lines, in the order in which they are to be written.
+///
+/// In contracts its value is the list of these bytes. Each call that adds a line fails only where memory was refused.
 #[derive(Drop)]
 pub(crate) struct Page {
-    pub bytes: Vec<u8>,
+    bytes: Vec<u8>,
+}
+
+impl Model for Page {
+    ghost Value = { List ℕ };
+
+    ghost view = { λ page. page.bytes.items };
 }
 
 impl Page {
-    /// An empty page, with room for all its lines.
+    /// Returns an empty page, with room for all that it holds before it is full, and one step.
     pub fn new(alloc: Global) -> Result<Page, AllocError>
-        ensures { IfOk result (λ page. page.bytes.items ≡ []) }
+        ensures { IfOk result (λ page. page ≡ []) }
     {
-        Ok(Page {
-            bytes: Vec::with_capacity(alloc, FULL)?,
-        })
+        let bytes = Vec::with_capacity(alloc, FULL + STEP)?;
+        Ok(Page { bytes })
     }
 
-    /// Whether one more line might not have room.
-    #[inline]
+    /// Returns whether so much was gathered that it is to be written.
     pub fn is_full(&self) -> bool {
-        self.bytes.len() >= FULL - LINE
+        self.bytes.len() >= FULL
     }
 
-    /// The line of a step: its number, and what it was answered.
+    /// Returns the bytes.
+    pub fn as_slice(&self) -> &[u8]
+        ensures { result.now ≡ self.now }
+    {
+        self.bytes.as_slice()
+    }
+
+    /// Removes all bytes. The room stays.
+    pub fn clear(&mut self)
+        ensures { self.new ≡ [] }
+    {
+        self.bytes.clear();
+    }
+
+    /// Adds the line of a step's reply, and one for each task whose priority the step changed.
+    pub fn answer(
+        &mut self,
+        number: u32,
+        reply: &Reply,
+        changed: &[ChangedTask],
+    ) -> Result<(), AllocError>
+        ensures { OnOk result (self.new ≡ self.old ++ (reply_line number reply.now ++ flat_map line_of changed.now)) }
+    {
+        self.reply_line(number, reply)?;
+        for task in changed {
+            self.changed_line(task)?;
+        }
+        Ok(())
+    }
+
+    /// Adds both lines of a step whose recorded reply differs from the model's.
+    pub fn rejection(
+        &mut self,
+        number: u32,
+        reply: &Reply,
+        recorded: &Reply,
+    ) -> Result<(), AllocError>
+        ensures { OnOk result (self.new ≡ self.old ++ (differing_line number reply.now recorded.now ++ rejected number)) }
+    {
+        self.differing_line(number, reply, recorded)?;
+        self.rejected(number)
+    }
+
+    /// Adds the last line of a report in which no recorded reply differs.
+    #[tactic(auto, unfolding(pim_base::specs::Reports::accepted))]
+    pub fn accepted(&mut self, count: u32) -> Result<(), AllocError>
+        ensures { OnOk result (self.new ≡ self.old ++ accepted count) }
+    {
+        self.word(b"accepted ")?;
+        self.number(count)?;
+        self.word(b"\n")
+    }
+
     #[tactic(auto, unfolding(pim_base::specs::Reports::reply_line))]
-    pub fn answer(&mut self, number: u32, reply: &Reply) -> Result<(), AllocError>
-        ensures { OnOk result (self.new.bytes.items ≡ self.old.bytes.items ++ reply_line number reply.now) }
+    fn reply_line(&mut self, number: u32, reply: &Reply) -> Result<(), AllocError>
+        ensures { OnOk result (self.new ≡ self.old ++ reply_line number reply.now) }
     {
         self.number(number)?;
         self.word(b" ")?;
@@ -47,10 +106,10 @@ impl Page {
         self.word(b"\n")
     }
 
-    /// The line of a task whose priority changed: the priority that it has now, and why.
+    /// Adds the line of a task: the priority that it has after the step, and why.
     #[tactic(auto, unfolding(crate::specs::Printed::changed_line))]
-    pub fn change(&mut self, changed: &ChangedTask) -> Result<(), AllocError>
-        ensures { OnOk result (self.new.bytes.items ≡ self.old.bytes.items ++ line_of changed.now) }
+    fn changed_line(&mut self, changed: &ChangedTask) -> Result<(), AllocError>
+        ensures { OnOk result (self.new ≡ self.old ++ line_of changed.now) }
     {
         self.word(b"  task ")?;
         self.number(u32::from(changed.task.get()))?;
@@ -61,23 +120,14 @@ impl Page {
         self.word(b"\n")
     }
 
-    /// Both lines of a step whose recorded reply differs.
-    pub fn rejection(
+    #[tactic(auto, unfolding(pim_base::specs::Reports::differing_line))]
+    fn differing_line(
         &mut self,
         number: u32,
         reply: &Reply,
         recorded: &Reply,
     ) -> Result<(), AllocError>
-        ensures { OnOk result (self.new.bytes.items ≡ self.old.bytes.items ++ (differing_line number reply.now recorded.now ++ rejected number)) }
-    {
-        self.differing(number, reply, recorded)?;
-        self.rejected(number)
-    }
-
-    /// The line of a step whose recorded reply differs.
-    #[tactic(auto, unfolding(pim_base::specs::Reports::differing_line))]
-    fn differing(&mut self, number: u32, reply: &Reply, recorded: &Reply) -> Result<(), AllocError>
-        ensures { OnOk result (self.new.bytes.items ≡ self.old.bytes.items ++ differing_line number reply.now recorded.now) }
+        ensures { OnOk result (self.new ≡ self.old ++ differing_line number reply.now recorded.now) }
     {
         self.number(number)?;
         self.word(b" ")?;
@@ -87,28 +137,17 @@ impl Page {
         self.word(b"\n")
     }
 
-    /// The last line, where a recorded reply differs.
     #[tactic(auto, unfolding(pim_base::specs::Reports::rejected))]
     fn rejected(&mut self, number: u32) -> Result<(), AllocError>
-        ensures { OnOk result (self.new.bytes.items ≡ self.old.bytes.items ++ rejected number) }
+        ensures { OnOk result (self.new ≡ self.old ++ rejected number) }
     {
         self.word(b"rejected ")?;
         self.number(number)?;
         self.word(b"\n")
     }
 
-    /// The last line, where no recorded reply differs.
-    #[tactic(auto, unfolding(pim_base::specs::Reports::accepted))]
-    pub fn accepted(&mut self, count: u32) -> Result<(), AllocError>
-        ensures { OnOk result (self.new.bytes.items ≡ self.old.bytes.items ++ accepted count) }
-    {
-        self.word(b"accepted ")?;
-        self.number(count)?;
-        self.word(b"\n")
-    }
-
     fn reply(&mut self, reply: &Reply) -> Result<(), AllocError>
-        ensures { OnOk result (self.new.bytes.items ≡ self.old.bytes.items ++ reply_text reply.now) }
+        ensures { OnOk result (self.new ≡ self.old ++ reply_text reply.now) }
     {
         match reply {
             Reply::Granted => self.word(b"granted"),
@@ -131,25 +170,16 @@ impl Page {
         }
     }
 
+    /// Adds the name of a refusal. A function of its own, so that the other replies pay nothing for it.
+    #[inline(never)]
     fn refusal(&mut self, refusal: Refusal) -> Result<(), AllocError>
-        ensures { OnOk result (self.new.bytes.items ≡ self.old.bytes.items ++ refusal_word refusal) }
+        ensures { OnOk result (self.new ≡ self.old ++ refusal_word refusal) }
     {
-        match refusal {
-            Refusal::NoTask => self.word(b"no-task"),
-            Refusal::Waiting => self.word(b"waiting"),
-            Refusal::NoMutex => self.word(b"no-mutex"),
-            Refusal::Deadlock => self.word(b"deadlock"),
-            Refusal::Ceiling => self.word(b"ceiling"),
-            Refusal::Busy => self.word(b"busy"),
-            Refusal::NotOwner => self.word(b"not-owner"),
-            Refusal::NotWaiting => self.word(b"not-waiting"),
-            Refusal::Priority => self.word(b"priority"),
-            Refusal::Tickets => self.word(b"tickets"),
-        }
+        self.word(refusal.name().as_bytes())
     }
 
     fn reason(&mut self, reason: Reason) -> Result<(), AllocError>
-        ensures { OnOk result (self.new.bytes.items ≡ self.old.bytes.items ++ reason_text reason) }
+        ensures { OnOk result (self.new ≡ self.old ++ reason_text reason) }
     {
         match reason {
             Reason::Base => self.word(b"base"),
@@ -168,16 +198,16 @@ impl Page {
 
     #[inline]
     fn word(&mut self, word: &[u8]) -> Result<(), AllocError>
-        ensures { OnOk result (self.new.bytes.items ≡ self.old.bytes.items ++ word.now) }
+        ensures { OnOk result (self.new ≡ self.old ++ word.now) }
     {
         self.bytes.extend_from_slice(word)
     }
 
-    /// A number in decimal digits. Most have at most three, and those are put without a call.
+    /// Adds a number in decimal digits. Most have at most three, and those are put without a call.
     #[inline(always)]
     #[tactic(auto, using(std::proofs::lemmas::Fmt::decimal_digit, crate::proofs::DecimalLemmas::two_digits, crate::proofs::DecimalLemmas::three_digits))]
     fn number(&mut self, number: u32) -> Result<(), AllocError>
-        ensures { OnOk result (self.new.bytes.items ≡ self.old.bytes.items ++ decimal number) }
+        ensures { OnOk result (self.new ≡ self.old ++ decimal number) }
     {
         if number < 10 {
             self.word(&[digit(number)])
@@ -194,17 +224,17 @@ impl Page {
         }
     }
 
-    /// The same for any number of digits.
+    /// Adds a number of any length.
     #[inline(never)]
     fn long_number(&mut self, number: u32) -> Result<(), AllocError>
-        ensures { OnOk result (self.new.bytes.items ≡ self.old.bytes.items ++ decimal number) }
+        ensures { OnOk result (self.new ≡ self.old ++ decimal number) }
     {
         let mut digits = itoa::Buffer::new();
         self.word(digits.format(number).as_bytes())
     }
 }
 
-/// The character of a digit.
+/// Returns the character of a digit.
 #[inline]
 fn digit(value: u32) -> u8
     requires { value < 10 }

@@ -1,10 +1,10 @@
 //! The readers and writers of std as ends that know no bytes.
-ghost use Rattle.std.specs.Prelude.{None};
+ghost use Rattle.std.specs.Prelude.{◌≡◌, None};
 
 use crate::ends::{Failed, Sink, Source};
 use std::io::{ErrorKind, Read, Write};
 
-/// A reader that counts its failures. A read that a signal interrupts is made again.
+/// A reader of std as an end. It counts the reads that failed; a read that a signal interrupts is made again.
 #[derive(Drop)]
 pub struct Input<R> {
     reader: R,
@@ -12,8 +12,10 @@ pub struct Input<R> {
 }
 
 impl<R: Read> Input<R> {
-    /// A reader of which no read has failed.
-    pub fn new(reader: R) -> Input<R> {
+    /// Returns the reader as an end of which no read has failed.
+    pub fn new(reader: R) -> Input<R>
+        ensures { ⟦<Input<R> as Source>⟧.failures result ≡ 0 }
+    {
         Input {
             reader,
             failures: 0,
@@ -39,7 +41,8 @@ impl<R: Read> Source for Input<R> {
     }
 }
 
-/// A writer that counts its failures, and the writes that took nothing. A write that a signal interrupts is made again.
+/// A writer of std as an end. It counts the writes that failed, and those that took nothing; a write that a signal
+/// interrupts is made again.
 #[derive(Drop)]
 pub struct Output<W> {
     writer: W,
@@ -48,8 +51,10 @@ pub struct Output<W> {
 }
 
 impl<W: Write> Output<W> {
-    /// A writer of which no write has failed or taken nothing.
-    pub fn new(writer: W) -> Output<W> {
+    /// Returns the writer as an end of which no write has failed or taken nothing.
+    pub fn new(writer: W) -> Output<W>
+        ensures { ⟦<Output<W> as Sink>⟧.told result ≡ record { contents = None; failures = 0; stalls = 0 } }
+    {
         Output {
             writer,
             failures: 0,
@@ -59,7 +64,7 @@ impl<W: Write> Output<W> {
 }
 
 impl<W> Output<W> {
-    /// The writer.
+    /// Returns the writer.
     pub fn into_inner(self) -> W {
         let Output {
             writer,

@@ -1,5 +1,5 @@
-//! Reads to the end, and writes all.
-ghost use Rattle.std.specs.Prelude.{◌≡◌, ◌⊎◌, [], IfOk, IfErr, Err};
+//! Reads to the end, and writes of whole pieces.
+ghost use Rattle.std.specs.Prelude.{◌≡◌, ◌⊎◌, [], Some, IfOk, IfErr, IfSome, Err};
 ghost use Rattle.pim_tool.specs.Ends.{Happened, ReadsAll, Prints};
 
 use crate::ends::{Sink, Source};
@@ -9,9 +9,10 @@ use std::alloc::Global;
 /// How many bytes are asked for at once.
 const PIECE: usize = 16_384;
 
-/// All the bytes that are left.
+/// Reads all the bytes that are left.
 pub(crate) fn read_all<R: Source>(alloc: Global, reader: &mut R) -> Result<Vec<u8>, Fault>
     ensures ok { IfOk result (λ bytes. ReadsAll (R.remaining reader.old) bytes.items) }
+    ensures end { IfOk result (λ _. IfSome (R.remaining reader.old) (λ _. R.remaining reader.new ≡ Some [])) }
     ensures read { result ≡ Err Fault.Read → Happened (R.failures reader.old) (R.failures reader.new) }
     ensures others { IfErr result (λ fault. (fault ≡ Fault.Read) ⊎ (fault ≡ Fault.Memory)) }
 {

@@ -2,7 +2,8 @@
 
 use crate::Verdict::{Accepted, Rejected};
 use crate::tests::expected::{expect_line, expect_report};
-use crate::{Fault, Text, parse, parse_script, status};
+use crate::tests::worked::{REPORT, TEXT};
+use crate::{Fault, Text, judge_bytes, parse, parse_script, status};
 use std::test::Fail;
 
 #[test]
@@ -43,6 +44,23 @@ fn texts_are_read_or_their_first_bad_line_is_named(rt: HostRuntime) {
         parse_script(rt.alloc(), text).map(steps),
         Err(Fault::Line(4))
     );
+}
+
+#[test]
+fn bytes_are_judged_in_memory(rt: HostRuntime) -> Result<(), Fail> {
+    let judged = judge_bytes(rt.alloc(), TEXT.as_bytes())?;
+    assert_eq!(rt; judged.verdict, Accepted(3));
+    assert_eq!(rt; judged.report.as_slice(), REPORT.as_bytes());
+    let recorded = b"pim 1\n1 lock 1 = granted";
+    let judged = judge_bytes(rt.alloc(), recorded)?;
+    assert_eq!(rt; judged.verdict, Rejected(1));
+    assert_eq!(rt;
+        judged.report.as_slice(),
+        b"1 refused no-task but recorded granted\nrejected 1\n".as_slice()
+    );
+    let fault = judge_bytes(rt.alloc(), b"pim 1\n\0").err();
+    assert_eq!(rt; fault, Some(Fault::Line(2)));
+    Ok(())
 }
 
 #[test]

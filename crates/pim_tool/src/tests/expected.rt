@@ -1,7 +1,6 @@
 //! What the judge is expected to answer and to write.
 
-use crate::tests::memory_ends::{MemoryReader, MemoryWriter};
-use crate::{Fault, Verdict, judge};
+use crate::{Fault, MemoryReader, MemoryWriter, Verdict, judge};
 use std::alloc::AllocGlobal;
 use std::process::Abort;
 
@@ -17,7 +16,7 @@ pub fn expect_report(rt: &(impl Abort + AllocGlobal), text: &str, report: &str, 
     assert_eq!(rt; writer.text(), Some(report), "{text}");
 }
 
-/// The judge writes nothing of the text, and answers that this line can't stand.
+/// The judge writes nothing of the text, and answers that this line is the first invalid one.
 pub fn expect_line(rt: &(impl Abort + AllocGlobal), text: &[u8], line: u32) {
     let mut writer = MemoryWriter::new(rt.alloc());
     let answer = judge(rt.alloc(), &mut MemoryReader::new(text), &mut writer);

@@ -1,29 +1,9 @@
 //! Ends of one byte a call, and ends of which each call in turn goes wrong.
 
-use crate::tests::memory_ends::{MemoryReader, MemoryWriter, Trouble};
-use crate::{Fault, Verdict, judge};
+use crate::tests::worked::{REPORT, TEXT};
+use crate::{Fault, MemoryReader, MemoryWriter, Trouble, Verdict, judge};
 use std::alloc::AllocGlobal;
 use std::process::Abort;
-
-const TEXT: &str = "\
-pim 1
-task 1 10
-task 2 50
-task 3 90
-mutex 1 inherit
-1 lock 1
-3 lock 1
-1 unlock 1
-";
-
-const REPORT: &str = "\
-1 granted
-2 queued
-  task 1 at 90 waiter 3 mutex 1
-3 handed 3
-  task 1 at 10 base
-accepted 3
-";
 
 /// The report is written whole by ends that take so many bytes a call.
 fn expect_whole(rt: &(impl Abort + AllocGlobal), read: usize, written: usize) {
@@ -56,7 +36,7 @@ fn each_failed_read_is_answered_and_nothing_is_written(rt: HostRuntime) {
 }
 
 #[test]
-fn read_behind_the_end_is_not_made(rt: HostRuntime) {
+fn no_read_is_made_after_the_end(rt: HostRuntime) {
     let mut reader = MemoryReader::piecewise(TEXT.as_bytes(), 1, TEXT.len() as u64 + 2);
     let mut writer = MemoryWriter::new(rt.alloc());
     let answer = judge(rt.alloc(), &mut reader, &mut writer);
@@ -64,8 +44,8 @@ fn read_behind_the_end_is_not_made(rt: HostRuntime) {
     assert_eq!(rt; writer.text(), Some(REPORT));
 }
 
-/// Each write in turn goes wrong: what was written before is a beginning of the report.
-fn expect_beginnings(rt: &(impl Abort + AllocGlobal), trouble: Trouble) {
+/// Each write in turn goes wrong: what was written before is a prefix of the report.
+fn expect_prefixes(rt: &(impl Abort + AllocGlobal), trouble: Trouble) {
     for written in 0..REPORT.len() {
         let mut reader = MemoryReader::new(TEXT.as_bytes());
         let mut writer = MemoryWriter::piecewise(rt.alloc(), 1, trouble, written as u64 + 1);
@@ -80,11 +60,11 @@ fn expect_beginnings(rt: &(impl Abort + AllocGlobal), trouble: Trouble) {
 }
 
 #[test]
-fn each_failed_write_leaves_a_beginning(rt: HostRuntime) {
-    expect_beginnings(&rt, Trouble::Fails);
+fn each_failed_write_leaves_a_prefix(rt: HostRuntime) {
+    expect_prefixes(&rt, Trouble::Fails);
 }
 
 #[test]
-fn each_write_of_no_byte_leaves_a_beginning(rt: HostRuntime) {
-    expect_beginnings(&rt, Trouble::Stalls);
+fn each_write_of_no_byte_leaves_a_prefix(rt: HostRuntime) {
+    expect_prefixes(&rt, Trouble::Stalls);
 }

@@ -1,7 +1,6 @@
 //! The report of a text of full size, and reports of several pieces.
 
-use crate::tests::memory_ends::{MemoryReader, MemoryWriter, Trouble};
-use crate::{Fault, Verdict, judge};
+use crate::{Fault, MemoryReader, MemoryWriter, Trouble, Verdict, judge};
 use std::alloc::{AllocGlobal, Global};
 use std::process::Abort;
 use std::test::Fail;
@@ -34,6 +33,9 @@ fn text_of_full_size_is_judged_whole(rt: HostRuntime) -> Result<(), Fail> {
     let answer = judge(rt.alloc(), &mut MemoryReader::new(&text), &mut writer);
     assert_eq!(rt; answer, Ok(Verdict::Accepted(65_536)));
     assert!(rt; writer.bytes() == report.as_slice());
+    // 1,430,701 bytes: 21 pages of 65,536 to 65,557 bytes each, and what is left.
+    assert_eq!(rt; writer.bytes().len(), 1_430_701);
+    assert_eq!(rt; writer.calls(), 22);
     Ok(())
 }
 

@@ -1,7 +1,7 @@
-//! Ends in memory: of a few bytes a call, and with one call that fails.
-ghost use Rattle.std.specs.Prelude.{Some};
+//! Ends in memory, which tell their bytes, and may take them piece by piece or fail at a call.
+ghost use Rattle.std.specs.Prelude.{◌≡◌, Some, []};
 
-use crate::{Failed, Sink, Source};
+use crate::ends::{Failed, Sink, Source};
 use std::alloc::Global;
 
 /// A reader over bytes.
@@ -16,14 +16,21 @@ pub struct MemoryReader<'a> {
     failures: u64,
 }
 
-impl MemoryReader<'_> {
-    /// A reader that hands over as many bytes as are asked for.
-    pub fn new(bytes: &[u8]) -> MemoryReader<'_> {
+impl<'a> MemoryReader<'a> {
+    /// Returns a reader that hands over as many bytes as are asked for, and never fails.
+    pub fn new(bytes: &'a [u8]) -> MemoryReader<'a>
+        ensures remaining { ⟦<MemoryReader<'static> as Source>⟧.remaining result ≡ Some bytes.now }
+        ensures failures { ⟦<MemoryReader<'static> as Source>⟧.failures result ≡ 0 }
+    {
         MemoryReader::piecewise(bytes, usize::MAX, 0)
     }
 
-    /// A reader that hands over so many bytes a call at most, and fails at this call.
-    pub fn piecewise(bytes: &[u8], most: usize, fails_at: u64) -> MemoryReader<'_> {
+    /// Returns a reader that hands over at most so many bytes a call, at least one, and whose call of this number fails,
+    /// counted from 1; none fails where that is 0.
+    pub fn piecewise(bytes: &'a [u8], most: usize, fails_at: u64) -> MemoryReader<'a>
+        ensures remaining { ⟦<MemoryReader<'static> as Source>⟧.remaining result ≡ Some bytes.now }
+        ensures failures { ⟦<MemoryReader<'static> as Source>⟧.failures result ≡ 0 }
+    {
         MemoryReader {
             left: bytes,
             most,
@@ -56,9 +63,9 @@ impl Source for MemoryReader<'_> {
 /// What a writer does at the call that goes wrong.
 #[derive(Clone, Copy, Debug, PartialEq, Eq)]
 pub enum Trouble {
-    /// It fails.
+    /// The call fails.
     Fails,
-    /// It takes no byte.
+    /// The call takes no byte.
     Stalls,
 }
 
@@ -77,13 +84,18 @@ pub struct MemoryWriter {
 }
 
 impl MemoryWriter {
-    /// A writer that takes each piece whole.
-    pub fn new(alloc: Global) -> MemoryWriter {
+    /// Returns an empty writer that takes each piece whole. A write fails only where memory was refused.
+    pub fn new(alloc: Global) -> MemoryWriter
+        ensures { ⟦<MemoryWriter as Sink>⟧.told result ≡ record { contents = Some []; failures = 0; stalls = 0 } }
+    {
         MemoryWriter::piecewise(alloc, usize::MAX, Trouble::Fails, 0)
     }
 
-    /// A writer that takes so many bytes a call at most, and goes wrong at this call.
-    pub fn piecewise(alloc: Global, most: usize, trouble: Trouble, at: u64) -> MemoryWriter {
+    /// Returns an empty writer that takes at most so many bytes a call, and whose call of this number goes wrong, counted
+    /// from 1; none does where that is 0.
+    pub fn piecewise(alloc: Global, most: usize, trouble: Trouble, at: u64) -> MemoryWriter
+        ensures { ⟦<MemoryWriter as Sink>⟧.told result ≡ record { contents = Some []; failures = 0; stalls = 0 } }
+    {
         MemoryWriter {
             bytes: Vec::new(alloc),
             most,
@@ -95,12 +107,27 @@ impl MemoryWriter {
         }
     }
 
-    /// What was written.
-    pub fn bytes(&self) -> &[u8] {
+    /// Returns what was written.
+    pub fn bytes(&self) -> &[u8]
+        ensures { (⟦<MemoryWriter as Sink>⟧.told self.now).contents ≡ Some result.now }
+    {
         self.bytes.as_slice()
     }
 
-    /// What was written, as text.
+    /// Returns what was written, and gives up the writer.
+    pub fn into_bytes(self) -> Vec<u8>
+        ensures { (⟦<MemoryWriter as Sink>⟧.told self).contents ≡ Some result.items }
+    {
+        let MemoryWriter { bytes, .. } = self;
+        bytes
+    }
+
+    /// Returns the number of calls of `write`.
+    pub fn calls(&self) -> u64 {
+        self.calls
+    }
+
+    /// Returns what was written as text; None where it is not UTF-8.
     pub fn text(&self) -> Option<&str> {
         std::str::from_utf8(self.bytes.as_slice()).ok()
     }
