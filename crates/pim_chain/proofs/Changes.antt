@@ -8,6 +8,7 @@ use Rattle.pim_base.specs.State.{State, IsState, IsTask, IsMutex, base_of, owner
 use Rattle.pim_base.specs.Chains.{heir, heir_in, heir_of, closes_cycle}
 use Rattle.pim_base.specs.Priorities.{own_priority, local_priority, ceiling_of}
 use Rattle.pim_base.specs.State.{with_owner, with_wait, with_base}
+use Rattle.pim_base.specs.declared.limits.TheConstants.{MAX_TASKS}
 use Rattle.pim_base.specs.declared.steps.Wait.{Wait}
 use Rattle.pim_base.specs.declared.steps.Waiter.{Waiter}
 use Rattle.pim_base.proofs.Greatest.{greatest_of, greatest-cons}
@@ -202,7 +203,7 @@ ready_bound v m o may ready = record {
 pub ready_based : (v : View) (t p : ℕ) → Ready v → Ready (with_state v (with_base v.state t p))
 ready_based v t p ready = record {
   sound = base_sound v.state t p ready.sound;
-  few_tasks = subst (λ n. n ≤ 256) (sym same) ready.few_tasks;
+  few_tasks = subst (λ n. n ≤ MAX_TASKS) (sym same) ready.few_tasks;
   few_mutexes = ready.few_mutexes;
   stored_len = ready.stored_len ∙ sym same;
   queues_len = ready.queues_len;

@@ -160,7 +160,6 @@ pub visited_same :
     → Visited v v x None
 visited_same v x settled right = record {
   state = refl;
-  marked = refl;
   settled = λ t task _. go t task (cases_eq t x);
   others = λ u _. refl;
   onward = λ y e. absurd (none-some y e);
@@ -182,7 +181,6 @@ module _ (v : View) (x p : ℕ) (ready : Ready v) (known : IsTask v.state x) (se
   pub visited_free : wait_of v.state x ≡ None → Visited v (restored v x p) x None
   visited_free free = record {
     state = refl;
-    marked = refl;
     settled = λ t task _. onward t task (λ e. none-some t (sym (ap (option_and_then (λ (w : Wait). heir_of v.state w.mutex)) free) ∙ e));
     others = stored_else v x p;
     onward = λ y e. absurd (none-some y e);
@@ -193,7 +191,6 @@ module _ (v : View) (x p : ℕ) (ready : Ready v) (known : IsTask v.state x) (se
     pub visited_stop : front_prio (queue_at v w.mutex) ≡ front_prio (queue_at (restored v x p) w.mutex) → Visited v (restored v x p) x None
     visited_stop same = record {
       state = refl;
-      marked = refl;
       settled =
           mended_stop v.state (stored_at v) (stored_at (restored v x p)) x w.mutex ready.sound known settled mends
           (waits_for_from (wait_of v.state) x w at)
@@ -214,7 +211,6 @@ module _ (v : View) (x p : ℕ) (ready : Ready v) (known : IsTask v.state x) (se
         let hop : heir v.state x ≡ heir_of v.state w.mutex = heir_at v.state w.mutex x (waits_for_from (wait_of v.state) x w at) in
         record {
           state = refl;
-          marked = refl;
           settled = subst (SettledBut v.state (stored_at (restored v x p))) hop onward;
           others = stored_else v x p;
           onward = λ y e. (hop ∙ e, λ same. other (sym (stored_now v x p ready known) ∙ same));

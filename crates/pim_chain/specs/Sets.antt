@@ -1,10 +1,9 @@
--- Each task's set of the mutexes that it owns, and the set of tasks whose stored priority was touched.
-use Rattle.std.specs.Prelude.{◌≡◌, ◌≤◌, ℕ, false, List, [], length, Option, None, unwrap_or}
+-- Each task's set of the mutexes that it owns.
+use Rattle.std.specs.Prelude.{◌≡◌, ◌≤◌, ℕ, List, [], length, Option, None, unwrap_or}
 use Rattle.std.specs.Option.{option_map_or}
 use Rattle.pim_base.specs.Lists.{nth, holds}
 use Rattle.pim_chain.specs.declared.number_set.NumberSet.{NumberSet}
 use Rattle.pim_chain.specs.Numbers.{has}
-use Rattle.pim_chain.specs.Views.{stored_in}
 
 -- the bits of the task's set
 abbrev pub words_in : List NumberSet → ℕ → List ℕ
@@ -17,8 +16,3 @@ owner_in owners m = unwrap_or (nth owners m) None
 pub record AreOwned (tasks : ℕ) (owners : List (Option ℕ)) (sets : List NumberSet) : Type 0 where
   pub len : length sets ≡ tasks
   pub members : (t m : ℕ) → 1 ≤ t → t ≤ tasks → has (words_in sets t) m ≡ holds (owner_in owners m) t
-
--- each task has a marked priority, and those that weren't touched since have it still
-pub record AreMarked (stored marked : List ℕ) (touched : List ℕ) : Type 0 where
-  pub len : length marked ≡ length stored
-  pub same : (t : ℕ) → has touched t ≡ false → stored_in marked t ≡ stored_in stored t

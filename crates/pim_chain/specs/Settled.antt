@@ -59,7 +59,6 @@ next_of v w x =
 -- what the visit of x leaves, and who is next
 pub record Visited (v w : View) (x : ℕ) (next : Option ℕ) : Type 0 where
   pub state : w.state ≡ v.state
-  pub marked : w.marked ≡ v.marked
   pub settled : SettledBut w.state (stored_at w) next
   pub others : (u : ℕ) → (u ≡ x → ⊥) → stored_at w u ≡ stored_at v u
   pub onward : (y : ℕ) → next ≡ Some y → (heir v.state x ≡ Some y) × (stored_at w x ≡ stored_at v x → ⊥)

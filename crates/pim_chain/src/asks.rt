@@ -15,7 +15,7 @@ impl Tables {
     pub fn is_unknown_task(&self, task: TaskNo) -> bool
         ensures { result ≡ unknown_task self.now.state task }
     {
-        task.get() == 0 || self.task_count() < task.get()
+        task.get() == 0 || self.tasks() < task.get()
     }
 
     /// Whether the task waits for a mutex.
@@ -29,7 +29,7 @@ impl Tables {
     pub fn is_unknown_mutex(&self, mutex: MutexNo) -> bool
         ensures { result ≡ unknown_mutex self.now.state mutex }
     {
-        mutex.get() == 0 || self.mutex_count() < mutex.get()
+        mutex.get() == 0 || self.mutexes() < mutex.get()
     }
 
     /// Whether somebody owns the mutex.
@@ -76,7 +76,7 @@ impl Tables {
         ensures { result ≡ contains (waits_chain self.now.state from) task }
     {
         let mut at = from;
-        for _hop in 0..self.task_count() {
+        for _hop in 0..self.tasks() {
             if task == at {
                 return true;
             }
@@ -102,7 +102,7 @@ impl Tables {
     pub fn has_ticket(&self, mutex: MutexNo, ticket: u64) -> bool
         ensures { IsTrue result ↔ ((t : ℕ) × (wait_of self.now.state t ≡ Some (record { mutex = mutex; ticket = ticket }))) }
     {
-        let _tasks = self.task_count();
+        let _tasks = self.tasks();
         match self.queue(mutex) {
             Some(queue) => queue.has_ticket(ticket),
             None => false,

@@ -1,17 +1,22 @@
 //! What is owned and waited for, with the stored priorities and the queues.
 
 ghost use Rattle.std.specs.Prelude.{◌≡◌, ◌≢◌, ◌≤◌, length, IfOk, None, Some, false, ℕ};
+ghost use Rattle.std.specs.List.{filter};
 ghost use Rattle.std.specs.Option.{option_copied};
-ghost use Rattle.pim_base.specs.Lists.{nth, holds, first_item};
-ghost use Rattle.pim_base.specs.State.{IsTask, IsMutex, base_of, owner_of, wait_of, with_owner, with_base};
+ghost use Rattle.pim_base.specs.declared.limits.TheConstants.{MAX_TASKS, MAX_MUTEXES};
+ghost use Rattle.pim_base.specs.Lists.{nth, first_item};
+ghost use Rattle.pim_base.specs.State.{IsTask, IsMutex, task_numbers, base_of, owner_of, owned, wait_of, with_owner, with_base};
 ghost use Rattle.pim_base.specs.Chains.{blocker, closes_cycle};
 ghost use Rattle.pim_base.specs.declared.steps.Wait.{Wait};
-ghost use Rattle.pim_chain.specs.Views.{Ready, fresh, has_changed, with_state, queue_at, stored_at};
-ghost use Rattle.pim_chain.specs.Owned.{IsNext};
-ghost use Rattle.pim_chain.specs.Settled.{SettledBut, Unsettles, joined, left, restored};
+ghost use Rattle.pim_chain.specs.Views.{Ready, fresh, with_state, queue_at, stored_at};
+ghost use Rattle.pim_chain.specs.Work.{has_changed};
+ghost use Rattle.pim_chain.specs.Settled.{Calm, Unsettles, joined, left, restored};
 
+use crate::changed::Changed;
 use crate::number_set::NumberSet;
 use crate::numbered::{filled, nth, put};
+use crate::owned::Owned;
+use crate::visits::Visits;
 use crate::{lines, sets};
 use pim_base::{MutexNo, Prio, Protocol, TaskNo, Wait, Waiter};
 use pim_queue::Queue;
@@ -27,9 +32,8 @@ pub struct Tables {
     wait: Vec<Option<Wait>>,
     owned: Vec<NumberSet>,
     stored: Vec<Prio>,
-    marked: Vec<Prio>,
-    touched: NumberSet,
     queues: Vec<Queue>,
+    next: u64,
 }
 
 impl Model for Tables {
@@ -48,10 +52,10 @@ impl Tables {
     /// The tables of these tasks and mutexes: all mutexes are free, nobody waits, and each stored priority is the base.
     /// The only error is that memory was refused.
     pub fn new(alloc: Global, bases: &[Prio], protocols: &[Protocol]) -> Result<Tables, AllocError>
-        requires tasks { length bases.now ≤ 256 }
-        requires mutexes { length protocols.now ≤ 256 }
+        requires tasks { length bases.now ≤ MAX_TASKS }
+        requires mutexes { length protocols.now ≤ MAX_MUTEXES }
         ensures made { IfOk result (λ tables. tables ≡ fresh bases.now protocols.now) }
-        ensures settled { IfOk result (λ tables. SettledBut tables.state (stored_at tables) None) }
+        ensures calm { IfOk result Calm }
     {
         let base = Vec::from_slice(alloc, bases)?;
         let protocol = Vec::from_slice(alloc, protocols)?;
@@ -59,7 +63,6 @@ impl Tables {
         let wait = filled(alloc, bases.len(), None)?;
         let owned = filled(alloc, bases.len(), NumberSet::new())?;
         let stored = Vec::from_slice(alloc, bases)?;
-        let marked = Vec::from_slice(alloc, bases)?;
         let queues = lines::empty(alloc, protocols.len(), bases.len() as u16)?;
         Ok(Tables {
             base,
@@ -68,9 +71,8 @@ impl Tables {
             wait,
             owned,
             stored,
-            marked,
-            touched: NumberSet::new(),
             queues,
+            next: 1,
         })
     }
 
@@ -84,7 +86,6 @@ impl Tables {
         let wait = Vec::from_slice(alloc, &self.wait)?;
         let owned = Vec::from_slice(alloc, &self.owned)?;
         let stored = Vec::from_slice(alloc, &self.stored)?;
-        let marked = Vec::from_slice(alloc, &self.marked)?;
         let queues = lines::try_clone(alloc, &self.queues)?;
         Ok(Tables {
             base,
@@ -93,14 +94,13 @@ impl Tables {
             wait,
             owned,
             stored,
-            marked,
-            touched: self.touched,
             queues,
+            next: self.next,
         })
     }
 
     /// How many tasks there are, at most 256.
-    pub fn task_count(&self) -> u16
+    pub fn tasks(&self) -> u16
         ensures count { result ≡ length self.now.state.base }
         ensures ready { Ready self.now }
     {
@@ -108,7 +108,7 @@ impl Tables {
     }
 
     /// How many mutexes there are, at most 256.
-    pub fn mutex_count(&self) -> u16
+    pub fn mutexes(&self) -> u16
         ensures count { result ≡ length self.now.state.protocol }
         ensures ready { Ready self.now }
     {
@@ -136,14 +136,18 @@ impl Tables {
         nth(&self.owner, mutex.get()).flatten()
     }
 
-    /// The least mutex above this number that the task owns.
-    pub fn next_owned(&self, task: TaskNo, above: u16) -> Option<MutexNo>
-        ensures { IsNext (λ m. holds (owner_of self.now.state m) task) above result }
+    /// Returns the mutexes that the task owns, in ascending order, none for an unknown task.
+    pub fn owned(&self, task: TaskNo) -> Owned
+        ensures { result ≡ owned self.now.state task }
     {
-        match sets::next_above(&self.owned, task, above) {
-            Some(number) => Some(MutexNo(number)),
-            None => None,
-        }
+        sets::owned(&self.owned, task)
+    }
+
+    /// Returns the next ticket.
+    pub fn next_ticket(&self) -> u64
+        ensures { result ≡ self.now.state.next }
+    {
+        self.next
     }
 
     /// The mutex that the task waits for, with its ticket there, None where it waits for nothing or is unknown.
@@ -191,23 +195,24 @@ impl Tables {
         self.stored[task.get() as usize - 1]
     }
 
-    /// Marks the stored priorities: what `next_changed` finds from now on is what changes from now on.
-    pub fn mark(&mut self)
-        ensures marked { self.new ≡ record self.old { marked = self.old.stored } }
-        ensures ready { Ready self.new }
+    /// Returns the tasks whose stored priority isn't the one that they had when the visits began to note, in ascending
+    /// order. Only noted tasks are looked at.
+    pub fn changed<'a>(&'a self, visits: &'a Visits) -> Changed<'a>
+        ensures { result ≡ filter (has_changed (stored_at self.now) visits.now) (task_numbers self.now.state) }
     {
-        sets::mark(&mut self.marked, &self.stored, self.touched);
-        self.touched = NumberSet::new();
+        match visits.notes() {
+            Some(notes) => Changed::new(notes.tasks(), notes.had(), &self.stored),
+            None => Changed::new(NumberSet::new(), &[], &self.stored),
+        }
     }
 
-    /// The least task above this number whose stored priority isn't what it was when the priorities were marked last.
-    pub fn next_changed(&self, above: u16) -> Option<TaskNo>
-        ensures { IsNext (has_changed self.now) above result }
+    /// Sets the next ticket.
+    pub fn put_next_ticket(&mut self, ticket: u64)
+        ensures state { self.new ≡ with_state self.old (record self.old.state { next = ticket }) }
+        ensures unsettles { Unsettles self.old self.new None }
+        ensures ready { Ready self.new }
     {
-        match sets::next_differing(&self.marked, &self.stored, self.touched, above) {
-            Some(number) => Some(TaskNo(number)),
-            None => None,
-        }
+        self.next = ticket;
     }
 
     /// The free mutex gets an owner, who waits for nothing.
@@ -290,7 +295,6 @@ impl Tables {
         let wait = self.waits_for(task);
         let before = self.known_stored(task);
         put(&mut self.stored, task.get(), prio);
-        self.touched.insert(task.get());
         if let Some(wait) = wait {
             let waiter = Waiter {
                 task,

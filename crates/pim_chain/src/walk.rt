@@ -1,6 +1,7 @@
 //! The walk that mends the stored priorities, and stops early.
 
-ghost use Rattle.std.specs.Prelude.{◌≡◌, ◌≤◌, ◌<◌, ◌+◌, ◌-◌, ◌^◌, ◌==◌, if◌then◌else◌, None, unwrap_or, ℕ};
+ghost use Rattle.std.specs.Prelude.{◌≡◌, ◌≤◌, ◌<◌, ◌+◌, ◌-◌, ◌^◌, ◌==◌, if◌then◌else◌, None, length, unwrap_or, ℕ};
+ghost use Rattle.pim_base.specs.declared.limits.TheConstants.{MAX_TASKS};
 ghost use Rattle.pim_base.specs.State.{IsTask, IsMutex};
 ghost use Rattle.pim_base.specs.Chains.{heir, heir_of};
 ghost use Rattle.pim_base.specs.Priorities.{local_priority, effective_priority};
@@ -8,6 +9,7 @@ ghost use Rattle.pim_base.specs.Queues.{queue_of};
 ghost use Rattle.pim_chain.specs.Views.{Ready, stored_at, queue_at, front_prio};
 ghost use Rattle.pim_chain.specs.Owned.{worth};
 ghost use Rattle.pim_chain.specs.Settled.{SettledBut, Visited, next_of, changed};
+ghost use Rattle.pim_chain.specs.Work.{Tells, Worked};
 
 use crate::numbered::higher;
 use crate::tables::Tables;
@@ -49,30 +51,20 @@ impl Tables {
     /// priorities at the front of the queues of the INHERIT mutexes. This is a visit, and counted.
     pub fn local(&self, task: TaskNo, visits: &mut Visits) -> Prio
         requires known { IsTask self.now.state task }
-        requires room { visits.old < 2 ^ 32 - 1 }
+        requires room { visits.old.count < 2 ^ 32 - 1 }
         ensures value { result ≡ local_priority self.now.state (stored_at self.now) task }
-        ensures counted { visits.new ≡ visits.old + 1 }
+        ensures counted { visits.new ≡ record visits.old { count = visits.old.count + 1 } }
         ensures ready { Ready self.now }
     {
         visits.add();
-        let _tasks = self.task_count();
+        let _tasks = self.tasks();
         let mut prio = self.known_base(task);
-        let mut asked = 0;
-        while let Some(mutex) = self.next_owned(task, asked) {
-            asked = mutex.get();
+        for mutex in self.owned(task) {
             if let Some(lent) = self.lent(mutex) {
                 prio = higher(prio, lent);
             }
         }
         prio
-    }
-
-    // whether this is the task's stored priority already: [2]
-    fn has_stored(&self, task: TaskNo, prio: Prio) -> bool
-        requires { IsTask self.now.state task }
-        ensures { result ≡ (stored_at self.now task == prio) }
-    {
-        self.known_stored(task).get() == prio.get()
     }
 
     // where the walk goes on from the queue of a mutex, whose front had this priority before: [5] and [6]
@@ -91,17 +83,19 @@ impl Tables {
     fn visit(&mut self, task: TaskNo, visits: &mut Visits) -> Option<TaskNo>
         requires settled { SettledBut self.old.state (stored_at self.old) (Some task) }
         requires known { IsTask self.old.state task }
-        requires room { visits.old < 2 ^ 32 - 1 }
+        requires room { visits.old.count < 2 ^ 32 - 1 }
         ensures visited { Visited self.old self.new task result }
         ensures next { result ≡ next_of self.old self.new task }
-        ensures counted { visits.new ≡ visits.old + 1 }
+        ensures work { Worked (length self.old.state.base) (stored_at self.old) visits.old (stored_at self.new) visits.new }
         ensures ready { Ready self.new }
     {
         // [2]
         let prio = self.local(task, visits);
-        if self.has_stored(task, prio) {
+        let had = self.known_stored(task);
+        if prio == had {
             return None;
         }
+        visits.note(task, had);
         match self.waits_for(task) {
             // [3]
             None => {
@@ -132,18 +126,17 @@ impl Tables {
     pub fn settle_from(&mut self, task: TaskNo, visits: &mut Visits)
         requires settled { SettledBut self.old.state (stored_at self.old) (Some task) }
         requires known { IsTask self.old.state task }
-        requires room { visits.old ≤ 2 ^ 32 - 1 - 256 }
+        requires room { visits.old.count ≤ 2 ^ 32 - 1 - MAX_TASKS }
         ensures state { self.new.state ≡ self.old.state }
-        ensures marked { self.new.marked ≡ self.old.marked }
         ensures settled { SettledBut self.new.state (stored_at self.new) None }
         ensures effective { (t : ℕ) → IsTask self.new.state t → stored_at self.new t ≡ effective_priority self.new.state t }
         ensures queues { (m : ℕ) → IsMutex self.new.state m → queue_at self.new m ≡ queue_of self.new.state m }
         ensures ready { Ready self.new }
-        ensures single { heir self.old.state task ≡ None → visits.new ≡ visits.old + 1 }
-        ensures at_least { visits.old + changed self.old self.new ≤ visits.new }
-        ensures at_most { visits.new ≤ visits.old + changed self.old self.new + 1 }
+        ensures single { heir self.old.state task ≡ None → visits.new.count ≡ visits.old.count + 1 }
+        ensures work { Tells (length self.old.state.base) (stored_at self.old) visits.old (stored_at self.new) visits.new }
+        ensures at_most { visits.new.count ≤ visits.old.count + changed self.old self.new + 1 }
     {
-        let _tasks = self.task_count();
+        let _tasks = self.tasks();
         // [1]
         let mut next = Some(task);
         while let Some(current) = next {
