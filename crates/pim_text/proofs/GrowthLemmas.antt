@@ -30,10 +30,8 @@ snoc x (y ∷ ys) = let rest = snoc y ys in record { front = x ∷ rest.front; l
 
 same_snoc : {A : Type 0} (xs ys : List A) (x y : A) → xs ++ x ∷ [] ≡ ys ++ y ∷ [] → (xs ≡ ys) × (x ≡ y)
 same_snoc [] [] x y e = (refl, cc)
-same_snoc [] (b ∷ []) x y e = cc
-same_snoc [] (b ∷ c ∷ ys) x y e = cc
-same_snoc (a ∷ []) [] x y e = cc
-same_snoc (a ∷ c ∷ xs) [] x y e = cc
+same_snoc [] (b ∷ ys) x y e = absurd (omega (arith, ap length e, length_push ys y))
+same_snoc (a ∷ xs) [] x y e = absurd (omega (arith, ap length e, length_push xs x))
 same_snoc (a ∷ xs) (b ∷ ys) x y e = let rest = same_snoc xs ys x y (cc) in let first : a ≡ b = cc in (let tails = rest.0 in cc, rest.1)
 
 -- the trace is another one with a line that may follow there

@@ -65,14 +65,6 @@ take_done : (done rest : List (List ℕ)) → take (length done) (done ++ rest) 
 take_done [] rest = refl
 take_done (l ∷ done) rest = ap (λ ls. l ∷ ls) (take_done done rest)
 
-at_false : (b : Bool) (P Q : Type 0) → b ≡ false → MatchBool b P Q → Q
-at_false true P Q e h = cc
-at_false false P Q e h = h
-
-at_true : (b : Bool) (P Q : Type 0) → b ≡ true → MatchBool b P Q → P
-at_true true P Q e h = h
-at_true false P Q e h = cc
-
 -- the line behind a valid text that no valid text goes on with
 pub bad_next :
     {kind : TextKind} {all left : List (List ℕ)} {t : Trace} {count : ℕ} (added : Bool) (P : List (List ℕ) → Type 0) (line : List ℕ) (rest : List (List ℕ))
@@ -83,7 +75,7 @@ pub bad_next :
     → FirstBad (IsOf kind) all (count + 1)
 bad_next {kind} {all} {left} {t} {count} added P line rest next half refused add =
     let whole : all ≡ half.done ++ line ∷ rest = half.whole ∙ ap (λ ls. half.done ++ ls) next in
-    let stops = at_false added (P half.done) (IsOf kind (half.done ++ line ∷ []) → ⊥) refused (add half.done half.spells) in
+    let stops = subst (λ (b : Bool). MatchBool b (P half.done) (IsOf kind (half.done ++ line ∷ []) → ⊥)) refused (add half.done half.spells) in
     let longer : all ≡ (half.done ++ line ∷ []) ++ rest = whole ∙ sym (append_assoc half.done (line ∷ []) rest) in
     let size : length (half.done ++ line ∷ []) ≡ count + 1 = omega (arith, length-append half.done (line ∷ []), half.many) in
     let before : take (count + 1 - 1) all ≡ half.done =
@@ -104,7 +96,7 @@ pub goes_on :
 goes_on {kind} {all} {left} {t} {count} added u Q line rest next half taken add = record {
   done = half.done ++ line ∷ [];
   whole = half.whole ∙ ap (λ ls. half.done ++ ls) next ∙ sym (append_assoc half.done (line ∷ []) rest);
-  spells = at_true added (SpellsAs kind (half.done ++ line ∷ []) u) (Q half.done) taken (add half.done half.spells);
+  spells = subst (λ (b : Bool). MatchBool b (SpellsAs kind (half.done ++ line ∷ []) u) (Q half.done)) taken (add half.done half.spells);
   many = omega (arith, length-append half.done (line ∷ []), half.many);
 }
 
