@@ -16,7 +16,11 @@ fn main(rt: HostRuntime) -> ExitCode {
     answer(&rt).unwrap_or(ExitCode::from(FAULT))
 }
 
-/// What the words ask for, done.
+/// Does what the words ask for, and returns the exit status.
+///
+/// # Errors
+///
+/// Out of memory for the words, or a standard stream that can't be written.
 fn answer(rt: &HostRuntime) -> io::Result<ExitCode> {
     let alloc = rt.alloc();
     let arguments: Vec<String> = std::env::args(rt)?.collect(alloc)?;
@@ -34,7 +38,7 @@ fn answer(rt: &HostRuntime) -> io::Result<ExitCode> {
     }
 }
 
-/// Judges the trace on standard input.
+/// Judges the trace on standard input, and returns the exit status.
 fn judge_input(rt: &HostRuntime) -> io::Result<ExitCode> {
     let mut reader = Input::new(rt.reader());
     let mut writer = Output::new(io::writer(rt));

@@ -142,7 +142,7 @@ owned-hand_over S m ok = go (first_of S m) refl
     ]
     go (Some v) some t w e = owned-with_owner S m v.task w.mutex (ok.owned t w (wait_of-ended S v.task t w e))
 
-steady_kept : IsKeptBySteps IsSteady
+pub steady_kept : IsKeptBySteps IsSteady
 steady_kept = record {
   grant = λ S a m ok idle. record {
     sound = sound_kept.grant S a m ok.sound idle;

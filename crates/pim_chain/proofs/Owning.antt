@@ -1,19 +1,19 @@
 -- The sets of owned mutexes after a change of one owner.
-use Rattle.std.proofs.Common.{◌≡◌, ◌≢◌, ℕ, zero, suc, ◌%◌, ◌<◌, ◌≤◌, ◌==◌, ◌&&◌, ◌||◌, Bool, true, false, not, ◌⊎◌, inl, inr, refl, sym, ◌∙◌, ap, subst, arith, Option, Some, None, List, [], length, replicate, unwrap_or}
+use Rattle.std.proofs.Common.{◌≡◌, ◌≢◌, ℕ, zero, suc, ◌<◌, ◌≤◌, ◌==◌, ◌&&◌, ◌||◌, Bool, true, false, not, ◌⊎◌, inl, inr, refl, sym, ◌∙◌, ap, subst, arith, Option, Some, None, List, [], length, replicate, unwrap_or}
 use Rattle.std.specs.Option.{option_map_or}
 use Rattle.std.proofs.lemmas.Bool.{cases_eq, cases_lt, eq-eqb, ne_eqb}
 use Rattle.std.proofs.lemmas.List.{length-replicate}
 use Rattle.pim_base.specs.Lists.{put, holds}
-use Rattle.std.proofs.lemmas.Nat.Bits.{bit_at-zero}
 use Rattle.std.proofs.lemmas.Option.{slice_get_past}
-use Rattle.pim_base.specs.State.{IsTask, IsMutex, owner_of}
+use Rattle.pim_base.specs.State.{IsTask, IsMutex, owner_of, owned as owned_by}
 use Rattle.pim_base.proofs.Places.{nth-put_same, nth-put_other}
 use Rattle.pim_base.proofs.Stored.{holds_from, from_holds}
 use Rattle.pim_chain.specs.declared.number_set.NumberSet.{NumberSet}
-use Rattle.pim_chain.specs.Numbers.{has}
-use Rattle.pim_chain.specs.Sets.{words_in, owner_in, AreOwned}
+use Rattle.pim_chain.specs.Numbers.{has, members}
+use Rattle.pim_chain.specs.Sets.{words_in, owner_in, AreEmpty, AreOwned}
 use Rattle.pim_chain.specs.Views.{View, Ready}
 use Rattle.pim_chain.proofs.Lent.{owned_known}
+use Rattle.pim_chain.proofs.Members.{members_known, no_number}
 use Rattle.pim_chain.proofs.Repeated.{nth-replicate_none, nth-replicate_same}
 
 owner_put : (owners : List (Option ℕ)) (m : ℕ) (o : Option ℕ) → 1 ≤ m → m ≤ length owners → owner_in (put owners m o) m ≡ o
@@ -107,22 +107,22 @@ owned_unbound n owners sets after m t low high mine owned low_t high_t len remov
 
 -- ---- as the tables have it
 -- nothing is owned
-pub none_owned :
-    (n k : ℕ) (s : NumberSet) (sets : List NumberSet)
-    → ((m : ℕ) → has s.words m ≡ false)
-    → sets ≡ replicate n s
-    → AreOwned n (replicate k None) sets
-none_owned n k s sets empty is = record {
-  len = ap length is ∙ length-replicate n s;
-  members = λ t m low high.
-      ap (λ xs. has (words_in xs t) m) is
-      ∙ ap (λ ws. has ws m) (words_same n t low high)
-      ∙ empty m
-      ∙ sym (ap (λ o. holds o t) (nth-replicate_none k m));
+none_owned : (n k : ℕ) (sets : List NumberSet) → AreEmpty n sets → AreOwned n (replicate k None) sets
+none_owned n k sets empty = record {
+  len = empty.len;
+  members = λ t m low high. empty.none t m low high ∙ sym (ap (λ o. holds o t) (nth-replicate_none k m));
 }
-  where
-    words_same : (n t : ℕ) → 1 ≤ t → t ≤ n → words_in (replicate n s) t ≡ s.words
-    words_same n t low high = ap (λ o. option_map_or (λ (x : NumberSet). x.words) o []) (nth-replicate_same n t s low high)
+
+-- the sets of new tables
+pub fresh_owned :
+    (b bases : List ℕ) (owners : List (Option ℕ)) (k : ℕ) (sets : List NumberSet)
+    → b ≡ bases
+    → owners ≡ replicate k None
+    → AreEmpty (length bases) sets
+    → AreOwned (length b) owners sets
+fresh_owned b bases owners k sets is_b is_o empty =
+    subst (λ xs. AreOwned (length xs) owners sets) (sym is_b)
+    (subst (λ os. AreOwned (length bases) os sets) (sym is_o) (none_owned (length bases) k sets empty))
 
 module _ (v u : View) (same : v ≡ u) (ready : Ready v) (sets : List NumberSet)
     (owned : AreOwned (length v.state.base) v.state.owner sets) where
@@ -170,16 +170,30 @@ module _ (v u : View) (same : v ≡ u) (ready : Ready v) (sets : List NumberSet)
   sets_tell t k =
       subst (λ (x : View). has (words_in sets t) k ≡ holds (owner_of x.state k) t) same (go t (cases_lt (length v.state.base) t))
     where
-      no_number : has [] k ≡ false
-      no_number = ap (λ b. b == 1) (bit_at-zero (k % 64))
-
       nobody : (t : ℕ) → (IsTask v.state t → ⊥) → (b : Bool) → holds (owner_of v.state k) t ≡ b → false ≡ b
       nobody t unknown false h = refl
       nobody t unknown true h = absurd (unknown (ready.waits.owners k t (from_holds (owner_of v.state k) t h)))
 
       go : (t : ℕ) → (length v.state.base < t) ⊎ (t ≤ length v.state.base) → has (words_in sets t) k ≡ holds (owner_of v.state k) t
-      go zero _ = no_number ∙ nobody zero (λ known. let low = known.0 in absurd (omega (arith, low))) _ refl
+      go zero _ = no_number k ∙ nobody zero (λ known. let low = known.0 in absurd (omega (arith, low))) _ refl
       go (suc t) (inr le) = owned.members (suc t) k (omega arith) le
       go (suc t) (inl past) =
           ap (λ o. has (option_map_or (λ (s : NumberSet). s.words) o []) k) (slice_get_past sets t (omega (arith, past, owned.len)))
-          ∙ no_number ∙ nobody (suc t) (λ known. let high = known.1 in absurd (omega (arith, high, past))) _ refl
+          ∙ no_number k ∙ nobody (suc t) (λ known. let high = known.1 in absurd (omega (arith, high, past))) _ refl
+
+  -- its numbers are the mutexes that the task owns
+  pub owned_members : (t : ℕ) → members (words_in sets t) ≡ owned_by u.state t
+  owned_members t =
+      subst (λ (x : View). members (words_in sets t) ≡ owned_by x.state t) same
+      (members_known (words_in sets t) (λ k. holds (owner_of v.state k) t) (length v.state.protocol)
+      (let few = ready.few_mutexes in omega (arith, few)) (tell 0) (λ k _ _. tell k) (λ k past. tell k ∙ unknown k past))
+    where
+      tell : (k : ℕ) → has (words_in sets t) k ≡ holds (owner_of v.state k) t
+      tell k = sets_tell t k ∙ ap (λ (x : View). holds (owner_of x.state k) t) (sym same)
+
+      unknown : (k : ℕ) → length v.state.protocol < k → holds (owner_of v.state k) t ≡ false
+      unknown k past = go (holds (owner_of v.state k) t) refl
+        where
+          go : (b : Bool) → holds (owner_of v.state k) t ≡ b → b ≡ false
+          go false h = refl
+          go true h = let high = (owned_known v.state ready.sound.lists k t h).1 in absurd (omega (arith, high, past))

@@ -1,11 +1,11 @@
 -- The reason of a settled priority.
-use Rattle.std.proofs.Common.{◌≡◌, ℕ, ◌<◌, ◌≤◌, ◌==◌, Bool, true, false, ◌&&◌, ◌⊎◌, inl, inr, refl, sym, ◌∙◌, ap, subst, arith, Option, Some, None, List, [], ◌∷◌, length, eqb, if◌then◌else◌}
+use Rattle.std.proofs.Common.{◌≡◌, ℕ, ◌<◌, ◌≤◌, ◌==◌, Bool, true, false, ◌&&◌, ◌⊎◌, inl, inr, refl, sym, ◌∙◌, ap, subst, arith, Option, Some, None, List, [], ◌∷◌, eqb, cond, filter, if◌then◌else◌}
 use Rattle.std.specs.List.{find, list_any, AllByRecursion}
-use Rattle.std.specs.Option.{option_map_or}
-use Rattle.std.proofs.lemmas.Bool.{both_ways, cases_eq, eq-eqb, ne_eqb, or_left, or_from, and_parts}
-use Rattle.std.proofs.lemmas.Option.{none-some}
-use Rattle.pim_base.specs.Lists.{first_item}
-use Rattle.pim_base.specs.State.{State, IsTask, IsMutex, base_of, owner_of, wait_of, protocol_of, owned}
+use Rattle.std.specs.Option.{option_map, option_map_or}
+use Rattle.std.proofs.lemmas.Bool.{both_ways, cases_eq, eq-eqb, ne_eqb, or_left, or_from}
+use Rattle.std.proofs.lemmas.Option.{none-some, same_Some}
+use Rattle.pim_base.specs.Lists.{first_item, holds}
+use Rattle.pim_base.specs.State.{State, IsState, IsTask, IsMutex, mutex_numbers, base_of, owner_of, wait_of, protocol_of, owned}
 use Rattle.pim_base.specs.Chains.{heir_in, heir_of}
 use Rattle.pim_base.specs.Priorities.{ceiling_of, effective_priority}
 use Rattle.pim_base.specs.Queues.{precedes, queue_of}
@@ -16,15 +16,58 @@ use Rattle.pim_base.specs.declared.steps.Waiter.{Waiter}
 use Rattle.pim_base.proofs.Stored.{stored-le-local_priority, from_holds}
 use Rattle.pim_queue.specs.Waiters.{IsOrdered}
 use Rattle.pim_queue.proofs.Order.{before_prio}
-use Rattle.pim_chain.specs.Views.{View, stored_at, queue_at, front_prio, Shows}
+use Rattle.pim_chain.specs.Views.{View, stored_at, queue_at, first_prio, Shows}
 use Rattle.pim_chain.specs.Settled.{Calm}
-use Rattle.pim_chain.specs.Owned.{IsFirstAbove, IsNext, owns, lends_now, first_reason}
+use Rattle.pim_chain.specs.Owned.{lends_now, first_reason}
 use Rattle.pim_chain.proofs.Local.{heir_at, waits_for_from}
 use Rattle.pim_chain.proofs.Lent.{owned_known}
-use Rattle.pim_chain.proofs.Queues.{waiting_known}
+use Rattle.pim_chain.proofs.Waiting.{waiting_known}
 use Rattle.pim_chain.proofs.Walking.{settled_effective}
 use Rattle.pim_chain.proofs.Models.{queue_is}
-use Rattle.pim_chain.proofs.Finding.{find_none, find_some, next_same}
+
+pub option_map-same : (o : Option ℕ) → option_map (λ x. x) o ≡ o
+option_map-same None = refl
+option_map-same (Some x) = refl
+
+-- tests that agree on what passes another find the same
+find_same :
+    (p q r : ℕ → Bool)
+    → ((k : ℕ) → r k ≡ true → p k ≡ q k)
+    → (xs : List ℕ)
+    → find p (filter r xs) ≡ find q (filter r xs)
+find_same p q r same [] = refl
+find_same p q r same (x ∷ xs) = go (r x) refl (find_same p q r same xs)
+  where
+    go :
+        (b : Bool)
+        → r x ≡ b
+        → find p (filter r xs) ≡ find q (filter r xs)
+        → find p (cond b (x ∷ filter r xs) (filter r xs)) ≡ find q (cond b (x ∷ filter r xs) (filter r xs))
+    go false _ rest = rest
+    go true passes rest = ap (λ b. cond b (Some x) (find p (filter r xs))) (same x passes) ∙ ap (cond (q x) (Some x)) rest
+
+-- what is found among those that pass, passes
+find_passes : (p r : ℕ → Bool) (xs : List ℕ) (m : ℕ) → find p (filter r xs) ≡ Some m → r m ≡ true
+find_passes p r [] m is = absurd (none-some m is)
+find_passes p r (x ∷ xs) m is = go (r x) refl (find_passes p r xs m) is
+  where
+    go :
+        (b : Bool)
+        → r x ≡ b
+        → (find p (filter r xs) ≡ Some m → r m ≡ true)
+        → find p (cond b (x ∷ filter r xs) (filter r xs)) ≡ Some m
+        → r m ≡ true
+    go false _ rest is = rest is
+    go true passes rest is = here (p x) is
+      where
+        here : (d : Bool) → cond d (Some x) (find p (filter r xs)) ≡ Some m → r m ≡ true
+        here true is = ap r (sym (same_Some _ _ is)) ∙ passes
+        here false is = rest is
+
+-- what is found among the mutexes of a task is a mutex
+pub found_known : (v : View) → IsState v.state → (t m : ℕ) (p : ℕ → Bool) → find p (owned v.state t) ≡ Some m → IsMutex v.state m
+found_known v lists t m p is =
+    owned_known v.state lists m t (find_passes p (λ k. holds (owner_of v.state k) t) (mutex_numbers v.state) m is)
 
 -- ---- the first has the priority where anybody has
 behind_first :
@@ -41,8 +84,8 @@ first_lends :
     (p : ℕ) (ws : List Waiter)
     → 1 ≤ p
     → IsOrdered ws
-    → front_prio ws ≤ p
-    → (front_prio ws == p) ≡ list_any (λ (v : Waiter). v.prio == p) ws
+    → first_prio ws ≤ p
+    → (first_prio ws == p) ≡ list_any (λ (v : Waiter). v.prio == p) ws
 first_lends p [] low ordered le = ne_eqb 0 p (λ e. absurd (omega (arith, e, low)))
 first_lends p (w ∷ ws) low ordered le = go (cases_eq w.prio p)
   where
@@ -61,10 +104,10 @@ inherits S m t owns h = go (protocol_of S m) h
 
 module _ (v : View) (t : ℕ) (calm : Calm v) (known : IsTask v.state t) where
   -- no waiter lends more than the task has
-  front_le : (m : ℕ) → IsMutex v.state m → heir_of v.state m ≡ Some t → front_prio (queue_at v m) ≤ stored_at v t
+  front_le : (m : ℕ) → IsMutex v.state m → heir_of v.state m ≡ Some t → first_prio (queue_at v m) ≤ stored_at v t
   front_le m isk leads = go (queue_at v m) (calm.ready.queues m isk).sound
     where
-      go : (ws : List Waiter) → AllByRecursion (Shows (wait_of v.state) (stored_at v) m) ws → front_prio ws ≤ stored_at v t
+      go : (ws : List Waiter) → AllByRecursion (Shows (wait_of v.state) (stored_at v) m) ws → first_prio ws ≤ stored_at v t
       go [] h = omega arith
       go (w ∷ ws) h =
           subst (λ p. p ≤ stored_at v t) (sym h.0.prio)
@@ -72,19 +115,16 @@ module _ (v : View) (t : ℕ) (calm : Calm v) (known : IsTask v.state t) where
           (stored-le-local_priority v.state (stored_at v) w.task t (waiting_known v.state calm.ready.sound.lists w.task _ h.0.waits)
           (heir_at v.state m w.task (waits_for_from (wait_of v.state) w.task _ h.0.waits) ∙ leads)))
 
-  same_lends : 1 ≤ stored_at v t → (m : ℕ) → (owns v t m && lends_now v (stored_at v t) m) ≡ (owns v t m && lends v.state (stored_at v t) m)
-  same_lends low m = go (owns v t m) refl (is_inherit (protocol_of v.state m)) refl
+  -- an owned mutex lends the priority now where the definitions' does
+  same_lends : 1 ≤ stored_at v t → (m : ℕ) → holds (owner_of v.state m) t ≡ true → lends_now v (stored_at v t) m ≡ lends v.state (stored_at v t) m
+  same_lends low m mine = go (is_inherit (protocol_of v.state m)) refl
     where
       go :
-          (a : Bool)
-          → owns v t m ≡ a
-          → (b : Bool)
+          (b : Bool)
           → is_inherit (protocol_of v.state m) ≡ b
-          → (a && (b && (front_prio (queue_at v m) == stored_at v t))) ≡
-          (a && (b && list_any (λ w. w.prio == stored_at v t) (queue_of v.state m)))
-      go false _ b _ = refl
-      go true _ false _ = refl
-      go true mine true inherit =
+          → (b && (first_prio (queue_at v m) == stored_at v t)) ≡ (b && list_any (λ w. w.prio == stored_at v t) (queue_of v.state m))
+      go false _ = refl
+      go true inherit =
           let isk : IsMutex v.state m = owned_known v.state calm.ready.sound.lists m t mine in
           first_lends (stored_at v t) (queue_at v m) low (calm.ready.queues m isk).ordered
           (front_le m isk (inherits v.state m t (from_holds (owner_of v.state m) t mine) inherit))
@@ -112,34 +152,20 @@ module _ (v : View) (t : ℕ) (calm : Calm v) (known : IsTask v.state t) where
         ∙ ap (owning_reason v.state t) is
 
     pub reason_ceiling :
-        (m : ℕ)
-        → IsFirstAbove (λ k. owns v t k && (ceiling_of v.state k == stored_at v t)) 0 m
-        → Reason.Ceiling m ≡ reason_of v.state t
-    reason_ceiling m first =
-        let isk : IsMutex v.state m = owned_known v.state calm.ready.sound.lists m t (and_parts _ _ first.passes).0 in
-        sym (from_owned (Some m)
-        (find_some (λ k. ceiling_of v.state k == stored_at v t) (owns v t) (length v.state.protocol) m isk.1 first))
+        (m : ℕ) → find (λ k. ceiling_of v.state k == stored_at v t) (owned v.state t) ≡ Some m → Reason.Ceiling m ≡ reason_of v.state t
+    reason_ceiling m is = sym (from_owned (Some m) is)
 
     pub reason_waiter :
         (o : Option ℕ)
-        → ((k : ℕ) → 0 < k → (owns v t k && (ceiling_of v.state k == stored_at v t)) ≡ false)
-        → IsNext (λ k. owns v t k && lends_now v (stored_at v t) k) 0 o
+        → find (λ k. ceiling_of v.state k == stored_at v t) (owned v.state t) ≡ None
+        → find (lends_now v (stored_at v t)) (owned v.state t) ≡ o
         → 1 ≤ stored_at v t
         → waiter_reason v.state o ≡ reason_of v.state t
-    reason_waiter o no_ceiling next low =
-        sym (from_owned None
-        (find_none (λ k. ceiling_of v.state k == stored_at v t) (owns v t) (length v.state.protocol) (λ k above _. no_ceiling k above))
+    reason_waiter o none is low =
+        sym (from_owned None none
         ∙ ap (λ p. waiter_reason v.state (find (lends v.state p) (owned v.state t))) now
-        ∙ ap (waiter_reason v.state) (found o (next_same _ _ 0 o (same_lends low) next)))
-      where
-        found :
-            (o : Option ℕ)
-            → IsNext (λ k. owns v t k && lends v.state (stored_at v t) k) 0 o
-            → find (lends v.state (stored_at v t)) (owned v.state t) ≡ o
-        found None none = find_none (lends v.state (stored_at v t)) (owns v t) (length v.state.protocol) (λ k above _. none k above)
-        found (Some m) first =
-            find_some (lends v.state (stored_at v t)) (owns v t) (length v.state.protocol) m
-            (owned_known v.state calm.ready.sound.lists m t (and_parts _ _ first.passes).0).1 first
+        ∙ ap (waiter_reason v.state) (sym (find_same (lends_now v (stored_at v t)) (lends v.state (stored_at v t))
+        (λ k. holds (owner_of v.state k) t) (same_lends low) (mutex_numbers v.state)) ∙ is))
 
 -- the first waiter of the tables is the definitions'
 pub waiter_here : (v : View) (m : ℕ) → Calm v → IsMutex v.state m → first_reason v m ≡ waiter_reason v.state (Some m)

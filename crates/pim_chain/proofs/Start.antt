@@ -9,43 +9,44 @@ use Rattle.pim_base.specs.State.{State, start, IsMutex, base_of, owner_of, wait_
 use Rattle.pim_base.specs.Chains.{chain, blocker, heir, heir_of, HasCycle}
 use Rattle.pim_base.specs.Priorities.{own_priority, local_priority, ceiling_of}
 use Rattle.pim_base.specs.Laws.{IsSound}
+use Rattle.pim_base.specs.declared.limits.TheConstants.{MAX_TASKS, MAX_MUTEXES}
 use Rattle.pim_base.specs.declared.steps.Protocol.{Protocol}
 use Rattle.pim_base.specs.declared.steps.Wait.{Wait}
 use Rattle.pim_base.proofs.Greatest.{greatest_of, greatest-cons, greatest_of-le}
 use Rattle.pim_base.proofs.Stored.{own_priority-le-local_priority, local_priority-le}
-use Rattle.pim_queue.specs.Line.{Line}
-use Rattle.pim_chain.specs.Views.{fresh, stored_at, line_in, IsQueue, Ready}
+use Rattle.pim_queue.specs.QueueView.{QueueView}
+use Rattle.pim_chain.specs.Views.{fresh, stored_at, view_in, IsQueue, Ready}
 use Rattle.pim_chain.specs.Settled.{SettledBut}
 use Rattle.pim_chain.proofs.Changes.{not_waiting}
 use Rattle.pim_chain.proofs.Repeated.{nth-replicate_none, nth-replicate_same}
 
 module _ (bases : List ℕ) (protocols : List Protocol) where
-  free : (m : ℕ) → owner_of (start bases protocols 0) m ≡ None
+  free : (m : ℕ) → owner_of (start bases protocols 1) m ≡ None
   free m = nth-replicate_none (length protocols) m
 
-  idle : (t : ℕ) → wait_of (start bases protocols 0) t ≡ None
+  idle : (t : ℕ) → wait_of (start bases protocols 1) t ≡ None
   idle t = nth-replicate_none (length bases) t
 
-  no_blocker : (t : ℕ) → blocker (start bases protocols 0) t ≡ None
-  no_blocker t = ap (option_and_then (λ (w : Wait). owner_of (start bases protocols 0) w.mutex)) (idle t)
+  no_blocker : (t : ℕ) → blocker (start bases protocols 1) t ≡ None
+  no_blocker t = ap (option_and_then (λ (w : Wait). owner_of (start bases protocols 1) w.mutex)) (idle t)
 
-  no_heir : (t : ℕ) → heir (start bases protocols 0) t ≡ None
-  no_heir t = ap (option_and_then (λ (w : Wait). heir_of (start bases protocols 0) w.mutex)) (idle t)
+  no_heir : (t : ℕ) → heir (start bases protocols 1) t ≡ None
+  no_heir t = ap (option_and_then (λ (w : Wait). heir_of (start bases protocols 1) w.mutex)) (idle t)
 
-  alone : (n t : ℕ) → drop 1 (chain (blocker (start bases protocols 0)) n t) ≡ []
+  alone : (n t : ℕ) → drop 1 (chain (blocker (start bases protocols 1)) n t) ≡ []
   alone zero t = refl
-  alone (suc n) t = ap (λ o. option_map_or (chain (blocker (start bases protocols 0)) n) o []) (no_blocker t)
+  alone (suc n) t = ap (λ o. option_map_or (chain (blocker (start bases protocols 1)) n) o []) (no_blocker t)
 
-  no_cycle : HasCycle (start bases protocols 0) → ⊥
+  no_cycle : HasCycle (start bases protocols 1) → ⊥
   no_cycle h = both_ways false refl (ap (λ ts. contains ts h.0) (sym (alone (length bases) h.0)) ∙ h.1)
 
-  sound : IsSound (start bases protocols 0)
+  sound : IsSound (start bases protocols 1)
   sound = record {
     lists = record { waits = length-replicate (length bases) None; owners = length-replicate (length protocols) None };
     no_cycle = no_cycle;
   }
 
-  pub ready_fresh : length bases ≤ 256 → length protocols ≤ 256 → Ready (fresh bases protocols)
+  pub ready_fresh : length bases ≤ MAX_TASKS → length protocols ≤ MAX_MUTEXES → Ready (fresh bases protocols)
   ready_fresh tasks mutexes = record {
     sound = sound;
     few_tasks = tasks;
@@ -57,22 +58,22 @@ module _ (bases : List ℕ) (protocols : List Protocol) where
       mutexes = λ t w e. absurd (none-some w (sym (idle t) ∙ e));
       tickets = λ t u w e f. absurd (none-some w (sym (idle t) ∙ e));
     };
-    queues = λ m known. subst (λ (q : Line). IsQueue (wait_of (start bases protocols 0)) (stored_at (fresh bases protocols)) m q.waiters) (sym (empty m known)) (record {
+    queues = λ m known. subst (λ (q : QueueView). IsQueue (wait_of (start bases protocols 1)) (stored_at (fresh bases protocols)) m q.waiters) (sym (empty m known)) (record {
       ordered = tt;
       sound = tt;
-      complete = λ t h. absurd (not_waiting (wait_of (start bases protocols 0)) m t (idle t) h);
+      complete = λ t h. absurd (not_waiting (wait_of (start bases protocols 1)) m t (idle t) h);
     });
-    room = λ m known. subst (λ (q : Line). length bases ≤ q.room) (sym (empty m known)) (omega arith);
+    room = λ m known. subst (λ (q : QueueView). length bases ≤ q.room) (sym (empty m known)) (omega arith);
   }
     where
       empty :
           (m : ℕ)
-          → IsMutex (start bases protocols 0) m
-          → line_in (fresh bases protocols).queues m ≡ record { waiters = []; room = length bases }
+          → IsMutex (start bases protocols 1) m
+          → view_in (fresh bases protocols).queues m ≡ record { waiters = []; room = length bases }
       empty m known = ap (λ o. unwrap_or o (record { waiters = []; room = 0 })) (nth-replicate_same (length protocols) m _ known.0 known.1)
 
   -- nobody lends anything
-  pub settled_fresh : SettledBut (start bases protocols 0) (stored_at (fresh bases protocols)) None
+  pub settled_fresh : SettledBut (start bases protocols 1) (stored_at (fresh bases protocols)) None
   settled_fresh t known _ =
       let whole : own_priority S t ≡ max (base_of S t) (greatest_of (ceiling_of S) (λ m. holds (owner_of S m) t) (length protocols)) =
       greatest-cons (base_of S t) (map (ceiling_of S) (owned S t)) in
@@ -84,20 +85,19 @@ module _ (bases : List ℕ) (protocols : List Protocol) where
       (local_priority-le S bases_of t (base_of S t) (omega (arith, whole, none)) (λ u task e. absurd (none-some t (sym (no_heir u) ∙ e))))
     where
       S : State
-      S = start bases protocols 0
+      S = start bases protocols 1
 
       bases_of : ℕ → ℕ
       bases_of = stored_at (fresh bases protocols)
 
 pub is_fresh :
     (bases : List ℕ) (protocols : List Protocol)
-    (b : List ℕ) (p : List Protocol) (o : List (Option ℕ)) (w : List (Option Wait)) (s k : List ℕ) (q : List Line)
+    (b : List ℕ) (p : List Protocol) (o : List (Option ℕ)) (w : List (Option Wait)) (s : List ℕ) (q : List QueueView)
     → b ≡ bases
     → p ≡ protocols
     → o ≡ replicate (length protocols) None
     → w ≡ replicate (length bases) None
     → s ≡ bases
-    → k ≡ bases
     → q ≡ replicate (length protocols) (record { waiters = []; room = length bases })
-    → record { state = record { base = b; protocol = p; owner = o; wait = w; next = 0 }; stored = s; marked = k; queues = q } ≡ fresh bases protocols
-is_fresh bases protocols b p o w s k q is_b is_p is_o is_w is_s is_k is_q = cc
+    → record { state = record { base = b; protocol = p; owner = o; wait = w; next = 1 }; stored = s; queues = q } ≡ fresh bases protocols
+is_fresh bases protocols b p o w s q is_b is_p is_o is_w is_s is_q = cc

@@ -14,10 +14,10 @@ use Rattle.pim_base.specs.declared.steps.Waiter.{Waiter}
 use Rattle.pim_base.proofs.Places.{nth-put_same, nth-put_other, length-put}
 use Rattle.pim_queue.specs.Waiters.{is_of, without, ticket_of, repositioned}
 use Rattle.pim_queue.proofs.Order.{Found, found}
-use Rattle.pim_chain.specs.Views.{View, stored_in, stored_at, queue_at, front_prio, Shows, IsQueue, Ready}
+use Rattle.pim_chain.specs.Views.{View, stored_in, stored_at, queue_at, first_prio, Shows, IsQueue, Ready}
 use Rattle.pim_chain.specs.Settled.{SettledBut, moved, restored, Visited}
 use Rattle.pim_chain.proofs.Local.{Mends, mended_onward, mended_stop, waits_for_from, heir_at}
-use Rattle.pim_chain.proofs.Queues.{queue_kept, queue_left, queue_joined, top_front}
+use Rattle.pim_chain.proofs.Waiting.{queue_kept, queue_left, queue_joined, top_front}
 use Rattle.pim_chain.proofs.Changes.{queues_put, room_kept, not_waiting, waits_once}
 
 -- ---- another stored priority
@@ -160,7 +160,6 @@ pub visited_same :
     → Visited v v x None
 visited_same v x settled right = record {
   state = refl;
-  marked = refl;
   settled = λ t task _. go t task (cases_eq t x);
   others = λ u _. refl;
   onward = λ y e. absurd (none-some y e);
@@ -182,7 +181,6 @@ module _ (v : View) (x p : ℕ) (ready : Ready v) (known : IsTask v.state x) (se
   pub visited_free : wait_of v.state x ≡ None → Visited v (restored v x p) x None
   visited_free free = record {
     state = refl;
-    marked = refl;
     settled = λ t task _. onward t task (λ e. none-some t (sym (ap (option_and_then (λ (w : Wait). heir_of v.state w.mutex)) free) ∙ e));
     others = stored_else v x p;
     onward = λ y e. absurd (none-some y e);
@@ -190,10 +188,9 @@ module _ (v : View) (x p : ℕ) (ready : Ready v) (known : IsTask v.state x) (se
 
   module _ (w : Wait) (at : wait_of v.state x ≡ Some w) where
     -- the front stayed
-    pub visited_stop : front_prio (queue_at v w.mutex) ≡ front_prio (queue_at (restored v x p) w.mutex) → Visited v (restored v x p) x None
+    pub visited_stop : first_prio (queue_at v w.mutex) ≡ first_prio (queue_at (restored v x p) w.mutex) → Visited v (restored v x p) x None
     visited_stop same = record {
       state = refl;
-      marked = refl;
       settled =
           mended_stop v.state (stored_at v) (stored_at (restored v x p)) x w.mutex ready.sound known settled mends
           (waits_for_from (wait_of v.state) x w at)
@@ -214,7 +211,6 @@ module _ (v : View) (x p : ℕ) (ready : Ready v) (known : IsTask v.state x) (se
         let hop : heir v.state x ≡ heir_of v.state w.mutex = heir_at v.state w.mutex x (waits_for_from (wait_of v.state) x w at) in
         record {
           state = refl;
-          marked = refl;
           settled = subst (SettledBut v.state (stored_at (restored v x p))) hop onward;
           others = stored_else v x p;
           onward = λ y e. (hop ∙ e, λ same. other (sym (stored_now v x p ready known) ∙ same));
@@ -224,12 +220,12 @@ module _ (v : View) (x p : ℕ) (ready : Ready v) (known : IsTask v.state x) (se
     pub visited_next :
         (p ≡ stored_at v x → ⊥)
         → Visited v (restored v x p) x
-        (if front_prio (queue_at v w.mutex) == front_prio (queue_at (restored v x p) w.mutex) then None else heir_of v.state w.mutex)
-    visited_next other = go (front_prio (queue_at v w.mutex) == front_prio (queue_at (restored v x p) w.mutex)) refl
+        (if first_prio (queue_at v w.mutex) == first_prio (queue_at (restored v x p) w.mutex) then None else heir_of v.state w.mutex)
+    visited_next other = go (first_prio (queue_at v w.mutex) == first_prio (queue_at (restored v x p) w.mutex)) refl
       where
         go :
             (b : Bool)
-            → (front_prio (queue_at v w.mutex) == front_prio (queue_at (restored v x p) w.mutex)) ≡ b
+            → (first_prio (queue_at v w.mutex) == first_prio (queue_at (restored v x p) w.mutex)) ≡ b
             → Visited v (restored v x p) x (if b then None else heir_of v.state w.mutex)
         go true same = visited_stop (eqb-true _ _ same)
         go false _ = visited_on other

@@ -102,7 +102,6 @@ slack (Some u) = 0
 -- ---- after k visits, from v to w
 pub record Walking (v w : View) (x k : ℕ) (next : Option ℕ) : Type 0 where
   pub state : w.state ≡ v.state
-  pub marked : w.marked ≡ v.marked
   pub settled : SettledBut w.state (stored_at w) next
   pub place : (c : ℕ) → next ≡ Some c → hops (heir v.state) k x ≡ Some c
   pub least : changed v w ≤ k
@@ -118,7 +117,6 @@ walking_none v x settled =
     (λ u. ap not (eq-eqb (stored_at v u) (stored_at v u) refl)) in
     record {
       state = refl;
-      marked = refl;
       settled = settled;
       place = λ c e. e;
       least = omega (arith, none);
@@ -220,7 +218,6 @@ module _ (v w z : View) (x k c : ℕ) (next : Option ℕ) (ready : Ready v) (kno
   pub walking_more : Walking v z x (k + 1) next
   walking_more = record {
     state = visited.state ∙ walking.state;
-    marked = visited.marked ∙ walking.marked;
     settled = visited.settled;
     place = λ y e. hops_last (heir v.state) k x c y (walking.place c refl) (next_hop y e);
     least = least_more;
@@ -272,3 +269,9 @@ differing_same n f f' g g' h =
     count_same n (λ u. not (eqb (f u) (g u))) (λ u. not (eqb (f' u) (g' u)))
     (λ u low high. let both : (f u ≡ f' u) × (g u ≡ g' u) = h u low high in ap (λ a. not (eqb a (g u))) both.0 ∙ ap
     (λ b. not (eqb (f' u) b)) both.1)
+
+-- nobody's priority differs
+pub differing_none : (n : ℕ) (f g : ℕ → ℕ) → ((u : ℕ) → 1 ≤ u → u ≤ n → g u ≡ f u) → differing n f g ≡ 0
+differing_none n f g same =
+    count_same n (λ u. not (eqb (f u) (g u))) (λ _. false) (λ u low high. ap not (eq-eqb (f u) (g u) (sym (same u low high))))
+    ∙ count_none n (λ _. false) (λ _. refl)

@@ -1,6 +1,7 @@
 -- Sets of numbers below 320, a bit for each.
-use Rattle.std.specs.Prelude.{◌≡◌, ◌≤◌, ◌<◌, ◌==◌, ◌/◌, ◌%◌, ℕ, Bool, List, slice_index}
+use Rattle.std.specs.Prelude.{◌≡◌, ◌<◌, ◌==◌, ◌*◌, ◌/◌, ◌%◌, ℕ, Bool, false, List, slice_index}
 use Rattle.std.specs.Int.{bit_at}
+use Rattle.std.specs.List.{filter, range_with_len}
 
 -- the bit of the number
 abbrev pub bit_of : List ℕ → ℕ → ℕ
@@ -10,13 +11,10 @@ bit_of words n = bit_at (slice_index words (n / 64)) (n % 64)
 abbrev pub has : List ℕ → ℕ → Bool
 has words n = bit_of words n == 1
 
--- no bit is set from this place on
-abbrev pub NoneFrom : ℕ → ℕ → Type 0
-NoneFrom word low = (i : ℕ) → low ≤ i → i < 64 → bit_at word i ≡ 0
+-- the numbers of the set, in ascending order
+unfoldable pub members : List ℕ → List ℕ
+members words = filter (has words) (range_with_len 0 320)
 
--- this bit is set, and none between
-pub record IsLowestFrom (word low place : ℕ) : Type 0 where
-  pub above : low ≤ place
-  pub within : place < 64
-  pub is_set : bit_at word place ≡ 1
-  pub none_between : (i : ℕ) → low ≤ i → i < place → bit_at word i ≡ 0
+-- no number is in the words before this one
+abbrev pub NoneBelow : List ℕ → ℕ → Type 0
+NoneBelow words index = (k : ℕ) → k < 64 * index → has words k ≡ false

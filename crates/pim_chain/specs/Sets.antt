@@ -1,15 +1,20 @@
--- Each task's set of the mutexes that it owns, and the set of tasks whose stored priority was touched.
+-- Each task's set of the mutexes that it owns.
 use Rattle.std.specs.Prelude.{◌≡◌, ◌≤◌, ℕ, false, List, [], length, Option, None, unwrap_or}
 use Rattle.std.specs.Option.{option_map_or}
 use Rattle.pim_base.specs.Lists.{nth, holds}
 use Rattle.pim_chain.specs.declared.number_set.NumberSet.{NumberSet}
 use Rattle.pim_chain.specs.Numbers.{has}
-use Rattle.pim_chain.specs.Views.{stored_in}
 
 -- the bits of the task's set
 abbrev pub words_in : List NumberSet → ℕ → List ℕ
 words_in sets t = option_map_or (λ (s : NumberSet). s.words) (nth sets t) []
 
+-- there is a set for each task, and all are empty
+pub record AreEmpty (tasks : ℕ) (sets : List NumberSet) : Type 0 where
+  pub len : length sets ≡ tasks
+  pub none : (t m : ℕ) → 1 ≤ t → t ≤ tasks → has (words_in sets t) m ≡ false
+
+-- the owner of the mutex
 abbrev pub owner_in : List (Option ℕ) → ℕ → Option ℕ
 owner_in owners m = unwrap_or (nth owners m) None
 
@@ -17,8 +22,3 @@ owner_in owners m = unwrap_or (nth owners m) None
 pub record AreOwned (tasks : ℕ) (owners : List (Option ℕ)) (sets : List NumberSet) : Type 0 where
   pub len : length sets ≡ tasks
   pub members : (t m : ℕ) → 1 ≤ t → t ≤ tasks → has (words_in sets t) m ≡ holds (owner_in owners m) t
-
--- each task has a marked priority, and those that weren't touched since have it still
-pub record AreMarked (stored marked : List ℕ) (touched : List ℕ) : Type 0 where
-  pub len : length marked ≡ length stored
-  pub same : (t : ℕ) → has touched t ≡ false → stored_in marked t ≡ stored_in stored t

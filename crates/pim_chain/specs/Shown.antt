@@ -1,10 +1,9 @@
 -- What the fields of the tables show.
 use Rattle.std.specs.Prelude.{length}
 use Rattle.pim_chain.specs.Views.{View, Ready}
-use Rattle.pim_chain.specs.Sets.{AreOwned, AreMarked}
+use Rattle.pim_chain.specs.Sets.{AreOwned}
 use Rattle.pim_chain.specs.declared.tables.Tables.TheInside.{Inside}
 
--- the tables know no next ticket
 abbrev pub shown : Inside → View
 shown t = record {
   state = record {
@@ -12,15 +11,13 @@ shown t = record {
     protocol = t.protocol.items;
     owner = t.owner.items;
     wait = t.wait.items;
-    next = 0;
+    next = t.next;
   };
   stored = t.stored.items;
-  marked = t.marked.items;
-  queues = t.queues.items;
+  queues = t.queues;
 }
 
 -- what always holds of the fields
-pub record Kept (t : Inside) : Type 0 where
+pub record AreTables (t : Inside) : Type 0 where
   pub ready : Ready (shown t)
-  pub owned : AreOwned (length t.base.items) t.owner.items t.owned.items
-  pub marks : AreMarked t.stored.items t.marked.items t.touched.words
+  pub owned : AreOwned (length t.base.items) t.owner.items t.owned

@@ -1,10 +1,17 @@
 //! The bits of a word.
 
-ghost use Rattle.std.specs.Prelude.{◌≡◌, ◌≢◌, ◌≤◌, ◌<◌, ℕ, MatchOption};
+ghost use Rattle.std.specs.Prelude.{◌≡◌, ◌≢◌, ◌<◌, ◌==◌, ℕ};
 ghost use Rattle.std.specs.Int.{bit_at};
-ghost use Rattle.pim_chain.specs.Numbers.{NoneFrom, IsLowestFrom};
 
-/// The word with this bit set.
+/// Whether the word has this bit.
+pub fn has_bit(word: u64, place: u32) -> bool
+    requires { place < 64 }
+    ensures { result ≡ (bit_at word place == 1) }
+{
+    word >> place & 1 == 1
+}
+
+/// Returns the word with this bit set.
 pub fn with_bit(word: u64, place: u32) -> u64
     requires { place < 64 }
     ensures same { bit_at result place ≡ 1 }
@@ -13,7 +20,7 @@ pub fn with_bit(word: u64, place: u32) -> u64
     word | (1 << place)
 }
 
-/// The word with this bit cleared.
+/// Returns the word with this bit cleared.
 pub fn without_bit(word: u64, place: u32) -> u64
     requires { place < 64 }
     ensures same { bit_at result place ≡ 0 }
@@ -22,15 +29,12 @@ pub fn without_bit(word: u64, place: u32) -> u64
     word & !(1 << place)
 }
 
-/// The lowest bit of the word that is set, from this place on.
-pub fn first_bit(word: u64, low: u32) -> Option<u32>
-    requires { low < 64 }
-    ensures { MatchOption result (NoneFrom word low) (IsLowestFrom word low) }
+/// Returns the place of the lowest bit of the word, which has one.
+pub fn lowest_bit(word: u64) -> u32
+    requires { 0 < word }
+    ensures within { result < 64 }
+    ensures is_set { bit_at word result ≡ 1 }
+    ensures none_below { (i : ℕ) → i < result → bit_at word i ≡ 0 }
 {
-    let rest = word & (u64::MAX << low);
-    if rest == 0 {
-        None
-    } else {
-        Some(rest.trailing_zeros())
-    }
+    word.trailing_zeros()
 }

@@ -1,10 +1,11 @@
 //! Sets of the numbers of tasks or mutexes.
 
 ghost use Rattle.std.specs.Prelude.{◌≡◌, ◌==◌, ◌<◌, ◌&&◌, ◌||◌, ℕ, not, false};
-ghost use Rattle.pim_chain.specs.Numbers.{has};
-ghost use Rattle.pim_chain.specs.Owned.{IsNext};
+ghost use Rattle.std.specs.Iterator.{YieldsFirst, item_count};
+ghost use Rattle.pim_chain.specs.Numbers.{has, members};
 
-use crate::bits::{first_bit, with_bit, without_bit};
+use crate::bits::{has_bit, lowest_bit, with_bit, without_bit};
+use std::marker::Model;
 
 /// A set of numbers below 320, a bit for each.
 #[derive(Clone, Copy)]
@@ -13,11 +14,19 @@ pub struct NumberSet {
 }
 
 impl NumberSet {
-    /// The empty set.
+    /// Makes an empty set.
     pub fn new() -> NumberSet
         ensures { (k : ℕ) → has result.words k ≡ false }
     {
         NumberSet { words: [0; 5] }
+    }
+
+    /// Whether the number is in the set.
+    pub fn contains(&self, number: u16) -> bool
+        requires { number < 320 }
+        ensures { result ≡ has self.now.words number }
+    {
+        has_bit(self.words[(number / 64) as usize], (number % 64) as u32)
     }
 
     /// Puts the number in.
@@ -38,17 +47,54 @@ impl NumberSet {
         self.words[index] = without_bit(self.words[index], (number % 64) as u32);
     }
 
-    /// The least number in the set above this one.
-    pub fn next_above(&self, number: u16) -> Option<u16>
-        ensures { IsNext (has self.now.words) number result }
+    /// Returns the numbers of the set, in ascending order.
+    pub fn iter(&self) -> Numbers
+        ensures { result ≡ members self.now.words }
     {
-        let start = number as usize + 1;
-        let mut low = (start % 64) as u32;
-        for index in start / 64..5 {
-            if let Some(place) = first_bit(self.words[index], low) {
-                return Some(index as u16 * 64 + place as u16);
+        Numbers {
+            left: *self,
+            index: 0,
+        }
+    }
+}
+
+/// The numbers of a set, in ascending order.
+///
+/// Its value in contracts is the list of those that are left. It has a copy of the set, so that the set may change
+/// meanwhile, and goes through it word by word.
+#[derive(Drop)]
+pub struct Numbers {
+    left: NumberSet,
+    index: usize,
+}
+
+impl Model for Numbers {
+    ghost use Rattle.std.specs.Prelude.{List, ℕ};
+    ghost use Rattle.pim_chain.specs.Numbers.{members, NoneBelow};
+
+    ghost Value = { List ℕ };
+
+    ghost view = { λ n. members n.left.words };
+
+    ghost invariant = { λ n. NoneBelow n.left.words n.index };
+}
+
+impl Iterator for Numbers {
+    type Item = u16;
+
+    ghost next_gives = { YieldsFirst (λ rest. rest) };
+
+    ghost remaining = { item_count (λ rest. rest) };
+
+    fn next(&mut self) -> Option<u16> {
+        while self.index < 5 {
+            let word = self.left.words[self.index];
+            if word != 0 {
+                let number = self.index as u16 * 64 + lowest_bit(word) as u16;
+                self.left.remove(number);
+                return Some(number);
             }
-            low = 0;
+            self.index += 1;
         }
         None
     }

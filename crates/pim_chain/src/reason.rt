@@ -1,27 +1,29 @@
 //! Why a task has its priority.
 
-ghost use Rattle.std.specs.Prelude.{◌≡◌, ◌==◌, ◌&&◌, None};
-ghost use Rattle.pim_base.specs.State.{IsTask, protocol_of};
+ghost use Rattle.std.specs.Prelude.{◌≡◌, ◌==◌, None};
+ghost use Rattle.std.specs.List.{find};
+ghost use Rattle.pim_base.specs.State.{IsTask, owned, protocol_of};
 ghost use Rattle.pim_base.specs.Priorities.{ceiling_of};
 ghost use Rattle.pim_base.specs.Reasons.{is_inherit, reason_of};
 ghost use Rattle.pim_chain.specs.Views.{stored_at};
 ghost use Rattle.pim_chain.specs.Settled.{SettledBut};
-ghost use Rattle.pim_chain.specs.Owned.{IsNext, owns, lends_now, first_reason};
+ghost use Rattle.pim_chain.specs.Owned.{lends_now, first_reason};
 
 use crate::tables::Tables;
-use pim_base::{MutexNo, Protocol, Reason, TaskNo};
+use pim_base::{MutexNo, Reason, TaskNo};
 
 impl Tables {
-    /// Why the task, which is known, has its effective priority, where the stored priorities are settled.
+    /// Returns why the known task has its effective priority. The stored priorities must be settled.
     ///
-    /// It is the base, where that is the priority; else the least owned PROTECT mutex with this ceiling; else the least
-    /// owned INHERIT mutex with a waiter of this priority, and its first waiter.
+    /// The reason is the base, where that is the priority; else the least owned PROTECT mutex with this ceiling; else the
+    /// least owned INHERIT mutex with a waiter of this priority, and its first waiter. Looks twice at most at each mutex
+    /// that the task owns.
     pub fn reason(&self, task: TaskNo) -> Reason
         requires settled { SettledBut self.now.state (stored_at self.now) None }
         requires known { IsTask self.now.state task }
         ensures { result ≡ reason_of self.now.state task }
     {
-        let _tasks = self.task_count();
+        let _tasks = self.tasks();
         let level = self.known_stored(task).get();
         if level == self.known_base(task).get() {
             return Reason::Base;
@@ -30,16 +32,16 @@ impl Tables {
             return Reason::Ceiling(mutex);
         }
         match self.lender_at(task, level) {
-            Some(mutex) => self.first_waiter(mutex),
+            Some(mutex) => self.waiter_reason(mutex),
             None => Reason::Base,
         }
     }
 
-    // the first of those who wait for the mutex, as a reason
-    fn first_waiter(&self, mutex: MutexNo) -> Reason
+    // the first waiter for the mutex, as a reason
+    fn waiter_reason(&self, mutex: MutexNo) -> Reason
         ensures { result ≡ first_reason self.now mutex }
     {
-        match &self.front(mutex) {
+        match &self.first_waiter(mutex) {
             Some(first) => Reason::Waiter(first.task, mutex),
             None => Reason::Base,
         }
@@ -47,32 +49,24 @@ impl Tables {
 
     // the least mutex of the task with this ceiling
     fn ceiling_at(&self, task: TaskNo, level: u16) -> Option<MutexNo>
-        ensures { IsNext (λ m. owns self.now task m && (ceiling_of self.now.state m == level)) 0 result }
+        ensures { result ≡ find (λ m. ceiling_of self.now.state m == level) (owned self.now.state task) }
     {
-        let _tasks = self.task_count();
-        let mut asked = 0;
-        while let Some(mutex) = self.next_owned(task, asked) {
-            asked = mutex.get();
-            if self.ceiling_level(mutex) == level {
-                return Some(mutex);
-            }
-        }
-        None
+        self.owned(task)
+            .find(|mutex| self.ceiling_level(*mutex) == level)
     }
 
     // the least INHERIT mutex of the task whose first waiter has this priority
     fn lender_at(&self, task: TaskNo, level: u16) -> Option<MutexNo>
-        ensures { IsNext (λ m. owns self.now task m && lends_now self.now level m) 0 result }
+        ensures { result ≡ find (lends_now self.now level) (owned self.now.state task) }
     {
-        let _tasks = self.task_count();
-        let mut asked = 0;
-        while let Some(mutex) = self.next_owned(task, asked) {
-            asked = mutex.get();
-            if self.is_inherit(mutex) && self.front_level(mutex) == level {
-                return Some(mutex);
-            }
-        }
-        None
+        self.owned(task).find(|mutex| self.lends(*mutex, level))
+    }
+
+    // whether it is an INHERIT mutex whose first waiter has this priority
+    fn lends(&self, mutex: MutexNo, level: u16) -> bool
+        ensures { result ≡ lends_now self.now level mutex }
+    {
+        self.is_inherit(mutex) && self.first_level(mutex) == level
     }
 
     // the ceiling of the mutex as a number, 0 where it has none
@@ -85,12 +79,11 @@ impl Tables {
         }
     }
 
+    // whether it is an INHERIT mutex
     fn is_inherit(&self, mutex: MutexNo) -> bool
         ensures { result ≡ is_inherit (protocol_of self.now.state mutex) }
     {
-        match self.protocol(mutex) {
-            Some(Protocol::Inherit) => true,
-            _ => false,
-        }
+        self.protocol(mutex)
+            .is_some_and(|protocol| protocol.is_inherit())
     }
 }

@@ -6,7 +6,7 @@ ghost use Rattle.pim_chain.specs.Views.{stored_at};
 ghost use Rattle.pim_chain.specs.Settled.{SettledBut};
 
 use crate::*;
-use pim_base::{MutexNo, Prio, Protocol, Reason, TaskNo};
+use pim_base::{MAX_MUTEXES, MAX_TASKS, MutexNo, Prio, Protocol, Reason, TaskNo};
 use std::alloc::{AllocError, Global};
 use std::process::Abort;
 use std::test::Fail;
@@ -19,7 +19,7 @@ enum Event {
     Deadlock(u16, u16),
     // the owner of the mutex unlocks it
     Unlock(u16),
-    // the task waits no more
+    // the task stops waiting
     Cancel(u16),
     // the task has another base
     Base(u16, u16),
@@ -57,55 +57,66 @@ fn tables(
     for level in levels {
         bases.push(prio(rt, *level))?;
     }
-    assert!(rt; bases.len() <= 256 && protocols.len() <= 256);
+    assert!(rt; bases.len() <= MAX_TASKS && protocols.len() <= MAX_MUTEXES);
     Tables::new(alloc, &bases, protocols)
 }
 
-fn lock(rt: &impl Abort, tables: &mut Tables, task: TaskNo, mutex: MutexNo, ticket: u64) -> u32
+// walks from the task
+fn settle(rt: &impl Abort, tables: &mut Tables, task: TaskNo, visits: &mut Visits)
+    requires { SettledBut tables.old.state (stored_at tables.old) (Some task) }
+    ensures { SettledBut tables.new.state (stored_at tables.new) None }
+{
+    assert!(rt; !tables.is_unknown_task(task));
+    assert!(rt; visits.get() < 1000);
+    tables.settle_from(task, visits);
+}
+
+fn lock(
+    rt: &impl Abort,
+    tables: &mut Tables,
+    task: TaskNo,
+    mutex: MutexNo,
+    ticket: u64,
+    visits: &mut Visits,
+)
     requires { SettledBut tables.old.state (stored_at tables.old) None }
     ensures { SettledBut tables.new.state (stored_at tables.new) None }
 {
-    let mut visits = Visits::new();
     assert!(rt; !tables.is_unknown_task(task));
     assert!(rt; !tables.is_unknown_mutex(mutex));
     assert!(rt; !tables.is_waiting(task));
     match tables.owner(mutex) {
         None => {
             tables.bind(mutex, task);
-            tables.settle_from(task, &mut visits);
+            settle(rt, tables, task, visits);
         }
         Some(owner) => {
             assert!(rt; !tables.closes_cycle(task, mutex));
             assert!(rt; !tables.has_ticket(mutex, ticket));
             tables.join(task, mutex, ticket);
-            tables.settle_from(owner, &mut visits);
+            settle(rt, tables, owner, visits);
         }
     }
-    visits.get()
 }
 
 // the first part of a hand-over: the mutex is free, and may have waiters
-fn free(rt: &impl Abort, tables: &mut Tables, mutex: MutexNo) -> u32
+fn free(rt: &impl Abort, tables: &mut Tables, mutex: MutexNo, visits: &mut Visits)
     requires { SettledBut tables.old.state (stored_at tables.old) None }
     ensures { SettledBut tables.new.state (stored_at tables.new) None }
 {
-    let mut visits = Visits::new();
     let owner = tables.owner(mutex);
     assert!(rt; owner.is_some());
     if let Some(owner) = owner {
         tables.unbind(mutex);
-        assert!(rt; !tables.is_unknown_task(owner));
-        tables.settle_from(owner, &mut visits);
+        settle(rt, tables, owner, visits);
     }
-    visits.get()
 }
 
 // the second part: the waiter owns the free mutex
-fn take(rt: &impl Abort, tables: &mut Tables, mutex: MutexNo, task: TaskNo) -> u32
+fn take(rt: &impl Abort, tables: &mut Tables, mutex: MutexNo, task: TaskNo, visits: &mut Visits)
     requires { SettledBut tables.old.state (stored_at tables.old) None }
     ensures { SettledBut tables.new.state (stored_at tables.new) None }
 {
-    let mut visits = Visits::new();
     assert!(rt; tables.is_waiting(task));
     assert!(rt; tables.blocker(task).is_none());
     tables.leave(task);
@@ -114,63 +125,55 @@ fn take(rt: &impl Abort, tables: &mut Tables, mutex: MutexNo, task: TaskNo) -> u
     assert!(rt; !tables.is_waiting(task));
     assert!(rt; !tables.is_owned(mutex));
     tables.bind(mutex, task);
-    assert!(rt; !tables.is_unknown_task(task));
-    tables.settle_from(task, &mut visits);
-    visits.get()
+    settle(rt, tables, task, visits);
 }
 
-fn unlock(rt: &impl Abort, tables: &mut Tables, mutex: MutexNo) -> u32
+fn unlock(rt: &impl Abort, tables: &mut Tables, mutex: MutexNo, visits: &mut Visits)
     requires { SettledBut tables.old.state (stored_at tables.old) None }
     ensures { SettledBut tables.new.state (stored_at tables.new) None }
 {
-    let first = tables.front(mutex);
-    let freed = free(rt, tables, mutex);
-    match &first {
-        Some(waiter) => take(rt, tables, mutex, waiter.task).saturating_add(freed),
-        None => freed,
+    let first = tables.first_waiter(mutex);
+    free(rt, tables, mutex, visits);
+    if let Some(waiter) = &first {
+        take(rt, tables, mutex, waiter.task, visits);
     }
 }
 
-fn cancel(rt: &impl Abort, tables: &mut Tables, task: TaskNo) -> u32
+fn cancel(rt: &impl Abort, tables: &mut Tables, task: TaskNo, visits: &mut Visits)
     requires { SettledBut tables.old.state (stored_at tables.old) None }
     ensures { SettledBut tables.new.state (stored_at tables.new) None }
 {
-    let mut visits = Visits::new();
     assert!(rt; tables.is_waiting(task));
     let blocker = tables.blocker(task);
     tables.leave(task);
     if let Some(owner) = blocker {
-        assert!(rt; !tables.is_unknown_task(owner));
-        tables.settle_from(owner, &mut visits);
+        settle(rt, tables, owner, visits);
     }
-    visits.get()
 }
 
-fn rebase(rt: &impl Abort, tables: &mut Tables, task: TaskNo, level: u16) -> u32
+fn set_base(rt: &impl Abort, tables: &mut Tables, task: TaskNo, level: u16, visits: &mut Visits)
     requires { SettledBut tables.old.state (stored_at tables.old) None }
     ensures { SettledBut tables.new.state (stored_at tables.new) None }
 {
-    let mut visits = Visits::new();
     assert!(rt; !tables.is_unknown_task(task));
     tables.put_base(task, prio(rt, level));
-    assert!(rt; !tables.is_unknown_task(task));
-    tables.settle_from(task, &mut visits);
-    visits.get()
+    settle(rt, tables, task, visits);
 }
 
-fn happen(rt: &impl Abort, tables: &mut Tables, event: Event, ticket: u64) -> u32
+fn happen(rt: &impl Abort, tables: &mut Tables, event: Event, ticket: u64, visits: &mut Visits)
     requires { SettledBut tables.old.state (stored_at tables.old) None }
     ensures { SettledBut tables.new.state (stored_at tables.new) None }
 {
     match event {
-        Event::Lock(task, mutex) => lock(rt, tables, TaskNo(task), MutexNo(mutex), ticket),
+        Event::Lock(task, mutex) => {
+            lock(rt, tables, TaskNo(task), MutexNo(mutex), ticket, visits)
+        }
         Event::Deadlock(task, mutex) => {
             assert!(rt; tables.closes_cycle(TaskNo(task), MutexNo(mutex)));
-            0
         }
-        Event::Unlock(mutex) => unlock(rt, tables, MutexNo(mutex)),
-        Event::Cancel(task) => cancel(rt, tables, TaskNo(task)),
-        Event::Base(task, level) => rebase(rt, tables, TaskNo(task), level),
+        Event::Unlock(mutex) => unlock(rt, tables, MutexNo(mutex), visits),
+        Event::Cancel(task) => cancel(rt, tables, TaskNo(task), visits),
+        Event::Base(task, level) => set_base(rt, tables, TaskNo(task), level, visits),
     }
 }
 
@@ -181,8 +184,9 @@ fn play(rt: &impl Abort, tables: &mut Tables, rows: &[Row])
 {
     let mut ticket = 1;
     for row in rows {
-        let visits = happen(rt, tables, row.event, ticket);
-        assert_eq!(rt; visits, row.visits, "visits of step {ticket}");
+        let mut visits = Visits::new();
+        happen(rt, tables, row.event, ticket, &mut visits);
+        assert_eq!(rt; visits.get(), row.visits, "visits of step {ticket}");
         let mut task = 1;
         for level in row.after {
             assert_eq!(rt;
@@ -270,7 +274,7 @@ fn second_waiter_becomes_first_with_a_changed_priority(rt: HostRuntime) -> Resul
     play(&rt, &mut tables, &rows);
     assert_eq!(rt;
         tables
-            .front(MutexNo(3))
+            .first_waiter(MutexNo(3))
             .is_some_and(|first| first.task == TaskNo(1)),
         true
     );
@@ -346,7 +350,7 @@ fn reason(rt: &impl Abort, tables: &Tables, task: u16) -> Reason
 fn shows_what_stands(rt: HostRuntime) -> Result<(), Fail> {
     let ceiling = Protocol::Protect(prio(&rt, 50));
     let mut tables = tables(&rt, rt.alloc(), &[10, 20, 90], &[INHERIT, ceiling, INHERIT])?;
-    assert_eq!(rt; (tables.task_count(), tables.mutex_count()), (3, 3));
+    assert_eq!(rt; (tables.tasks(), tables.mutexes()), (3, 3));
     let rows = [
         step(Event::Lock(1, 1), 1, &[10, 20, 90]),
         step(Event::Lock(1, 2), 1, &[50, 20, 90]),
@@ -356,7 +360,9 @@ fn shows_what_stands(rt: HostRuntime) -> Result<(), Fail> {
     assert_eq!(rt; reason(&rt, &tables, 1), Reason::Ceiling(MutexNo(2)));
     let clone = tables.try_clone(rt.alloc())?;
     // another ticket than those of the rows
-    assert_eq!(rt; lock(&rt, &mut tables, TaskNo(3), MutexNo(1), 9), 1);
+    let mut visits = Visits::new();
+    lock(&rt, &mut tables, TaskNo(3), MutexNo(1), 9, &mut visits);
+    assert_eq!(rt; visits.get(), 1);
     assert_eq!(rt;
         reason(&rt, &tables, 1),
         Reason::Waiter(TaskNo(3), MutexNo(1))
@@ -386,9 +392,12 @@ fn shows_what_stands(rt: HostRuntime) -> Result<(), Fail> {
         true
     );
     assert_eq!(rt; tables.queue(MutexNo(4)).is_none(), true);
-    assert_eq!(rt; tables.next_owned(TaskNo(1), 0), Some(MutexNo(1)));
-    assert_eq!(rt; tables.next_owned(TaskNo(1), 1), Some(MutexNo(2)));
-    assert_eq!(rt; tables.next_owned(TaskNo(1), 2), None);
+    let owned: Vec<MutexNo> = tables.owned(TaskNo(1)).collect(rt.alloc())?;
+    assert_eq!(rt; owned.as_slice(), [MutexNo(1), MutexNo(2)].as_slice());
+    assert_eq!(rt; tables.owned(TaskNo(4)).next(), None);
+    assert_eq!(rt; tables.next_ticket(), 1);
+    tables.put_next_ticket(10);
+    assert_eq!(rt; tables.next_ticket(), 10);
     assert_eq!(rt; tables.on_chain(TaskNo(2), TaskNo(1)), true);
     assert_eq!(rt; tables.on_chain(TaskNo(1), TaskNo(2)), false);
     assert_eq!(rt; tables.is_above_ceiling(TaskNo(3), MutexNo(2)), true);
@@ -398,7 +407,7 @@ fn shows_what_stands(rt: HostRuntime) -> Result<(), Fail> {
 }
 
 #[test]
-fn finds_what_changed_since_the_mark(rt: HostRuntime) -> Result<(), Fail> {
+fn lists_what_changed_since_the_notes_began(rt: HostRuntime) -> Result<(), Fail> {
     let mut tables = tables(&rt, rt.alloc(), &[10, 20, 30, 60, 90], &[INHERIT; 4])?;
     let rows = [
         step(Event::Lock(1, 1), 1, &[10, 20, 30, 60, 90]),
@@ -408,17 +417,25 @@ fn finds_what_changed_since_the_mark(rt: HostRuntime) -> Result<(), Fail> {
         step(Event::Lock(2, 1), 1, &[30, 30, 30, 60, 90]),
     ];
     play(&rt, &mut tables, &rows);
-    assert_eq!(rt; tables.next_changed(0), Some(TaskNo(1)));
-    assert_eq!(rt; tables.next_changed(1), Some(TaskNo(2)));
-    assert_eq!(rt; tables.next_changed(2), None);
-    tables.mark();
-    assert_eq!(rt; tables.next_changed(0), None);
-    assert_eq!(rt; lock(&rt, &mut tables, TaskNo(5), MutexNo(4), 8), 3);
-    assert_eq!(rt; tables.next_changed(0), Some(TaskNo(1)));
-    assert_eq!(rt; tables.next_changed(2), Some(TaskNo(3)));
-    assert_eq!(rt; tables.next_changed(3), None);
-    // and what is again as it was hasn't changed
-    assert_eq!(rt; cancel(&rt, &mut tables, TaskNo(5)), 3);
-    assert_eq!(rt; tables.next_changed(0), None);
+    // visits that keep no notes tell nothing
+    assert_eq!(rt; tables.changed(&Visits::new()).next(), None);
+    let mut visits = Visits::with_notes(rt.alloc())?;
+    assert_eq!(rt; tables.changed(&visits).next(), None);
+    lock(&rt, &mut tables, TaskNo(5), MutexNo(4), 8, &mut visits);
+    assert_eq!(rt; visits.get(), 3);
+    let changed: Vec<TaskNo> = tables.changed(&visits).collect(rt.alloc())?;
+    assert_eq!(rt;
+        changed.as_slice(),
+        [TaskNo(1), TaskNo(2), TaskNo(3)].as_slice()
+    );
+    // what is again as it was hasn't changed
+    cancel(&rt, &mut tables, TaskNo(5), &mut visits);
+    assert_eq!(rt; visits.get(), 6);
+    assert_eq!(rt; tables.changed(&visits).next(), None);
+    visits.restart();
+    assert_eq!(rt; visits.get(), 0);
+    set_base(&rt, &mut tables, TaskNo(4), 61, &mut visits);
+    let changed: Vec<TaskNo> = tables.changed(&visits).collect(rt.alloc())?;
+    assert_eq!(rt; changed.as_slice(), [TaskNo(4)].as_slice());
     Ok(())
 }

@@ -1,13 +1,15 @@
-//! The walk that mends the stored priorities, and stops early.
+//! The walk that restores the stored priorities, and stops early.
 
-ghost use Rattle.std.specs.Prelude.{◌≡◌, ◌≤◌, ◌<◌, ◌+◌, ◌-◌, ◌^◌, ◌==◌, if◌then◌else◌, None, unwrap_or, ℕ};
+ghost use Rattle.std.specs.Prelude.{◌≡◌, ◌≤◌, ◌<◌, ◌+◌, ◌-◌, ◌^◌, ◌==◌, if◌then◌else◌, None, length, unwrap_or, ℕ};
+ghost use Rattle.pim_base.specs.declared.limits.TheConstants.{MAX_TASKS};
 ghost use Rattle.pim_base.specs.State.{IsTask, IsMutex};
 ghost use Rattle.pim_base.specs.Chains.{heir, heir_of};
 ghost use Rattle.pim_base.specs.Priorities.{local_priority, effective_priority};
 ghost use Rattle.pim_base.specs.Queues.{queue_of};
-ghost use Rattle.pim_chain.specs.Views.{Ready, stored_at, queue_at, front_prio};
+ghost use Rattle.pim_chain.specs.Views.{Ready, stored_at, queue_at, first_prio};
 ghost use Rattle.pim_chain.specs.Owned.{worth};
 ghost use Rattle.pim_chain.specs.Settled.{SettledBut, Visited, next_of, changed};
+ghost use Rattle.pim_chain.specs.Work.{Tells, Worked};
 
 use crate::numbered::higher;
 use crate::tables::Tables;
@@ -15,21 +17,21 @@ use crate::visits::Visits;
 use pim_base::{MutexNo, Prio, TaskNo};
 
 impl Tables {
-    // the priority at the front of the mutex's queue
-    fn front_prio(&self, mutex: MutexNo) -> Option<Prio>
-        ensures { unwrap_or result 0 ≡ front_prio (queue_at self.now mutex) }
+    // the priority of the first waiter for the mutex
+    fn first_prio(&self, mutex: MutexNo) -> Option<Prio>
+        ensures { unwrap_or result 0 ≡ first_prio (queue_at self.now mutex) }
     {
-        match &self.front(mutex) {
+        match &self.first_waiter(mutex) {
             Some(first) => Some(first.prio),
             None => None,
         }
     }
 
-    // the same as a number, 0 where nobody waits
-    pub(crate) fn front_level(&self, mutex: MutexNo) -> u16
-        ensures { result ≡ front_prio (queue_at self.now mutex) }
+    // this priority as a number, 0 where nobody waits
+    pub(crate) fn first_level(&self, mutex: MutexNo) -> u16
+        ensures { result ≡ first_prio (queue_at self.now mutex) }
     {
-        match self.front_prio(mutex) {
+        match self.first_prio(mutex) {
             Some(prio) => prio.get(),
             None => 0,
         }
@@ -40,26 +42,26 @@ impl Tables {
         ensures { unwrap_or result 0 ≡ worth self.now mutex }
     {
         match self.heir_of(mutex) {
-            Some(_heir) => self.front_prio(mutex),
+            Some(_heir) => self.first_prio(mutex),
             None => self.ceiling(mutex),
         }
     }
 
-    /// The greatest of the task's base and what its mutexes lend it: the ceilings of the PROTECT mutexes and the
-    /// priorities at the front of the queues of the INHERIT mutexes. This is a visit, and counted.
+    /// Computes the local priority of the task: the greatest of its base and what its mutexes lend it, the ceilings of
+    /// the PROTECT mutexes and the priorities of the first waiters for the INHERIT mutexes.
+    ///
+    /// This is a visit, and counted. It looks at each mutex that the task owns.
     pub fn local(&self, task: TaskNo, visits: &mut Visits) -> Prio
         requires known { IsTask self.now.state task }
-        requires room { visits.old < 2 ^ 32 - 1 }
+        requires room { visits.old.count < 2 ^ 32 - 1 }
         ensures value { result ≡ local_priority self.now.state (stored_at self.now) task }
-        ensures counted { visits.new ≡ visits.old + 1 }
+        ensures counted { visits.new ≡ record visits.old { count = visits.old.count + 1 } }
         ensures ready { Ready self.now }
     {
         visits.add();
-        let _tasks = self.task_count();
+        let _tasks = self.tasks();
         let mut prio = self.known_base(task);
-        let mut asked = 0;
-        while let Some(mutex) = self.next_owned(task, asked) {
-            asked = mutex.get();
+        for mutex in self.owned(task) {
             if let Some(lent) = self.lent(mutex) {
                 prio = higher(prio, lent);
             }
@@ -67,83 +69,81 @@ impl Tables {
         prio
     }
 
-    // whether this is the task's stored priority already: [2]
-    fn has_stored(&self, task: TaskNo, prio: Prio) -> bool
-        requires { IsTask self.now.state task }
-        ensures { result ≡ (stored_at self.now task == prio) }
-    {
-        self.known_stored(task).get() == prio.get()
-    }
-
-    // where the walk goes on from the queue of a mutex, whose front had this priority before: [5] and [6]
+    // where the walk goes on from the queue of a mutex, whose first waiter had this priority before: [5] and [6]
     fn onward(&self, mutex: MutexNo, before: u16) -> Option<TaskNo>
-        ensures { result ≡ (if before == front_prio (queue_at self.now mutex) then None else heir_of self.now.state mutex) }
+        ensures { result ≡ (if before == first_prio (queue_at self.now mutex) then None else heir_of self.now.state mutex) }
     {
         // [5]
-        if self.front_level(mutex) == before {
+        if self.first_level(mutex) == before {
             return None;
         }
         // [6]
         self.heir_of(mutex)
     }
 
-    // one turn of the walk, [2] to [6]: mends one task's priority, and answers who is to be looked at next
+    // one turn of the walk, [2] to [6]: restores one task's priority, and returns the task to go on with
     fn visit(&mut self, task: TaskNo, visits: &mut Visits) -> Option<TaskNo>
         requires settled { SettledBut self.old.state (stored_at self.old) (Some task) }
         requires known { IsTask self.old.state task }
-        requires room { visits.old < 2 ^ 32 - 1 }
+        requires room { visits.old.count < 2 ^ 32 - 1 }
         ensures visited { Visited self.old self.new task result }
         ensures next { result ≡ next_of self.old self.new task }
-        ensures counted { visits.new ≡ visits.old + 1 }
+        ensures work { Worked (length self.old.state.base) (stored_at self.old) visits.old (stored_at self.new) visits.new }
         ensures ready { Ready self.new }
     {
         // [2]
         let prio = self.local(task, visits);
-        if self.has_stored(task, prio) {
+        let had = self.known_stored(task);
+        if prio == had {
             return None;
         }
+        // [3]
+        visits.note(task, had);
         match self.waits_for(task) {
-            // [3]
             None => {
                 self.restore(task, prio);
                 None
             }
             // [4]
             Some(wait) => {
-                let before = self.front_level(wait.mutex);
+                let before = self.first_level(wait.mutex);
                 self.restore(task, prio);
                 self.onward(wait.mutex, before)
             }
         }
     }
 
-    /// The walk, which mends the stored priorities and the queues after a change of one task's local priority.
+    /// Walks from a task whose local priority a change may have altered, and restores all stored priorities and queues.
     ///
-    /// 1. `[1]` Look at the given task.
+    /// 1. `[1]` Begin with the given task.
     /// 2. `[2]` Visit it: compute its local priority. If that is the stored one, stop.
-    /// 3. `[3]` Store it. If the task waits for nothing, stop.
+    /// 3. `[3]` Note what it had, and store the new priority. If the task waits for nothing, stop.
     /// 4. `[4]` Move the task, with its ticket, to its place in the queue that it waits in.
-    /// 5. `[5]` If the priority at the front of that queue is what it was, stop.
-    /// 6. `[6]` If the mutex isn't an INHERIT one, or is free, stop. Else look at its owner: go to `[2]`.
+    /// 5. `[5]` If the priority of the first waiter in that queue is what it was, stop.
+    /// 6. `[6]` If the mutex isn't an INHERIT one, or is free, stop. Else go on with its owner at `[2]`.
     ///
-    /// Before it, every task but the given one has the priority that it has locally. After it, each stored priority is
-    /// the effective one, each queue is the one of those priorities, and nothing else has changed. It visits each task
-    /// whose priority changes, and at most one more; a task that hands its priority on to nobody is one visit.
+    /// Before the walk every task but the given one must have the stored priority that it has locally. After it each
+    /// stored priority is the effective one, each queue is in the order of these priorities, and nothing else changed.
+    ///
+    /// # Cost
+    ///
+    /// At most one visit more than there are tasks whose priority changes, and one visit alone where the task hands its
+    /// priority on to nobody. A visit looks at each mutex that its task owns. `[4]` finds both places by binary search,
+    /// and shifts the waiters between them. The walk takes no memory, and never looks at all tasks.
     pub fn settle_from(&mut self, task: TaskNo, visits: &mut Visits)
         requires settled { SettledBut self.old.state (stored_at self.old) (Some task) }
         requires known { IsTask self.old.state task }
-        requires room { visits.old ≤ 2 ^ 32 - 1 - 256 }
+        requires room { visits.old.count ≤ 2 ^ 32 - 1 - MAX_TASKS }
         ensures state { self.new.state ≡ self.old.state }
-        ensures marked { self.new.marked ≡ self.old.marked }
         ensures settled { SettledBut self.new.state (stored_at self.new) None }
         ensures effective { (t : ℕ) → IsTask self.new.state t → stored_at self.new t ≡ effective_priority self.new.state t }
         ensures queues { (m : ℕ) → IsMutex self.new.state m → queue_at self.new m ≡ queue_of self.new.state m }
         ensures ready { Ready self.new }
-        ensures single { heir self.old.state task ≡ None → visits.new ≡ visits.old + 1 }
-        ensures at_least { visits.old + changed self.old self.new ≤ visits.new }
-        ensures at_most { visits.new ≤ visits.old + changed self.old self.new + 1 }
+        ensures single { heir self.old.state task ≡ None → visits.new.count ≡ visits.old.count + 1 }
+        ensures work { Tells (length self.old.state.base) (stored_at self.old) visits.old (stored_at self.new) visits.new }
+        ensures at_most { visits.new.count ≤ visits.old.count + changed self.old self.new + 1 }
     {
-        let _tasks = self.task_count();
+        let _tasks = self.tasks();
         // [1]
         let mut next = Some(task);
         while let Some(current) = next {

@@ -30,7 +30,7 @@ fn main(rt: HostRuntime) -> io::Result<()> {
     Ok(())
 }
 
-/// Whether the report of the trace of this name is the stored one.
+/// Returns whether the report of the trace of this name is the stored one.
 fn is_as_stored(rt: &HostRuntime, name: &str) -> io::Result<bool> {
     let alloc = rt.alloc();
     let trace = format!(in alloc; "{name}.pim")?;

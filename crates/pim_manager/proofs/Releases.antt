@@ -1,48 +1,45 @@
 -- Mutexes handed over one after another.
-use Rattle.std.proofs.Common.{List, eqb, ◌≡◌, ◌≢◌, ◌<◌, ◌≤◌, ℕ, zero, suc, ◌+◌, ◌*◌, Bool, true, false, not, [], ◌∷◌, ◌++◌, filter, length, length-append, Option, Some, None, refl, sym, ◌∙◌, ap, subst, arith, fold, unwrap_or, ◌⊎◌, inl, inr}
-use Rattle.std.proofs.lemmas.Bool.{both_ways, cases_eq, cases_lt, eq-eqb, ne_eqb}
-use Rattle.pim_base.specs.Lists.{numbers, holds}
-use Rattle.pim_base.specs.State.{State, IsMutex, owned, owner_of, wait_of, with_owner, with_wait}
-use Rattle.pim_base.specs.Queues.{first_of}
+use Rattle.std.proofs.Common.{◌≡◌, ◌≢◌, ◌≤◌, ◌<◌, ℕ, zero, suc, cond, ◌+◌, ◌*◌, Bool, true, false, not, eqb, List, [], ◌∷◌, length, filter, All, Option, Some, None, refl, sym, ◌∙◌, ap, subst, arith, eq-or-lt_of_le, fold, unwrap_or, ◌⊎◌, inl, inr}
+use Rattle.std.proofs.lemmas.Bool.{both_ways, cases_eq, eq-eqb, ne_eqb}
+use Rattle.std.proofs.lemmas.Option.{none-some, same_Some}
+use Rattle.pim_base.specs.Lists.{first_item, holds, numbers}
+use Rattle.pim_base.specs.State.{State, IsTask, IsMutex, owned, owner_of, wait_of, with_owner, with_wait}
+use Rattle.pim_base.specs.Queues.{waiter_of, queue_of, first_of}
 use Rattle.pim_base.specs.Steps.{hand_over, hand_over_to}
-use Rattle.pim_base.specs.Counts.{differing, same_owner, changed_task_count, handed_mutex_count}
+use Rattle.pim_base.specs.Steady.{HasOwnTickets, IsSteady}
+use Rattle.pim_base.specs.Counts.{count, same_owner, handed_mutex_count}
 use Rattle.pim_base.specs.Priorities.{effective_priority}
+use Rattle.pim_base.specs.declared.limits.TheConstants.{MAX_MUTEXES}
 use Rattle.pim_base.specs.declared.steps.Waiter.{Waiter}
+use Rattle.pim_base.proofs.InOrder.{queue_law, waits_for}
 use Rattle.pim_base.proofs.Places.{nth-put_other}
-use Rattle.pim_base.proofs.NoCycle.{idle_now}
+use Rattle.pim_base.proofs.NoCycle.{idle_now, unwrap_or-put_same}
+use Rattle.pim_base.proofs.Steady.{steady_kept}
 use Rattle.pim_base.proofs.Stored.{from_holds}
-use Rattle.pim_chain.specs.Owned.{IsFirstAbove}
+use Rattle.pim_chain.specs.Work.{Work, Tells}
 use Rattle.pim_chain.proofs.Changes.{wait_other}
-use Rattle.pim_chain.proofs.Walking.{differing_over}
-use Rattle.pim_manager.proofs.Passes.{filter-until, filter-next, length-le-count}
-
-fold-append_one : {A B : Type 0} (f : B → A → B) (a : B) (xs : List A) (x : A) → fold f a (xs ++ x ∷ []) ≡ f (fold f a xs) x
-fold-append_one f a [] x = refl
-fold-append_one f a (y ∷ ys) x = fold-append_one f (f a y) ys x
+use Rattle.pim_chain.proofs.Told.{tells-trans}
+use Rattle.pim_manager.specs.Settled.{Worked}
+use Rattle.pim_manager.proofs.Works.{worked_none}
+use Rattle.pim_manager.proofs.Filters.{few_pass, first_passes, filter-rest, filter-none, length-le-count}
+use Rattle.pim_manager.proofs.Handing.{base-hand_over, freed_owner}
 
 -- ---- one hand-over
-pub owner_of-hand_over_other : (S : State) (m k : ℕ) → m ≢ k → owner_of (hand_over S m) k ≡ owner_of S k
+owner_of-hand_over_other : (S : State) (m k : ℕ) → m ≢ k → owner_of (hand_over S m) k ≡ owner_of S k
 owner_of-hand_over_other S m k other = go (first_of S m)
   where
     go : (o : Option Waiter) → owner_of (hand_over_to S m o) k ≡ owner_of S k
     go None = ap (λ x. unwrap_or x None) (nth-put_other S.owner m k None other)
     go (Some w) = ap (λ x. unwrap_or x None) (nth-put_other S.owner m k (Some w.task) other)
 
-pub protocol-hand_over : (S : State) (m : ℕ) → (hand_over S m).protocol ≡ S.protocol
+protocol-hand_over : (S : State) (m : ℕ) → (hand_over S m).protocol ≡ S.protocol
 protocol-hand_over S m = go (first_of S m)
   where
     go : (o : Option Waiter) → (hand_over_to S m o).protocol ≡ S.protocol
     go None = refl
     go (Some w) = refl
 
-pub base-hand_over : (S : State) (m : ℕ) → (hand_over S m).base ≡ S.base
-base-hand_over S m = go (first_of S m)
-  where
-    go : (o : Option Waiter) → (hand_over_to S m o).base ≡ S.base
-    go None = refl
-    go (Some w) = refl
-
-pub idle-hand_over : (S : State) (m t : ℕ) → wait_of S t ≡ None → wait_of (hand_over S m) t ≡ None
+idle-hand_over : (S : State) (m t : ℕ) → wait_of S t ≡ None → wait_of (hand_over S m) t ≡ None
 idle-hand_over S m t idle = go (first_of S m)
   where
     go : (o : Option Waiter) → wait_of (hand_over_to S m o) t ≡ None
@@ -54,135 +51,156 @@ idle-hand_over S m t idle = go (first_of S m)
             ap (wait_of (with_wait (with_owner S m (Some w.task)) w.task None)) is ∙ idle_now (with_owner S m (Some w.task)) w.task
         at (inr ne) = wait_other (with_owner S m (Some w.task)) w.task None t ne ∙ idle
 
--- ---- all of them: as far as the number n
-pub record ReleasedTo (S T : State) (a n released visits : ℕ) : Type 0 where
-  pub state : T ≡ fold hand_over S (filter (λ m. holds (owner_of S m) a) (numbers n))
-  pub counted : released ≡ length (filter (λ m. holds (owner_of S m) a) (numbers n))
-  pub few : released ≤ n
-  pub within : n ≤ length S.protocol
-  pub mutexes : length T.protocol ≡ length S.protocol
-  pub tasks : length T.base ≡ length S.base
-  pub later : (m : ℕ) → n < m → owner_of T m ≡ owner_of S m
-  pub lost : (m : ℕ) → m ≤ n → holds (owner_of S m) a ≡ true → holds (owner_of T m) a ≡ false
-  pub idle : wait_of T a ≡ None
-  pub least : changed_task_count S T ≤ visits
-  pub most : visits ≤ 2 * released
-
-pub released_none : (S : State) (a visits : ℕ) → wait_of S a ≡ None → visits ≡ 0 → changed_task_count S S ≡ 0 → ReleasedTo S S a 0 0 visits
-released_none S a visits idle fresh same = record {
-  state = refl;
-  counted = refl;
-  few = omega arith;
-  within = omega arith;
-  mutexes = refl;
-  tasks = refl;
-  later = λ m above. refl;
-  lost = λ m low h. nobody m low h;
-  idle = idle;
-  least = omega (arith, same);
-  most = omega (arith, fresh);
-}
+-- the first waiter waits
+first_of-waits : (S : State) (m : ℕ) (w : Waiter) → HasOwnTickets S → first_of S m ≡ Some w → wait_of S w.task ≡ None → ⊥
+first_of-waits S m w tickets first idle = go (queue_of S m) (queue_law S m tickets).waiters first
   where
-    nobody : (m : ℕ) → m ≤ 0 → holds (owner_of S m) a ≡ true → holds (owner_of S m) a ≡ false
-    nobody zero low h = refl
-    nobody (suc m) low h = absurd (omega (arith, low))
+    go : (ws : List Waiter) → All (λ v. IsTask S v.task × (waiter_of S m v.task ≡ Some v)) ws → first_item ws ≡ Some w → ⊥
+    go [] all e = none-some w e
+    go (v ∷ vs) all e =
+        let waits = waits_for S m v.task v (all 0 v (omega arith)).1 in
+        none-some waits.wait (sym (ap (λ (x : Waiter). wait_of S x.task) (same_Some v w e) ∙ idle) ∙ waits.waits)
 
--- the next owned mutex is handed over too
-pub released_next :
-    (S T U : State) (a n m r v k : ℕ)
-    → ReleasedTo S T a n r v
-    → IsFirstAbove (λ k. holds (owner_of T k) a) n m
-    → IsMutex T m
-    → U ≡ hand_over T m
-    → holds (owner_of U m) a ≡ false
-    → v + changed_task_count T U ≤ k
-    → k ≤ v + 2
-    → ReleasedTo S U a m (r + 1) k
-released_next S T U a n m r v k before next known is gone least most = record {
-  state =
-      is ∙ ap (λ X. hand_over X m) before.state ∙ sym (fold-append_one hand_over S (filter p (numbers n)) m) ∙ ap (fold hand_over S)
-      (sym more);
-  counted = ap (λ j. j + 1) before.counted ∙ sym (length-append (filter p (numbers n)) (m ∷ [])) ∙ ap length (sym more);
-  few = (let few = before.few in let above = next.above in omega (arith, few, above));
-  within = (let high = known.1 in let same = before.mutexes in omega (arith, high, same));
-  mutexes = ap (λ (X : State). length X.protocol) is ∙ ap length (protocol-hand_over T m) ∙ before.mutexes;
-  tasks = ap (λ (X : State). length X.base) is ∙ ap length (base-hand_over T m) ∙ before.tasks;
-  later = λ j above. other j (λ e. let less : m < j = above in omega (arith, less, e)) ∙ before.later j (let up = next.above in omega (arith, up, above));
-  lost = λ j low h. go j low h (cases_eq m j);
-  idle = ap (λ X. wait_of X a) is ∙ idle-hand_over T m a before.idle;
-  least = (let over = differing_over (length S.base) (effective_priority S) (effective_priority T) (effective_priority U) in
-      let one = before.least in
-      let two = subst (λ b. v + differing b (effective_priority T) (effective_priority U) ≤ k) before.tasks least in
-      omega (arith, over, one, two));
-  most = (let two = before.most in omega (arith, two, most));
-}
+-- an owner who doesn't wait loses the mutex
+lost : (S : State) (m a : ℕ) → HasOwnTickets S → wait_of S a ≡ None → holds (owner_of (hand_over S m) m) a ≡ false
+lost S m a tickets idle = go (first_of S m) refl
   where
-    p : ℕ → Bool
-    p j = holds (owner_of S j) a
-
-    other : (j : ℕ) → m ≢ j → owner_of U j ≡ owner_of T j
-    other j ne = ap (λ X. owner_of X j) is ∙ owner_of-hand_over_other T m j ne
-
-    as_before : (j : ℕ) → n < j → holds (owner_of T j) a ≡ holds (owner_of S j) a
-    as_before j above = ap (λ o. holds o a) (before.later j above)
-
-    first : IsFirstAbove p n m
-    first = record {
-      above = next.above;
-      passes = sym (as_before m next.above) ∙ next.passes;
-      none_between = λ j low high. sym (as_before j low) ∙ next.none_between j low high;
-    }
-
-    more : filter p (numbers m) ≡ filter p (numbers n) ++ m ∷ []
-    more = filter-next p n m first
-
-    go : (j : ℕ) → j ≤ m → holds (owner_of S j) a ≡ true → (m ≡ j) ⊎ (m ≡ j → ⊥) → holds (owner_of U j) a ≡ false
-    go j low h (inl same) = ap (λ i. holds (owner_of U i) a) (sym same) ∙ gone
-    go j low h (inr ne) = ap (λ o. holds o a) (other j ne) ∙ at (cases_lt n j)
+    go : (o : Option Waiter) → first_of S m ≡ o → holds (owner_of (hand_over_to S m o) m) a ≡ false
+    go None e = ap (λ x. holds x a) (freed_owner S m)
+    go (Some w) e = at (unwrap_or-put_same S.owner m (Some w.task))
       where
-        at : (n < j) ⊎ (j ≤ n) → holds (owner_of T j) a ≡ false
-        at (inr le) = before.lost j le h
-        at (inl lt) = let less : j < m = omega (arith, low, ne) in absurd (both_ways (holds (owner_of S j) a) (first.none_between j lt less) h)
-
--- what stands once no owned mutex is left
-pub record Released (S T : State) (a released visits : ℕ) : Type 0 where
-  pub state : T ≡ fold hand_over S (owned S a)
-  pub counted : released ≡ length (owned S a)
-  pub most : visits ≤ 2 * handed_mutex_count S T
+        at : (owner_of (with_owner S m (Some w.task)) m ≡ Some w.task) ⊎ (owner_of (with_owner S m (Some w.task)) m ≡ None) → holds (owner_of (with_owner S m (Some w.task)) m) a ≡ false
+        at (inl it) = ap (λ x. holds x a) it ∙ ne_eqb w.task a (λ is. first_of-waits S m w tickets e (ap (wait_of S) is ∙ idle))
+        at (inr none) = ap (λ x. holds x a) none
 
 lost_differs : (o r : Option ℕ) (a : ℕ) → o ≡ Some a → holds r a ≡ false → not (same_owner o r) ≡ true
 lost_differs o None a is h = ap (λ x. not (same_owner x None)) is
-lost_differs o (Some u) a is h = ap (λ x. not (same_owner x (Some u))) is ∙ ap not (flip a u h)
-  where
-    flip : (a u : ℕ) → eqb u a ≡ false → eqb a u ≡ false
-    flip a u h = ne_eqb a u (λ e. absurd (both_ways (eqb u a) h (eq-eqb u a (sym e))))
+lost_differs o (Some u) a is h =
+    ap (λ x. not (same_owner x (Some u))) is ∙ ap not (ne_eqb a u (λ e. absurd (both_ways (eqb u a) h (eq-eqb u a (sym e)))))
+
+-- the others that the owner has stay
+owned-hand_over : (S : State) (m a : ℕ) (ms : List ℕ) → HasOwnTickets S → wait_of S a ≡ None → owned S a ≡ m ∷ ms → owned (hand_over S m) a ≡ ms
+owned-hand_over S m a ms tickets idle is =
+    ap (λ ps. filter (λ k. holds (owner_of (hand_over S m) k) a) (numbers (length ps))) (protocol-hand_over S m)
+    ∙ filter-rest (λ k. holds (owner_of S k) a) (λ k. holds (owner_of (hand_over S m) k) a) 1 (length S.protocol) m ms is
+    (lost S m a tickets idle)
+    (λ k other. ap (λ o. holds o a) (owner_of-hand_over_other S m k other))
+
+-- the first mutex that a task owns
+pub record IsOwned (S : State) (m a : ℕ) : Type 0 where
+  pub mutex : IsMutex S m
+  pub owner : owner_of S m ≡ Some a
+
+pub first_owned : (S : State) (m a : ℕ) (ms : List ℕ) → owned S a ≡ m ∷ ms → IsOwned S m a
+first_owned S m a ms is =
+    let first = first_passes (λ k. holds (owner_of S k) a) 1 (length S.protocol) m ms is in
+    let low = first.low in
+    let high = first.high in
+    record { mutex = (low, omega (arith, high)); owner = from_holds (owner_of S m) a first.passes }
+
+-- ---- all of them: so many are handed over, and those that are left are those that the task still owns
+pub record Releasing (S T : State) (a : ℕ) (left : List ℕ) (released : ℕ) (v w : Work) : Type 0 where
+  pub owns : left ≡ owned T a
+  pub state : fold hand_over T left ≡ fold hand_over S (owned S a)
+  pub counted : released + length left ≡ length (owned S a)
+  pub few : length (owned S a) ≤ MAX_MUTEXES
+  pub idle : wait_of T a ≡ None
+  pub steady : IsSteady T
+  pub bases : T.base ≡ S.base
+  pub protocols : T.protocol ≡ S.protocol
+  pub work : Worked S v T w
+  pub most : w.count ≤ 2 * released
+
+pub releasing_none :
+    (S : State) (a : ℕ) (left : List ℕ) (v : Work)
+    → left ≡ owned S a
+    → wait_of S a ≡ None
+    → IsSteady S
+    → length S.protocol ≤ MAX_MUTEXES
+    → v.count ≡ 0
+    → Releasing S S a left 0 v v
+releasing_none S a left v is idle steady mutexes fresh = record {
+  owns = is;
+  state = ap (fold hand_over S) is;
+  counted = (let same = ap length is in omega (arith, same));
+  few = (let few = few_pass (λ m. holds (owner_of S m) a) 1 (length S.protocol) in omega (arith, few, mutexes));
+  idle = idle;
+  steady = steady;
+  bases = refl;
+  protocols = refl;
+  work = worked_none S v;
+  most = omega (arith, fresh);
+}
+
+-- one more
+pub releasing_next :
+    (S T U : State) (a m released : ℕ) (left rest : List ℕ) (v w x : Work)
+    → Releasing S T a left released v w
+    → left ≡ m ∷ rest
+    → U ≡ hand_over T m
+    → Worked T w U x
+    → x.count ≤ w.count + 2
+    → Releasing S U a rest (released + 1) v x
+releasing_next S T U a m released left rest v w x before next is work most = record {
+  owns =
+      sym (ap (λ V. owned V a) is ∙ owned-hand_over T m a rest before.steady.tickets before.idle (sym before.owns ∙ next));
+  state = ap (λ V. fold hand_over V rest) is ∙ ap (fold hand_over T) (sym next) ∙ before.state;
+  counted = (let one = ap length next in let all = before.counted in omega (arith, one, all));
+  few = before.few;
+  idle = ap (λ V. wait_of V a) is ∙ idle-hand_over T m a before.idle;
+  steady = subst IsSteady (sym is) (steady_kept.hand T m before.steady);
+  bases = ap (λ (V : State). V.base) is ∙ base-hand_over T m ∙ before.bases;
+  protocols = ap (λ (V : State). V.protocol) is ∙ protocol-hand_over T m ∙ before.protocols;
+  work =
+      tells-trans (length S.base) (effective_priority S) (effective_priority T) (effective_priority U) v w x before.work
+      (subst (λ n. Tells n (effective_priority T) w (effective_priority U) x) (ap length before.bases) work);
+  most = (let two = before.most in omega (arith, two, most));
+}
+
+-- what stands once the task owns nothing
+pub record Released (S T : State) (a released : ℕ) (w : Work) : Type 0 where
+  pub state : T ≡ fold hand_over S (owned S a)
+  pub counted : released ≡ length (owned S a)
+  pub most : w.count ≤ 2 * handed_mutex_count S T
 
 pub released_all :
-    (S T : State) (a n r v : ℕ)
-    → ReleasedTo S T a n r v
-    → ((k : ℕ) → n < k → holds (owner_of T k) a ≡ false)
-    → Released S T a r v
-released_all S T a n r v done none = record {
-  state = done.state ∙ ap (fold hand_over S) (sym all);
-  counted = done.counted ∙ ap length (sym all);
-  most = (let most = done.most in let counted = done.counted ∙ ap length (sym all) in omega (arith, most, counted, few));
+    (S T : State) (a released : ℕ) (left : List ℕ) (v w : Work)
+    → Releasing S T a left released v w
+    → left ≡ []
+    → Released S T a released w
+released_all S T a released left v w done none = record {
+  state = sym (ap (fold hand_over T) none) ∙ done.state;
+  counted = counted;
+  most = (let most = done.most in omega (arith, most, counted, few));
 }
   where
-    p : ℕ → Bool
-    p j = holds (owner_of S j) a
-
-    none_later : (k : ℕ) → n < k → p k ≡ false
-    none_later k above = ap (λ o. holds o a) (sym (done.later k above)) ∙ none k above
-
-    all : owned S a ≡ filter p (numbers n)
-    all = filter-until p n (length S.protocol) done.within (λ k low high. none_later k low)
-
-    passes : (k : ℕ) → p k ≡ true → not (same_owner (owner_of S k) (owner_of T k)) ≡ true
-    passes k h = go (cases_lt n k)
-      where
-        go : (n < k) ⊎ (k ≤ n) → not (same_owner (owner_of S k) (owner_of T k)) ≡ true
-        go (inl above) = absurd (both_ways (p k) (none_later k above) h)
-        go (inr low) = lost_differs (owner_of S k) (owner_of T k) a (from_holds (owner_of S k) a h) (done.lost k low h)
+    counted : released ≡ length (owned S a)
+    counted = let all = done.counted in let zero = ap length none in omega (arith, all, zero)
 
     few : length (owned S a) ≤ handed_mutex_count S T
-    few = length-le-count p (λ k. not (same_owner (owner_of S k) (owner_of T k))) (length S.protocol) passes
+    few =
+        length-le-count (λ m. holds (owner_of S m) a) (λ m. not (same_owner (owner_of S m) (owner_of T m))) (length S.protocol)
+        (λ m low high h. lost_differs (owner_of S m) (owner_of T m) a (from_holds (owner_of S m) a h)
+        (filter-none (λ k. holds (owner_of T k) a) 1 (length T.protocol) m (sym done.owns ∙ none) low
+        (let same = ap length done.protocols in omega (arith, same, high))))
+
+count_one : (n : ℕ) (p : ℕ → Bool) (x : ℕ) → 1 ≤ x → x ≤ n → p x ≡ true → 1 ≤ count n p
+unfolding count
+count_one zero p x low high h = absurd (omega (arith, low, high))
+count_one (suc n) p x low high h = go (count_one n p x low) (eq-or-lt_of_le high)
+  where
+    go : (x ≤ n → p x ≡ true → 1 ≤ count n p) → (x ≡ suc n) ⊎ (x < suc n) → 1 ≤ count n p + cond {A = ℕ} (p (suc n)) 1 0
+    go rest (inr lt) = let r = rest (omega (arith, lt)) h in omega (arith, r)
+    go rest (inl is) = let at : cond {A = ℕ} (p (suc n)) 1 0 ≡ 1 = ap {B = ℕ} (λ (b : Bool). cond {A = ℕ} b 1 0) (subst (λ u. p u ≡ true) is h) in omega (arith, at)
+
+-- a hand-over by its owner hands over one mutex at least
+pub handed_once :
+    (S : State) (m a : ℕ)
+    → IsSteady S
+    → IsMutex S m
+    → owner_of S m ≡ Some a
+    → wait_of S a ≡ None
+    → 1 ≤ handed_mutex_count S (hand_over S m)
+handed_once S m a steady known owns idle =
+    count_one (length S.protocol) (λ k. not (same_owner (owner_of S k) (owner_of (hand_over S m) k))) m known.0 known.1
+    (lost_differs (owner_of S m) (owner_of (hand_over S m) m) a owns (lost S m a steady.tickets idle))

@@ -1,23 +1,26 @@
 -- What the tables show of known tasks and mutexes.
-use Rattle.std.proofs.Common.{◌≡◌, ◌<◌, ◌≤◌, ℕ, zero, suc, Bool, true, false, cond, ◌||◌, eqb, ltb, length, List, [], Option, Some, None, refl, sym, ◌∙◌, ap, arith, unwrap_or, replicate, ◌⊎◌, inl, inr, get_or, slice_get}
+use Rattle.std.proofs.Common.{◌≡◌, ◌<◌, ◌≤◌, ℕ, zero, suc, Bool, true, false, cond, ◌||◌, eqb, ltb, length, List, [], Some, None, refl, sym, ◌∙◌, ap, subst, arith, unwrap_or, AllPairs, ◌⊎◌, inl, inr, get_or}
 use Rattle.std.specs.Option.{option_map}
 use Rattle.std.proofs.lemmas.Bool.{cases_lt, lt-ltb, le-ltb, ne_eqb}
 use Rattle.std.proofs.lemmas.Bool.Decides.{nat_tests}
-use Rattle.std.proofs.lemmas.Option.{slice_get_past}
+use Rattle.std.proofs.lemmas.Option.{slice_get_past, none-some, same_Some}
 use Rattle.pim_base.specs.Lists.{nth}
 use Rattle.pim_base.specs.State.{State, IsTask, IsMutex}
 use Rattle.pim_base.specs.Checks.{unknown_task, unknown_mutex}
 use Rattle.pim_base.specs.Priorities.{effective_priority}
-use Rattle.pim_base.specs.Queues.{queue_of}
-use Rattle.pim_base.specs.declared.steps.Wait.{Wait}
+use Rattle.pim_base.specs.Queues.{Precedes, queue_of}
+use Rattle.pim_base.specs.declared.steps.Waiter.{Waiter}
+use Rattle.pim_base.proofs.InOrder.{queue_law}
 use Rattle.pim_base.proofs.Kept.{known_from_tests}
 use Rattle.pim_base.proofs.Places.{nth-get_or}
 use Rattle.pim_queue.specs.Line.{Line}
-use Rattle.pim_chain.specs.Views.{View, stored_in, stored_at, line_in}
+use Rattle.pim_chain.specs.Views.{View, stored_at, line_in}
 use Rattle.pim_chain.specs.Settled.{Calm}
 use Rattle.pim_chain.proofs.Walking.{settled_effective}
 use Rattle.pim_chain.proofs.Models.{queue_is}
 use Rattle.pim_manager.specs.Known.{of_task, of_mutex}
+use Rattle.pim_manager.specs.Settled.{IsSettled}
+use Rattle.pim_manager.proofs.Works.{steady_shown}
 
 -- an item by its number, where there is one
 at_number :
@@ -38,10 +41,6 @@ at_number xs n (suc k) d same =
         let here : nth xs (suc k) ≡ Some (get_or xs k d) = nth-get_or xs (suc k) k d (omega arith) (omega (arith, same, le)) in
         here ∙ ap (λ o. Some (unwrap_or o d)) (sym here)
         ∙ ap (λ b. cond b None (Some (unwrap_or (nth xs (suc k)) d))) (sym (le-ltb n (suc k) le))
-
--- what is shown of a known task is shown
-pub known_shown : {X : Type 0} (S : State) (t : ℕ) (x : X) → unknown_task S t ≡ false → Some x ≡ of_task S t x
-known_shown S t x known = ap (λ b. cond b None (Some x)) (sym known)
 
 -- where two values agree for known tasks, the same is shown
 same_shown : {X : Type 0} (S : State) (t : ℕ) (x y : X) → (IsTask S t → x ≡ y) → of_task S t x ≡ of_task S t y
@@ -76,17 +75,15 @@ queue_shown v m calm =
     go true e = refl
     go false e = ap Some (queue_is v m calm (known_mutex v.state m e))
 
--- nobody waits at the start
-pub idle_at_start : (n t : ℕ) → unwrap_or {T = Option Wait} (nth (replicate n None) t) None ≡ None
-idle_at_start n zero = refl
-idle_at_start n (suc t) = at n t
+-- the queue that is shown is in order
+pub queue_in_order :
+    (v : View) (S : State) (m : ℕ) (ws : List Waiter)
+    → IsSettled v
+    → v.state ≡ S
+    → Some ws ≡ of_mutex S m (queue_of S m)
+    → AllPairs Precedes ws
+queue_in_order v S m ws settled shown is = go (unknown_mutex S m) is
   where
-    at : (n t : ℕ) → unwrap_or {T = Option Wait} (slice_get (replicate n None) t) None ≡ None
-    at zero t = refl
-    at (suc n) zero = refl
-    at (suc n) (suc t) = at n t
-
--- an unknown task's priority is shown as 0
-pub stored_past : (xs : List ℕ) (S : State) (t : ℕ) → length xs ≡ length S.base → unknown_task S t ≡ true → stored_in xs t ≡ 0
-stored_past xs S t same unknown =
-    ap (λ o. unwrap_or o 0) (at_number xs (length S.base) t 0 same ∙ ap (λ b. cond b None (Some (unwrap_or (nth xs t) 0))) unknown)
+    go : (b : Bool) → Some ws ≡ cond b None (Some (queue_of S m)) → AllPairs Precedes ws
+    go true e = absurd (none-some ws (sym e))
+    go false e = subst (AllPairs Precedes) (sym (same_Some ws (queue_of S m) e)) (queue_law S m (steady_shown v S settled shown).tickets).in_order

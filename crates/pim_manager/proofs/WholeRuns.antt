@@ -1,19 +1,18 @@
--- Whole runs keep what each step keeps.
-use Rattle.std.proofs.Common.{◌≡◌, List, [], ◌∷◌, ◌++◌, length, fold, ap, arith}
+-- Many steps are a run.
+use Rattle.std.proofs.Common.{◌≡◌, List, [], ◌∷◌, ◌++◌, length, fold, refl, ap, arith}
 use Rattle.std.proofs.Common.{ℕ, ◌<◌, take}
 use Rattle.std.proofs.lemmas.Grind.{common_steps}
 use Rattle.pim_base.specs.State.{State}
 use Rattle.pim_base.specs.Steps.{reply_of, after}
 use Rattle.pim_base.specs.Runs.{IsRun}
-use Rattle.pim_base.specs.Laws.{IsSound}
 use Rattle.pim_base.specs.declared.steps.Step.{Step}
 use Rattle.pim_base.specs.declared.steps.Reply.{Reply}
-use Rattle.pim_base.proofs.NoCycle.{no_cycle_law}
-use Rattle.pim_manager.specs.Entries.{entries}
+use Rattle.pim_manager.specs.Entries.{entries, replies_of}
 
-pub runs_sound : (steps : List Step) (S : State) → IsSound S → IsSound (fold after S steps)
-runs_sound [] S ok = ok
-runs_sound (step ∷ steps) S ok = runs_sound steps (after S step) (no_cycle_law S step ok)
+-- steps with the model's replies are a run
+pub is_run : (steps : List Step) (S : State) → IsRun S (entries steps (replies_of S steps)) (fold after S steps)
+is_run [] S = refl
+is_run (step ∷ steps) S = (refl, is_run steps (after S step))
 
 -- a run may go on with one step more
 pub run_more :

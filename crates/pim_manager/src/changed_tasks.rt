@@ -1,8 +1,9 @@
-//! The tasks that a step changed.
+//! The tasks whose priority a step changed.
 
-ghost use Rattle.std.specs.Prelude.{◌≡◌, ◌<◌, [], ◌∷◌, ◌++◌, length};
+ghost use Rattle.std.specs.Prelude.{◌≡◌, [], IfOk};
 
-use pim_base::{Prio, Reason, TaskNo};
+use pim_base::{MAX_TASKS, Prio, Reason, TaskNo};
+use pim_chain::Visits;
 use std::alloc::{AllocError, Global};
 use std::marker::Model;
 
@@ -17,53 +18,46 @@ pub struct ChangedTask {
     pub reason: Reason,
 }
 
-/// The tasks whose effective priority a step changed, in rising number. It has room for all tasks from the start.
+/// The tasks whose effective priority a step changed, in ascending order. It has room for all tasks from the start.
+///
+/// In contracts its value is the list. Beside it stand the notes of what the tasks had before the step.
 #[derive(Drop)]
 pub struct ChangedTasks {
-    tasks: Vec<ChangedTask>,
+    pub(crate) tasks: Vec<ChangedTask>,
+    pub(crate) visits: Visits,
 }
 
 impl Model for ChangedTasks {
-    ghost use Rattle.std.specs.Prelude.{◌≤◌, List};
+    ghost use Rattle.std.specs.Prelude.{◌≤◌, List, IsSome};
     ghost use Rattle.std.specs.Vec.{vec_capacity};
+    ghost use Rattle.pim_base.specs.declared.limits.TheConstants.{MAX_TASKS};
     ghost use Rattle.pim_manager.specs.declared.changed_tasks.ChangedTask.{ChangedTask};
 
     ghost Value = { List ChangedTask };
 
     ghost view = { λ c. c.tasks.items };
 
-    ghost invariant = { λ c. 256 ≤ vec_capacity c.tasks };
+    ghost invariant = { λ c. (MAX_TASKS ≤ vec_capacity c.tasks) × IsSome c.visits.notes };
 }
 
 impl ChangedTasks {
-    ghost use Rattle.std.specs.Prelude.{IfOk};
-
-    /// None yet. The only error is that memory was refused.
+    /// Returns an empty list.
+    ///
+    /// # Errors
+    ///
+    /// `AllocError` if memory was refused.
     pub fn new(alloc: Global) -> Result<ChangedTasks, AllocError>
         ensures { IfOk result (λ changed. changed ≡ []) }
     {
-        let tasks = Vec::with_capacity(alloc, 256)?;
-        Ok(ChangedTasks { tasks })
+        let tasks = Vec::with_capacity(alloc, MAX_TASKS)?;
+        let visits = Visits::with_notes(alloc)?;
+        Ok(ChangedTasks { tasks, visits })
     }
 
-    /// The tasks, in rising number.
+    /// Returns the tasks, in ascending order.
     pub fn as_slice(&self) -> &[ChangedTask]
         ensures { result.now ≡ self.now }
     {
         &self.tasks
-    }
-
-    pub(crate) fn clear(&mut self)
-        ensures { self.new ≡ [] }
-    {
-        self.tasks.clear();
-    }
-
-    pub(crate) fn push(&mut self, task: TaskNo, prio: Prio, reason: Reason)
-        requires { length self.old < 256 }
-        ensures { self.new ≡ self.old ++ record { task = task; prio = prio; reason = reason } ∷ [] }
-    {
-        let changed = ChangedTask { task, prio, reason };
-        self.tasks.push(changed).unwrap();
     }
 }

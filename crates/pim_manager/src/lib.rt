@@ -24,14 +24,10 @@
 
 mod changed_tasks;
 mod changes;
-mod checks;
 mod done;
-mod inner;
 mod make_fault;
 mod manager;
 mod runs;
-#[cfg(test)]
-mod scene;
 mod steps;
 #[cfg(test)]
 mod tests;

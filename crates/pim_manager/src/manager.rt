@@ -1,25 +1,27 @@
-//! The manager of mutexes.
+//! The manager of mutexes: how it is made, what it shows, and its step.
 
-ghost use Rattle.std.specs.Prelude.{◌≡◌, ◌≤◌, ◌<◌, ◌+◌, ◌*◌, ◌↔◌, length, map, IfOk, IsErrOf};
+ghost use Rattle.std.specs.Prelude.{◌≡◌, ◌≤◌, ◌<◌, ◌+◌, ◌*◌, ◌↔◌, length, map, AllPairs, IfOk, IfSome, IsErrOf};
+ghost use Rattle.std.specs.Vec.{vec_capacity};
 ghost use Rattle.std.specs.Option.{option_map, option_copied};
 ghost use Rattle.pim_base.specs.State.{start, base_of, protocol_of, owner_of, wait_of};
 ghost use Rattle.pim_base.specs.Chains.{HasCycle};
-ghost use Rattle.pim_base.specs.Queues.{queue_of};
+ghost use Rattle.pim_base.specs.Queues.{Precedes, queue_of};
 ghost use Rattle.pim_base.specs.Priorities.{effective_priority};
 ghost use Rattle.pim_base.specs.Reasons.{reason_of};
-ghost use Rattle.pim_base.specs.Laws.{IsSound};
+ghost use Rattle.pim_base.specs.Steady.{IsSteady};
 ghost use Rattle.pim_base.specs.Counts.{changed_task_count, handed_mutex_count};
-ghost use Rattle.pim_base.specs.Steps.{reply_of, after};
 ghost use Rattle.pim_base.specs.Reports.{changed_tasks};
+ghost use Rattle.pim_base.specs.Steps.{reply_of, after};
+ghost use Rattle.pim_base.specs.declared.limits.TheConstants.{MAX_TASKS, MAX_MUTEXES};
 ghost use Rattle.pim_base.specs.declared.steps.Wait.{Wait};
-ghost use Rattle.pim_manager.specs.Changed.{changed_task};
+ghost use Rattle.pim_manager.specs.Changed.{changed_task, noted_changes};
 ghost use Rattle.pim_manager.specs.Known.{of_task, of_mutex};
 
-use crate::changed_tasks::ChangedTasks;
+use crate::changed_tasks::{ChangedTask, ChangedTasks};
 use crate::done::Done;
-use crate::inner::Inner;
 use crate::make_fault::MakeFault;
-use pim_base::{MutexNo, Prio, Protocol, Reason, Step, TaskNo, Waiter};
+use pim_base::{MAX_MUTEXES, MAX_TASKS, MutexNo, Prio, Protocol, Reason, Step, TaskNo, Waiter};
+use pim_chain::{Tables, Visits};
 use std::alloc::{AllocError, Global};
 use std::marker::Model;
 
@@ -27,32 +29,44 @@ use std::marker::Model;
 ///
 /// Its value in contracts is the state of the definitions: what is declared, owned and waited for, and the next ticket.
 /// So equal managers answer alike and stay equal. Between two calls each stored priority is the effective one, each
-/// queue is in order, no cycle of waits stands, and every ticket that waits is below the next one.
+/// queue is in order, and the state is steady: no cycle of waits stands, each task that waits has a ticket of its own,
+/// which is below the next one, and no free mutex has waiters.
 #[derive(Drop)]
 pub struct Manager {
-    inner: Inner,
+    pub(crate) tables: Tables,
 }
 
 impl Model for Manager {
     ghost use Rattle.pim_base.specs.State.{State};
+    ghost use Rattle.pim_manager.specs.Settled.{IsSettled};
 
     ghost Value = { State };
 
-    ghost view = { λ m. m.inner.state };
+    ghost view = { λ m. m.tables.state };
+
+    ghost invariant = { λ m. IsSettled m.tables };
 }
 
 impl Manager {
-    /// A manager of tasks with these base priorities and of mutexes with these protocols. All mutexes are free, nobody
-    /// waits, and the next ticket is 1.
+    /// Returns a manager of tasks with these base priorities and of mutexes with these protocols. All mutexes are free,
+    /// nobody waits, and the next ticket is 1.
+    ///
+    /// # Errors
+    ///
+    /// `TooManyTasks` or `TooManyMutexes` beyond 256 of either, in this order, else `Memory` if it was refused.
     pub fn new(alloc: Global, bases: &[Prio], protocols: &[Protocol]) -> Result<Manager, MakeFault>
         ensures made { IfOk result (λ manager. manager ≡ start bases.now protocols.now 1) }
-        ensures tasks { IsErrOf result MakeFault.TooManyTasks ↔ (256 < length bases.now) }
-        ensures mutexes { IsErrOf result MakeFault.TooManyMutexes ↔ ((length bases.now ≤ 256) × (256 < length protocols.now)) }
+        ensures tasks { IsErrOf result MakeFault.TooManyTasks ↔ (MAX_TASKS < length bases.now) }
+        ensures mutexes { IsErrOf result MakeFault.TooManyMutexes ↔ ((length bases.now ≤ MAX_TASKS) × (MAX_MUTEXES < length protocols.now)) }
     {
         Manager::with_next_ticket(alloc, bases, protocols, 1)
     }
 
-    /// The same with another next ticket, which is at least 1. At u64::MAX no ticket is left.
+    /// Returns such a manager with another next ticket, which is at least 1. At `LAST_TICKET` no ticket is left.
+    ///
+    /// # Errors
+    ///
+    /// Those of `new`.
     pub fn with_next_ticket(
         alloc: Global,
         bases: &[Prio],
@@ -61,113 +75,147 @@ impl Manager {
     ) -> Result<Manager, MakeFault>
         requires { 1 ≤ next }
         ensures made { IfOk result (λ manager. manager ≡ start bases.now protocols.now next) }
-        ensures tasks { IsErrOf result MakeFault.TooManyTasks ↔ (256 < length bases.now) }
-        ensures mutexes { IsErrOf result MakeFault.TooManyMutexes ↔ ((length bases.now ≤ 256) × (256 < length protocols.now)) }
+        ensures tasks { IsErrOf result MakeFault.TooManyTasks ↔ (MAX_TASKS < length bases.now) }
+        ensures mutexes { IsErrOf result MakeFault.TooManyMutexes ↔ ((length bases.now ≤ MAX_TASKS) × (MAX_MUTEXES < length protocols.now)) }
     {
-        Ok(Manager {
-            inner: Inner::new(alloc, bases, protocols, next)?,
-        })
+        if MAX_TASKS < bases.len() {
+            return Err(MakeFault::TooManyTasks);
+        }
+        if MAX_MUTEXES < protocols.len() {
+            return Err(MakeFault::TooManyMutexes);
+        }
+        let mut tables = Tables::new(alloc, bases, protocols)?;
+        tables.put_next_ticket(next);
+        Ok(Manager { tables })
     }
 
-    /// An equal manager. The only error is that memory was refused.
+    /// Returns an equal manager.
+    ///
+    /// # Errors
+    ///
+    /// `AllocError` if memory was refused.
     pub fn try_clone(&self, alloc: Global) -> Result<Manager, AllocError>
         ensures { IfOk result (λ manager. manager ≡ self.now) }
     {
-        Ok(Manager {
-            inner: self.inner.try_clone(alloc)?,
-        })
+        let tables = self.tables.try_clone(alloc)?;
+        Ok(Manager { tables })
     }
 
-    /// How many tasks there are, 0 to 256. They have the numbers from 1 on.
+    /// Returns how many tasks there are, at most 256. They have the numbers from 1 on.
     pub fn tasks(&self) -> u16
         ensures count { result ≡ length self.now.base }
-        ensures few { result ≤ 256 }
-        ensures sound { IsSound self.now }
+        ensures few { result ≤ MAX_TASKS }
+        ensures steady { IsSteady self.now }
     {
-        self.inner.tasks()
+        self.tables.tasks()
     }
 
-    /// How many mutexes there are, 0 to 256. They have the numbers from 1 on.
+    /// Returns how many mutexes there are, at most 256. They have the numbers from 1 on.
     pub fn mutexes(&self) -> u16
         ensures count { result ≡ length self.now.protocol }
-        ensures few { result ≤ 256 }
+        ensures few { result ≤ MAX_MUTEXES }
     {
-        self.inner.mutexes()
+        self.tables.mutexes()
     }
 
-    /// The ticket that the next waiter gets.
+    /// Returns the ticket that the next waiter gets.
     pub fn next_ticket(&self) -> u64
         ensures { result ≡ self.now.next }
     {
-        self.inner.next_ticket()
+        self.tables.next_ticket()
     }
 
-    /// The priority at which the task would execute, None for an unknown one.
+    /// Returns the priority at which the task would execute, None for an unknown one.
     pub fn effective(&self, task: TaskNo) -> Option<Prio>
         ensures { result ≡ of_task self.now task (effective_priority self.now task) }
     {
-        self.inner.effective(task)
+        self.tables.stored(task)
     }
 
-    /// The base priority of the task, None for an unknown one.
+    /// Returns the base priority of the task, None for an unknown one.
     pub fn base(&self, task: TaskNo) -> Option<Prio>
         ensures { result ≡ of_task self.now task (base_of self.now task) }
     {
-        self.inner.base(task)
+        self.tables.base(task)
     }
 
-    /// Why the task has its effective priority, None for an unknown one.
+    /// Returns why the task has its effective priority, None for an unknown one. It looks at the mutexes that the task
+    /// owns, twice at most.
     pub fn reason(&self, task: TaskNo) -> Option<Reason>
         ensures { result ≡ of_task self.now task (reason_of self.now task) }
     {
-        self.inner.reason(task)
+        if self.tables.is_unknown_task(task) {
+            None
+        } else {
+            Some(self.tables.reason(task))
+        }
     }
 
-    /// The mutex that the task waits for, or that it waits for none; None for an unknown one.
+    /// Returns the mutex that the task waits for, or that it waits for none; None for an unknown one.
     pub fn waits_for(&self, task: TaskNo) -> Option<Option<MutexNo>>
         ensures waits { result ≡ of_task self.now task (option_map (λ (w : Wait). w.mutex) (wait_of self.now task)) }
         ensures no_cycle { ¬ HasCycle self.now }
     {
-        self.inner.waits_for(task)
+        if self.tables.is_unknown_task(task) {
+            None
+        } else {
+            Some(self.tables.waits_for(task).map(|wait| wait.mutex))
+        }
     }
 
-    /// The owner of the mutex, or that it is free; None for an unknown one.
+    /// Returns the owner of the mutex, or that it is free; None for an unknown one.
     pub fn owner(&self, mutex: MutexNo) -> Option<Option<TaskNo>>
         ensures { result ≡ of_mutex self.now mutex (owner_of self.now mutex) }
     {
-        self.inner.owner(mutex)
+        if self.tables.is_unknown_mutex(mutex) {
+            None
+        } else {
+            Some(self.tables.owner(mutex))
+        }
     }
 
-    /// The protocol of the mutex, None for an unknown one.
+    /// Returns the protocol of the mutex, None for an unknown one.
     pub fn protocol(&self, mutex: MutexNo) -> Option<Protocol>
         ensures { result ≡ of_mutex self.now mutex (protocol_of self.now mutex) }
     {
-        self.inner.protocol(mutex)
+        self.tables.protocol(mutex)
     }
 
-    /// Those who wait for the mutex, each with its effective priority and its ticket, the first in front: the higher
-    /// priority first, then the smaller ticket. None for an unknown mutex.
+    /// Returns those who wait for the mutex, each with its effective priority and its ticket: the higher priority first,
+    /// then the smaller ticket. None for an unknown mutex.
     pub fn waiters(&self, mutex: MutexNo) -> Option<&[Waiter]>
-        ensures { option_copied result ≡ of_mutex self.now mutex (queue_of self.now mutex) }
+        ensures queue { option_copied result ≡ of_mutex self.now mutex (queue_of self.now mutex) }
+        ensures in_order { IfSome (option_copied result) (AllPairs Precedes) }
     {
-        self.inner.waiters(mutex)
+        match self.tables.queue(mutex) {
+            Some(queue) => Some(queue.as_slice()),
+            None => None,
+        }
     }
 
     /// Makes one step, which is always answered. A refused step changes nothing at all, and no step takes memory.
     ///
-    /// The visits are at least the tasks whose effective priority differs then, and at most one more and two for each
-    /// mutex whose owner differs.
+    /// The visits, each of which computes one priority, are at least the tasks whose effective priority differs then, and
+    /// at most one more and two for each mutex whose owner differs. What they leave out is bounded by numbers of its
+    /// own: a visit looks at the mutexes that its task owns, once each; where it stores another priority, it shifts at
+    /// most the waiters of one queue; and the deadlock test of a lock makes at most as many hops as there are tasks.
     pub fn step(&mut self, step: Step) -> Done
         ensures reply { result.reply ≡ reply_of self.old step }
         ensures state { self.new ≡ after self.old step }
         ensures least { changed_task_count self.old self.new ≤ result.visits }
         ensures most { result.visits ≤ 1 + changed_task_count self.old self.new + 2 * handed_mutex_count self.old self.new }
     {
-        self.inner.step(step)
+        let mut visits = Visits::new();
+        let reply = self.reply_to(step, &mut visits);
+        Done {
+            reply,
+            visits: visits.get(),
+        }
     }
 
-    /// Makes one step as `step` does, and lists the tasks whose effective priority differs then, in rising number, each
-    /// with that priority and the reason. This takes no memory either.
+    /// Makes one step as `step` does, and lists the tasks whose effective priority differs then, in ascending order, each
+    /// with that priority and the reason. This takes no memory either, and looks only at tasks whose priority was
+    /// stored in the step.
     pub fn step_with_changes(&mut self, step: Step, changed: &mut ChangedTasks) -> Done
         ensures reply { result.reply ≡ reply_of self.old step }
         ensures state { self.new ≡ after self.old step }
@@ -175,9 +223,26 @@ impl Manager {
         ensures most { result.visits ≤ 1 + changed_task_count self.old self.new + 2 * handed_mutex_count self.old self.new }
         ensures changed { changed.new ≡ map (changed_task self.new) (changed_tasks self.old self.new) }
     {
-        self.inner.mark();
-        let done = self.inner.step(step);
-        self.inner.list_changed(changed);
-        done
+        changed.visits.restart();
+        let reply = self.reply_to(step, &mut changed.visits);
+        self.list_changed(&changed.visits, &mut changed.tasks);
+        Done {
+            reply,
+            visits: changed.visits.get(),
+        }
+    }
+
+    /// Lists the tasks whose effective priority differs from the noted one, in ascending order.
+    fn list_changed(&self, visits: &Visits, tasks: &mut Vec<ChangedTask>)
+        requires room { MAX_TASKS ≤ vec_capacity tasks.old }
+        ensures listed { tasks.new.items ≡ map (changed_task self.now) (noted_changes self.now visits.now) }
+        ensures room { MAX_TASKS ≤ vec_capacity tasks.new }
+    {
+        tasks.clear();
+        for task in self.tables.changed(visits) {
+            let prio = self.tables.known_stored(task);
+            let reason = self.tables.reason(task);
+            tasks.push(ChangedTask { task, prio, reason }).unwrap();
+        }
     }
 }

@@ -5,26 +5,30 @@ ghost use Rattle.std.specs.List.{fold};
 ghost use Rattle.pim_base.specs.Chains.{HasCycle};
 ghost use Rattle.pim_base.specs.Steps.{after};
 ghost use Rattle.pim_base.specs.Runs.{IsRun};
-ghost use Rattle.pim_manager.specs.Entries.{entries};
+ghost use Rattle.pim_manager.specs.Entries.{entries, replies_of};
 
 use crate::manager::Manager;
 use pim_base::{Reply, Step};
 use std::alloc::{AllocError, Global};
 
 impl Manager {
-    /// Makes all steps, one after another.
+    /// Makes all steps, one after another. With the model's replies they are a run.
     pub fn run(&mut self, steps: &[Step])
         ensures state { self.new ≡ fold after self.old steps.now }
+        ensures run { IsRun self.old (entries steps.now (replies_of self.old steps.now)) self.new }
         ensures no_cycle { ¬ HasCycle self.new }
     {
-        let _tasks = self.tasks();
+        let _steady = self.tasks();
         for step in steps {
             self.step(*step);
         }
     }
 
-    /// Makes all steps, one after another, and gives their replies. The only error is that memory was refused, before
-    /// the first step.
+    /// Makes all steps, one after another, and returns their replies.
+    ///
+    /// # Errors
+    ///
+    /// `AllocError` if memory was refused, before the first step.
     pub fn run_replies(&mut self, alloc: Global, steps: &[Step]) -> Result<Vec<Reply>, AllocError>
         ensures run { IfOk result (λ replies. IsRun self.old (entries steps.now replies.items) self.new) }
         ensures count { IfOk result (λ replies. length replies.items ≡ length steps.now) }

@@ -1,93 +1,105 @@
-//! What no scenario of pim_agreement shows: the making of a manager, its getters, its ticket, its copy, runs, and the
-//! changed tasks.
+//! Each public call once, with values worked out by hand. The scenarios of the steps are in pim_agreement.
 
-use crate::scene::{
-    INHERIT, NONE, base, cancel, ceiling, expect_changed, lock, made, protect, release, set_base,
-    try_lock, unlock, waiter,
+use crate::{ChangedTask, ChangedTasks, Done, MakeFault, Manager};
+use Op::{Cancel, Lock, ReleaseAll, SetBase, Try, Unlock};
+use Protocol::Inherit;
+use pim_base::{
+    MAX_MUTEXES, MAX_TASKS, MutexNo, Op, Prio, Protocol, Reason, Refusal, Reply, Step, TaskNo,
+    Waiter,
 };
-use crate::{ChangedTasks, Done, MakeFault, Manager};
-use pim_base::{MutexNo, Prio, Reason, Refusal, Reply, TaskNo, Waiter};
+use std::alloc::Global;
+use std::process::Abort;
 use std::test::Fail;
 
+const FIRST: MutexNo = MutexNo(1);
+
+/// The step of this task.
+fn by(actor: u16, op: Op) -> Step {
+    Step {
+        actor: TaskNo(actor),
+        op,
+    }
+}
+
+fn prio(rt: &impl Abort, level: u16) -> Prio {
+    Prio::new(level).expect(rt, "a priority")
+}
+
+fn reason(waiter: u16, mutex: u16) -> Reason {
+    Reason::Waiter(TaskNo(waiter), MutexNo(mutex))
+}
+
+/// A manager of tasks with these bases and of mutexes with these protocols.
+fn made(alloc: Global, bases: &[u16], protocols: &[Protocol]) -> Result<Manager, Fail> {
+    let mut prios = Vec::new(alloc);
+    for level in bases {
+        prios.push(Prio::new(*level).ok_or("a priority")?)?;
+    }
+    Ok(Manager::new(alloc, &prios, protocols)?)
+}
+
 #[test]
-fn unknown_numbers_show_nothing(rt: HostRuntime) -> Result<(), Fail> {
-    let manager = made(rt.alloc(), &[10], &[NONE])?;
-    for number in [0, 2, 65535] {
-        assert_eq!(rt; manager.effective(TaskNo(number)), None);
-        assert_eq!(rt; manager.base(TaskNo(number)), None);
-        assert_eq!(rt; manager.reason(TaskNo(number)), None);
-        assert_eq!(rt; manager.waits_for(TaskNo(number)), None);
-        assert_eq!(rt; manager.owner(MutexNo(number)), None);
-        assert_eq!(rt; manager.protocol(MutexNo(number)), None);
-        assert!(rt; manager.waiters(MutexNo(number)).is_none());
+fn what_is_shown_of_an_owner_and_a_waiter(rt: HostRuntime) -> Result<(), Fail> {
+    let (low, high) = (prio(&rt, 10), prio(&rt, 90));
+    let mut manager = made(rt.alloc(), &[10, 90], &[Inherit, Protocol::None])?;
+    manager.run(&[by(1, Lock(FIRST)), by(2, Lock(FIRST))]);
+    assert_eq!(rt; manager.tasks(), 2);
+    assert_eq!(rt; manager.mutexes(), 2);
+    assert_eq!(rt; manager.next_ticket(), 2);
+    assert_eq!(rt; manager.effective(TaskNo(1)), Some(high));
+    assert_eq!(rt; manager.base(TaskNo(1)), Some(low));
+    assert_eq!(rt; manager.reason(TaskNo(1)), Some(reason(2, 1)));
+    assert_eq!(rt; manager.reason(TaskNo(2)), Some(Reason::Base));
+    assert_eq!(rt; manager.waits_for(TaskNo(1)), Some(None));
+    assert_eq!(rt; manager.waits_for(TaskNo(2)), Some(Some(FIRST)));
+    assert_eq!(rt; manager.waits_for(TaskNo(3)), None);
+    assert_eq!(rt; manager.owner(FIRST), Some(Some(TaskNo(1))));
+    assert_eq!(rt; manager.owner(MutexNo(2)), Some(None));
+    assert_eq!(rt; manager.owner(MutexNo(3)), None);
+    assert_eq!(rt; manager.protocol(FIRST), Some(Inherit));
+    let waiters = manager.waiters(FIRST).ok_or("a known mutex")?;
+    let second = Waiter {
+        task: TaskNo(2),
+        prio: high,
+        ticket: 1,
+    };
+    assert!(rt; waiters == &[second][..]);
+    Ok(())
+}
+
+#[test]
+fn step_tells_its_visits(rt: HostRuntime) -> Result<(), Fail> {
+    let mut manager = made(rt.alloc(), &[10, 20, 90], &[Inherit, Inherit])?;
+    let second = MutexNo(2);
+    for (step, reply, visits) in [
+        (by(1, Lock(FIRST)), Reply::Granted, 1),
+        (by(2, Lock(second)), Reply::Granted, 1),
+        (by(2, Lock(FIRST)), Reply::Queued, 1),
+        (by(3, Try(second)), Reply::Refused(Refusal::Busy), 0),
+        (by(3, Lock(second)), Reply::Queued, 2),
+        (by(1, Lock(second)), Reply::Refused(Refusal::Deadlock), 0),
+        (by(3, Cancel(TaskNo(3))), Reply::Withdrawn, 2),
+        (by(1, Unlock(FIRST)), Reply::Handed(TaskNo(2)), 2),
+        (by(1, SetBase(TaskNo(2), 30)), Reply::Set, 1),
+        (by(2, ReleaseAll), Reply::Released(2), 2),
+    ] {
+        assert_eq!(rt; manager.step(step), Done { reply, visits }, "{step:?}");
     }
     Ok(())
 }
 
 #[test]
-fn what_is_shown_of_an_owner_and_a_waiter(rt: HostRuntime) -> Result<(), Fail> {
-    let mut manager = made(rt.alloc(), &[10, 90], &[NONE, INHERIT])?;
-    manager.run(&[lock(1, 2), lock(2, 2)]);
-    let high = Prio::new(90);
-    assert_eq!(rt; manager.tasks(), 2);
-    assert_eq!(rt; manager.mutexes(), 2);
-    assert_eq!(rt; manager.next_ticket(), 2);
-    assert_eq!(rt; manager.effective(TaskNo(1)), high);
-    assert_eq!(rt; manager.base(TaskNo(1)), Prio::new(10));
-    assert_eq!(rt;
-        manager.reason(TaskNo(1)),
-        Some(Reason::Waiter(TaskNo(2), MutexNo(2)))
-    );
-    assert_eq!(rt; manager.reason(TaskNo(2)), Some(Reason::Base));
-    assert_eq!(rt; manager.waits_for(TaskNo(1)), Some(None));
-    assert_eq!(rt; manager.waits_for(TaskNo(2)), Some(Some(MutexNo(2))));
-    assert_eq!(rt; manager.owner(MutexNo(1)), Some(None));
-    assert_eq!(rt; manager.owner(MutexNo(2)), Some(Some(TaskNo(1))));
-    assert_eq!(rt; manager.protocol(MutexNo(1)), Some(NONE));
-    let waiters = manager.waiters(MutexNo(2)).ok_or("a known mutex")?;
-    let prio = high.ok_or("a priority")?;
-    let second = Waiter {
-        task: TaskNo(2),
-        prio,
-        ticket: 1,
-    };
-    assert_eq!(rt; waiters.len(), 1);
-    assert_eq!(rt; waiters.first().copied(), Some(second));
-    assert_eq!(rt;
-        manager.waiters(MutexNo(1)).map(|waiters| waiters.len()),
-        Some(0)
-    );
-    Ok(())
-}
-
-#[test]
-fn refused_requests_take_no_ticket(rt: HostRuntime) -> Result<(), Fail> {
-    let mut manager = made(rt.alloc(), &[10, 20], &[INHERIT, protect(&rt, 5)])?;
-    manager.run(&[
-        lock(1, 1),
-        lock(1, 1),
-        lock(2, 2),
-        lock(2, 9),
-        try_lock(2, 1),
-    ]);
-    assert_eq!(rt; manager.next_ticket(), 1);
-    manager.run(&[lock(2, 1), cancel(2, 2)]);
-    assert_eq!(rt; manager.next_ticket(), 2);
-    Ok(())
-}
-
-#[test]
-fn too_many_tasks_then_too_many_mutexes(rt: HostRuntime) -> Result<(), Fail> {
-    let low = Prio::new(1).ok_or("a priority")?;
-    let most = [low; 256];
-    let more = [low; 257];
-    let made = Manager::new(rt.alloc(), &more, &[NONE; 257]);
+fn most_tasks_and_mutexes(rt: HostRuntime) -> Result<(), Fail> {
+    let low = prio(&rt, 1);
+    let most = [low; MAX_TASKS];
+    let made = Manager::new(rt.alloc(), &[low; 257], &[Inherit; 257]);
     assert!(rt; matches!(made, Err(MakeFault::TooManyTasks)));
-    let made = Manager::new(rt.alloc(), &most, &[NONE; 257]);
+    let made = Manager::new(rt.alloc(), &most, &[Inherit; 257]);
     assert!(rt; matches!(made, Err(MakeFault::TooManyMutexes)));
-    let made = Manager::new(rt.alloc(), &most, &[NONE; 256])?;
+    let made = Manager::with_next_ticket(rt.alloc(), &most, &[Inherit; MAX_MUTEXES], 7)?;
     assert_eq!(rt; made.tasks(), 256);
     assert_eq!(rt; made.mutexes(), 256);
+    assert_eq!(rt; made.next_ticket(), 7);
     let none = Manager::new(rt.alloc(), &[], &[])?;
     assert_eq!(rt; none.tasks(), 0);
     Ok(())
@@ -108,13 +120,12 @@ fn texts_of_the_faults(rt: HostRuntime) -> Result<(), Fail> {
 
 #[test]
 fn replies_of_a_run(rt: HostRuntime) -> Result<(), Fail> {
-    let mut manager = made(rt.alloc(), &[10, 20], &[INHERIT])?;
+    let mut manager = made(rt.alloc(), &[10, 20], &[Inherit])?;
     let steps = [
-        lock(1, 1),
-        lock(2, 1),
-        unlock(2, 1),
-        unlock(1, 1),
-        set_base(1, 2, 70),
+        by(1, Lock(FIRST)),
+        by(2, Lock(FIRST)),
+        by(2, Unlock(FIRST)),
+        by(1, Unlock(FIRST)),
     ];
     let replies = manager.run_replies(rt.alloc(), &steps)?;
     let expected = [
@@ -122,91 +133,61 @@ fn replies_of_a_run(rt: HostRuntime) -> Result<(), Fail> {
         Reply::Queued,
         Reply::Refused(Refusal::Waiting),
         Reply::Handed(TaskNo(2)),
-        Reply::Set,
     ];
     assert!(rt; replies.as_slice() == &expected[..]);
-    assert_eq!(rt; manager.effective(TaskNo(2)), Prio::new(70));
+    assert_eq!(rt; manager.owner(FIRST), Some(Some(TaskNo(2))));
     Ok(())
 }
 
 #[test]
 fn a_copy_goes_its_own_way(rt: HostRuntime) -> Result<(), Fail> {
-    let mut manager = made(rt.alloc(), &[10, 20], &[INHERIT])?;
-    manager.run(&[lock(1, 1), lock(2, 1)]);
+    let mut manager = made(rt.alloc(), &[10, 20], &[Inherit])?;
+    manager.run(&[by(1, Lock(FIRST)), by(2, Lock(FIRST))]);
     let mut copy = manager.try_clone(rt.alloc())?;
-    copy.run(&[unlock(1, 1)]);
-    assert_eq!(rt; manager.owner(MutexNo(1)), Some(Some(TaskNo(1))));
+    copy.run(&[by(1, Unlock(FIRST))]);
+    assert_eq!(rt; manager.owner(FIRST), Some(Some(TaskNo(1))));
     assert_eq!(rt; manager.effective(TaskNo(1)), Prio::new(20));
-    assert_eq!(rt; copy.owner(MutexNo(1)), Some(Some(TaskNo(2))));
+    assert_eq!(rt; copy.owner(FIRST), Some(Some(TaskNo(2))));
     assert_eq!(rt; copy.effective(TaskNo(1)), Prio::new(10));
     assert_eq!(rt; copy.next_ticket(), 2);
     Ok(())
 }
 
 #[test]
-fn changed_tasks_in_rising_number(rt: HostRuntime) -> Result<(), Fail> {
-    let mut manager = made(rt.alloc(), &[10, 20, 30, 90, 40], &[INHERIT; 3])?;
-    manager.run(&[lock(1, 1), lock(2, 2), lock(3, 3)]);
+fn changed_tasks_in_ascending_order(rt: HostRuntime) -> Result<(), Fail> {
+    let mut manager = made(rt.alloc(), &[10, 20, 30, 90], &[Inherit; 3])?;
+    for number in 1..4 {
+        manager.step(by(number, Lock(MutexNo(number))));
+    }
     let mut changed = ChangedTasks::new(rt.alloc())?;
-    expect_changed(&rt, &changed, &[]);
-    manager.step_with_changes(lock(2, 1), &mut changed);
-    expect_changed(&rt, &changed, &[(1, waiter(20, 2, 1))]);
-    manager.step_with_changes(lock(3, 2), &mut changed);
-    let tasks = [(1, waiter(30, 2, 1)), (2, waiter(30, 3, 2))];
-    expect_changed(&rt, &changed, &tasks);
-    manager.step_with_changes(lock(4, 3), &mut changed);
-    let tasks = [
-        (1, waiter(90, 2, 1)),
-        (2, waiter(90, 3, 2)),
-        (3, waiter(90, 4, 3)),
+    assert!(rt; changed.as_slice().is_empty());
+    // each task waits for the mutex of the one before
+    for number in 2..5 {
+        let step = by(number, Lock(MutexNo(number - 1)));
+        manager.step_with_changes(step, &mut changed);
+    }
+    for (listed, number) in changed.as_slice().iter().zip(1u16..) {
+        let raised = ChangedTask {
+            task: TaskNo(number),
+            prio: prio(&rt, 90),
+            reason: reason(number + 1, number),
+        };
+        assert_eq!(rt; *listed, raised);
+    }
+    assert_eq!(rt; changed.as_slice().len(), 3);
+    let done = manager.step_with_changes(by(4, Cancel(TaskNo(4))), &mut changed);
+    assert_eq!(rt; done.visits, 3);
+    let lowered = [
+        (1, 30, reason(2, 1)),
+        (2, 30, reason(3, 2)),
+        (3, 30, Reason::Base),
     ];
-    expect_changed(&rt, &changed, &tasks);
-    manager.step_with_changes(lock(5, 3), &mut changed);
-    expect_changed(&rt, &changed, &[]);
-    // task 5 is now the first that waits for mutex 3
-    let done = manager.step_with_changes(set_base(1, 4, 15), &mut changed);
-    assert_eq!(rt; done.visits, 4);
-    let tasks = [
-        (1, waiter(40, 2, 1)),
-        (2, waiter(40, 3, 2)),
-        (3, waiter(40, 5, 3)),
-        (4, base(15)),
-    ];
-    expect_changed(&rt, &changed, &tasks);
-    manager.step_with_changes(lock(1, 1), &mut changed);
-    expect_changed(&rt, &changed, &[]);
-    Ok(())
-}
-
-#[test]
-fn task_whose_reason_alone_changed_is_not_listed(rt: HostRuntime) -> Result<(), Fail> {
-    let mut manager = made(rt.alloc(), &[10, 50, 50], &[INHERIT])?;
-    manager.run(&[lock(1, 1), lock(2, 1), lock(3, 1)]);
-    let mut changed = ChangedTasks::new(rt.alloc())?;
-    let second = Some(Reason::Waiter(TaskNo(2), MutexNo(1)));
-    assert_eq!(rt; manager.reason(TaskNo(1)), second);
-    manager.step_with_changes(cancel(2, 2), &mut changed);
-    let third = Some(Reason::Waiter(TaskNo(3), MutexNo(1)));
-    assert_eq!(rt; manager.reason(TaskNo(1)), third);
-    expect_changed(&rt, &changed, &[]);
-    Ok(())
-}
-
-#[test]
-fn changed_tasks_of_a_release(rt: HostRuntime) -> Result<(), Fail> {
-    let protocols = [protect(&rt, 40), protect(&rt, 50), NONE];
-    let mut manager = made(rt.alloc(), &[10, 20, 30, 35], &protocols)?;
-    manager.run(&[lock(1, 2), lock(1, 1), lock(2, 1), lock(3, 2), lock(4, 3)]);
-    let mut changed = ChangedTasks::new(rt.alloc())?;
-    let done = manager.step_with_changes(release(1), &mut changed);
-    assert_eq!(rt;
-        done,
-        Done {
-            reply: Reply::Released(2),
-            visits: 4
-        }
-    );
-    let tasks = [(1, base(10)), (2, ceiling(40, 1)), (3, ceiling(50, 2))];
-    expect_changed(&rt, &changed, &tasks);
+    for (listed, (task, level, reason)) in changed.as_slice().iter().zip(lowered) {
+        let task = TaskNo(task);
+        let prio = prio(&rt, level);
+        assert_eq!(rt; *listed, ChangedTask { task, prio, reason });
+    }
+    manager.step_with_changes(by(1, Lock(FIRST)), &mut changed);
+    assert!(rt; changed.as_slice().is_empty());
     Ok(())
 }

@@ -30,7 +30,7 @@ fn waited_for(alloc: Global) -> Result<Manager, Fail> {
 fn new_refused(rt: HostRuntime) -> Result<(), Fail> {
     match Manager::new(rt.alloc(), &bases()?, &PROTOCOLS) {
         Ok(manager) => {
-            assert_eq!(rt; manager.tasks(), 3);
+            assert_eq!(rt; manager.base(TaskNo(3)), Prio::new(10));
             assert_eq!(rt; manager.next_ticket(), 1);
         }
         Err(fault) => {
@@ -45,7 +45,7 @@ fn new_refused(rt: HostRuntime) -> Result<(), Fail> {
 fn with_next_ticket_refused(rt: HostRuntime) -> Result<(), Fail> {
     match Manager::with_next_ticket(rt.alloc(), &bases()?, &PROTOCOLS, 7) {
         Ok(manager) => {
-            assert_eq!(rt; manager.mutexes(), 2);
+            assert_eq!(rt; manager.protocol(MutexNo(2)), Some(Protocol::None));
             assert_eq!(rt; manager.next_ticket(), 7);
         }
         Err(fault) => {

@@ -1,9 +1,9 @@
 -- Words that begin with no operation.
-use Rattle.std.proofs.Common.{◌≡◌, ℕ, List, ◌∷◌, ◌++◌, codes, refl, sym, ◌∙◌}
+use Rattle.std.proofs.Common.{◌≡◌, ℕ, List, ◌∷◌, ◌++◌, codes, refl, sym}
 use Rattle.std.specs.Fmt.{decimal}
 use Rattle.pim_base.specs.declared.steps.Op.{Op}
 use Rattle.pim_base.specs.Spelling.{IsNumber, IsOp, op_words}
-use Rattle.pim_text.proofs.WordLemmas.{not_both, same_first, same_rest}
+use Rattle.pim_text.proofs.WordLemmas.{not_both}
 
 -- these words begin with no number
 abbrev pub NoNumber : List (List ℕ) → Type 0
@@ -25,9 +25,9 @@ no_target w ws release none (Op.SetBase t p) vs is e = none t (decimal p ∷ vs)
 -- a new base has two
 pub no_level : (w first : List ℕ) (ws tail : List (List ℕ)) → w ≡ codes "base" → ws ≡ first ∷ tail → NoNumber tail → NoOp (w ∷ ws)
 no_level w first ws tail base cut none (Op.SetBase t p) vs is e =
-    none p vs is.1 (same_rest _ _ _ _ (sym cut ∙ same_rest _ _ _ _ e))
-no_level w first ws tail base cut none (Op.Lock m) vs is e = not_both w (codes "base") (codes "lock") refl base (same_first _ _ _ _ e)
-no_level w first ws tail base cut none (Op.Try m) vs is e = not_both w (codes "base") (codes "try") refl base (same_first _ _ _ _ e)
-no_level w first ws tail base cut none (Op.Unlock m) vs is e = not_both w (codes "base") (codes "unlock") refl base (same_first _ _ _ _ e)
-no_level w first ws tail base cut none Op.ReleaseAll vs is e = not_both w (codes "base") (codes "release") refl base (same_first _ _ _ _ e)
-no_level w first ws tail base cut none (Op.Cancel t) vs is e = not_both w (codes "base") (codes "cancel") refl base (same_first _ _ _ _ e)
+    none p vs is.1 (let both = sym cut in cc)
+no_level w first ws tail base cut none (Op.Lock m) vs is e = not_both w (codes "base") (codes "lock") refl base (cc)
+no_level w first ws tail base cut none (Op.Try m) vs is e = not_both w (codes "base") (codes "try") refl base (cc)
+no_level w first ws tail base cut none (Op.Unlock m) vs is e = not_both w (codes "base") (codes "unlock") refl base (cc)
+no_level w first ws tail base cut none Op.ReleaseAll vs is e = not_both w (codes "base") (codes "release") refl base (cc)
+no_level w first ws tail base cut none (Op.Cancel t) vs is e = not_both w (codes "base") (codes "cancel") refl base (cc)

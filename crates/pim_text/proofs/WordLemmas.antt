@@ -1,5 +1,5 @@
 -- Words cut off the front of a line, and what single words spell.
-use Rattle.std.proofs.Common.{◌≡◌, ◌<◌, ◌≤◌, ◌^◌, ℕ, zero, suc, List, [], ◌∷◌, codes, arith, sym, ◌∙◌, ap, Option, Some, None, MatchOption, Bool, true, false, Bor, eqb, length}
+use Rattle.std.proofs.Common.{◌≡◌, ◌<◌, ◌≤◌, ◌^◌, ℕ, zero, suc, List, [], ◌∷◌, codes, arith, sym, ◌∙◌, ap, Option, Some, None, MatchOption, false, Bor, eqb, length}
 use Rattle.std.specs.Fmt.{decimal}
 use Rattle.std.specs.List.{join_with_byte}
 use Rattle.std.specs.Option.{SomeIff}
@@ -15,19 +15,9 @@ use Rattle.pim_text.proofs.SpellingLemmas.{IsWord, word_decimal, value-decimal}
 
 -- bytes are not two different words
 pub not_both : (w a b : List ℕ) → bytes_eq a b ≡ false → w ≡ a → w ≡ b → ⊥
-not_both w a b differ e f = absurd_test (bytes_eq a b) ((bytes_eq-Decides a b).1 (sym e ∙ f)) differ
-  where
-    absurd_test : (t : Bool) → t ≡ true → t ≡ false → ⊥
-    absurd_test true h k = cc
-    absurd_test false h k = cc
+not_both w a b differ e f = let same = (bytes_eq-Decides a b).1 (sym e ∙ f) in cc
 
 -- ---- the first word, and the others
-
-pub same_first : (v w : List ℕ) (vs ws : List (List ℕ)) → v ∷ vs ≡ w ∷ ws → v ≡ w
-same_first v w vs ws e = cc
-
-pub same_rest : (v w : List ℕ) (vs ws : List (List ℕ)) → v ∷ vs ≡ w ∷ ws → vs ≡ ws
-same_rest v w vs ws e = cc
 
 -- bytes have a word
 pub some_word : (bytes : List ℕ) → words bytes ≡ [] → ⊥

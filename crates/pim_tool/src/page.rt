@@ -1,5 +1,5 @@
 //! The bytes of a report that are not yet written.
-ghost use Rattle.std.specs.Prelude.{◌≡◌, ◌++◌, ◌<◌, ◌+◌, List, ℕ, [], decimal, flat_map, OnOk, IfOk};
+ghost use Rattle.std.specs.Prelude.{◌≡◌, ◌++◌, ◌<◌, ◌≤◌, ◌+◌, List, ℕ, [], decimal, flat_map, OnOk, IfOk};
 ghost use Rattle.pim_base.specs.Spelling.{refusal_word};
 ghost use Rattle.pim_base.specs.Reports.{reply_text, reply_line, differing_line, rejected, accepted};
 ghost use Rattle.pim_tool.specs.Printed.{reason_text, line_of};
@@ -96,6 +96,7 @@ impl Page {
         self.word(b"\n")
     }
 
+    /// Adds the line of a step's reply.
     #[tactic(auto, unfolding(pim_base::specs::Reports::reply_line))]
     fn reply_line(&mut self, number: u32, reply: &Reply) -> Result<(), AllocError>
         ensures { OnOk result (self.new ≡ self.old ++ reply_line number reply.now) }
@@ -120,6 +121,7 @@ impl Page {
         self.word(b"\n")
     }
 
+    /// Adds the line of a step's reply beside the recorded one.
     #[tactic(auto, unfolding(pim_base::specs::Reports::differing_line))]
     fn differing_line(
         &mut self,
@@ -137,6 +139,7 @@ impl Page {
         self.word(b"\n")
     }
 
+    /// Adds the last line of a report in which a recorded reply differs.
     #[tactic(auto, unfolding(pim_base::specs::Reports::rejected))]
     fn rejected(&mut self, number: u32) -> Result<(), AllocError>
         ensures { OnOk result (self.new ≡ self.old ++ rejected number) }
@@ -146,6 +149,7 @@ impl Page {
         self.word(b"\n")
     }
 
+    /// Adds the text of a reply.
     fn reply(&mut self, reply: &Reply) -> Result<(), AllocError>
         ensures { OnOk result (self.new ≡ self.old ++ reply_text reply.now) }
     {
@@ -178,6 +182,7 @@ impl Page {
         self.word(refusal.name().as_bytes())
     }
 
+    /// Adds the text of a reason.
     fn reason(&mut self, reason: Reason) -> Result<(), AllocError>
         ensures { OnOk result (self.new ≡ self.old ++ reason_text reason) }
     {
@@ -196,6 +201,7 @@ impl Page {
         }
     }
 
+    /// Adds these bytes.
     #[inline]
     fn word(&mut self, word: &[u8]) -> Result<(), AllocError>
         ensures { OnOk result (self.new ≡ self.old ++ word.now) }
@@ -224,13 +230,32 @@ impl Page {
         }
     }
 
-    /// Adds a number of any length.
+    /// Adds a number of four digits or more.
     #[inline(never)]
+    #[tactic(auto, using(crate::proofs::DecimalLemmas::four_digits, crate::proofs::DecimalLemmas::five_digits))]
     fn long_number(&mut self, number: u32) -> Result<(), AllocError>
+        requires { 1000 ≤ number }
         ensures { OnOk result (self.new ≡ self.old ++ decimal number) }
     {
-        let mut digits = itoa::Buffer::new();
-        self.word(digits.format(number).as_bytes())
+        if number < 10_000 {
+            self.word(&[
+                digit(number / 1000),
+                digit(number / 100 % 10),
+                digit(number / 10 % 10),
+                digit(number % 10),
+            ])
+        } else if number < 100_000 {
+            self.word(&[
+                digit(number / 10_000),
+                digit(number / 1000 % 10),
+                digit(number / 100 % 10),
+                digit(number / 10 % 10),
+                digit(number % 10),
+            ])
+        } else {
+            let mut digits = itoa::Buffer::new();
+            self.word(digits.format(number).as_bytes())
+        }
     }
 }
 

@@ -1,0 +1,209 @@
+-- The numbers of a set, in ascending order.
+use Rattle.std.proofs.Common.{◌≡◌, ℕ, zero, suc, ◌+◌, ◌*◌, ◌-◌, ◌/◌, ◌%◌, ◌<◌, ◌≤◌, ◌==◌, ◌&&◌, Bool, true, false, not, cond, ◌⊎◌, inl, inr, refl, sym, ◌∙◌, ap, subst, arith, List, [], ◌∷◌, filter, slice_index}
+use Rattle.std.specs.Int.{bit_at}
+use Rattle.std.specs.List.{range_with_len}
+use Rattle.std.proofs.lemmas.Bool.{cases_eq, cases_lt, eq-eqb, ne_eqb}
+use Rattle.std.proofs.lemmas.Nat.Bits.{bit_at-zero}
+use Rattle.pim_base.specs.Lists.{numbers}
+use Rattle.pim_chain.specs.Numbers.{bit_of, has, members, NoneBelow}
+
+-- ---- the numbers of a range that pass a test
+pub filter_none : (p : ℕ → Bool) (a n : ℕ) → ((k : ℕ) → a ≤ k → k < a + n → p k ≡ false) → filter p (range_with_len a n) ≡ []
+filter_none p a zero none = refl
+filter_none p a (suc n) none =
+    ap (λ b. cond b (a ∷ filter p (range_with_len (a + 1) n)) (filter p (range_with_len (a + 1) n))) (none a (omega arith) (omega arith))
+    ∙ filter_none p (a + 1) n (λ k low high. none k (omega arith) (omega arith))
+
+pub filter_same :
+    (p q : ℕ → Bool) (a n : ℕ)
+    → ((k : ℕ) → a ≤ k → k < a + n → p k ≡ q k)
+    → filter p (range_with_len a n) ≡ filter q (range_with_len a n)
+filter_same p q a zero same = refl
+filter_same p q a (suc n) same =
+    ap (λ b. cond b (a ∷ filter p (range_with_len (a + 1) n)) (filter p (range_with_len (a + 1) n))) (same a (omega arith) (omega arith))
+    ∙ ap (λ xs. cond (q a) (a ∷ xs) xs) (filter_same p q (a + 1) n (λ k low high. same k (omega arith) (omega arith)))
+
+filter_filter : (p q : ℕ → Bool) (xs : List ℕ) → filter p (filter q xs) ≡ filter (λ k. p k && q k) xs
+filter_filter p q [] = refl
+filter_filter p q (x ∷ xs) = go (q x) (p x) refl (filter_filter p q xs)
+  where
+    go :
+        (b d : Bool)
+        → p x ≡ d
+        → filter p (filter q xs) ≡ filter (λ k. p k && q k) xs
+        → filter p (cond b (x ∷ filter q xs) (filter q xs)) ≡ cond (p x && b) (x ∷ filter (λ k. p k && q k) xs) (filter (λ k. p k && q k) xs)
+    go true d is rest =
+        ap (λ e. cond e (x ∷ filter p (filter q xs)) (filter p (filter q xs))) is
+        ∙ ap (λ ys. cond d (x ∷ ys) ys) rest
+        ∙ both d
+        ∙ sym (ap (λ e. cond (e && true) (x ∷ filter (λ k. p k && q k) xs) (filter (λ k. p k && q k) xs)) is)
+      where
+        both : (d : Bool) → cond d (x ∷ filter (λ k. p k && q k) xs) (filter (λ k. p k && q k) xs) ≡ cond (d && true) (x ∷ filter (λ k. p k && q k) xs) (filter (λ k. p k && q k) xs)
+        both true = refl
+        both false = refl
+    go false true is rest = rest ∙ sym (ap (λ e. cond (e && false) (x ∷ filter (λ k. p k && q k) xs) (filter (λ k. p k && q k) xs)) is)
+    go false false is rest = rest ∙ sym (ap (λ e. cond (e && false) (x ∷ filter (λ k. p k && q k) xs) (filter (λ k. p k && q k) xs)) is)
+
+-- what comes after the last that passes adds nothing
+filter_prefix :
+    (p : ℕ → Bool) (a n m : ℕ)
+    → n ≤ m
+    → ((k : ℕ) → a + n ≤ k → p k ≡ false)
+    → filter p (range_with_len a m) ≡ filter p (range_with_len a n)
+filter_prefix p a zero m le none = filter_none p a m (λ k low _. none k (omega (arith, low)))
+filter_prefix p a (suc n) zero le none = absurd (omega arith)
+filter_prefix p a (suc n) (suc m) le none =
+    ap (λ xs. cond (p a) (a ∷ xs) xs) (filter_prefix p (a + 1) n m (omega arith) (λ k low. none k (omega (arith, low))))
+
+-- the least that passes is the first, and the others are those that pass but for it
+filter_least :
+    (p q : ℕ → Bool) (a n x : ℕ)
+    → a ≤ x
+    → x < a + n
+    → p x ≡ true
+    → ((k : ℕ) → k < x → p k ≡ false)
+    → ((k : ℕ) → q k ≡ (not (k == x) && p k))
+    → filter p (range_with_len a n) ≡ x ∷ filter q (range_with_len a n)
+filter_least p q a zero x low high passes none others = absurd (omega arith)
+filter_least p q a (suc n) x low high passes none others = go (cases_eq a x) (filter_least p q (a + 1) n x)
+  where
+    go :
+        (a ≡ x) ⊎ (a ≡ x → ⊥)
+        → (a + 1 ≤ x
+        → x < a + 1 + n
+        → p x ≡ true
+        → ((k : ℕ) → k < x → p k ≡ false)
+        → ((k : ℕ) → q k ≡ (not (k == x) && p k))
+        → filter p (range_with_len (a + 1) n) ≡ x ∷ filter q (range_with_len (a + 1) n))
+        → filter p (range_with_len a (suc n)) ≡ x ∷ filter q (range_with_len a (suc n))
+    go (inl is) rest =
+        let here : p a ≡ true = subst (λ k. p k ≡ true) (sym is) passes in
+        let gone : q a ≡ false = others a ∙ ap (λ b. not b && p a) (eq-eqb a x is) in
+        ap (λ b. cond b (a ∷ filter p (range_with_len (a + 1) n)) (filter p (range_with_len (a + 1) n))) here
+        ∙ ap (λ k. k ∷ filter p (range_with_len (a + 1) n)) is
+        ∙ ap (λ xs. x ∷ xs)
+        (filter_same p q (a + 1) n
+        (λ k above _. sym (others k ∙ ap (λ b. not b && p k) (ne_eqb k x (λ e. absurd (omega (arith, e, is, above))))))
+        ∙ sym (ap (λ b. cond b (a ∷ filter q (range_with_len (a + 1) n)) (filter q (range_with_len (a + 1) n))) gone))
+    go (inr ne) rest =
+        let away : p a ≡ false = none a (omega (arith, low, ne)) in
+        let gone : q a ≡ false = others a ∙ ap (λ b. not b && p a) (ne_eqb a x ne) ∙ away in
+        ap (λ b. cond b (a ∷ filter p (range_with_len (a + 1) n)) (filter p (range_with_len (a + 1) n))) away
+        ∙ rest (omega (arith, low, ne)) (omega (arith, high)) passes none others
+        ∙ ap (λ xs. x ∷ xs)
+        (sym (ap (λ b. cond b (a ∷ filter q (range_with_len (a + 1) n)) (filter q (range_with_len (a + 1) n))) gone))
+
+-- those of the numbers below m that pass are the known numbers that pass another test, where no other number passes
+filter_known :
+    (p q : ℕ → Bool) (n m : ℕ)
+    → suc n ≤ m
+    → p 0 ≡ false
+    → ((k : ℕ) → 1 ≤ k → k ≤ n → p k ≡ q k)
+    → ((k : ℕ) → n < k → p k ≡ false)
+    → filter p (range_with_len 0 m) ≡ filter q (numbers n)
+filter_known p q n m few nobody same none =
+    filter_prefix p 0 (suc n) m few (λ k low. none k (omega (arith, low)))
+    ∙ ap (λ b. cond b (0 ∷ filter p (range_with_len 1 n)) (filter p (range_with_len 1 n))) nobody
+    ∙ filter_same p q 1 n (λ k low high. same k low (omega (arith, high)))
+
+-- ---- the numbers by their words
+bit_there : (words : List ℕ) (index place : ℕ) → place < 64 → bit_of words (64 * index + place) ≡ bit_at (slice_index words index) place
+bit_there words index place within =
+    let word : (64 * index + place) / 64 ≡ index = omega arith in
+    let rest : (64 * index + place) % 64 ≡ place = omega arith in
+    ap (λ i. bit_at (slice_index words i) ((64 * index + place) % 64)) word ∙ ap (bit_at (slice_index words index)) rest
+
+-- whether a number of the word is in the set
+has_there : (words : List ℕ) (index k : ℕ) → 64 * index ≤ k → k < 64 * index + 64 → has words k ≡ (bit_at (slice_index words index) (k - 64 * index) == 1)
+has_there words index k low high =
+    let is : 64 * index + (k - 64 * index) ≡ k = omega (arith, low) in
+    ap (λ b. b == 1) (ap (bit_of words) (sym is) ∙ bit_there words index (k - 64 * index) (omega (arith, low, high)))
+
+-- no number is in an empty word either
+pub none_in_word :
+    (words : List ℕ) (index next : ℕ)
+    → NoneBelow words index
+    → slice_index words index ≡ 0
+    → next ≡ index + 1
+    → NoneBelow words next
+none_in_word words index next none empty is k high = go (cases_lt k (64 * index))
+  where
+    go : (k < 64 * index) ⊎ (64 * index ≤ k) → has words k ≡ false
+    go (inl before) = none k before
+    go (inr low) =
+        has_there words index k low (omega (arith, high, is))
+        ∙ ap (λ b. b == 1) (ap (λ w. bit_at w (k - 64 * index)) empty ∙ bit_at-zero (k - 64 * index))
+
+pub none_in_all : (words : List ℕ) (index : ℕ) → NoneBelow words index → 5 ≤ index → members words ≡ []
+unfolding members
+none_in_all words index none past = filter_none (has words) 0 320 (λ k _ high. none k (omega (arith, high, past)))
+
+-- the first number of the first word that isn't empty is the least of all
+module _ (words : List ℕ) (index place : ℕ) (none : NoneBelow words index) (within : index < 5) (small : place < 64)
+    (is_set : bit_at (slice_index words index) place ≡ 1)
+    (none_below : (i : ℕ) → i < place → bit_at (slice_index words index) i ≡ 0) where
+  none_before : (k : ℕ) → k < 64 * index + place → has words k ≡ false
+  none_before k less = go (cases_lt k (64 * index))
+    where
+      go : (k < 64 * index) ⊎ (64 * index ≤ k) → has words k ≡ false
+      go (inl before) = none k before
+      go (inr low) =
+          has_there words index k low (omega (arith, less, small))
+          ∙ ap (λ b. b == 1) (none_below (k - 64 * index) (omega (arith, less, low)))
+
+  pub least_first :
+      (x : ℕ) (after : List ℕ)
+      → 64 * index + place ≡ x
+      → ((k : ℕ) → has after k ≡ (not (k == x) && has words k))
+      → members words ≡ x ∷ members after
+  unfolding members
+  least_first x after is removed =
+      filter_least (has words) (has after) 0 320 x (omega arith) (omega (arith, is, small, within))
+      (ap (has words) (sym is) ∙ ap (λ b. b == 1) (bit_there words index place small ∙ is_set))
+      (λ k less. none_before k (omega (arith, is, less))) removed
+
+-- what is none before the least was taken is none still
+pub none_still :
+    (words after : List ℕ) (index x : ℕ)
+    → NoneBelow words index
+    → ((k : ℕ) → has after k ≡ (not (k == x) && has words k))
+    → NoneBelow after index
+none_still words after index x none removed k high = removed k ∙ ap (λ b. not (k == x) && b) (none k high) ∙ never (not (k == x))
+  where
+    never : (b : Bool) → (b && false) ≡ false
+    never true = refl
+    never false = refl
+
+-- ---- which numbers a set has
+pub members_empty : (words : List ℕ) → ((k : ℕ) → has words k ≡ false) → members words ≡ []
+unfolding members
+members_empty words none = filter_none (has words) 0 320 (λ k _ _. none k)
+
+-- no words, no numbers
+pub no_number : (k : ℕ) → has [] k ≡ false
+no_number k = ap (λ b. b == 1) (bit_at-zero (k % 64))
+
+-- the set has the known numbers that pass, and no others
+pub members_known :
+    (words : List ℕ) (q : ℕ → Bool) (n : ℕ)
+    → n < 320
+    → has words 0 ≡ false
+    → ((k : ℕ) → 1 ≤ k → k ≤ n → has words k ≡ q k)
+    → ((k : ℕ) → n < k → has words k ≡ false)
+    → members words ≡ filter q (numbers n)
+unfolding members
+members_known words q n few nobody same none = filter_known (has words) q n 320 (omega (arith, few)) nobody same none
+
+-- of the set's numbers those pass that are known and pass another test
+pub filter_members :
+    (words : List ℕ) (p q : ℕ → Bool) (n : ℕ)
+    → n < 320
+    → p 0 ≡ false
+    → ((k : ℕ) → 1 ≤ k → k ≤ n → (p k && has words k) ≡ q k)
+    → ((k : ℕ) → n < k → p k ≡ false)
+    → filter p (members words) ≡ filter q (numbers n)
+unfolding members
+filter_members words p q n few nobody same none =
+    filter_filter p (has words) (range_with_len 0 320)
+    ∙ filter_known (λ k. p k && has words k) q n 320 (omega (arith, few)) (ap (λ b. b && has words 0) nobody) same
+    (λ k low. ap (λ b. b && has words k) (none k low))

@@ -1,0 +1,130 @@
+-- What the work of walks tells of a change of the stored priorities.
+use Rattle.std.proofs.Common.{◌≡◌, ℕ, ◌+◌, ◌-◌, ◌<◌, ◌≤◌, ◌==◌, ◌&&◌, Bool, true, false, not, ◌⊎◌, inl, inr, refl, sym, ◌∙◌, ap, subst, arith, List, filter, length, Option, Some, None, unwrap_or, if◌then◌else◌}
+use Rattle.std.specs.Option.{option_map_or}
+use Rattle.std.proofs.lemmas.Bool.{cases_eq, eq-eqb}
+use Rattle.pim_base.specs.Lists.{nth}
+use Rattle.pim_base.specs.State.{task_numbers}
+use Rattle.pim_base.proofs.Places.{nth-get_or, nth_within}
+use Rattle.pim_chain.specs.Numbers.{has, members}
+use Rattle.pim_chain.specs.Views.{View, Ready, stored_in, stored_at}
+use Rattle.pim_chain.specs.Work.{Work, noted_of, original, has_changed, differs_in, IsNoted, KeepsTelling, Worked, Tells}
+use Rattle.pim_chain.proofs.Members.{filter_members}
+use Rattle.pim_chain.proofs.Walking.{differing_none, differing_over}
+
+-- ---- where notes are kept
+pub keeps-refl : (n : ℕ) (f : ℕ → ℕ) (a : Work) → KeepsTelling n f a f a
+keeps-refl n f a some = (some, λ t low high. refl)
+
+pub keeps-trans :
+    (n : ℕ) (f g h : ℕ → ℕ) (a b d : Work)
+    → KeepsTelling n f a g b
+    → KeepsTelling n g b h d
+    → KeepsTelling n f a h d
+keeps-trans n f g h a b d one two some =
+    let first = one some in
+    let second = two first.0 in
+    (second.0, λ t low high. second.1 t low high ∙ first.1 t low high)
+
+-- a note of what a task has, which gets another priority then
+pub keeps-noted :
+    (n : ℕ) (f g : ℕ → ℕ) (a b : Work) (x : ℕ)
+    → IsNoted a x (f x) b
+    → ((u : ℕ) → (u ≡ x → ⊥) → g u ≡ f u)
+    → KeepsTelling n f a g b
+keeps-noted n f g a b x noted others some = (noted.keeps some, λ t _ _. go t (cases_eq t x))
+  where
+    go : (t : ℕ) → (t ≡ x) ⊎ (t ≡ x → ⊥) → original g b t ≡ original f a t
+    go t (inl is) =
+        ap (original g b) is
+        ∙ ap (λ o. unwrap_or o (g x)) (noted.first some)
+        ∙ sym (ap (original f a) is)
+    go t (inr ne) = ap (λ o. unwrap_or o (g t)) (noted.others t ne) ∙ ap (unwrap_or (noted_of a t)) (others t ne)
+
+-- ---- one visit, which counts
+-- which leaves the priorities
+pub worked-same : (n : ℕ) (f : ℕ → ℕ) (a b : Work) → b ≡ record a { count = a.count + 1 } → Worked n f a f b
+worked-same n f a b is =
+    subst (Worked n f a f) (sym is) (record { counted = refl; noted = λ some. (some, λ t low high. refl) })
+
+-- which changes the priority of x, and notes that
+pub worked-noted :
+    (n : ℕ) (f g : ℕ → ℕ) (a b d : Work) (x had : ℕ)
+    → b ≡ record a { count = a.count + 1 }
+    → had ≡ f x
+    → IsNoted b x had d
+    → ((u : ℕ) → (u ≡ x → ⊥) → g u ≡ f u)
+    → Worked n f a g d
+worked-noted n f g a b d x had is same noted others =
+    let here : IsNoted (record a { count = a.count + 1 }) x (f x) d =
+    subst (λ w. IsNoted w x (f x) d) is (subst (λ p. IsNoted b x p d) same noted) in
+    record { counted = here.count; noted = keeps-noted n f g (record a { count = a.count + 1 }) d x here others }
+
+-- ---- the work of several walks
+pub tells-same : (n : ℕ) (f g : ℕ → ℕ) (a : Work) → ((t : ℕ) → 1 ≤ t → t ≤ n → g t ≡ f t) → Tells n f a g a
+tells-same n f g a same = record {
+  counted = (let none = differing_none n f g same in omega (arith, none));
+  noted = λ some. (some, λ t low high. ap (unwrap_or (noted_of a t)) (same t low high));
+}
+
+pub tells-refl : (n : ℕ) (f : ℕ → ℕ) (a : Work) → Tells n f a f a
+tells-refl n f a = tells-same n f f a (λ t low high. refl)
+
+pub tells-trans : (n : ℕ) (f g h : ℕ → ℕ) (a b d : Work) → Tells n f a g b → Tells n g b h d → Tells n f a h d
+tells-trans n f g h a b d one two = record {
+  counted =
+      (let first = one.counted in
+      let second = two.counted in
+      let over = differing_over n f g h in
+      omega (arith, first, second, over));
+  noted = keeps-trans n f g h a b d one.noted two.noted;
+}
+
+-- ---- which tasks changed
+-- among the noted tasks those differ that changed
+pub changed_noted :
+    (v u : View) (w : Work) (had words : List ℕ)
+    → v ≡ u
+    → Ready v
+    → ((t : ℕ) → noted_of w t ≡ (if has words t then Some (stored_in had t) else None))
+    → filter (differs_in had v.stored) (members words) ≡ filter (has_changed (stored_at u) w) (task_numbers u.state)
+changed_noted v u w had words same ready noted =
+    filter_members words (differs_in had v.stored) (has_changed (stored_at v) w) (length v.state.base)
+    (let few = ready.few_tasks in omega (arith, few)) refl each past
+    ∙ ap (λ (x : View). filter (has_changed (stored_at x) w) (task_numbers x.state)) same
+  where
+    past : (t : ℕ) → length v.state.base < t → differs_in had v.stored t ≡ false
+    past t high = go (nth v.stored t) refl
+      where
+        go : (o : Option ℕ) → nth v.stored t ≡ o → option_map_or (λ p. not (stored_in had t == p)) o false ≡ false
+        go None _ = refl
+        go (Some p) is = let within = (nth_within v.stored t p is).1 in let len = ready.stored_len in absurd (omega (arith, high, within, len))
+
+    each : (t : ℕ) → 1 ≤ t → t ≤ length v.state.base → (differs_in had v.stored t && has words t) ≡ has_changed (stored_at v) w t
+    each t low high = go (has words t) refl
+      where
+        known : nth v.stored t ≡ Some (stored_at v t)
+        known =
+            nth-get_or v.stored t (t - 1) 0 (omega (arith, low)) (let len = ready.stored_len in omega (arith, low, high, len))
+            ∙ sym (ap (λ o. Some (unwrap_or o 0))
+            (nth-get_or v.stored t (t - 1) 0 (omega (arith, low)) (let len = ready.stored_len in omega (arith, low, high, len))))
+
+        differs : differs_in had v.stored t ≡ not (stored_in had t == stored_at v t)
+        differs = ap (λ o. option_map_or (λ p. not (stored_in had t == p)) o false) known
+
+        go : (b : Bool) → has words t ≡ b → (differs_in had v.stored t && b) ≡ has_changed (stored_at v) w t
+        go true is =
+            both (differs_in had v.stored t)
+            ∙ differs
+            ∙ sym (ap (λ o. not (unwrap_or o (stored_at v t) == stored_at v t)) (noted t ∙ ap (λ b. if b then Some (stored_in had t) else None) is))
+          where
+            both : (b : Bool) → (b && true) ≡ b
+            both true = refl
+            both false = refl
+        go false is =
+            neither (differs_in had v.stored t)
+            ∙ sym (ap (λ o. not (unwrap_or o (stored_at v t) == stored_at v t)) (noted t ∙ ap (λ b. if b then Some (stored_in had t) else None) is)
+            ∙ ap not (eq-eqb (stored_at v t) (stored_at v t) refl))
+          where
+            neither : (b : Bool) → (b && false) ≡ false
+            neither true = refl
+            neither false = refl

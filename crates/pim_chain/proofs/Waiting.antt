@@ -1,0 +1,276 @@
+-- The queues: who stands first, and what a change of one task leaves of them.
+use Rattle.std.proofs.Common.{◌≡◌, ℕ, eqb, suc, ◌<◌, ◌≤◌, max, true, false, ◌⊎◌, inl, inr, refl, sym, ◌∙◌, ap, subst, arith, le_trans, le_antisymm, Option, Some, None, List, [], ◌∷◌, length, map, unwrap_or}
+use Rattle.std.specs.List.{list_any, AllByRecursion, IsDistinct}
+use Rattle.std.specs.Option.{option_map_or}
+use Rattle.std.proofs.lemmas.Bool.{both_ways, cases_eq, eqb-true, eq-eqb, ne_eqb, cond_both, or_cases}
+use Rattle.std.proofs.lemmas.Option.{same_Some}
+use Rattle.std.proofs.lemmas.Map.Steps.{length-le_from_distinct_below}
+use Rattle.std.proofs.Math.Nat.{le-max_left, le-max_right, max-le}
+use Rattle.pim_base.specs.Lists.{nth, holds, insert_by}
+use Rattle.pim_base.specs.State.{State, IsState, IsTask, wait_of}
+use Rattle.pim_base.specs.Chains.{heir_of}
+use Rattle.pim_base.specs.Priorities.{own_priority, local_priority}
+use Rattle.pim_base.specs.Queues.{precedes}
+use Rattle.pim_base.specs.declared.steps.Wait.{Wait}
+use Rattle.pim_base.specs.declared.steps.Waiter.{Waiter}
+use Rattle.pim_base.proofs.Greatest.{greatest_of, greatest_of-le, le-greatest_of}
+use Rattle.pim_base.proofs.Places.{nth_within}
+use Rattle.pim_base.proofs.Stored.{own_priority-le-local_priority, stored-le-local_priority, local_priority-le, holds_from, from_holds}
+use Rattle.pim_queue.specs.Waiters.{is_of, without, IsOrdered}
+use Rattle.pim_queue.proofs.Order.{found, all_both, all_each, before_prio, told_before, Before, all_without, ordered_without, any_without, all_place, ordered_place, any_place_new, any_place}
+use Rattle.pim_chain.specs.Views.{first_prio, waits_for, Shows, IsQueue, WaitsFit}
+use Rattle.pim_chain.proofs.Local.{top, through, heir_at, waits_for_from}
+
+pub waiting_known : (S : State) → IsState S → (t : ℕ) (w : Wait) → wait_of S t ≡ Some w → IsTask S t
+waiting_known S lists t w e = go (nth S.wait t) refl e
+  where
+    go : (o : Option (Option Wait)) → nth S.wait t ≡ o → unwrap_or o None ≡ Some w → IsTask S t
+    go None at h = cc
+    go (Some x) at h = let within = nth_within S.wait t x at in (within.0, subst (λ n. t ≤ n) lists.waits within.1)
+
+-- ---- the greatest at a mutex stands first
+shown_le :
+    (wait : ℕ → Option Wait) (stored : ℕ → ℕ) (m u b : ℕ) (ws : List Waiter)
+    → list_any (is_of u) ws ≡ true
+    → AllByRecursion (Shows wait stored m) ws
+    → AllByRecursion (λ v. v.prio ≤ b) ws
+    → stored u ≤ b
+shown_le wait stored m u b ws h shows under =
+    let it =
+    found (is_of u) (λ v. (v.prio ≡ stored v.task) × (v.prio ≤ b)) ws h
+    (all_both (Shows wait stored m) (λ v. v.prio ≤ b) (λ v. (v.prio ≡ stored v.task) × (v.prio ≤ b))
+    (λ v k l. (k.prio, l)) ws shows under) in
+    subst (λ p. p ≤ b) (it.holds.0 ∙ ap stored (eqb-true it.one.task u it.passes)) it.holds.1
+
+pub top_front :
+    (S : State) (stored : ℕ → ℕ) (m : ℕ) (ws : List Waiter)
+    → IsState S
+    → IsQueue (wait_of S) stored m ws
+    → top S stored m ≡ first_prio ws
+top_front S stored m [] lists q =
+    le_antisymm
+    (greatest_of-le stored (waits_for (wait_of S) m) (length S.base) 0 (λ u _ _ h. absurd (both_ways false refl (q.complete u h))))
+    (omega arith)
+top_front S stored m (w ∷ ws) lists q =
+    let known : IsTask S w.task = waiting_known S lists w.task _ q.sound.0.waits in
+    le_antisymm
+    (greatest_of-le stored (waits_for (wait_of S) m) (length S.base) w.prio
+    (λ u _ _ h. shown_le (wait_of S) stored m u w.prio (w ∷ ws) (q.complete u h) q.sound
+    (omega arith, all_each _ _ (λ v k. before_prio w v k) ws q.ordered.0)))
+    (subst (λ p. p ≤ top S stored m) (sym q.sound.0.prio)
+    (le-greatest_of stored (waits_for (wait_of S) m) (length S.base) w.task known.0 known.1
+    (waits_for_from (wait_of S) w.task _ q.sound.0.waits)))
+
+-- ---- the local priority, mutex by mutex
+pub local_by_mutexes :
+    (S : State) (stored : ℕ → ℕ) (t : ℕ)
+    → WaitsFit S
+    → local_priority S stored t ≡ max (own_priority S t) (greatest_of (top S stored) (λ m. holds (heir_of S m) t) (length S.protocol))
+local_by_mutexes S stored t fit =
+    le_antisymm
+    (local_priority-le S stored t _ (le-max_left _ _) (λ u task e.
+    let by = through S u t e in
+    let known = fit.mutexes u by.wait by.waits in
+    le_trans (le-greatest_of stored (waits_for (wait_of S) by.wait.mutex) (length S.base) u task.0 task.1
+    (waits_for_from (wait_of S) u by.wait by.waits))
+    (le_trans
+    (le-greatest_of (top S stored) (λ m. holds (heir_of S m) t) (length S.protocol) by.wait.mutex known.0 known.1
+    (holds_from (heir_of S by.wait.mutex) t by.heir))
+    (le-max_right _ _))))
+    (max-le
+    (own_priority-le-local_priority S stored t)
+    (greatest_of-le (top S stored) (λ m. holds (heir_of S m) t) (length S.protocol) (local_priority S stored t) (λ m _ _ p.
+    greatest_of-le stored (waits_for (wait_of S) m) (length S.base) (local_priority S stored t) (λ u low high h.
+    stored-le-local_priority S stored u t (low, high) (heir_at S m u h ∙ from_holds (heir_of S m) t p)))))
+
+-- ---- the queues after one task has another wait or another priority
+-- a queue that the task stands in neither before nor after
+pub queue_kept :
+    (wait wait' : ℕ → Option Wait) (old new : ℕ → ℕ) (x m : ℕ) (ws : List Waiter)
+    → ((u : ℕ) → (u ≡ x → ⊥) → wait' u ≡ wait u)
+    → ((u : ℕ) → (u ≡ x → ⊥) → new u ≡ old u)
+    → (waits_for wait m x ≡ true → ⊥)
+    → (waits_for wait' m x ≡ true → ⊥)
+    → IsQueue wait old m ws
+    → IsQueue wait' new m ws
+queue_kept wait wait' old new x m ws waits others away away' q = record {
+  ordered = q.ordered;
+  sound = all_each (Shows wait old m) (Shows wait' new m) (λ v k.
+      let ne : v.task ≡ x → ⊥ = λ e. away (subst (λ u. waits_for wait m u ≡ true) e (waits_for_from wait v.task _ k.waits)) in
+      record { waits = waits v.task ne ∙ k.waits; prio = k.prio ∙ sym (others v.task ne) }) ws q.sound;
+  complete = λ t h. q.complete t (go t h (cases_eq t x));
+}
+  where
+    go : (t : ℕ) → waits_for wait' m t ≡ true → (t ≡ x) ⊎ (t ≡ x → ⊥) → waits_for wait m t ≡ true
+    go t h (inl is) = absurd (away' (subst (λ u. waits_for wait' m u ≡ true) is h))
+    go t h (inr ne) = ap (λ o. option_map_or (λ (w : Wait). eqb w.mutex m) o false) (sym (waits t ne)) ∙ h
+
+-- a queue without a task: two of one task would be before each other
+not_before_itself : (a b : Waiter) → precedes a b ≡ true → a.prio ≡ b.prio → a.ticket ≡ b.ticket → ⊥
+not_before_itself a b h e f = go (told_before a b h)
+  where
+    go : Before a b → ⊥
+    go (inl l) = omega arith
+    go (inr k) = let lt : a.ticket < b.ticket = k.1 in omega arith
+
+-- those behind are of other tasks
+pub others_behind :
+    (wait : ℕ → Option Wait) (stored : ℕ → ℕ) (m : ℕ) (v : Waiter) (vs : List Waiter)
+    → AllByRecursion (λ u. precedes v u ≡ true) vs
+    → Shows wait stored m v
+    → AllByRecursion (Shows wait stored m) vs
+    → AllByRecursion (λ u. v.task ≡ u.task → ⊥) vs
+others_behind wait stored m v vs behind shown shows =
+    all_both (λ u. precedes v u ≡ true) (Shows wait stored m) (λ u. v.task ≡ u.task → ⊥) (λ u later k same.
+    not_before_itself v u later
+    (shown.prio ∙ ap stored same ∙ sym k.prio)
+    (ap (λ (w : Wait). w.ticket) (same_Some _ _ (sym shown.waits ∙ ap wait same ∙ k.waits)))) vs behind shows
+
+pub gone :
+    (wait : ℕ → Option Wait) (stored : ℕ → ℕ) (m x : ℕ) (ws : List Waiter)
+    → IsOrdered ws
+    → AllByRecursion (Shows wait stored m) ws
+    → AllByRecursion (λ v. v.task ≡ x → ⊥) (without x ws)
+gone wait stored m x [] ordered shows = tt
+gone wait stored m x (v ∷ vs) ordered shows =
+    cond_both (is_of x v) vs (v ∷ without x vs) (AllByRecursion (λ u. u.task ≡ x → ⊥))
+    (λ here. all_each (λ u. v.task ≡ u.task → ⊥) (λ u. u.task ≡ x → ⊥) (λ u ne is_x. ne (eqb-true v.task x here ∙ sym is_x)) vs
+    (others_behind wait stored m v vs ordered.0 shows.0 shows.1))
+    (λ away. ((λ is_x. both_ways _ away (eq-eqb v.task x is_x)), gone wait stored m x vs ordered.1 shows.1))
+
+-- a queue that the task leaves
+pub queue_left :
+    (wait wait' : ℕ → Option Wait) (old new : ℕ → ℕ) (x m : ℕ) (ws : List Waiter)
+    → ((u : ℕ) → (u ≡ x → ⊥) → wait' u ≡ wait u)
+    → ((u : ℕ) → (u ≡ x → ⊥) → new u ≡ old u)
+    → (waits_for wait' m x ≡ true → ⊥)
+    → IsQueue wait old m ws
+    → IsQueue wait' new m (without x ws)
+queue_left wait wait' old new x m ws waits others away' q = record {
+  ordered = ordered_without x ws q.ordered;
+  sound =
+      all_both (Shows wait old m) (λ v. v.task ≡ x → ⊥) (Shows wait' new m)
+      (λ v k ne. record { waits = waits v.task ne ∙ k.waits; prio = k.prio ∙ sym (others v.task ne) }) (without x ws)
+      (all_without (Shows wait old m) x ws q.sound) (gone wait old m x ws q.ordered q.sound);
+  complete = λ t h. go t h (cases_eq t x);
+}
+  where
+    go : (t : ℕ) → waits_for wait' m t ≡ true → (t ≡ x) ⊎ (t ≡ x → ⊥) → list_any (is_of t) (without x ws) ≡ true
+    go t h (inl is) = absurd (away' (subst (λ u. waits_for wait' m u ≡ true) is h))
+    go t h (inr ne) =
+        any_without x t ws ne (q.complete t (ap (λ o. option_map_or (λ (w : Wait). eqb w.mutex m) o false) (sym (waits t ne)) ∙ h))
+
+-- a queue that the task joins
+pub queue_joined :
+    (wait wait' : ℕ → Option Wait) (old new : ℕ → ℕ) (x : ℕ) (w : Wait) (ws : List Waiter)
+    → ((u : ℕ) → (u ≡ x → ⊥) → wait' u ≡ wait u)
+    → ((u : ℕ) → (u ≡ x → ⊥) → new u ≡ old u)
+    → (waits_for wait w.mutex x ≡ true → ⊥)
+    → wait' x ≡ Some w
+    → ((u : ℕ) → (u ≡ x → ⊥) → wait u ≡ Some w → ⊥)
+    → IsQueue wait old w.mutex ws
+    → IsQueue wait' new w.mutex (insert_by precedes ws (record { task = x; prio = new x; ticket = w.ticket }))
+queue_joined wait wait' old new x w ws waits others away now fresh q = record {
+  ordered = ordered_place joined ws q.ordered (all_each (Shows wait old w.mutex) (λ v. v.ticket ≡ w.ticket → ⊥) (λ v k same.
+      fresh v.task (other v k) (k.waits ∙ ap (λ n. Some (record { mutex = w.mutex; ticket = n })) same)) ws q.sound);
+  sound = all_place (Shows wait' new w.mutex) joined ws (record { waits = now; prio = refl })
+      (all_each (Shows wait old w.mutex) (Shows wait' new w.mutex)
+      (λ v k. record { waits = waits v.task (other v k) ∙ k.waits; prio = k.prio ∙ sym (others v.task (other v k)) }) ws q.sound);
+  complete = λ t h. go t h (cases_eq t x);
+}
+  where
+    joined : Waiter
+    joined = record { task = x; prio = new x; ticket = w.ticket }
+
+    other : (v : Waiter) → Shows wait old w.mutex v → v.task ≡ x → ⊥
+    other v k e = away (subst (λ u. waits_for wait w.mutex u ≡ true) e (waits_for_from wait v.task _ k.waits))
+
+    go : (t : ℕ) → waits_for wait' w.mutex t ≡ true → (t ≡ x) ⊎ (t ≡ x → ⊥) → list_any (is_of t) (insert_by precedes ws joined) ≡ true
+    go t h (inl is) = any_place_new (is_of t) joined ws (eq-eqb x t (sym is))
+    go t h (inr ne) =
+        any_place (is_of t) joined ws
+        (q.complete t (ap (λ o. option_map_or (λ (w' : Wait). eqb w'.mutex w.mutex) o false) (sym (waits t ne)) ∙ h))
+
+-- ---- there is room for one who isn't in it
+distinct_tasks :
+    (wait : ℕ → Option Wait) (stored : ℕ → ℕ) (m : ℕ) (ws : List Waiter)
+    → IsOrdered ws
+    → AllByRecursion (Shows wait stored m) ws
+    → IsDistinct eqb (map (λ (w : Waiter). w.task) ws)
+unfolding IsDistinct
+distinct_tasks wait stored m [] ordered shows = tt
+distinct_tasks wait stored m (v ∷ vs) ordered shows =
+    (apart vs (others_behind wait stored m v vs ordered.0 shows.0 shows.1), distinct_tasks wait stored m vs ordered.1 shows.1)
+  where
+    apart :
+        (us : List Waiter)
+        → AllByRecursion (λ u. v.task ≡ u.task → ⊥) us
+        → AllByRecursion (λ y. eqb v.task y ≡ false) (map (λ (w : Waiter). w.task) us)
+    apart [] h = tt
+    apart (u ∷ us) h = (ne_eqb v.task u.task h.0, apart us h.1)
+
+length-tasks : (ws : List Waiter) → length (map (λ (w : Waiter). w.task) ws) ≡ length ws
+length-tasks [] = refl
+length-tasks (w ∷ ws) = ap suc (length-tasks ws)
+
+among :
+    (S : State) (stored : ℕ → ℕ) (m : ℕ)
+    → IsState S
+    → (us : List Waiter)
+    → AllByRecursion (Shows (wait_of S) stored m) us
+    → (k : ℕ)
+    → list_any (λ y. eqb k y) (map (λ (w : Waiter). w.task) us) ≡ true
+    → k < suc (length S.base)
+among S stored m lists [] shows k h = absurd (both_ways false refl h)
+among S stored m lists (u ∷ us) shows k h = go (among S stored m lists us shows.1 k) (or_cases _ _ h)
+  where
+    go :
+        (list_any (λ y. eqb k y) (map (λ (w : Waiter). w.task) us) ≡ true → k < suc (length S.base))
+        → (eqb k u.task ≡ true) ⊎ (list_any (λ y. eqb k y) (map (λ (w : Waiter). w.task) us) ≡ true)
+        → k < suc (length S.base)
+    go rest (inl e) = let task = waiting_known S lists u.task _ shows.0.waits in let is : k ≡ u.task = eqb-true k u.task e in omega (arith, is, task.1)
+    go rest (inr r) = rest r
+
+pub room_for :
+    (S : State) (stored : ℕ → ℕ) (m x : ℕ) (ws : List Waiter)
+    → IsState S
+    → IsTask S x
+    → (waits_for (wait_of S) m x ≡ true → ⊥)
+    → IsQueue (wait_of S) stored m ws
+    → length ws < length S.base
+unfolding IsDistinct
+room_for S stored m x ws lists known away q =
+    let all : length (0 ∷ x ∷ map (λ (w : Waiter). w.task) ws) ≤ suc (length S.base) =
+    length-le_from_distinct_below (0 ∷ x ∷ map (λ (w : Waiter). w.task) ws) (suc (length S.base)) (
+      (
+        ne_eqb 0 x (λ e. absurd (omega (arith, e, known.0))),
+        apart 0 ws
+            (all_each (Shows (wait_of S) stored m) (λ u. 0 ≡ u.task → ⊥)
+            (λ u k e. let task = waiting_known S lists u.task _ k.waits in absurd (omega (arith, e, task.0))) ws q.sound),
+      ),
+      (
+        apart x ws (all_each (Shows (wait_of S) stored m) (λ u. x ≡ u.task → ⊥)
+            (λ u k e. away (subst (λ t. waits_for (wait_of S) m t ≡ true) (sym e) (waits_for_from (wait_of S) u.task _ k.waits))) ws q.sound),
+        distinct_tasks (wait_of S) stored m ws q.ordered q.sound,
+      ),
+    )
+    below in
+    omega (arith, all, length-tasks ws)
+  where
+    apart :
+        (y : ℕ) (us : List Waiter)
+        → AllByRecursion (λ u. y ≡ u.task → ⊥) us
+        → AllByRecursion (λ z. eqb y z ≡ false) (map (λ (w : Waiter). w.task) us)
+    apart y [] h = tt
+    apart y (u ∷ us) h = (ne_eqb y u.task h.0, apart y us h.1)
+
+    below : (k : ℕ) → list_any (λ y. eqb k y) (0 ∷ x ∷ map (λ (w : Waiter). w.task) ws) ≡ true → k < suc (length S.base)
+    below k h = go (or_cases _ _ h)
+      where
+        last : (eqb k x ≡ true) ⊎ (list_any (λ y. eqb k y) (map (λ (w : Waiter). w.task) ws) ≡ true) → k < suc (length S.base)
+        last (inl e) = let is : k ≡ x = eqb-true k x e in omega (arith, is, known.1)
+        last (inr r) = among S stored m lists ws q.sound k r
+
+        go : (eqb k 0 ≡ true) ⊎ (list_any (λ y. eqb k y) (x ∷ map (λ (w : Waiter). w.task) ws) ≡ true) → k < suc (length S.base)
+        go (inl e) = let is : k ≡ 0 = eqb-true k 0 e in omega (arith, is)
+        go (inr r) = last (or_cases _ _ r)

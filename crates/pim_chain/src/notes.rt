@@ -1,0 +1,77 @@
+//! Notes of what tasks had.
+
+ghost use Rattle.std.specs.Prelude.{◌≡◌, ◌≢◌, ◌≤◌, ℕ, Some, None, IfOk, unwrap_or};
+ghost use Rattle.pim_base.specs.declared.limits.TheConstants.{MAX_TASKS};
+ghost use Rattle.pim_chain.specs.Work.{noted_in};
+
+use crate::number_set::NumberSet;
+use crate::numbered::{filled, put};
+use pim_base::{MAX_TASKS, Prio, TaskNo};
+use std::alloc::{AllocError, Global};
+use std::marker::Model;
+
+/// Which tasks are noted, and the priority that each of them had.
+#[derive(Drop)]
+pub struct Notes {
+    tasks: NumberSet,
+    // the level of each noted task; any number at the others
+    had: Vec<u16>,
+}
+
+impl Model for Notes {
+    ghost use Rattle.std.specs.Prelude.{◌≡◌, length};
+    ghost use Rattle.pim_base.specs.declared.limits.TheConstants.{MAX_TASKS};
+    ghost use Rattle.pim_chain.specs.Work.{Noted};
+
+    ghost Value = { Noted };
+
+    ghost view = { λ n. record { tasks = n.tasks.words; had = n.had.items } };
+
+    ghost invariant = { λ n. length n.had.items ≡ MAX_TASKS };
+}
+
+impl Notes {
+    /// Makes room for a note of each task. None is noted yet.
+    pub fn new(alloc: Global) -> Result<Notes, AllocError>
+        ensures { IfOk result (λ notes. (t : ℕ) → noted_in notes t ≡ None) }
+    {
+        Ok(Notes {
+            tasks: NumberSet::new(),
+            had: filled(alloc, MAX_TASKS, 0)?,
+        })
+    }
+
+    /// Forgets all notes, at the cost of a few words.
+    pub fn clear(&mut self)
+        ensures { (t : ℕ) → noted_in self.new t ≡ None }
+    {
+        self.tasks = NumberSet::new();
+    }
+
+    /// Notes that the task had this priority, unless it is noted already.
+    pub fn note(&mut self, task: TaskNo, had: Prio)
+        requires least { 1 ≤ task }
+        requires most { task ≤ MAX_TASKS }
+        ensures first { noted_in self.new task ≡ Some (unwrap_or (noted_in self.old task) had) }
+        ensures others { (u : ℕ) → u ≢ task → noted_in self.new u ≡ noted_in self.old u }
+    {
+        if !self.tasks.contains(task.get()) {
+            self.tasks.insert(task.get());
+            put(&mut self.had, task.get(), had.get());
+        }
+    }
+
+    /// Returns the noted tasks.
+    pub fn tasks(&self) -> NumberSet
+        ensures { result.words ≡ self.now.tasks }
+    {
+        self.tasks
+    }
+
+    /// Returns the level that each noted task had, in the order of the tasks.
+    pub fn had(&self) -> &[u16]
+        ensures { result.now ≡ self.now.had }
+    {
+        &self.had
+    }
+}

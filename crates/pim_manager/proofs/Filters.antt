@@ -1,0 +1,130 @@
+-- The numbers of a range that pass a test.
+use Rattle.std.proofs.Common.{◌≡◌, ◌≢◌, ◌<◌, ◌≤◌, ℕ, zero, suc, ◌+◌, Bool, true, false, cond, ◌⊎◌, inl, inr, List, [], ◌∷◌, ◌++◌, filter, length, length-append, add-one, refl, sym, ◌∙◌, ap, subst, arith}
+use Rattle.std.proofs.lemmas.Bool.{cases_eq}
+use Rattle.std.specs.List.{range_with_len}
+use Rattle.pim_base.specs.Lists.{numbers}
+use Rattle.pim_base.specs.Counts.{count}
+use Rattle.pim_base.proofs.Greatest.{filter_numbers-more}
+
+-- tests that agree pass the same numbers
+pub filter-same :
+    (p q : ℕ → Bool) (a n : ℕ)
+    → ((k : ℕ) → a ≤ k → k < a + n → p k ≡ q k)
+    → filter p (range_with_len a n) ≡ filter q (range_with_len a n)
+filter-same p q a zero same = refl
+filter-same p q a (suc n) same =
+    ap (λ xs. cond (p a) (a ∷ xs) xs) (filter-same p q (a + 1) n (λ k low high. same k (omega (arith, low)) (omega (arith, high))))
+    ∙ ap (λ b. cond b (a ∷ filter q (range_with_len (a + 1) n)) (filter q (range_with_len (a + 1) n))) (same a (omega arith) (omega arith))
+
+-- no more pass than there are
+pub few_pass : (p : ℕ → Bool) (a n : ℕ) → length (filter p (range_with_len a n)) ≤ n
+few_pass p a zero = omega arith
+few_pass p a (suc n) = go (p a) (few_pass p (a + 1) n)
+  where
+    go : (b : Bool) → length (filter p (range_with_len (a + 1) n)) ≤ n → length (cond b (a ∷ filter p (range_with_len (a + 1) n)) (filter p (range_with_len (a + 1) n))) ≤ suc n
+    go true le = omega (arith, le)
+    go false le = omega (arith, le)
+
+-- the first number that passes
+pub record IsFirst (p : ℕ → Bool) (a n m : ℕ) : Type 0 where
+  pub low : a ≤ m
+  pub high : m < a + n
+  pub passes : p m ≡ true
+
+pub first_passes : (p : ℕ → Bool) (a n m : ℕ) (xs : List ℕ) → filter p (range_with_len a n) ≡ m ∷ xs → IsFirst p a n m
+first_passes p a zero m xs h = cc
+first_passes p a (suc n) m xs h = go (p a) refl h (first_passes p (a + 1) n m xs)
+  where
+    go :
+        (b : Bool)
+        → p a ≡ b
+        → cond b (a ∷ filter p (range_with_len (a + 1) n)) (filter p (range_with_len (a + 1) n)) ≡ m ∷ xs
+        → (filter p (range_with_len (a + 1) n) ≡ m ∷ xs → IsFirst p (a + 1) n m)
+        → IsFirst p a (suc n) m
+    go true e h later =
+        let is : a ≡ m = cc in
+        record { low = omega (arith, is); high = omega (arith, is); passes = subst (λ k. p k ≡ true) is e }
+    go false e h later =
+        let rest = later h in
+        let low = rest.low in
+        let high = rest.high in
+        record { low = omega (arith, low); high = omega (arith, high); passes = rest.passes }
+
+-- where the first number alone passes no more, the others are left
+pub filter-rest :
+    (p q : ℕ → Bool) (a n m : ℕ) (xs : List ℕ)
+    → filter p (range_with_len a n) ≡ m ∷ xs
+    → q m ≡ false
+    → ((k : ℕ) → m ≢ k → q k ≡ p k)
+    → filter q (range_with_len a n) ≡ xs
+filter-rest p q a zero m xs h gone same = cc
+filter-rest p q a (suc n) m xs h gone same = go (p a) refl h (λ k. filter-rest p q (a + 1) n m xs k gone same)
+  where
+    go :
+        (b : Bool)
+        → p a ≡ b
+        → cond b (a ∷ filter p (range_with_len (a + 1) n)) (filter p (range_with_len (a + 1) n)) ≡ m ∷ xs
+        → (filter p (range_with_len (a + 1) n) ≡ m ∷ xs → filter q (range_with_len (a + 1) n) ≡ xs)
+        → cond (q a) (a ∷ filter q (range_with_len (a + 1) n)) (filter q (range_with_len (a + 1) n)) ≡ xs
+    go true e h later =
+        let is : a ≡ m = cc in
+        let rest : filter p (range_with_len (a + 1) n) ≡ xs = cc in
+        ap (λ b. cond b (a ∷ filter q (range_with_len (a + 1) n)) (filter q (range_with_len (a + 1) n))) (ap q is ∙ gone)
+        ∙ filter-same q p (a + 1) n (λ k low high. same k (λ k_is. absurd (omega (arith, low, is, k_is)))) ∙ rest
+    go false e h later =
+        ap (λ b. cond b (a ∷ filter q (range_with_len (a + 1) n)) (filter q (range_with_len (a + 1) n))) (at (cases_eq m a))
+        ∙ later h
+      where
+        at : (m ≡ a) ⊎ (m ≡ a → ⊥) → q a ≡ false
+        at (inl is) = ap q (sym is) ∙ gone
+        at (inr ne) = same a ne ∙ e
+
+-- where nothing is left, every number fails
+pub filter-none : (p : ℕ → Bool) (a n k : ℕ) → filter p (range_with_len a n) ≡ [] → a ≤ k → k < a + n → p k ≡ false
+filter-none p a zero k h low high = absurd (omega (arith, low, high))
+filter-none p a (suc n) k h low high = go (p a) refl h (filter-none p (a + 1) n k) (cases_eq a k)
+  where
+    go :
+        (b : Bool)
+        → p a ≡ b
+        → cond b (a ∷ filter p (range_with_len (a + 1) n)) (filter p (range_with_len (a + 1) n)) ≡ []
+        → (filter p (range_with_len (a + 1) n) ≡ [] → a + 1 ≤ k → k < (a + 1) + n → p k ≡ false)
+        → (a ≡ k) ⊎ (a ≡ k → ⊥)
+        → p k ≡ false
+    go true e h later c = cc
+    go false e h later (inl is) = ap p (sym is) ∙ e
+    go false e h later (inr ne) = later h (omega (arith, low, ne)) (omega (arith, high))
+
+-- where the one test holds the other does too, as many pass at least
+pub length-le-count :
+    (p q : ℕ → Bool) (n : ℕ)
+    → ((k : ℕ) → 1 ≤ k → k ≤ n → p k ≡ true → q k ≡ true)
+    → length (filter p (numbers n)) ≤ count n q
+unfolding count
+length-le-count p q zero over = omega arith
+length-le-count p q (suc n) over =
+    go (p (suc n)) refl (length-le-count p q n (λ k low high. over k low (omega (arith, high))))
+  where
+    is : filter p (numbers (suc n)) ≡ filter p (numbers n) ++ cond (p (suc n)) (suc n ∷ []) []
+    is = subst (λ m. filter p (numbers m) ≡ filter p (numbers n) ++ cond (p m) (m ∷ []) []) (add-one n) (filter_numbers-more p n)
+
+    go :
+        (b : Bool)
+        → p (suc n) ≡ b
+        → length (filter p (numbers n)) ≤ count n q
+        → length (filter p (numbers (suc n))) ≤ count n q + cond {A = ℕ} (q (suc n)) 1 0
+    go b e le =
+        let more : length (filter p (numbers (suc n))) ≡ length (filter p (numbers n)) + length (cond b (suc n ∷ []) []) =
+        ap length is ∙ length-append (filter p (numbers n)) (cond (p (suc n)) (suc n ∷ []) []) ∙ ap
+        (λ c. length (filter p (numbers n)) + length (cond c (suc n ∷ []) [])) e in
+        at b e more
+      where
+        at :
+            (b : Bool)
+            → p (suc n) ≡ b
+            → length (filter p (numbers (suc n))) ≡ length (filter p (numbers n)) + length (cond b (suc n ∷ []) [])
+            → length (filter p (numbers (suc n))) ≤ count n q + cond {A = ℕ} (q (suc n)) 1 0
+        at true e more =
+            let one : cond {A = ℕ} (q (suc n)) 1 0 ≡ 1 = ap {B = ℕ} (λ (c : Bool). cond {A = ℕ} c 1 0) (over (suc n) (omega arith) (omega arith) e) in
+            omega (arith, one, more, le)
+        at false e more = omega (arith, more, le)

@@ -1,0 +1,212 @@
+-- A task that ends its wait, and a mutex that goes from its owner to the first waiter.
+use Rattle.std.proofs.Common.{◌≡◌, ℕ, zero, suc, inl, inr, refl, sym, ◌∙◌, ap, subst, Option, Some, None, is_some, List, [], ◌∷◌, length, option_and_then, set}
+use Rattle.std.proofs.lemmas.Option.{none-some, same_Some}
+use Rattle.pim_base.specs.Lists.{put, first_item}
+use Rattle.pim_base.specs.State.{State, IsTask, IsMutex, owner_of, wait_of, with_owner, with_wait}
+use Rattle.pim_base.specs.Chains.{heir, heir_of, blocker}
+use Rattle.pim_base.specs.Checks.{is_waiting}
+use Rattle.pim_base.specs.Steady.{IsSteady}
+use Rattle.pim_base.specs.Queues.{first_of}
+use Rattle.pim_base.specs.Steps.{hand_over, hand_over_to}
+use Rattle.pim_base.specs.declared.steps.Wait.{Wait}
+use Rattle.pim_base.specs.declared.steps.Waiter.{Waiter}
+use Rattle.pim_base.proofs.NoCycle.{unwrap_or-put_same, idle_now}
+use Rattle.pim_chain.specs.Views.{View, Ready, IsQueue, with_state, stored_in, stored_at, queue_at}
+use Rattle.pim_chain.specs.Settled.{SettledBut, Unsettles, left}
+use Rattle.pim_chain.specs.Work.{Work, Tells}
+use Rattle.pim_chain.proofs.Models.{queue_is}
+use Rattle.pim_chain.proofs.Queues.{waiting_known}
+use Rattle.pim_chain.proofs.Told.{tells-trans}
+use Rattle.pim_manager.specs.Settled.{IsSettled}
+use Rattle.pim_manager.proofs.Works.{Walked, walked}
+
+-- ---- a task that ends its wait
+pub record HasLeft (v x : View) (t : ℕ) : Type 0 where
+  pub state : x.state ≡ with_wait v.state t None
+  pub stored : x.stored ≡ v.stored
+
+pub has_left :
+    (v x : View) (t : ℕ)
+    → (wait_of v.state t ≡ None → ⊥)
+    → ((w : Wait) → wait_of v.state t ≡ Some w → x ≡ left v t w.mutex)
+    → HasLeft v x t
+has_left v x t waits is = go (wait_of v.state t) refl
+  where
+    go : (o : Option Wait) → wait_of v.state t ≡ o → HasLeft v x t
+    go None e = absurd (waits e)
+    go (Some w) e = record { state = ap (λ (y : View). y.state) (is w e); stored = ap (λ (y : View). y.stored) (is w e) }
+
+-- who is blocked waits
+pub blocked_waits : (S : State) (t u : ℕ) → blocker S t ≡ Some u → wait_of S t ≡ None → ⊥
+blocked_waits S t u e none = none-some u (sym (ap (option_and_then (λ (w : Wait). owner_of S w.mutex)) none) ∙ e)
+
+-- and where no free mutex has waiters, who waits is blocked
+pub is_waiting-blocker : (S : State) (t : ℕ) → IsSteady S → is_waiting S t ≡ is_some (blocker S t)
+is_waiting-blocker S t steady = go (wait_of S t) refl
+  where
+    go : (o : Option Wait) → wait_of S t ≡ o → is_some o ≡ is_some (option_and_then (λ (w : Wait). owner_of S w.mutex) o)
+    go None e = refl
+    go (Some w) e = sym (steady.owned t w e)
+
+-- ---- a mutex that goes to the first waiter
+pub heir_idle : (S : State) (t : ℕ) → wait_of S t ≡ None → heir S t ≡ None
+heir_idle S t e = ap (option_and_then (λ (w : Wait). heir_of S w.mutex)) e
+
+set-set : {X : Type 0} (xs : List X) (i : ℕ) (x y : X) → set (set xs i x) i y ≡ set xs i y
+set-set [] i x y = refl
+set-set (z ∷ zs) zero x y = refl
+set-set (z ∷ zs) (suc i) x y = ap (λ r. z ∷ r) (set-set zs i x y)
+
+put-put : {X : Type 0} (xs : List X) (n : ℕ) (x y : X) → put (put xs n x) n y ≡ put xs n y
+put-put xs zero x y = refl
+put-put xs (suc i) x y = set-set xs i x y
+
+pub freed_owner : (S : State) (m : ℕ) → owner_of (with_owner S m None) m ≡ None
+freed_owner S m = elim (unwrap_or-put_same S.owner m None) [ inl h ↦ h | inr h ↦ h ]
+
+-- the first of a queue waits
+first_waits :
+    (v : View) (m : ℕ) (w : Waiter)
+    → Ready v
+    → IsMutex v.state m
+    → first_item (queue_at v m) ≡ Some w
+    → wait_of v.state w.task ≡ Some (record { mutex = m; ticket = w.ticket })
+first_waits v m w ready known e = go (queue_at v m) (ready.queues m known) e
+  where
+    go :
+        (ws : List Waiter)
+        → IsQueue (wait_of v.state) (stored_at v) m ws
+        → first_item ws ≡ Some w
+        → wait_of v.state w.task ≡ Some (record { mutex = m; ticket = w.ticket })
+    go [] q h = cc
+    go (x ∷ xs) q h =
+        subst (λ (y : Waiter). wait_of v.state y.task ≡ Some (record { mutex = m; ticket = y.ticket })) (same_Some x w h) q.sound.0.waits
+
+-- the first of the queue is the first waiter
+pub first_is :
+    (v : View) (S : State) (m : ℕ) (first : Option Waiter)
+    → IsSettled v
+    → v.state ≡ S
+    → IsMutex S m
+    → first ≡ first_item (queue_at v m)
+    → first ≡ first_of S m
+first_is v S m first before shown known is =
+    is ∙ ap first_item (queue_is v m before.calm (subst (λ (U : State). IsMutex U m) (sym shown) known)) ∙ ap (λ (U : State). first_of U m) shown
+
+-- The owner has lost the mutex, and its tables u are settled; then the first waiter has left the queue, and they are x.
+pub record Passed (S : State) (u x : View) (m t : ℕ) : Type 0 where
+  pub state : x.state ≡ with_wait (with_owner S m None) t None
+  pub stored : x.stored ≡ u.stored
+  pub settled : SettledBut x.state (stored_at x) None
+  pub mutex : IsMutex x.state m
+  pub known : IsTask x.state t
+  pub idle : wait_of x.state t ≡ None
+  pub free : owner_of x.state m ≡ None
+
+-- the first waiter still waits until then
+pub still_waits :
+    (v u : View) (S : State) (m : ℕ) (w : Waiter)
+    → IsSettled v
+    → v.state ≡ S
+    → IsMutex S m
+    → first_item (queue_at v m) ≡ Some w
+    → u.state ≡ with_owner S m None
+    → wait_of u.state w.task ≡ Some (record { mutex = m; ticket = w.ticket })
+still_waits v u S m w before shown known first freed =
+    ap (λ (U : State). wait_of U w.task) freed ∙ ap (λ (U : State). wait_of U w.task) (sym shown)
+    ∙ first_waits v m w before.calm.ready (subst (λ (U : State). IsMutex U m) (sym shown) known) first
+
+pub passed :
+    (v r u x : View) (S : State) (m : ℕ) (w : Waiter)
+    → IsSettled v
+    → v.state ≡ S
+    → IsMutex S m
+    → first_item (queue_at v m) ≡ Some w
+    → r ≡ with_state v (with_owner v.state m None)
+    → u.state ≡ r.state
+    → SettledBut u.state (stored_at u) None
+    → ((y : Wait) → wait_of u.state w.task ≡ Some y → x ≡ left u w.task y.mutex)
+    → Unsettles u x (blocker u.state w.task)
+    → Passed S u x m w.task
+passed v r u x S m w before shown known first freed same settled leaves unsettles = record {
+  state = is;
+  stored = gone.stored;
+  settled = subst (SettledBut x.state (stored_at x)) blocked (unsettles settled);
+  mutex = subst (λ (U : State). IsMutex U m) (sym is) known;
+  known =
+      subst (λ (U : State). IsTask U w.task) (ap (λ (U : State). with_wait (with_owner U m None) w.task None) shown ∙ sym is)
+      (waiting_known v.state before.steady.sound.lists w.task (record { mutex = m; ticket = w.ticket })
+      (first_waits v m w before.calm.ready (subst (λ (U : State). IsMutex U m) (sym shown) known) first));
+  idle = ap (λ U. wait_of U w.task) is ∙ idle_now (with_owner S m None) w.task;
+  free = ap (λ U. owner_of U m) is ∙ freed_owner S m;
+}
+  where
+    is_freed : u.state ≡ with_owner S m None
+    is_freed = same ∙ ap (λ (y : View). y.state) freed ∙ ap (λ (U : State). with_owner U m None) shown
+
+    waits : wait_of u.state w.task ≡ Some (record { mutex = m; ticket = w.ticket })
+    waits = still_waits v u S m w before shown known first is_freed
+
+    gone : HasLeft u x w.task
+    gone = has_left u x w.task (λ none. none-some (record { mutex = m; ticket = w.ticket }) (sym none ∙ waits)) leaves
+
+    blocked : blocker u.state w.task ≡ None
+    blocked =
+        ap (option_and_then (λ (y : Wait). owner_of u.state y.mutex)) waits ∙ ap (λ U. owner_of U m) is_freed ∙ freed_owner S m
+
+    is : x.state ≡ with_wait (with_owner S m None) w.task None
+    is = gone.state ∙ ap (λ U. with_wait U w.task None) is_freed
+
+-- and once the waiter owns the mutex, it is handed over
+pub passed_state :
+    (S : State) (u x y : View) (m : ℕ) (w : Waiter)
+    → Passed S u x m w.task
+    → first_of S m ≡ Some w
+    → y ≡ with_state x (with_owner x.state m (Some w.task))
+    → y.state ≡ hand_over S m
+passed_state S u x y m w p first is =
+    ap (λ (v : View). v.state) is
+    ∙ ap (λ U. with_owner U m (Some w.task)) p.state
+    ∙ ap (λ os. record S { owner = os; wait = put S.wait w.task None }) (put-put S.owner m None (Some w.task))
+    ∙ ap (hand_over_to S m) (sym first)
+
+-- two walks, to u and then from y to z, are one work
+pub two_walks :
+    (v r u x y z : View) (S T : State) (m t : ℕ) (a b c : Work)
+    → IsSettled v
+    → v.state ≡ S
+    → IsSteady T
+    → length T.base ≡ length S.base
+    → r ≡ with_state v (with_owner v.state m None)
+    → Tells (length r.state.base) (stored_at r) a (stored_at u) b
+    → x.stored ≡ u.stored
+    → y ≡ with_state x (with_owner x.state m (Some t))
+    → y.state ≡ T
+    → z.state ≡ y.state
+    → SettledBut z.state (stored_at z) None
+    → Ready z
+    → Tells (length y.state.base) (stored_at y) b (stored_at z) c
+    → Walked S (record v { state = z.state }) z a c
+two_walks v r u x y z S T m t a b c before shown steady bases freed one stored given is same settled ready two =
+    walked v (record v { state = z.state }) z S T a c before shown steady bases (same ∙ is) refl refl settled ready
+    (subst (λ k. Tells k (stored_at v) a (stored_at z) c) (sym z_bases)
+    (tells-trans n (stored_at v) (stored_at u) (stored_at z) a b c
+    (subst (λ (w : View). Tells (length w.state.base) (stored_at w) a (stored_at u) b) freed one)
+    (subst (λ k. Tells k (stored_at u) b (stored_at z) c) y_bases
+    (subst (λ ss. Tells (length y.state.base) (stored_in ss) b (stored_at z) c) (ap (λ (w : View). w.stored) given ∙ stored) two))))
+  where
+    n : ℕ
+    n = length v.state.base
+
+    y_bases : length y.state.base ≡ n
+    y_bases = ap (λ (U : State). length U.base) is ∙ bases ∙ ap (λ (U : State). length U.base) (sym shown)
+
+    z_bases : length z.state.base ≡ n
+    z_bases = ap (λ (U : State). length U.base) same ∙ y_bases
+
+pub base-hand_over : (S : State) (m : ℕ) → (hand_over S m).base ≡ S.base
+base-hand_over S m = go (first_of S m)
+  where
+    go : (o : Option Waiter) → (hand_over_to S m o).base ≡ S.base
+    go None = refl
+    go (Some w) = refl

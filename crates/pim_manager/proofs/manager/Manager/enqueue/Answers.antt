@@ -1,0 +1,55 @@
+use Rattle.std.proofs.Common.{◌≡◌, Some, ◌+◌, is_some, refl, sym, ◌∙◌, ap, arith}
+use Rattle.pim_base.specs.Lists.{put}
+use Rattle.pim_base.specs.State.{State, queued, wait_of, with_wait}
+use Rattle.pim_base.specs.Chains.{closes_cycle}
+use Rattle.pim_base.specs.declared.steps.Wait.{Wait}
+use Rattle.pim_base.proofs.Steady.{steady_kept}
+use Rattle.pim_chain.specs.Views.{View}
+use Rattle.pim_manager.proofs.Works.{Walked, walked, steady_shown}
+use Rattle.pim_manager.proofs.manager.Manager.enqueue.Goals as goal
+
+pub join-requires-clause-fresh : goal.join-requires-clause-fresh
+join-requires-clause-fresh c u e =
+    let new : Wait = record { mutex = c.args.mutex; ticket = c.next_ticket-ticket.result } in
+    let given = c.self.invariant.steady.tickets.given u new (sym (ap (λ (w : View). wait_of w.state u) c.put_next_ticket.ensures.state) ∙ e) in
+    omega (arith, given, c.next_ticket-ticket.ensures)
+
+pub join-requires-clause-closes_none : goal.join-requires-clause-closes_none
+join-requires-clause-closes_none c =
+    ap (λ (w : View). closes_cycle w.state c.args.task c.args.mutex) c.put_next_ticket.ensures.state
+    ∙ ap (λ (U : State). closes_cycle U c.args.task c.args.mutex) c.self.view_is
+    ∙ c.requires.closes_none
+
+-- the state once the task has joined the queue
+shown : (c : goal.After-settle_from) → c.join.new.self.state ≡ queued c.args.self.now c.args.task c.args.mutex
+shown c =
+    ap (λ (w : View). w.state) c.join.ensures.joined
+    ∙ ap (λ (w : View). with_wait w.state c.args.task (Some (record { mutex = c.args.mutex; ticket = c.next_ticket-ticket.result }))) c.put_next_ticket.ensures.state
+    ∙ ap (λ n. record c.self.inside.tables.state { wait = put c.self.inside.tables.state.wait c.args.task (Some (record { mutex = c.args.mutex; ticket = n })); next = n + 1 })
+    c.next_ticket-ticket.ensures
+    ∙ ap (λ (U : State). queued U c.args.task c.args.mutex) c.self.view_is
+
+enqueued :
+    (c : goal.After-settle_from)
+    → Walked c.args.self.now c.join.new.self c.settle_from.new.self c.args.visits.now c.settle_from.new.visits
+enqueued c =
+    let S : State = c.args.self.now in
+    walked c.self.inside.tables _ _ S (queued S c.args.task c.args.mutex) _ _ c.self.invariant c.self.view_is
+    (steady_kept.enqueue S c.args.task c.args.mutex (steady_shown c.self.inside.tables S c.self.invariant c.self.view_is)
+    c.requires.known c.requires.idle c.requires.closes_none (ap is_some c.requires.owned))
+    refl
+    (shown c)
+    (ap (λ (w : View). w.stored) c.join.ensures.joined ∙ ap (λ (w : View). w.stored) c.put_next_ticket.ensures.state)
+    c.settle_from.ensures.state c.settle_from.ensures.settled c.settle_from.ensures.ready c.settle_from.ensures.work
+
+pub invariant_of-self : goal.invariant_of-self
+invariant_of-self c = (enqueued c).settled
+
+pub returns-clause-state : goal.returns-clause-state
+returns-clause-state c = c.settle_from.ensures.state ∙ shown c
+
+pub returns-clause-work : goal.returns-clause-work
+returns-clause-work c = (enqueued c).work
+
+pub returns-clause-most : goal.returns-clause-most
+returns-clause-most c = let most = c.settle_from.ensures.at_most in omega (arith, most, (enqueued c).count)

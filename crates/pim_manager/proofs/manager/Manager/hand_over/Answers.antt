@@ -1,0 +1,128 @@
+use Rattle.std.proofs.Common.{◌≡◌, ◌≤◌, ◌+◌, None, sym, subst, ◌∙◌, ap, arith, length}
+use Rattle.pim_base.specs.State.{State, IsTask, wait_of, with_owner}
+use Rattle.pim_base.specs.Counts.{handed_mutex_count}
+use Rattle.pim_base.specs.Steps.{hand_over, hand_over_to}
+use Rattle.pim_base.proofs.Steady.{steady_kept}
+use Rattle.pim_chain.specs.Views.{View}
+use Rattle.pim_manager.proofs.Works.{Walked, walked, steady_shown}
+use Rattle.pim_manager.proofs.Handing.{Passed, passed, passed_state, first_is, heir_idle, two_walks, base-hand_over}
+use Rattle.pim_manager.proofs.Releases.{handed_once}
+use Rattle.pim_manager.proofs.manager.Manager.hand_over.Goals as goal
+
+pub bind-requires : goal.bind-requires
+bind-requires c =
+    let p : Passed c.args.self.now c.settle_from.new.self c.leave.new.self c.args.mutex c.in-Some.waiter.task =
+    passed c.self.inside.tables c.unbind.new.self _ _ _ _ c.in-Some.waiter c.self.invariant c.self.view_is c.requires.mutex
+    (sym c.front-first.ensures ∙ c.in-Some.is) c.unbind.ensures.state c.settle_from.ensures.state c.settle_from.ensures.settled c.leave.ensures.left c.leave.ensures.unsettles in
+    record { mutex = p.mutex; free = p.free; known = p.known; idle = p.idle }
+
+pub settle_from-requires-in-Some-clause-settled : goal.settle_from-requires-in-Some-clause-settled
+settle_from-requires-in-Some-clause-settled c =
+    let p : Passed c.args.self.now c.settle_from.new.self c.leave.new.self c.args.mutex c.in-Some.waiter.task =
+    passed c.self.inside.tables c.unbind.new.self _ _ _ _ c.in-Some.waiter c.self.invariant c.self.view_is c.requires.mutex
+    (sym c.front-first.ensures ∙ c.in-Some.is) c.unbind.ensures.state c.settle_from.ensures.state c.settle_from.ensures.settled c.leave.ensures.left c.leave.ensures.unsettles in
+    c.bind.ensures.unsettles p.settled
+
+pub settle_from-requires-in-Some-clause-known : goal.settle_from-requires-in-Some-clause-known
+settle_from-requires-in-Some-clause-known c =
+    let p : Passed c.args.self.now c.settle_from.new.self c.leave.new.self c.args.mutex c.in-Some.waiter.task =
+    passed c.self.inside.tables c.unbind.new.self _ _ _ _ c.in-Some.waiter c.self.invariant c.self.view_is c.requires.mutex
+    (sym c.front-first.ensures ∙ c.in-Some.is) c.unbind.ensures.state c.settle_from.ensures.state c.settle_from.ensures.settled c.leave.ensures.left c.leave.ensures.unsettles in
+    subst (λ (w : View). IsTask w.state c.in-Some.waiter.task) (sym c.bind.ensures.state) p.known
+
+pub settle_from-requires-in-Some-clause-room : goal.settle_from-requires-in-Some-clause-room
+settle_from-requires-in-Some-clause-room c =
+    let one : c.settle_from.new.visits.count ≡ c.args.visits.now.count + 1 =
+    c.settle_from.ensures.single
+    (heir_idle c.unbind.new.self.state c.args.owner
+    (ap (λ (w : View). wait_of w.state c.args.owner) c.unbind.ensures.state ∙ ap (λ (U : State). wait_of U c.args.owner) c.self.view_is ∙ c.requires.idle)) in
+    omega (arith, one, c.requires.room)
+
+-- the mutex has gone to the first waiter
+gone :
+    (c : goal.After-settle_from-in-Some)
+    → Walked c.args.self.now (record c.self.inside.tables { state = c.settle_from-in-Some.new.self.state }) c.settle_from-in-Some.new.self c.args.visits.now c.settle_from-in-Some.new.visits
+gone c =
+    let p : Passed c.args.self.now c.settle_from.new.self c.leave.new.self c.args.mutex c.in-Some.waiter.task =
+    passed c.self.inside.tables c.unbind.new.self _ _ _ _ c.in-Some.waiter c.self.invariant c.self.view_is c.requires.mutex
+    (sym c.front-first.ensures ∙ c.in-Some.is) c.unbind.ensures.state c.settle_from.ensures.state c.settle_from.ensures.settled c.leave.ensures.left c.leave.ensures.unsettles in
+    let S : State = c.args.self.now in
+    let first = first_is c.self.inside.tables S c.args.mutex c.front-first.result c.self.invariant c.self.view_is c.requires.mutex c.front-first.ensures in
+    two_walks c.self.inside.tables c.unbind.new.self c.settle_from.new.self c.leave.new.self c.bind.new.self c.settle_from-in-Some.new.self
+    S (hand_over S c.args.mutex) c.args.mutex c.in-Some.waiter.task c.args.visits.now c.settle_from.new.visits c.settle_from-in-Some.new.visits
+    c.self.invariant c.self.view_is
+    (steady_kept.hand S c.args.mutex (steady_shown c.self.inside.tables S c.self.invariant c.self.view_is))
+    (ap length (base-hand_over S c.args.mutex))
+    c.unbind.ensures.state c.settle_from.ensures.work p.stored c.bind.ensures.state
+    (passed_state S c.settle_from.new.self c.leave.new.self c.bind.new.self c.args.mutex c.in-Some.waiter p (sym first ∙ c.in-Some.is) c.bind.ensures.state)
+    c.settle_from-in-Some.ensures.state c.settle_from-in-Some.ensures.settled c.settle_from-in-Some.ensures.ready c.settle_from-in-Some.ensures.work
+
+pub invariant_of-self : goal.invariant_of-self
+invariant_of-self c = (gone c).settled
+
+pub returns-in-Some : goal.returns-in-Some
+returns-in-Some c =
+    let p : Passed c.args.self.now c.settle_from.new.self c.leave.new.self c.args.mutex c.in-Some.waiter.task =
+    passed c.self.inside.tables c.unbind.new.self _ _ _ _ c.in-Some.waiter c.self.invariant c.self.view_is c.requires.mutex
+    (sym c.front-first.ensures ∙ c.in-Some.is) c.unbind.ensures.state c.settle_from.ensures.state c.settle_from.ensures.settled c.leave.ensures.left c.leave.ensures.unsettles in
+    let one : c.settle_from.new.visits.count ≡ c.args.visits.now.count + 1 =
+    c.settle_from.ensures.single
+    (heir_idle c.unbind.new.self.state c.args.owner
+    (ap (λ (w : View). wait_of w.state c.args.owner) c.unbind.ensures.state ∙ ap (λ (U : State). wait_of U c.args.owner) c.self.view_is ∙ c.requires.idle)) in
+    let first = first_is c.self.inside.tables c.args.self.now c.args.mutex c.front-first.result c.self.invariant c.self.view_is c.requires.mutex c.front-first.ensures in
+    let two : c.settle_from-in-Some.new.visits.count ≡ c.settle_from.new.visits.count + 1 =
+    c.settle_from-in-Some.ensures.single
+    (heir_idle c.bind.new.self.state c.in-Some.waiter.task (ap (λ (w : View). wait_of w.state c.in-Some.waiter.task) c.bind.ensures.state ∙ p.idle)) in
+    let is : c.settle_from-in-Some.new.self.state ≡ hand_over c.args.self.now c.args.mutex =
+    c.settle_from-in-Some.ensures.state
+    ∙ passed_state c.args.self.now c.settle_from.new.self c.leave.new.self c.bind.new.self c.args.mutex c.in-Some.waiter p (sym first ∙ c.in-Some.is) c.bind.ensures.state in
+    record {
+      first = first;
+      state = is;
+      work = (gone c).work;
+      most = omega (arith, one, two);
+      handed =
+          subst (λ (U : State). 1 ≤ handed_mutex_count c.args.self.now U) (sym is)
+          (handed_once c.args.self.now c.args.mutex c.args.owner (steady_shown c.self.inside.tables c.args.self.now c.self.invariant c.self.view_is)
+          c.requires.mutex c.requires.owned c.requires.idle);
+    }
+
+-- nobody waited, and the mutex is free
+freed_state :
+    (c : goal.In_default)
+    → c.unbind.new.self.state ≡ hand_over c.args.self.now c.args.mutex
+freed_state c =
+    let first = first_is c.self.inside.tables c.args.self.now c.args.mutex c.front-first.result c.self.invariant c.self.view_is c.requires.mutex c.front-first.ensures in
+    ap (λ (w : View). w.state) c.unbind.ensures.state ∙ ap (λ (U : State). with_owner U c.args.mutex None) c.self.view_is
+    ∙ ap (hand_over_to c.args.self.now c.args.mutex) (sym c.in_default.is ∙ first)
+
+freed :
+    (c : goal.In_default)
+    → Walked c.args.self.now c.unbind.new.self c.settle_from.new.self c.args.visits.now c.settle_from.new.visits
+freed c =
+    let S : State = c.args.self.now in
+    walked c.self.inside.tables _ _ S (hand_over S c.args.mutex) _ _ c.self.invariant c.self.view_is
+    (steady_kept.hand S c.args.mutex (steady_shown c.self.inside.tables S c.self.invariant c.self.view_is))
+    (ap length (base-hand_over S c.args.mutex))
+    (freed_state c) (ap (λ (w : View). w.stored) c.unbind.ensures.state)
+    c.settle_from.ensures.state c.settle_from.ensures.settled c.settle_from.ensures.ready c.settle_from.ensures.work
+
+pub invariant_of-self-in_default : goal.invariant_of-self-in_default
+invariant_of-self-in_default c = (freed c).settled
+
+pub returns-in_default : goal.returns-in_default
+returns-in_default c =
+    let one : c.settle_from.new.visits.count ≡ c.args.visits.now.count + 1 =
+    c.settle_from.ensures.single
+    (heir_idle c.unbind.new.self.state c.args.owner
+    (ap (λ (w : View). wait_of w.state c.args.owner) c.unbind.ensures.state ∙ ap (λ (U : State). wait_of U c.args.owner) c.self.view_is ∙ c.requires.idle)) in
+    record {
+      first = first_is c.self.inside.tables c.args.self.now c.args.mutex c.front-first.result c.self.invariant c.self.view_is c.requires.mutex c.front-first.ensures;
+      state = c.settle_from.ensures.state ∙ freed_state c;
+      work = (freed c).work;
+      most = omega (arith, one);
+      handed =
+          subst (λ (U : State). 1 ≤ handed_mutex_count c.args.self.now U) (sym (c.settle_from.ensures.state ∙ freed_state c))
+          (handed_once c.args.self.now c.args.mutex c.args.owner (steady_shown c.self.inside.tables c.args.self.now c.self.invariant c.self.view_is)
+          c.requires.mutex c.requires.owned c.requires.idle);
+    }
