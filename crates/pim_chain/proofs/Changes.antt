@@ -19,12 +19,12 @@ use Rattle.pim_base.proofs.Stored.{own_priority-le-local_priority, stored-le-loc
 use Rattle.std.proofs.Common.{map}
 use Rattle.pim_base.specs.declared.steps.Protocol.{Protocol}
 use Rattle.pim_base.specs.State.{owned}
-use Rattle.pim_queue.specs.Line.{Line, with_waiters}
+use Rattle.pim_queue.specs.QueueView.{QueueView, with_waiters}
 use Rattle.pim_queue.specs.Waiters.{without}
-use Rattle.pim_chain.specs.Views.{View, stored_at, queue_at, queue_in, line_in, put_queue, with_state, waits_for, IsQueue, Ready}
+use Rattle.pim_chain.specs.Views.{View, stored_at, queue_at, queue_in, view_in, put_queue, with_state, waits_for, IsQueue, Ready}
 use Rattle.pim_chain.specs.Settled.{SettledBut, left, joined}
 use Rattle.pim_chain.proofs.Local.{through, greatest_of-below}
-use Rattle.pim_chain.proofs.Queues.{queue_kept, queue_left, queue_joined, waiting_known}
+use Rattle.pim_chain.proofs.Waiting.{queue_kept, queue_left, queue_joined, waiting_known}
 
 -- two states with the same tasks, that differ in nothing that the priority of another task than x comes from
 pub record DiffersAt (S T : State) (x : ℕ) : Type 0 where
@@ -213,64 +213,64 @@ ready_based v t p ready = record {
     tickets = λ u x w e f. ready.waits.tickets u x w e f;
   };
   queues = λ k known. ready.queues k known;
-  room = λ k known. subst (λ n. n ≤ (line_in v.queues k).room) (sym same) (ready.room k known);
+  room = λ k known. subst (λ n. n ≤ (view_in v.queues k).room) (sym same) (ready.room k known);
 }
   where
     same : length (with_base v.state t p).base ≡ length v.state.base
     same = length-put v.state.base t p
 
--- ---- lines after one was changed
-pub line_same :
-    (lines : List Line) (m : ℕ) (ws : List Waiter)
+-- ---- queues after one was changed
+pub view_same :
+    (queues : List QueueView) (m : ℕ) (ws : List Waiter)
     → 1 ≤ m
-    → m ≤ length lines
-    → line_in (put_queue lines m ws) m ≡ with_waiters (line_in lines m) ws
-line_same lines m ws low high =
-    ap (λ o. unwrap_or o (record { waiters = []; room = 0 })) (nth-put_same lines m (with_waiters (line_in lines m) ws) low high)
+    → m ≤ length queues
+    → view_in (put_queue queues m ws) m ≡ with_waiters (view_in queues m) ws
+view_same queues m ws low high =
+    ap (λ o. unwrap_or o (record { waiters = []; room = 0 })) (nth-put_same queues m (with_waiters (view_in queues m) ws) low high)
 
-pub line_other : (lines : List Line) (m k : ℕ) (ws : List Waiter) → (k ≡ m → ⊥) → line_in (put_queue lines m ws) k ≡ line_in lines k
-line_other lines m k ws ne =
+pub view_other : (queues : List QueueView) (m k : ℕ) (ws : List Waiter) → (k ≡ m → ⊥) → view_in (put_queue queues m ws) k ≡ view_in queues k
+view_other queues m k ws ne =
     ap (λ o. unwrap_or o (record { waiters = []; room = 0 }))
-    (nth-put_other lines m k (with_waiters (line_in lines m) ws) (λ e. ne (sym e)))
+    (nth-put_other queues m k (with_waiters (view_in queues m) ws) (λ e. ne (sym e)))
 
--- every line has its room still
+-- every queue has its room still
 pub room_kept :
-    (lines : List Line) (m : ℕ) (ws : List Waiter) (n k : ℕ)
+    (queues : List QueueView) (m : ℕ) (ws : List Waiter) (n k : ℕ)
     → 1 ≤ k
-    → k ≤ length lines
-    → n ≤ (line_in lines k).room
-    → n ≤ (line_in (put_queue lines m ws) k).room
-room_kept lines m ws n k low high h = go (cases_eq k m)
+    → k ≤ length queues
+    → n ≤ (view_in queues k).room
+    → n ≤ (view_in (put_queue queues m ws) k).room
+room_kept queues m ws n k low high h = go (cases_eq k m)
   where
-    go : (k ≡ m) ⊎ (k ≡ m → ⊥) → n ≤ (line_in (put_queue lines m ws) k).room
+    go : (k ≡ m) ⊎ (k ≡ m → ⊥) → n ≤ (view_in (put_queue queues m ws) k).room
     go (inl is) =
-        subst (λ j. n ≤ (line_in (put_queue lines m ws) j).room) (sym is)
-        (subst (λ (q : Line). n ≤ q.room) (sym (line_same lines m ws (subst (λ j. 1 ≤ j) is low) (subst (λ j. j ≤ length lines) is high)))
-        (subst (λ j. n ≤ (line_in lines j).room) is h))
-    go (inr ne) = subst (λ (q : Line). n ≤ q.room) (sym (line_other lines m k ws ne)) h
+        subst (λ j. n ≤ (view_in (put_queue queues m ws) j).room) (sym is)
+        (subst (λ (q : QueueView). n ≤ q.room) (sym (view_same queues m ws (subst (λ j. 1 ≤ j) is low) (subst (λ j. j ≤ length queues) is high)))
+        (subst (λ j. n ≤ (view_in queues j).room) is h))
+    go (inr ne) = subst (λ (q : QueueView). n ≤ q.room) (sym (view_other queues m k ws ne)) h
 
 -- each mutex has its queue still, where that of m is the new one
 pub queues_put :
-    (S T : State) (stored stored' : ℕ → ℕ) (lines : List Line) (m : ℕ) (ws : List Waiter)
-    → length lines ≡ length S.protocol
+    (S T : State) (stored stored' : ℕ → ℕ) (queues : List QueueView) (m : ℕ) (ws : List Waiter)
+    → length queues ≡ length S.protocol
     → length T.protocol ≡ length S.protocol
     → IsQueue (wait_of T) stored' m ws
-    → ((k : ℕ) → IsMutex S k → (k ≡ m → ⊥) → IsQueue (wait_of T) stored' k (queue_in lines k))
+    → ((k : ℕ) → IsMutex S k → (k ≡ m → ⊥) → IsQueue (wait_of T) stored' k (queue_in queues k))
     → (k : ℕ)
     → IsMutex T k
-    → IsQueue (wait_of T) stored' k (queue_in (put_queue lines m ws) k)
-queues_put S T stored stored' lines m ws len same here others k known = go (cases_eq k m)
+    → IsQueue (wait_of T) stored' k (queue_in (put_queue queues m ws) k)
+queues_put S T stored stored' queues m ws len same here others k known = go (cases_eq k m)
   where
     known_S : IsMutex S k
     known_S = (known.0, subst (λ n. k ≤ n) same known.1)
 
-    go : (k ≡ m) ⊎ (k ≡ m → ⊥) → IsQueue (wait_of T) stored' k (queue_in (put_queue lines m ws) k)
-    go (inr ne) = subst (λ (q : Line). IsQueue (wait_of T) stored' k q.waiters) (sym (line_other lines m k ws ne)) (others k known_S ne)
+    go : (k ≡ m) ⊎ (k ≡ m → ⊥) → IsQueue (wait_of T) stored' k (queue_in (put_queue queues m ws) k)
+    go (inr ne) = subst (λ (q : QueueView). IsQueue (wait_of T) stored' k q.waiters) (sym (view_other queues m k ws ne)) (others k known_S ne)
     go (inl is) =
-        subst (λ j. IsQueue (wait_of T) stored' j (queue_in (put_queue lines m ws) j)) (sym is)
-        (subst (λ (q : Line). IsQueue (wait_of T) stored' m q.waiters)
-        (sym (line_same lines m ws (subst (λ j. 1 ≤ j) is known.0)
-        (subst (λ j. j ≤ length lines) is (subst (λ n. k ≤ n) (sym len) known_S.1)))) here)
+        subst (λ j. IsQueue (wait_of T) stored' j (queue_in (put_queue queues m ws) j)) (sym is)
+        (subst (λ (q : QueueView). IsQueue (wait_of T) stored' m q.waiters)
+        (sym (view_same queues m ws (subst (λ j. 1 ≤ j) is known.0)
+        (subst (λ j. j ≤ length queues) is (subst (λ n. k ≤ n) (sym len) known_S.1)))) here)
 
 pub not_waiting : (wait : ℕ → Option Wait) (m t : ℕ) → wait t ≡ None → waits_for wait m t ≡ true → ⊥
 not_waiting wait m t e h = both_ways _ (ap (λ o. option_map_or (λ (w : Wait). eqb w.mutex m) o false) e) h

@@ -1,7 +1,7 @@
 -- The same, where a field of the tables was written.
 use Rattle.std.proofs.Common.{◌≡◌, ℕ, ◌≤◌, ◌<◌, ◌-◌, Bool, true, false, ◌⊎◌, inl, inr, refl, sym, ◌∙◌, ap, subst, arith, Option, Some, None, List, [], ◌∷◌, length, get_or, unwrap_or}
 use Rattle.pim_base.proofs.Places.{nth-get_or, nth_within}
-use Rattle.pim_chain.proofs.Queues.{room_for}
+use Rattle.pim_chain.proofs.Waiting.{room_for}
 use Rattle.std.specs.List.{list_any, find, AllByRecursion}
 use Rattle.std.proofs.lemmas.Bool.{eqb-true, eq-eqb, or_cases, or_left, or_right}
 use Rattle.std.proofs.lemmas.Option.{none-some, same_Some}
@@ -11,10 +11,10 @@ use Rattle.pim_base.specs.Chains.{closes_cycle}
 use Rattle.pim_base.specs.Queues.{precedes}
 use Rattle.pim_base.specs.declared.steps.Wait.{Wait}
 use Rattle.pim_base.specs.declared.steps.Waiter.{Waiter}
-use Rattle.pim_queue.specs.Line.{Line}
+use Rattle.pim_queue.specs.QueueView.{QueueView}
 use Rattle.pim_queue.specs.Waiters.{is_of, has_ticket, without}
 use Rattle.pim_queue.proofs.Order.{Found, found}
-use Rattle.pim_chain.specs.Views.{View, Ready, Shows, IsQueue, with_state, stored_at, queue_at, line_in, put_queue}
+use Rattle.pim_chain.specs.Views.{View, Ready, Shows, IsQueue, with_state, stored_at, queue_at, view_in, put_queue}
 use Rattle.pim_chain.specs.Settled.{joined, left, moved, restored}
 use Rattle.pim_chain.proofs.Local.{waits_for_from}
 use Rattle.pim_chain.proofs.Changes.{ready_bound, ready_based, ready_left, ready_joined, not_waiting}
@@ -53,7 +53,7 @@ pub based_field :
 based_field v t p bases is ready = subst (λ bs. Ready (with_state v (record v.state { base = bs }))) (sym is) (ready_based v t p ready)
 
 pub joined_fields :
-    (v u : View) (t prio : ℕ) (w : Wait) (waits : List (Option Wait)) (lines : List Line)
+    (v u : View) (t prio : ℕ) (w : Wait) (waits : List (Option Wait)) (queues : List QueueView)
     → v ≡ u
     → IsTask u.state t
     → IsMutex u.state w.mutex
@@ -62,13 +62,13 @@ pub joined_fields :
     → ((y : ℕ) → wait_of u.state y ≡ Some w → ⊥)
     → prio ≡ stored_at v t
     → waits ≡ put v.state.wait t (Some w)
-    → lines ≡ put_queue v.queues w.mutex (insert_by precedes (queue_at v w.mutex) (record { task = t; prio = prio; ticket = w.ticket }))
+    → queues ≡ put_queue v.queues w.mutex (insert_by precedes (queue_at v w.mutex) (record { task = t; prio = prio; ticket = w.ticket }))
     → Ready v
-    → Ready (record v { state = record v.state { wait = waits }; stored = v.stored; queues = lines })
-joined_fields v u t prio w waits lines same known mutex idle open' fresh is_prio is_waits is_lines ready =
-    subst (λ ws. Ready (record v { state = record v.state { wait = ws }; stored = v.stored; queues = lines })) (sym is_waits)
+    → Ready (record v { state = record v.state { wait = waits }; stored = v.stored; queues = queues })
+joined_fields v u t prio w waits queues same known mutex idle open' fresh is_prio is_waits is_queues ready =
+    subst (λ ws. Ready (record v { state = record v.state { wait = ws }; stored = v.stored; queues = queues })) (sym is_waits)
     (subst (λ ls. Ready (record v { state = record v.state { wait = put v.state.wait t (Some w) }; stored = v.stored; queues = ls }))
-    (sym (is_lines ∙ ap (λ p. put_queue v.queues w.mutex
+    (sym (is_queues ∙ ap (λ p. put_queue v.queues w.mutex
     (insert_by precedes (queue_at v w.mutex) (record { task = t; prio = p; ticket = w.ticket }))) is_prio))
     (ready_joined v t w
     (subst (λ (x : View). IsTask x.state t) (sym same) known)
@@ -78,16 +78,16 @@ joined_fields v u t prio w waits lines same known mutex idle open' fresh is_prio
     (λ y e. fresh y (subst (λ (x : View). wait_of x.state y ≡ Some w) same e)) ready))
 
 pub left_fields :
-    (v : View) (t : ℕ) (w : Wait) (waits : List (Option Wait)) (lines : List Line)
+    (v : View) (t : ℕ) (w : Wait) (waits : List (Option Wait)) (queues : List QueueView)
     → wait_of v.state t ≡ Some w
     → waits ≡ put v.state.wait t None
-    → lines ≡ put_queue v.queues w.mutex (without t (queue_at v w.mutex))
+    → queues ≡ put_queue v.queues w.mutex (without t (queue_at v w.mutex))
     → Ready v
-    → Ready (record v { state = record v.state { wait = waits }; stored = v.stored; queues = lines })
-left_fields v t w waits lines at is_waits is_lines ready =
-    subst (λ ws. Ready (record v { state = record v.state { wait = ws }; stored = v.stored; queues = lines })) (sym is_waits)
+    → Ready (record v { state = record v.state { wait = waits }; stored = v.stored; queues = queues })
+left_fields v t w waits queues at is_waits is_queues ready =
+    subst (λ ws. Ready (record v { state = record v.state { wait = ws }; stored = v.stored; queues = queues })) (sym is_waits)
     (subst (λ ls. Ready (record v { state = record v.state { wait = put v.state.wait t None }; stored = v.stored; queues = ls }))
-    (sym is_lines) (ready_left v t w at ready))
+    (sym is_queues) (ready_left v t w at ready))
 
 pub restored_field :
     (v : View) (t p : ℕ) (stored : List ℕ)
@@ -99,30 +99,30 @@ restored_field v t p stored at is ready =
     subst (λ ss. Ready (record v { state = v.state; stored = ss; queues = v.queues })) (sym is) (restored_free v t p at ready)
 
 pub restored_fields :
-    (v u : View) (t p : ℕ) (w : Wait) (stored : List ℕ) (lines : List Line)
+    (v u : View) (t p : ℕ) (w : Wait) (stored : List ℕ) (queues : List QueueView)
     → v ≡ u
     → IsTask u.state t
     → wait_of v.state t ≡ Some w
     → stored ≡ put v.stored t p
-    → lines ≡ moved v.queues (Some w) t p
+    → queues ≡ moved v.queues (Some w) t p
     → Ready v
-    → Ready (record v { state = v.state; stored = stored; queues = lines })
-restored_fields v u t p w stored lines same known at is is_lines ready =
-    subst (λ ss. Ready (record v { state = v.state; stored = ss; queues = lines })) (sym is)
-    (subst (λ ls. Ready (record v { state = v.state; stored = put v.stored t p; queues = ls })) (sym is_lines)
+    → Ready (record v { state = v.state; stored = stored; queues = queues })
+restored_fields v u t p w stored queues same known at is is_queues ready =
+    subst (λ ss. Ready (record v { state = v.state; stored = ss; queues = queues })) (sym is)
+    (subst (λ ls. Ready (record v { state = v.state; stored = put v.stored t p; queues = ls })) (sym is_queues)
     (restored_waiting v t p w (subst (λ (x : View). IsTask x.state t) (sym same) known) at ready))
 
 pub is_restored :
-    (v : View) (t p : ℕ) (o : Option Wait) (stored : List ℕ) (lines : List Line)
+    (v : View) (t p : ℕ) (o : Option Wait) (stored : List ℕ) (queues : List QueueView)
     → wait_of v.state t ≡ o
     → stored ≡ put v.stored t p
-    → lines ≡ moved v.queues o t p
-    → record v { state = v.state; stored = stored; queues = lines } ≡ restored v t p
-is_restored v t p o stored lines at is is_lines =
-    ap (λ ss. record v { state = v.state; stored = ss; queues = lines }) is
-    ∙ ap (λ ls. record v { state = v.state; stored = put v.stored t p; queues = ls }) (is_lines ∙ ap (λ x. moved v.queues x t p) (sym at))
+    → queues ≡ moved v.queues o t p
+    → record v { state = v.state; stored = stored; queues = queues } ≡ restored v t p
+is_restored v t p o stored queues at is is_queues =
+    ap (λ ss. record v { state = v.state; stored = ss; queues = queues }) is
+    ∙ ap (λ ls. record v { state = v.state; stored = put v.stored t p; queues = ls }) (is_queues ∙ ap (λ x. moved v.queues x t p) (sym at))
 
--- ---- what the calls on the lines ask for
+-- ---- what the calls on the queues ask for
 pub join_room :
     (v u : View) (t m : ℕ)
     → v ≡ u
@@ -130,7 +130,7 @@ pub join_room :
     → IsMutex u.state m
     → wait_of u.state t ≡ None
     → Ready v
-    → length (queue_at v m) < (line_in v.queues m).room
+    → length (queue_at v m) < (view_in v.queues m).room
 join_room v u t m same known mutex idle ready =
     let isk : IsMutex v.state m = subst (λ (x : View). IsMutex x.state m) (sym same) mutex in
     let short : length (queue_at v m) < length v.state.base =
@@ -219,7 +219,7 @@ ticket_there wait stored m k t (w ∷ ws) at shows h = go (or_cases _ _ h) (tick
 
 -- a queue has the ticket exactly where somebody waits with it
 pub ticket_told :
-    (v : View) (m k : ℕ) (q : Line)
+    (v : View) (m k : ℕ) (q : QueueView)
     → Ready v
     → nth v.queues m ≡ Some q
     → (list_any (has_ticket k) q.waiters ≡ true → (t : ℕ) × (wait_of v.state t ≡ Some (record { mutex = m; ticket = k })))
@@ -238,7 +238,7 @@ ticket_told v m k q ready at = (
 
     here : IsQueue (wait_of v.state) (stored_at v) m q.waiters
     here =
-        subst (λ o. IsQueue (wait_of v.state) (stored_at v) m (unwrap_or {T = Line} o (record { waiters = []; room = 0 })).waiters) at
+        subst (λ o. IsQueue (wait_of v.state) (stored_at v) m (unwrap_or {T = QueueView} o (record { waiters = []; room = 0 })).waiters) at
         (ready.queues m isk)
 
 -- ---- the tables after a field was written
@@ -259,26 +259,26 @@ base_written v u t p bases same is =
     ap (λ bs. with_state v (record v.state { base = bs })) is ∙ ap (λ (x : View). with_state x (with_base x.state t p)) same
 
 pub is_joined :
-    (v u : View) (t prio : ℕ) (w : Wait) (waits : List (Option Wait)) (lines : List Line)
+    (v u : View) (t prio : ℕ) (w : Wait) (waits : List (Option Wait)) (queues : List QueueView)
     → v ≡ u
     → prio ≡ stored_at v t
     → waits ≡ put v.state.wait t (Some w)
-    → lines ≡ put_queue v.queues w.mutex (insert_by precedes (queue_at v w.mutex) (record { task = t; prio = prio; ticket = w.ticket }))
-    → record v { state = record v.state { wait = waits }; stored = v.stored; queues = lines } ≡ joined u t w
-is_joined v u t prio w waits lines same is_prio is_waits is_lines =
-    ap (λ ws. record v { state = record v.state { wait = ws }; stored = v.stored; queues = lines }) is_waits
+    → queues ≡ put_queue v.queues w.mutex (insert_by precedes (queue_at v w.mutex) (record { task = t; prio = prio; ticket = w.ticket }))
+    → record v { state = record v.state { wait = waits }; stored = v.stored; queues = queues } ≡ joined u t w
+is_joined v u t prio w waits queues same is_prio is_waits is_queues =
+    ap (λ ws. record v { state = record v.state { wait = ws }; stored = v.stored; queues = queues }) is_waits
     ∙ ap (λ ls. record v { state = record v.state { wait = put v.state.wait t (Some w) }; stored = v.stored; queues = ls })
-    (is_lines ∙ ap (λ p. put_queue v.queues w.mutex
+    (is_queues ∙ ap (λ p. put_queue v.queues w.mutex
     (insert_by precedes (queue_at v w.mutex) (record { task = t; prio = p; ticket = w.ticket }))) is_prio)
     ∙ ap (λ x. joined x t w) same
 
 pub is_left :
-    (v u : View) (t m : ℕ) (waits : List (Option Wait)) (lines : List Line)
+    (v u : View) (t m : ℕ) (waits : List (Option Wait)) (queues : List QueueView)
     → v ≡ u
     → waits ≡ put v.state.wait t None
-    → lines ≡ put_queue v.queues m (without t (queue_at v m))
-    → record v { state = record v.state { wait = waits }; stored = v.stored; queues = lines } ≡ left u t m
-is_left v u t m waits lines same is_waits is_lines =
-    ap (λ ws. record v { state = record v.state { wait = ws }; stored = v.stored; queues = lines }) is_waits
-    ∙ ap (λ ls. record v { state = record v.state { wait = put v.state.wait t None }; stored = v.stored; queues = ls }) is_lines
+    → queues ≡ put_queue v.queues m (without t (queue_at v m))
+    → record v { state = record v.state { wait = waits }; stored = v.stored; queues = queues } ≡ left u t m
+is_left v u t m waits queues same is_waits is_queues =
+    ap (λ ws. record v { state = record v.state { wait = ws }; stored = v.stored; queues = queues }) is_waits
+    ∙ ap (λ ls. record v { state = record v.state { wait = put v.state.wait t None }; stored = v.stored; queues = ls }) is_queues
     ∙ ap (λ x. left x t m) same

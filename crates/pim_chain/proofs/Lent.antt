@@ -9,10 +9,10 @@ use Rattle.pim_base.specs.declared.steps.Protocol.{Protocol}
 use Rattle.pim_base.proofs.Greatest.{greatest_of, greatest-cons}
 use Rattle.pim_base.proofs.Places.{nth_within}
 use Rattle.pim_base.proofs.Stored.{heir_in-owner, holds_from, from_holds}
-use Rattle.pim_chain.specs.Views.{View, Ready, queue_at, stored_at, front_prio}
+use Rattle.pim_chain.specs.Views.{View, Ready, queue_at, stored_at, first_prio}
 use Rattle.pim_chain.specs.Owned.{worth}
 use Rattle.pim_chain.proofs.Local.{top, greatest_of-more, greatest_of-below}
-use Rattle.pim_chain.proofs.Queues.{local_by_mutexes, top_front}
+use Rattle.pim_chain.proofs.Waiting.{local_by_mutexes, top_front}
 
 -- who owns, owns a known mutex
 pub owned_known : (S : State) → IsState S → (m t : ℕ) → holds (owner_of S m) t ≡ true → IsMutex S m
@@ -49,29 +49,29 @@ heir_is S m t owns = go (protocol_of S m)
 worth_here :
     (v : View) (t m : ℕ)
     → cond (holds (owner_of v.state m) t) (worth v m) 0
-    ≡ max (cond (holds (owner_of v.state m) t) (ceiling_of v.state m) 0) (cond (holds (heir_of v.state m) t) (front_prio (queue_at v m)) 0)
+    ≡ max (cond (holds (owner_of v.state m) t) (ceiling_of v.state m) 0) (cond (holds (heir_of v.state m) t) (first_prio (queue_at v m)) 0)
 worth_here v t m = go (holds (owner_of v.state m) t) refl
   where
     go :
         (b : Bool)
         → holds (owner_of v.state m) t ≡ b
-        → cond b (worth v m) 0 ≡ max (cond b (ceiling_of v.state m) 0) (cond (holds (heir_of v.state m) t) (front_prio (queue_at v m)) 0)
+        → cond b (worth v m) 0 ≡ max (cond b (ceiling_of v.state m) 0) (cond (holds (heir_of v.state m) t) (first_prio (queue_at v m)) 0)
     go true mine =
-        ap (λ b. max (ceiling_of v.state m) (cond b (front_prio (queue_at v m)) 0))
+        ap (λ b. max (ceiling_of v.state m) (cond b (first_prio (queue_at v m)) 0))
         (sym (heir_is v.state m t (from_holds (owner_of v.state m) t mine)))
-    go false away = sym (ap (λ b. max 0 (cond b (front_prio (queue_at v m)) 0)) (not_heir v.state m t away))
+    go false away = sym (ap (λ b. max 0 (cond b (first_prio (queue_at v m)) 0)) (not_heir v.state m t away))
 
 -- what the mutexes lend is their ceilings and the priorities of their first waiters
 worth_all :
     (v : View) (t n : ℕ)
     → greatest_of (worth v) (λ m. holds (owner_of v.state m) t) n
     ≡ max (greatest_of (ceiling_of v.state) (λ m. holds (owner_of v.state m) t) n)
-    (greatest_of (λ m. front_prio (queue_at v m)) (λ m. holds (heir_of v.state m) t) n)
+    (greatest_of (λ m. first_prio (queue_at v m)) (λ m. holds (heir_of v.state m) t) n)
 worth_all v t zero = refl
 worth_all v t (suc n) =
     let lent = greatest_of-more (worth v) (λ m. holds (owner_of v.state m) t) (suc n) n (omega arith) in
     let ceilings = greatest_of-more (ceiling_of v.state) (λ m. holds (owner_of v.state m) t) (suc n) n (omega arith) in
-    let fronts = greatest_of-more (λ m. front_prio (queue_at v m)) (λ m. holds (heir_of v.state m) t) (suc n) n (omega arith) in
+    let fronts = greatest_of-more (λ m. first_prio (queue_at v m)) (λ m. holds (heir_of v.state m) t) (suc n) n (omega arith) in
     omega (arith, lent, ceilings, fronts, worth_here v t (suc n), worth_all v t n)
 
 -- the local priority by what the owned mutexes lend
@@ -82,19 +82,19 @@ pub local_by_owned :
 local_by_owned v t ready =
     ap (max (base_of v.state t)) (worth_all v t (length v.state.protocol))
     ∙ assoc _ _ _
-    ∙ ap (λ o. max o (greatest_of (λ m. front_prio (queue_at v m)) (λ m. holds (heir_of v.state m) t) (length v.state.protocol)))
+    ∙ ap (λ o. max o (greatest_of (λ m. first_prio (queue_at v m)) (λ m. holds (heir_of v.state m) t) (length v.state.protocol)))
     (sym (greatest-cons (base_of v.state t) (map (ceiling_of v.state) (owned v.state t))))
     ∙ ap (max (own_priority v.state t)) (le_antisymm
-    (greatest_of-below (λ m. front_prio (queue_at v m)) (top v.state (stored_at v)) (λ m. holds (heir_of v.state m) t)
+    (greatest_of-below (λ m. first_prio (queue_at v m)) (top v.state (stored_at v)) (λ m. holds (heir_of v.state m) t)
     (λ m. holds (heir_of v.state m) t) (length v.state.protocol) (λ m low high h. (h, sym (fronts m low high))))
-    (greatest_of-below (top v.state (stored_at v)) (λ m. front_prio (queue_at v m)) (λ m. holds (heir_of v.state m) t)
+    (greatest_of-below (top v.state (stored_at v)) (λ m. first_prio (queue_at v m)) (λ m. holds (heir_of v.state m) t)
     (λ m. holds (heir_of v.state m) t) (length v.state.protocol) (λ m low high h. (h, fronts m low high))))
     ∙ sym (local_by_mutexes v.state (stored_at v) t ready.waits)
   where
     assoc : (a b d : ℕ) → max a (max b d) ≡ max (max a b) d
     assoc a b d = omega arith
 
-    fronts : (m : ℕ) → 1 ≤ m → m ≤ length v.state.protocol → top v.state (stored_at v) m ≡ front_prio (queue_at v m)
+    fronts : (m : ℕ) → 1 ≤ m → m ≤ length v.state.protocol → top v.state (stored_at v) m ≡ first_prio (queue_at v m)
     fronts m low high = top_front v.state (stored_at v) m (queue_at v m) ready.sound.lists (ready.queues m (low, high))
 
 -- one more mutex

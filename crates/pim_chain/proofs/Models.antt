@@ -9,7 +9,7 @@ use Rattle.pim_base.specs.Queues.{precedes, waiter_of, queue_of}
 use Rattle.pim_base.specs.declared.steps.Wait.{Wait}
 use Rattle.pim_base.specs.declared.steps.Waiter.{Waiter}
 use Rattle.pim_chain.specs.Views.{View, stored_at, queue_at, waits_for, IsQueue, WaitsFit, Shows}
-use Rattle.pim_chain.proofs.Queues.{queue_kept, queue_joined, waiting_known}
+use Rattle.pim_chain.proofs.Waiting.{queue_kept, queue_joined, waiting_known}
 use Rattle.pim_chain.proofs.Changes.{not_waiting, waits_once}
 use Rattle.pim_chain.proofs.Walking.{settled_effective}
 use Rattle.std.specs.List.{list_any, AllByRecursion}
@@ -17,7 +17,7 @@ use Rattle.pim_queue.specs.Waiters.{is_of}
 use Rattle.pim_queue.proofs.Order.{all_each, found, Found}
 use Rattle.pim_chain.proofs.Local.{waits_for_from}
 use Rattle.pim_chain.specs.Settled.{Calm}
-use Rattle.pim_chain.proofs.Upto.{queue_upto, queue_upto-some, queue_upto-none}
+use Rattle.pim_base.proofs.Firsts.{queue_upto, queue_upto-some, queue_upto-none}
 use Rattle.pim_chain.proofs.Unique.{same_queue}
 
 -- the waits of the tasks up to n

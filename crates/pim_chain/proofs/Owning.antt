@@ -1,5 +1,5 @@
 -- The sets of owned mutexes after a change of one owner.
-use Rattle.std.proofs.Common.{◌≡◌, ◌≢◌, ℕ, zero, suc, ◌%◌, ◌<◌, ◌≤◌, ◌==◌, ◌&&◌, ◌||◌, Bool, true, false, not, ◌⊎◌, inl, inr, refl, sym, ◌∙◌, ap, subst, arith, Option, Some, None, List, [], length, replicate, unwrap_or}
+use Rattle.std.proofs.Common.{◌≡◌, ◌≢◌, ℕ, zero, suc, ◌<◌, ◌≤◌, ◌==◌, ◌&&◌, ◌||◌, Bool, true, false, not, ◌⊎◌, inl, inr, refl, sym, ◌∙◌, ap, subst, arith, Option, Some, None, List, [], length, replicate, unwrap_or}
 use Rattle.std.specs.Option.{option_map_or}
 use Rattle.std.proofs.lemmas.Bool.{cases_eq, cases_lt, eq-eqb, ne_eqb}
 use Rattle.std.proofs.lemmas.List.{length-replicate}
@@ -10,7 +10,7 @@ use Rattle.pim_base.proofs.Places.{nth-put_same, nth-put_other}
 use Rattle.pim_base.proofs.Stored.{holds_from, from_holds}
 use Rattle.pim_chain.specs.declared.number_set.NumberSet.{NumberSet}
 use Rattle.pim_chain.specs.Numbers.{has, members}
-use Rattle.pim_chain.specs.Sets.{words_in, owner_in, AreOwned}
+use Rattle.pim_chain.specs.Sets.{words_in, owner_in, AreEmpty, AreOwned}
 use Rattle.pim_chain.specs.Views.{View, Ready}
 use Rattle.pim_chain.proofs.Lent.{owned_known}
 use Rattle.pim_chain.proofs.Members.{members_known, no_number}
@@ -107,22 +107,22 @@ owned_unbound n owners sets after m t low high mine owned low_t high_t len remov
 
 -- ---- as the tables have it
 -- nothing is owned
-pub none_owned :
-    (n k : ℕ) (s : NumberSet) (sets : List NumberSet)
-    → ((m : ℕ) → has s.words m ≡ false)
-    → sets ≡ replicate n s
-    → AreOwned n (replicate k None) sets
-none_owned n k s sets empty is = record {
-  len = ap length is ∙ length-replicate n s;
-  members = λ t m low high.
-      ap (λ xs. has (words_in xs t) m) is
-      ∙ ap (λ ws. has ws m) (words_same n t low high)
-      ∙ empty m
-      ∙ sym (ap (λ o. holds o t) (nth-replicate_none k m));
+none_owned : (n k : ℕ) (sets : List NumberSet) → AreEmpty n sets → AreOwned n (replicate k None) sets
+none_owned n k sets empty = record {
+  len = empty.len;
+  members = λ t m low high. empty.none t m low high ∙ sym (ap (λ o. holds o t) (nth-replicate_none k m));
 }
-  where
-    words_same : (n t : ℕ) → 1 ≤ t → t ≤ n → words_in (replicate n s) t ≡ s.words
-    words_same n t low high = ap (λ o. option_map_or (λ (x : NumberSet). x.words) o []) (nth-replicate_same n t s low high)
+
+-- the sets of new tables
+pub fresh_owned :
+    (b bases : List ℕ) (owners : List (Option ℕ)) (k : ℕ) (sets : List NumberSet)
+    → b ≡ bases
+    → owners ≡ replicate k None
+    → AreEmpty (length bases) sets
+    → AreOwned (length b) owners sets
+fresh_owned b bases owners k sets is_b is_o empty =
+    subst (λ xs. AreOwned (length xs) owners sets) (sym is_b)
+    (subst (λ os. AreOwned (length bases) os sets) (sym is_o) (none_owned (length bases) k sets empty))
 
 module _ (v u : View) (same : v ≡ u) (ready : Ready v) (sets : List NumberSet)
     (owned : AreOwned (length v.state.base) v.state.owner sets) where

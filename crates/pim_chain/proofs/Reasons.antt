@@ -16,12 +16,12 @@ use Rattle.pim_base.specs.declared.steps.Waiter.{Waiter}
 use Rattle.pim_base.proofs.Stored.{stored-le-local_priority, from_holds}
 use Rattle.pim_queue.specs.Waiters.{IsOrdered}
 use Rattle.pim_queue.proofs.Order.{before_prio}
-use Rattle.pim_chain.specs.Views.{View, stored_at, queue_at, front_prio, Shows}
+use Rattle.pim_chain.specs.Views.{View, stored_at, queue_at, first_prio, Shows}
 use Rattle.pim_chain.specs.Settled.{Calm}
 use Rattle.pim_chain.specs.Owned.{lends_now, first_reason}
 use Rattle.pim_chain.proofs.Local.{heir_at, waits_for_from}
 use Rattle.pim_chain.proofs.Lent.{owned_known}
-use Rattle.pim_chain.proofs.Queues.{waiting_known}
+use Rattle.pim_chain.proofs.Waiting.{waiting_known}
 use Rattle.pim_chain.proofs.Walking.{settled_effective}
 use Rattle.pim_chain.proofs.Models.{queue_is}
 
@@ -84,8 +84,8 @@ first_lends :
     (p : ℕ) (ws : List Waiter)
     → 1 ≤ p
     → IsOrdered ws
-    → front_prio ws ≤ p
-    → (front_prio ws == p) ≡ list_any (λ (v : Waiter). v.prio == p) ws
+    → first_prio ws ≤ p
+    → (first_prio ws == p) ≡ list_any (λ (v : Waiter). v.prio == p) ws
 first_lends p [] low ordered le = ne_eqb 0 p (λ e. absurd (omega (arith, e, low)))
 first_lends p (w ∷ ws) low ordered le = go (cases_eq w.prio p)
   where
@@ -104,10 +104,10 @@ inherits S m t owns h = go (protocol_of S m) h
 
 module _ (v : View) (t : ℕ) (calm : Calm v) (known : IsTask v.state t) where
   -- no waiter lends more than the task has
-  front_le : (m : ℕ) → IsMutex v.state m → heir_of v.state m ≡ Some t → front_prio (queue_at v m) ≤ stored_at v t
+  front_le : (m : ℕ) → IsMutex v.state m → heir_of v.state m ≡ Some t → first_prio (queue_at v m) ≤ stored_at v t
   front_le m isk leads = go (queue_at v m) (calm.ready.queues m isk).sound
     where
-      go : (ws : List Waiter) → AllByRecursion (Shows (wait_of v.state) (stored_at v) m) ws → front_prio ws ≤ stored_at v t
+      go : (ws : List Waiter) → AllByRecursion (Shows (wait_of v.state) (stored_at v) m) ws → first_prio ws ≤ stored_at v t
       go [] h = omega arith
       go (w ∷ ws) h =
           subst (λ p. p ≤ stored_at v t) (sym h.0.prio)
@@ -122,7 +122,7 @@ module _ (v : View) (t : ℕ) (calm : Calm v) (known : IsTask v.state t) where
       go :
           (b : Bool)
           → is_inherit (protocol_of v.state m) ≡ b
-          → (b && (front_prio (queue_at v m) == stored_at v t)) ≡ (b && list_any (λ w. w.prio == stored_at v t) (queue_of v.state m))
+          → (b && (first_prio (queue_at v m) == stored_at v t)) ≡ (b && list_any (λ w. w.prio == stored_at v t) (queue_of v.state m))
       go false _ = refl
       go true inherit =
           let isk : IsMutex v.state m = owned_known v.state calm.ready.sound.lists m t mine in

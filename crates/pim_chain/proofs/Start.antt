@@ -14,8 +14,8 @@ use Rattle.pim_base.specs.declared.steps.Protocol.{Protocol}
 use Rattle.pim_base.specs.declared.steps.Wait.{Wait}
 use Rattle.pim_base.proofs.Greatest.{greatest_of, greatest-cons, greatest_of-le}
 use Rattle.pim_base.proofs.Stored.{own_priority-le-local_priority, local_priority-le}
-use Rattle.pim_queue.specs.Line.{Line}
-use Rattle.pim_chain.specs.Views.{fresh, stored_at, line_in, IsQueue, Ready}
+use Rattle.pim_queue.specs.QueueView.{QueueView}
+use Rattle.pim_chain.specs.Views.{fresh, stored_at, view_in, IsQueue, Ready}
 use Rattle.pim_chain.specs.Settled.{SettledBut}
 use Rattle.pim_chain.proofs.Changes.{not_waiting}
 use Rattle.pim_chain.proofs.Repeated.{nth-replicate_none, nth-replicate_same}
@@ -58,18 +58,18 @@ module _ (bases : List ℕ) (protocols : List Protocol) where
       mutexes = λ t w e. absurd (none-some w (sym (idle t) ∙ e));
       tickets = λ t u w e f. absurd (none-some w (sym (idle t) ∙ e));
     };
-    queues = λ m known. subst (λ (q : Line). IsQueue (wait_of (start bases protocols 1)) (stored_at (fresh bases protocols)) m q.waiters) (sym (empty m known)) (record {
+    queues = λ m known. subst (λ (q : QueueView). IsQueue (wait_of (start bases protocols 1)) (stored_at (fresh bases protocols)) m q.waiters) (sym (empty m known)) (record {
       ordered = tt;
       sound = tt;
       complete = λ t h. absurd (not_waiting (wait_of (start bases protocols 1)) m t (idle t) h);
     });
-    room = λ m known. subst (λ (q : Line). length bases ≤ q.room) (sym (empty m known)) (omega arith);
+    room = λ m known. subst (λ (q : QueueView). length bases ≤ q.room) (sym (empty m known)) (omega arith);
   }
     where
       empty :
           (m : ℕ)
           → IsMutex (start bases protocols 1) m
-          → line_in (fresh bases protocols).queues m ≡ record { waiters = []; room = length bases }
+          → view_in (fresh bases protocols).queues m ≡ record { waiters = []; room = length bases }
       empty m known = ap (λ o. unwrap_or o (record { waiters = []; room = 0 })) (nth-replicate_same (length protocols) m _ known.0 known.1)
 
   -- nobody lends anything
@@ -92,7 +92,7 @@ module _ (bases : List ℕ) (protocols : List Protocol) where
 
 pub is_fresh :
     (bases : List ℕ) (protocols : List Protocol)
-    (b : List ℕ) (p : List Protocol) (o : List (Option ℕ)) (w : List (Option Wait)) (s : List ℕ) (q : List Line)
+    (b : List ℕ) (p : List Protocol) (o : List (Option ℕ)) (w : List (Option Wait)) (s : List ℕ) (q : List QueueView)
     → b ≡ bases
     → p ≡ protocols
     → o ≡ replicate (length protocols) None

@@ -1,9 +1,7 @@
 -- What the work of walks tells of a change of the stored priorities.
 use Rattle.std.proofs.Common.{◌≡◌, ℕ, ◌+◌, ◌-◌, ◌<◌, ◌≤◌, ◌==◌, ◌&&◌, Bool, true, false, not, ◌⊎◌, inl, inr, refl, sym, ◌∙◌, ap, subst, arith, List, filter, length, Option, Some, None, unwrap_or, if◌then◌else◌}
 use Rattle.std.specs.Option.{option_map_or}
-use Rattle.std.specs.Prelude.{IsSome}
 use Rattle.std.proofs.lemmas.Bool.{cases_eq, eq-eqb}
-use Rattle.pim_base.specs.Counts.{differing}
 use Rattle.pim_base.specs.Lists.{nth}
 use Rattle.pim_base.specs.State.{task_numbers}
 use Rattle.pim_base.proofs.Places.{nth-get_or, nth_within}

@@ -9,7 +9,7 @@ use Rattle.pim_base.specs.Queues.{precedes}
 use Rattle.pim_queue.specs.Waiters.{is_of, IsOrdered}
 use Rattle.pim_queue.proofs.Order.{found, Found, all_both, told_before, Before}
 use Rattle.pim_chain.specs.Views.{Shows}
-use Rattle.pim_chain.proofs.Queues.{others_behind}
+use Rattle.pim_chain.proofs.Waiting.{others_behind}
 
 -- two waiters of one task show the same
 same_waiter :

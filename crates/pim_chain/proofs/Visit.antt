@@ -14,10 +14,10 @@ use Rattle.pim_base.specs.declared.steps.Waiter.{Waiter}
 use Rattle.pim_base.proofs.Places.{nth-put_same, nth-put_other, length-put}
 use Rattle.pim_queue.specs.Waiters.{is_of, without, ticket_of, repositioned}
 use Rattle.pim_queue.proofs.Order.{Found, found}
-use Rattle.pim_chain.specs.Views.{View, stored_in, stored_at, queue_at, front_prio, Shows, IsQueue, Ready}
+use Rattle.pim_chain.specs.Views.{View, stored_in, stored_at, queue_at, first_prio, Shows, IsQueue, Ready}
 use Rattle.pim_chain.specs.Settled.{SettledBut, moved, restored, Visited}
 use Rattle.pim_chain.proofs.Local.{Mends, mended_onward, mended_stop, waits_for_from, heir_at}
-use Rattle.pim_chain.proofs.Queues.{queue_kept, queue_left, queue_joined, top_front}
+use Rattle.pim_chain.proofs.Waiting.{queue_kept, queue_left, queue_joined, top_front}
 use Rattle.pim_chain.proofs.Changes.{queues_put, room_kept, not_waiting, waits_once}
 
 -- ---- another stored priority
@@ -188,7 +188,7 @@ module _ (v : View) (x p : ℕ) (ready : Ready v) (known : IsTask v.state x) (se
 
   module _ (w : Wait) (at : wait_of v.state x ≡ Some w) where
     -- the front stayed
-    pub visited_stop : front_prio (queue_at v w.mutex) ≡ front_prio (queue_at (restored v x p) w.mutex) → Visited v (restored v x p) x None
+    pub visited_stop : first_prio (queue_at v w.mutex) ≡ first_prio (queue_at (restored v x p) w.mutex) → Visited v (restored v x p) x None
     visited_stop same = record {
       state = refl;
       settled =
@@ -220,12 +220,12 @@ module _ (v : View) (x p : ℕ) (ready : Ready v) (known : IsTask v.state x) (se
     pub visited_next :
         (p ≡ stored_at v x → ⊥)
         → Visited v (restored v x p) x
-        (if front_prio (queue_at v w.mutex) == front_prio (queue_at (restored v x p) w.mutex) then None else heir_of v.state w.mutex)
-    visited_next other = go (front_prio (queue_at v w.mutex) == front_prio (queue_at (restored v x p) w.mutex)) refl
+        (if first_prio (queue_at v w.mutex) == first_prio (queue_at (restored v x p) w.mutex) then None else heir_of v.state w.mutex)
+    visited_next other = go (first_prio (queue_at v w.mutex) == first_prio (queue_at (restored v x p) w.mutex)) refl
       where
         go :
             (b : Bool)
-            → (front_prio (queue_at v w.mutex) == front_prio (queue_at (restored v x p) w.mutex)) ≡ b
+            → (first_prio (queue_at v w.mutex) == first_prio (queue_at (restored v x p) w.mutex)) ≡ b
             → Visited v (restored v x p) x (if b then None else heir_of v.state w.mutex)
         go true same = visited_stop (eqb-true _ _ same)
         go false _ = visited_on other

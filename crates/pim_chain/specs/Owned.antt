@@ -8,15 +8,15 @@ use Rattle.pim_base.specs.Priorities.{ceiling_of}
 use Rattle.pim_base.specs.Reasons.{is_inherit}
 use Rattle.pim_base.specs.declared.steps.Reason.{Reason}
 use Rattle.pim_base.specs.declared.steps.Waiter.{Waiter}
-use Rattle.pim_chain.specs.Views.{View, queue_at, front_prio}
+use Rattle.pim_chain.specs.Views.{View, queue_at, first_prio}
 
 -- what a mutex lends to its owner: its ceiling, or the priority at the front of its queue
 abbrev pub worth : View → ℕ → ℕ
-worth v m = max (ceiling_of v.state m) (cond (is_some (heir_of v.state m)) (front_prio (queue_at v m)) 0)
+worth v m = max (ceiling_of v.state m) (cond (is_some (heir_of v.state m)) (first_prio (queue_at v m)) 0)
 
 -- the mutex is a PRIO_INHERIT one, and its first waiter has the priority
 abbrev pub lends_now : View → ℕ → ℕ → Bool
-lends_now v p m = is_inherit (protocol_of v.state m) && (front_prio (queue_at v m) == p)
+lends_now v p m = is_inherit (protocol_of v.state m) && (first_prio (queue_at v m) == p)
 
 -- the first of those who wait for the mutex, as a reason
 abbrev pub first_reason : View → ℕ → Reason

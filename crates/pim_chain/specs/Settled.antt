@@ -8,9 +8,9 @@ use Rattle.pim_base.specs.Chains.{heir, heir_of}
 use Rattle.pim_base.specs.Priorities.{local_priority}
 use Rattle.pim_base.specs.Queues.{precedes}
 use Rattle.pim_base.specs.declared.steps.Wait.{Wait}
-use Rattle.pim_queue.specs.Line.{Line}
+use Rattle.pim_queue.specs.QueueView.{QueueView}
 use Rattle.pim_queue.specs.Waiters.{without, repositioned}
-use Rattle.pim_chain.specs.Views.{View, Ready, stored_at, queue_at, front_prio, queue_in, put_queue}
+use Rattle.pim_chain.specs.Views.{View, Ready, stored_at, queue_at, first_prio, queue_in, put_queue}
 
 -- each task has the priority that it has locally, but perhaps the one that is named
 abbrev pub SettledBut : State → (ℕ → ℕ) → Option ℕ → Type 0
@@ -25,10 +25,10 @@ pub record Calm (v : View) : Type 0 where
   pub ready : Ready v
   pub settled : SettledBut v.state (stored_at v) None
 
--- the lines, where the task is moved in the queue that it waits in
-abbrev pub moved : List Line → Option Wait → ℕ → ℕ → List Line
-moved lines None t p = lines
-moved lines (Some w) t p = put_queue lines w.mutex (repositioned t p (queue_in lines w.mutex))
+-- the queues, where the task is moved in the queue that it waits in
+abbrev pub moved : List QueueView → Option Wait → ℕ → ℕ → List QueueView
+moved queues None t p = queues
+moved queues (Some w) t p = put_queue queues w.mutex (repositioned t p (queue_in queues w.mutex))
 
 -- the task waits for the mutex, in its queue
 abbrev pub joined : View → ℕ → Wait → View
@@ -53,7 +53,7 @@ restored v t p = record v { stored = put v.stored t p; queues = moved v.queues (
 abbrev pub next_of : View → View → ℕ → Option ℕ
 next_of v w x =
     option_and_then
-    (λ (u : Wait). if front_prio (queue_at v u.mutex) == front_prio (queue_at w u.mutex) then None else heir_of v.state u.mutex)
+    (λ (u : Wait). if first_prio (queue_at v u.mutex) == first_prio (queue_at w u.mutex) then None else heir_of v.state u.mutex)
     (wait_of v.state x)
 
 -- what the visit of x leaves, and who is next

@@ -14,10 +14,10 @@ shown t = record {
     next = t.next;
   };
   stored = t.stored.items;
-  queues = t.queues.items;
+  queues = t.queues;
 }
 
 -- what always holds of the fields
-pub record Kept (t : Inside) : Type 0 where
+pub record AreTables (t : Inside) : Type 0 where
   pub ready : Ready (shown t)
-  pub owned : AreOwned (length t.base.items) t.owner.items t.owned.items
+  pub owned : AreOwned (length t.base.items) t.owner.items t.owned

@@ -9,14 +9,14 @@ use Rattle.pim_base.specs.declared.limits.TheConstants.{MAX_TASKS, MAX_MUTEXES}
 use Rattle.pim_base.specs.declared.steps.Protocol.{Protocol}
 use Rattle.pim_base.specs.declared.steps.Wait.{Wait}
 use Rattle.pim_base.specs.declared.steps.Waiter.{Waiter}
-use Rattle.pim_queue.specs.Line.{Line, with_waiters}
+use Rattle.pim_queue.specs.QueueView.{QueueView, with_waiters}
 use Rattle.pim_queue.specs.Waiters.{is_of, IsOrdered}
 
 -- the state, the stored priorities, and the queue of each mutex
 pub record View : Type 0 where
   pub state : State
   pub stored : List ℕ
-  pub queues : List Line
+  pub queues : List QueueView
 
 -- nothing is owned, nobody waits, each stored priority is the base, and each queue has room for all tasks
 abbrev pub fresh : List ℕ → List Protocol → View
@@ -35,22 +35,22 @@ stored_in stored t = unwrap_or (nth stored t) 0
 abbrev pub stored_at : View → ℕ → ℕ
 stored_at v t = stored_in v.stored t
 
-abbrev pub line_in : List Line → ℕ → Line
-line_in lines m = unwrap_or (nth lines m) (record { waiters = []; room = 0 })
+abbrev pub view_in : List QueueView → ℕ → QueueView
+view_in queues m = unwrap_or (nth queues m) (record { waiters = []; room = 0 })
 
-abbrev pub queue_in : List Line → ℕ → List Waiter
-queue_in lines m = (line_in lines m).waiters
+abbrev pub queue_in : List QueueView → ℕ → List Waiter
+queue_in queues m = (view_in queues m).waiters
 
 abbrev pub queue_at : View → ℕ → List Waiter
 queue_at v m = queue_in v.queues m
 
--- the same lines with another queue at this mutex
-abbrev pub put_queue : List Line → ℕ → List Waiter → List Line
-put_queue lines m ws = put lines m (with_waiters (line_in lines m) ws)
+-- the same queues with another queue at this mutex
+abbrev pub put_queue : List QueueView → ℕ → List Waiter → List QueueView
+put_queue queues m ws = put queues m (with_waiters (view_in queues m) ws)
 
 -- the priority of the first, and 0 where there is none
-abbrev pub front_prio : List Waiter → ℕ
-front_prio ws = option_map_or (λ (w : Waiter). w.prio) (first_item ws) 0
+abbrev pub first_prio : List Waiter → ℕ
+first_prio ws = option_map_or (λ (w : Waiter). w.prio) (first_item ws) 0
 
 abbrev pub waits_for : (ℕ → Option Wait) → ℕ → ℕ → Bool
 waits_for wait m t = option_map_or (λ (w : Wait). w.mutex == m) (wait t) false
@@ -81,4 +81,4 @@ pub record Ready (v : View) : Type 0 where
   pub queues_len : length v.queues ≡ length v.state.protocol
   pub waits : WaitsFit v.state
   pub queues : (m : ℕ) → IsMutex v.state m → IsQueue (wait_of v.state) (stored_at v) m (queue_at v m)
-  pub room : (m : ℕ) → IsMutex v.state m → length v.state.base ≤ (line_in v.queues m).room
+  pub room : (m : ℕ) → IsMutex v.state m → length v.state.base ≤ (view_in v.queues m).room

@@ -13,10 +13,11 @@ use crate::tables::Tables;
 use pim_base::{MutexNo, Reason, TaskNo};
 
 impl Tables {
-    /// Why the task, which is known, has its effective priority, where the stored priorities are settled.
+    /// Returns why the known task has its effective priority. The stored priorities must be settled.
     ///
-    /// It is the base, where that is the priority; else the least owned PROTECT mutex with this ceiling; else the least
-    /// owned INHERIT mutex with a waiter of this priority, and its first waiter.
+    /// The reason is the base, where that is the priority; else the least owned PROTECT mutex with this ceiling; else the
+    /// least owned INHERIT mutex with a waiter of this priority, and its first waiter. Looks twice at most at each mutex
+    /// that the task owns.
     pub fn reason(&self, task: TaskNo) -> Reason
         requires settled { SettledBut self.now.state (stored_at self.now) None }
         requires known { IsTask self.now.state task }
@@ -31,16 +32,16 @@ impl Tables {
             return Reason::Ceiling(mutex);
         }
         match self.lender_at(task, level) {
-            Some(mutex) => self.first_waiter(mutex),
+            Some(mutex) => self.waiter_reason(mutex),
             None => Reason::Base,
         }
     }
 
-    // the first of those who wait for the mutex, as a reason
-    fn first_waiter(&self, mutex: MutexNo) -> Reason
+    // the first waiter for the mutex, as a reason
+    fn waiter_reason(&self, mutex: MutexNo) -> Reason
         ensures { result ≡ first_reason self.now mutex }
     {
-        match &self.front(mutex) {
+        match &self.first_waiter(mutex) {
             Some(first) => Reason::Waiter(first.task, mutex),
             None => Reason::Base,
         }
@@ -65,7 +66,7 @@ impl Tables {
     fn lends(&self, mutex: MutexNo, level: u16) -> bool
         ensures { result ≡ lends_now self.now level mutex }
     {
-        self.is_inherit(mutex) && self.front_level(mutex) == level
+        self.is_inherit(mutex) && self.first_level(mutex) == level
     }
 
     // the ceiling of the mutex as a number, 0 where it has none

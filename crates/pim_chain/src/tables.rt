@@ -5,8 +5,9 @@ ghost use Rattle.std.specs.List.{filter};
 ghost use Rattle.std.specs.Option.{option_copied};
 ghost use Rattle.pim_base.specs.declared.limits.TheConstants.{MAX_TASKS, MAX_MUTEXES};
 ghost use Rattle.pim_base.specs.Lists.{nth, first_item};
-ghost use Rattle.pim_base.specs.State.{IsTask, IsMutex, task_numbers, base_of, owner_of, owned, wait_of, with_owner, with_base};
-ghost use Rattle.pim_base.specs.Chains.{blocker, closes_cycle};
+ghost use Rattle.pim_base.specs.State.{IsTask, IsMutex, task_numbers, base_of, protocol_of, owner_of, owned, wait_of, with_owner, with_base};
+ghost use Rattle.pim_base.specs.Chains.{blocker, heir_of, closes_cycle};
+ghost use Rattle.pim_base.specs.Priorities.{ceiling};
 ghost use Rattle.pim_base.specs.declared.steps.Wait.{Wait};
 ghost use Rattle.pim_chain.specs.Views.{Ready, fresh, with_state, queue_at, stored_at};
 ghost use Rattle.pim_chain.specs.Work.{has_changed};
@@ -16,23 +17,27 @@ use crate::changed::Changed;
 use crate::number_set::NumberSet;
 use crate::numbered::{filled, nth, put};
 use crate::owned::Owned;
+use crate::owned_sets::OwnedSets;
+use crate::queues::Queues;
 use crate::visits::Visits;
-use crate::{lines, sets};
 use pim_base::{MutexNo, Prio, Protocol, TaskNo, Wait, Waiter};
 use pim_queue::Queue;
 use std::alloc::{AllocError, Global};
 use std::marker::Model;
 
 /// The facts about tasks and mutexes, the stored priorities and the queues.
+///
+/// Only `new` and `try_clone` take memory: they make all the room that the other calls use. A getter answers None for
+/// an unknown number; every other call must be given known ones.
 #[derive(Drop)]
 pub struct Tables {
     base: Vec<Prio>,
     protocol: Vec<Protocol>,
     owner: Vec<Option<TaskNo>>,
     wait: Vec<Option<Wait>>,
-    owned: Vec<NumberSet>,
+    owned: OwnedSets,
     stored: Vec<Prio>,
-    queues: Vec<Queue>,
+    queues: Queues,
     next: u64,
 }
 
@@ -41,65 +46,59 @@ impl Model for Tables {
 
     ghost Value = { View };
 
-    ghost use Rattle.pim_chain.specs.Shown.{shown, Kept};
+    ghost use Rattle.pim_chain.specs.Shown.{shown, AreTables};
 
     ghost view = { shown };
 
-    ghost invariant = { Kept };
+    ghost invariant = { AreTables };
 }
 
 impl Tables {
-    /// The tables of these tasks and mutexes: all mutexes are free, nobody waits, and each stored priority is the base.
-    /// The only error is that memory was refused.
+    /// Makes the tables of these tasks and mutexes: all mutexes are free, nobody waits, each stored priority is the base,
+    /// and the next ticket is 1.
+    ///
+    /// # Errors
+    ///
+    /// Fails where memory is refused.
     pub fn new(alloc: Global, bases: &[Prio], protocols: &[Protocol]) -> Result<Tables, AllocError>
         requires tasks { length bases.now ≤ MAX_TASKS }
         requires mutexes { length protocols.now ≤ MAX_MUTEXES }
         ensures made { IfOk result (λ tables. tables ≡ fresh bases.now protocols.now) }
         ensures calm { IfOk result Calm }
     {
-        let base = Vec::from_slice(alloc, bases)?;
-        let protocol = Vec::from_slice(alloc, protocols)?;
-        let owner = filled(alloc, protocols.len(), None)?;
-        let wait = filled(alloc, bases.len(), None)?;
-        let owned = filled(alloc, bases.len(), NumberSet::new())?;
-        let stored = Vec::from_slice(alloc, bases)?;
-        let queues = lines::empty(alloc, protocols.len(), bases.len() as u16)?;
         Ok(Tables {
-            base,
-            protocol,
-            owner,
-            wait,
-            owned,
-            stored,
-            queues,
+            base: Vec::from_slice(alloc, bases)?,
+            protocol: Vec::from_slice(alloc, protocols)?,
+            owner: filled(alloc, protocols.len(), None)?,
+            wait: filled(alloc, bases.len(), None)?,
+            owned: OwnedSets::new(alloc, bases.len())?,
+            stored: Vec::from_slice(alloc, bases)?,
+            queues: Queues::new(alloc, protocols.len(), bases.len() as u16)?,
             next: 1,
         })
     }
 
-    /// Equal tables, stored priorities too. The only error is that memory was refused.
+    /// Makes equal tables, stored priorities too.
+    ///
+    /// # Errors
+    ///
+    /// Fails where memory is refused.
     pub fn try_clone(&self, alloc: Global) -> Result<Tables, AllocError>
         ensures { IfOk result (λ tables. tables ≡ self.now) }
     {
-        let base = Vec::from_slice(alloc, &self.base)?;
-        let protocol = Vec::from_slice(alloc, &self.protocol)?;
-        let owner = Vec::from_slice(alloc, &self.owner)?;
-        let wait = Vec::from_slice(alloc, &self.wait)?;
-        let owned = Vec::from_slice(alloc, &self.owned)?;
-        let stored = Vec::from_slice(alloc, &self.stored)?;
-        let queues = lines::try_clone(alloc, &self.queues)?;
         Ok(Tables {
-            base,
-            protocol,
-            owner,
-            wait,
-            owned,
-            stored,
-            queues,
+            base: Vec::from_slice(alloc, &self.base)?,
+            protocol: Vec::from_slice(alloc, &self.protocol)?,
+            owner: Vec::from_slice(alloc, &self.owner)?,
+            wait: Vec::from_slice(alloc, &self.wait)?,
+            owned: self.owned.try_clone(alloc)?,
+            stored: Vec::from_slice(alloc, &self.stored)?,
+            queues: self.queues.try_clone(alloc)?,
             next: self.next,
         })
     }
 
-    /// How many tasks there are, at most 256.
+    /// Returns the number of tasks, at most `MAX_TASKS`.
     pub fn tasks(&self) -> u16
         ensures count { result ≡ length self.now.state.base }
         ensures ready { Ready self.now }
@@ -107,7 +106,7 @@ impl Tables {
         self.base.len() as u16
     }
 
-    /// How many mutexes there are, at most 256.
+    /// Returns the number of mutexes, at most `MAX_MUTEXES`.
     pub fn mutexes(&self) -> u16
         ensures count { result ≡ length self.now.state.protocol }
         ensures ready { Ready self.now }
@@ -115,32 +114,49 @@ impl Tables {
         self.protocol.len() as u16
     }
 
-    /// The base priority of the task, None for an unknown one.
+    /// Returns the base priority of the task, None for an unknown one.
     pub fn base(&self, task: TaskNo) -> Option<Prio>
         ensures { result ≡ nth self.now.state.base task }
     {
         nth(&self.base, task.get())
     }
 
-    /// The protocol of the mutex, None for an unknown one.
+    /// Returns the protocol of the mutex, None for an unknown one.
     pub fn protocol(&self, mutex: MutexNo) -> Option<Protocol>
         ensures { result ≡ nth self.now.state.protocol mutex }
     {
         nth(&self.protocol, mutex.get())
     }
 
-    /// The owner of the mutex, None where it is free or unknown.
+    /// Returns the ceiling of a PROTECT mutex, None for any other one.
+    pub fn ceiling(&self, mutex: MutexNo) -> Option<Prio>
+        ensures { result ≡ ceiling (protocol_of self.now.state mutex) }
+    {
+        self.protocol(mutex)?.ceiling()
+    }
+
+    /// Returns the owner of the mutex, None where it is free or unknown.
     pub fn owner(&self, mutex: MutexNo) -> Option<TaskNo>
         ensures { result ≡ owner_of self.now.state mutex }
     {
         nth(&self.owner, mutex.get()).flatten()
     }
 
+    /// Returns the owner of an INHERIT mutex, which gets the priority of those that wait for it, None for any other one.
+    pub fn heir_of(&self, mutex: MutexNo) -> Option<TaskNo>
+        ensures { result ≡ heir_of self.now.state mutex }
+    {
+        match self.protocol(mutex)? {
+            Protocol::Inherit => self.owner(mutex),
+            Protocol::None | Protocol::Protect(_) => None,
+        }
+    }
+
     /// Returns the mutexes that the task owns, in ascending order, none for an unknown task.
     pub fn owned(&self, task: TaskNo) -> Owned
         ensures { result ≡ owned self.now.state task }
     {
-        sets::owned(&self.owned, task)
+        self.owned.of(task)
     }
 
     /// Returns the next ticket.
@@ -150,36 +166,35 @@ impl Tables {
         self.next
     }
 
-    /// The mutex that the task waits for, with its ticket there, None where it waits for nothing or is unknown.
+    /// Returns the mutex that the task waits for, with its ticket there, None where it waits for nothing or is unknown.
     pub fn waits_for(&self, task: TaskNo) -> Option<Wait>
         ensures { result ≡ wait_of self.now.state task }
     {
         nth(&self.wait, task.get()).flatten()
     }
 
-    /// The stored priority of the task, None for an unknown one.
+    /// Returns the stored priority of the task, None for an unknown one.
     pub fn stored(&self, task: TaskNo) -> Option<Prio>
         ensures { result ≡ nth self.now.stored task }
     {
         nth(&self.stored, task.get())
     }
 
-    /// Those who wait for the mutex, None for an unknown one.
+    /// Returns the queue of the mutex, None for an unknown one.
     pub fn queue(&self, mutex: MutexNo) -> Option<&Queue>
         ensures { option_copied result ≡ nth self.now.queues mutex }
     {
-        let place = (mutex.get() as usize).checked_sub(1)?;
-        self.queues.get(place)
+        self.queues.get(mutex)
     }
 
-    /// The first of those who wait for the mutex.
-    pub fn front(&self, mutex: MutexNo) -> Option<Waiter>
+    /// Returns the first waiter for the mutex, None where nobody waits or the mutex is unknown.
+    pub fn first_waiter(&self, mutex: MutexNo) -> Option<Waiter>
         ensures { result ≡ first_item (queue_at self.now mutex) }
     {
-        lines::front(&self.queues, mutex)
+        self.queues.first_waiter(mutex)
     }
 
-    /// The base priority of a known task.
+    /// Returns the base priority of a known task.
     pub fn known_base(&self, task: TaskNo) -> Prio
         requires { IsTask self.now.state task }
         ensures { result ≡ base_of self.now.state task }
@@ -187,7 +202,7 @@ impl Tables {
         self.base[task.get() as usize - 1]
     }
 
-    /// The stored priority of a known task.
+    /// Returns the stored priority of a known task.
     pub fn known_stored(&self, task: TaskNo) -> Prio
         requires { IsTask self.now.state task }
         ensures { result ≡ stored_at self.now task }
@@ -196,7 +211,7 @@ impl Tables {
     }
 
     /// Returns the tasks whose stored priority isn't the one that they had when the visits began to note, in ascending
-    /// order. Only noted tasks are looked at.
+    /// order. Looks at the noted tasks alone.
     pub fn changed<'a>(&'a self, visits: &'a Visits) -> Changed<'a>
         ensures { result ≡ filter (has_changed (stored_at self.now) visits.now) (task_numbers self.now.state) }
     {
@@ -215,7 +230,7 @@ impl Tables {
         self.next = ticket;
     }
 
-    /// The free mutex gets an owner, who waits for nothing.
+    /// Makes the task, which must wait for nothing, the owner of the mutex, which must be free.
     pub fn bind(&mut self, mutex: MutexNo, task: TaskNo)
         requires mutex { IsMutex self.old.state mutex }
         requires free { owner_of self.old.state mutex ≡ None }
@@ -226,10 +241,10 @@ impl Tables {
         ensures ready { Ready self.new }
     {
         put(&mut self.owner, mutex.get(), Some(task));
-        sets::insert(&mut self.owned, task, mutex.get());
+        self.owned.insert(task, mutex);
     }
 
-    /// The owned mutex is free.
+    /// Makes the mutex, which must be owned, free.
     pub fn unbind(&mut self, mutex: MutexNo)
         requires owned { owner_of self.old.state mutex ≢ None }
         ensures state { self.new ≡ with_state self.old (with_owner self.old.state mutex None) }
@@ -238,11 +253,11 @@ impl Tables {
     {
         if let Some(owner) = self.owner(mutex) {
             put(&mut self.owner, mutex.get(), None);
-            sets::remove(&mut self.owned, owner, mutex.get());
+            self.owned.remove(owner, mutex);
         }
     }
 
-    /// The task has another base priority.
+    /// Gives the task this base priority.
     pub fn put_base(&mut self, task: TaskNo, prio: Prio)
         requires { IsTask self.old.state task }
         ensures state { self.new ≡ with_state self.old (with_base self.old.state task prio) }
@@ -252,7 +267,10 @@ impl Tables {
         put(&mut self.base, task.get(), prio);
     }
 
-    /// The task, which waits for nothing, waits for the mutex, where nobody has this ticket. That may close no cycle.
+    /// Lets the task, which must wait for nothing, wait for the mutex with this ticket, which nobody there must have. The
+    /// wait must close no cycle. The next ticket stays.
+    ///
+    /// Shifts the waiters behind its place in the queue.
     pub fn join(&mut self, task: TaskNo, mutex: MutexNo, ticket: u64)
         requires known { IsTask self.old.state task }
         requires mutex { IsMutex self.old.state mutex }
@@ -264,11 +282,13 @@ impl Tables {
         ensures ready { Ready self.new }
     {
         let prio = self.stored[task.get() as usize - 1];
-        lines::insert(&mut self.queues, mutex, Waiter { task, prio, ticket });
+        self.queues.insert(mutex, Waiter { task, prio, ticket });
         put(&mut self.wait, task.get(), Some(Wait { mutex, ticket }));
     }
 
-    /// The task, which waits, waits no more.
+    /// Lets the task, which must wait, stop waiting.
+    ///
+    /// Shifts the waiters behind its place in the queue.
     pub fn leave(&mut self, task: TaskNo)
         requires { wait_of self.old.state task ≢ None }
         ensures left { (w : Wait) → wait_of self.old.state task ≡ Some w → self.new ≡ left self.old task w.mutex }
@@ -282,12 +302,12 @@ impl Tables {
                 prio,
                 ticket: wait.ticket,
             };
-            lines::remove(&mut self.queues, wait.mutex, &waiter);
+            self.queues.remove(wait.mutex, &waiter);
             put(&mut self.wait, task.get(), None);
         }
     }
 
-    /// Stores the priority, and moves the task in the queue that it waits in.
+    /// Stores the priority, and moves the task to its place in the queue that it waits in.
     pub(crate) fn restore(&mut self, task: TaskNo, prio: Prio)
         requires { IsTask self.old.state task }
         ensures { self.new ≡ restored self.old task prio }
@@ -301,7 +321,7 @@ impl Tables {
                 prio: before,
                 ticket: wait.ticket,
             };
-            lines::reposition(&mut self.queues, wait.mutex, &waiter, prio);
+            self.queues.reposition(wait.mutex, &waiter, prio);
         }
     }
 }

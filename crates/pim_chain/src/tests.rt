@@ -132,7 +132,7 @@ fn unlock(rt: &impl Abort, tables: &mut Tables, mutex: MutexNo, visits: &mut Vis
     requires { SettledBut tables.old.state (stored_at tables.old) None }
     ensures { SettledBut tables.new.state (stored_at tables.new) None }
 {
-    let first = tables.front(mutex);
+    let first = tables.first_waiter(mutex);
     free(rt, tables, mutex, visits);
     if let Some(waiter) = &first {
         take(rt, tables, mutex, waiter.task, visits);
@@ -274,7 +274,7 @@ fn second_waiter_becomes_first_with_a_changed_priority(rt: HostRuntime) -> Resul
     play(&rt, &mut tables, &rows);
     assert_eq!(rt;
         tables
-            .front(MutexNo(3))
+            .first_waiter(MutexNo(3))
             .is_some_and(|first| first.task == TaskNo(1)),
         true
     );

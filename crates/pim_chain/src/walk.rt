@@ -1,4 +1,4 @@
-//! The walk that mends the stored priorities, and stops early.
+//! The walk that restores the stored priorities, and stops early.
 
 ghost use Rattle.std.specs.Prelude.{◌≡◌, ◌≤◌, ◌<◌, ◌+◌, ◌-◌, ◌^◌, ◌==◌, if◌then◌else◌, None, length, unwrap_or, ℕ};
 ghost use Rattle.pim_base.specs.declared.limits.TheConstants.{MAX_TASKS};
@@ -6,7 +6,7 @@ ghost use Rattle.pim_base.specs.State.{IsTask, IsMutex};
 ghost use Rattle.pim_base.specs.Chains.{heir, heir_of};
 ghost use Rattle.pim_base.specs.Priorities.{local_priority, effective_priority};
 ghost use Rattle.pim_base.specs.Queues.{queue_of};
-ghost use Rattle.pim_chain.specs.Views.{Ready, stored_at, queue_at, front_prio};
+ghost use Rattle.pim_chain.specs.Views.{Ready, stored_at, queue_at, first_prio};
 ghost use Rattle.pim_chain.specs.Owned.{worth};
 ghost use Rattle.pim_chain.specs.Settled.{SettledBut, Visited, next_of, changed};
 ghost use Rattle.pim_chain.specs.Work.{Tells, Worked};
@@ -17,21 +17,21 @@ use crate::visits::Visits;
 use pim_base::{MutexNo, Prio, TaskNo};
 
 impl Tables {
-    // the priority at the front of the mutex's queue
-    fn front_prio(&self, mutex: MutexNo) -> Option<Prio>
-        ensures { unwrap_or result 0 ≡ front_prio (queue_at self.now mutex) }
+    // the priority of the first waiter for the mutex
+    fn first_prio(&self, mutex: MutexNo) -> Option<Prio>
+        ensures { unwrap_or result 0 ≡ first_prio (queue_at self.now mutex) }
     {
-        match &self.front(mutex) {
+        match &self.first_waiter(mutex) {
             Some(first) => Some(first.prio),
             None => None,
         }
     }
 
-    // the same as a number, 0 where nobody waits
-    pub(crate) fn front_level(&self, mutex: MutexNo) -> u16
-        ensures { result ≡ front_prio (queue_at self.now mutex) }
+    // this priority as a number, 0 where nobody waits
+    pub(crate) fn first_level(&self, mutex: MutexNo) -> u16
+        ensures { result ≡ first_prio (queue_at self.now mutex) }
     {
-        match self.front_prio(mutex) {
+        match self.first_prio(mutex) {
             Some(prio) => prio.get(),
             None => 0,
         }
@@ -42,13 +42,15 @@ impl Tables {
         ensures { unwrap_or result 0 ≡ worth self.now mutex }
     {
         match self.heir_of(mutex) {
-            Some(_heir) => self.front_prio(mutex),
+            Some(_heir) => self.first_prio(mutex),
             None => self.ceiling(mutex),
         }
     }
 
-    /// The greatest of the task's base and what its mutexes lend it: the ceilings of the PROTECT mutexes and the
-    /// priorities at the front of the queues of the INHERIT mutexes. This is a visit, and counted.
+    /// Computes the local priority of the task: the greatest of its base and what its mutexes lend it, the ceilings of
+    /// the PROTECT mutexes and the priorities of the first waiters for the INHERIT mutexes.
+    ///
+    /// This is a visit, and counted. It looks at each mutex that the task owns.
     pub fn local(&self, task: TaskNo, visits: &mut Visits) -> Prio
         requires known { IsTask self.now.state task }
         requires room { visits.old.count < 2 ^ 32 - 1 }
@@ -67,19 +69,19 @@ impl Tables {
         prio
     }
 
-    // where the walk goes on from the queue of a mutex, whose front had this priority before: [5] and [6]
+    // where the walk goes on from the queue of a mutex, whose first waiter had this priority before: [5] and [6]
     fn onward(&self, mutex: MutexNo, before: u16) -> Option<TaskNo>
-        ensures { result ≡ (if before == front_prio (queue_at self.now mutex) then None else heir_of self.now.state mutex) }
+        ensures { result ≡ (if before == first_prio (queue_at self.now mutex) then None else heir_of self.now.state mutex) }
     {
         // [5]
-        if self.front_level(mutex) == before {
+        if self.first_level(mutex) == before {
             return None;
         }
         // [6]
         self.heir_of(mutex)
     }
 
-    // one turn of the walk, [2] to [6]: mends one task's priority, and answers who is to be looked at next
+    // one turn of the walk, [2] to [6]: restores one task's priority, and returns the task to go on with
     fn visit(&mut self, task: TaskNo, visits: &mut Visits) -> Option<TaskNo>
         requires settled { SettledBut self.old.state (stored_at self.old) (Some task) }
         requires known { IsTask self.old.state task }
@@ -95,34 +97,39 @@ impl Tables {
         if prio == had {
             return None;
         }
+        // [3]
         visits.note(task, had);
         match self.waits_for(task) {
-            // [3]
             None => {
                 self.restore(task, prio);
                 None
             }
             // [4]
             Some(wait) => {
-                let before = self.front_level(wait.mutex);
+                let before = self.first_level(wait.mutex);
                 self.restore(task, prio);
                 self.onward(wait.mutex, before)
             }
         }
     }
 
-    /// The walk, which mends the stored priorities and the queues after a change of one task's local priority.
+    /// Walks from a task whose local priority a change may have altered, and restores all stored priorities and queues.
     ///
-    /// 1. `[1]` Look at the given task.
+    /// 1. `[1]` Begin with the given task.
     /// 2. `[2]` Visit it: compute its local priority. If that is the stored one, stop.
-    /// 3. `[3]` Store it. If the task waits for nothing, stop.
+    /// 3. `[3]` Note what it had, and store the new priority. If the task waits for nothing, stop.
     /// 4. `[4]` Move the task, with its ticket, to its place in the queue that it waits in.
-    /// 5. `[5]` If the priority at the front of that queue is what it was, stop.
-    /// 6. `[6]` If the mutex isn't an INHERIT one, or is free, stop. Else look at its owner: go to `[2]`.
+    /// 5. `[5]` If the priority of the first waiter in that queue is what it was, stop.
+    /// 6. `[6]` If the mutex isn't an INHERIT one, or is free, stop. Else go on with its owner at `[2]`.
     ///
-    /// Before it, every task but the given one has the priority that it has locally. After it, each stored priority is
-    /// the effective one, each queue is the one of those priorities, and nothing else has changed. It visits each task
-    /// whose priority changes, and at most one more; a task that hands its priority on to nobody is one visit.
+    /// Before the walk every task but the given one must have the stored priority that it has locally. After it each
+    /// stored priority is the effective one, each queue is in the order of these priorities, and nothing else changed.
+    ///
+    /// # Cost
+    ///
+    /// At most one visit more than there are tasks whose priority changes, and one visit alone where the task hands its
+    /// priority on to nobody. A visit looks at each mutex that its task owns. `[4]` finds both places by binary search,
+    /// and shifts the waiters between them. The walk takes no memory, and never looks at all tasks.
     pub fn settle_from(&mut self, task: TaskNo, visits: &mut Visits)
         requires settled { SettledBut self.old.state (stored_at self.old) (Some task) }
         requires known { IsTask self.old.state task }

@@ -6,7 +6,7 @@ use Rattle.std.proofs.lemmas.Bool.{both_ways, eqb-true, eq-eqb, or_parts, cond_b
 use Rattle.pim_base.specs.declared.steps.Waiter.{Waiter}
 use Rattle.pim_base.specs.Lists.{insert_by}
 use Rattle.pim_base.specs.Queues.{precedes}
-use Rattle.pim_queue.specs.Line.{IsLine}
+use Rattle.pim_queue.specs.QueueView.{AreQueued}
 use Rattle.pim_queue.specs.Waiters.{is_of, has_ticket, without, ticket_of, repositioned, Differs, IsApart}
 use Rattle.pim_queue.proofs.Order.{all_each, all_both, all_without, all_place, ordered_without, ordered_place}
 use Rattle.pim_queue.proofs.Places.{insert_by_is}
@@ -126,45 +126,45 @@ others_differ task prio (v ∷ vs) h k = go (is_of task v) refl (others_differ t
 tickets_apart : (w : Waiter) (ws : List Waiter) → AllByRecursion (Differs w) ws → AllByRecursion (λ v. v.ticket ≡ w.ticket → ⊥) ws
 tickets_apart w ws new = all_each (Differs w) (λ v. v.ticket ≡ w.ticket → ⊥) (λ v d same. d.ticket (sym same)) ws new
 
-line_joined :
+queued_joined :
     (room : ℕ) (w : Waiter) (ws : List Waiter)
-    → IsLine room ws
+    → AreQueued room ws
     → length ws < room
     → AllByRecursion (Differs w) ws
-    → IsLine room (insert_by precedes ws w)
-line_joined room w ws line fits new =
+    → AreQueued room (insert_by precedes ws w)
+queued_joined room w ws queued fits new =
     let longer : length (insert_by precedes ws w) ≡ suc (length ws) = length-insert_by w ws in
     record {
-      ordered = ordered_place w ws line.ordered (tickets_apart w ws new);
-      apart = apart_place w ws line.apart new;
+      ordered = ordered_place w ws queued.ordered (tickets_apart w ws new);
+      apart = apart_place w ws queued.apart new;
       fits = omega arith;
     }
 
-pub line_placed :
+pub queued_placed :
     (room : ℕ) (w : Waiter) (ws : List Waiter)
-    → IsLine room ws
+    → AreQueued room ws
     → length ws < room
     → list_any (is_of w.task) ws ≡ false
     → list_any (has_ticket w.ticket) ws ≡ false
-    → IsLine room (insert_by precedes ws w)
-line_placed room w ws line fits task ticket = line_joined room w ws line fits (differs_from w ws task ticket)
+    → AreQueued room (insert_by precedes ws w)
+queued_placed room w ws queued fits task ticket = queued_joined room w ws queued fits (differs_from w ws task ticket)
 
-pub line_without : (room task : ℕ) (ws : List Waiter) → IsLine room ws → IsLine room (without task ws)
-line_without room task ws line =
+pub queued_without : (room task : ℕ) (ws : List Waiter) → AreQueued room ws → AreQueued room (without task ws)
+queued_without room task ws queued =
     let shorter : length (without task ws) ≤ length ws = length-without task ws in
-    let fits : length ws ≤ room = line.fits in
-    record { ordered = ordered_without task ws line.ordered; apart = apart_without task ws line.apart; fits = omega arith }
+    let fits : length ws ≤ room = queued.fits in
+    record { ordered = ordered_without task ws queued.ordered; apart = apart_without task ws queued.apart; fits = omega arith }
 
-pub line_repositioned :
+pub queued_repositioned :
     (room task prio : ℕ) (ws : List Waiter)
-    → IsLine room ws
+    → AreQueued room ws
     → list_any (is_of task) ws ≡ true
-    → IsLine room (repositioned task prio ws)
-line_repositioned room task prio ws line here =
+    → AreQueued room (repositioned task prio ws)
+queued_repositioned room task prio ws queued here =
     let fewer : suc (length (without task ws)) ≡ length ws = length-without_one task ws here in
-    let fits : length ws ≤ room = line.fits in
-    line_joined room (record { task = task; prio = prio; ticket = ticket_of task ws }) (without task ws) (line_without room task ws line)
-    (omega arith) (others_differ task prio ws line.apart here)
+    let fits : length ws ≤ room = queued.fits in
+    queued_joined room (record { task = task; prio = prio; ticket = ticket_of task ws }) (without task ws) (queued_without room task ws queued)
+    (omega arith) (others_differ task prio ws queued.apart here)
 
 -- the one that is found is of the task
 found_is_of : (task : ℕ) (ws : List Waiter) (w : Waiter) → find (is_of task) ws ≡ Some w → w.task ≡ task

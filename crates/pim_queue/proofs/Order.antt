@@ -1,4 +1,4 @@
-use Rattle.std.proofs.Common.{◌≡◌, ℕ, zero, suc, ◌<◌, ◌≤◌, Bool, true, false, cond, ◌&&◌, ◌||◌, ◌⊎◌, inl, inr, refl, sym, ◌∙◌, ap, subst, arith, Some, List, [], ◌∷◌, take, drop, eqb, ltb}
+use Rattle.std.proofs.Common.{◌≡◌, ℕ, zero, suc, ◌<◌, ◌≤◌, Bool, true, false, cond, ◌&&◌, ◌||◌, ◌⊎◌, inl, inr, refl, sym, ◌∙◌, ap, subst, arith, Some, None, List, [], ◌∷◌, take, drop, eqb, ltb}
 use Rattle.std.specs.List.{list_any, find, AllByRecursion}
 use Rattle.std.proofs.lemmas.Bool.{both_ways, cases_order, ltb-true, lt-ltb, eqb-true, eq-eqb, or_cases, or_left, or_right, and_parts, and_from, cond_both}
 use Rattle.std.proofs.lemmas.Option.{none-some, same_Some}
@@ -47,7 +47,16 @@ any_found p (y ∷ ys) x h = go (p y) (any_found p ys x) h
     go true rest e = refl
     go false rest e = rest e
 
--- and has what all have
+-- where nothing is found, nothing passes
+pub none_found : {X : Type 0} (p : X → Bool) → (xs : List X) → find p xs ≡ None → list_any p xs ≡ false
+none_found p [] h = refl
+none_found p (x ∷ xs) h = go (p x) h (none_found p xs)
+  where
+    go : (b : Bool) → cond b (Some x) (find p xs) ≡ None → (find p xs ≡ None → list_any p xs ≡ false) → (b || list_any p xs) ≡ false
+    go true h rest = absurd (none-some x (sym h))
+    go false h rest = rest h
+
+-- what is found has what all have
 pub found_holds :
     {X : Type 0} (p : X → Bool) (P : X → Type 0)
     → (xs : List X) (x : X)

@@ -1,8 +1,8 @@
-use Rattle.std.proofs.Common.{◌≡◌, ℕ, ◌∙◌, ap, sym, List, [], filter, Some, None, Option, if◌then◌else◌}
-use Rattle.std.specs.Option.{option_and_then, option_copied}
-use Rattle.pim_chain.specs.Numbers.{has, members}
+use Rattle.std.proofs.Common.{◌∙◌, ap, sym, [], filter, Some, None, Option, if◌then◌else◌}
+use Rattle.std.specs.Option.{option_and_then}
+use Rattle.pim_chain.specs.Numbers.{members}
 use Rattle.pim_chain.specs.Views.{stored_in}
-use Rattle.pim_chain.specs.Work.{Noted, noted_in, noted_of, differs_in}
+use Rattle.pim_chain.specs.Work.{Noted, noted_in, differs_in}
 use Rattle.pim_chain.specs.Shown.{shown}
 use Rattle.pim_chain.proofs.Told.{changed_noted}
 use Rattle.pim_chain.proofs.tables.Tables.changed.Goals as goal

@@ -1,4 +1,4 @@
-use Rattle.std.proofs.Common.{◌≡◌, ◌≤◌, ◌==◌, ◌∙◌, sym, ap, arith, Option, ℕ, Some, None}
+use Rattle.std.proofs.Common.{◌≡◌, ◌==◌, ◌∙◌, sym, ap, arith, Some, None}
 use Rattle.std.specs.List.{find}
 use Rattle.pim_base.specs.State.{IsMutex, owned}
 use Rattle.pim_base.specs.Priorities.{ceiling_of}
@@ -32,7 +32,7 @@ returns-in-Some-lender_at c =
     ap (λ p. find (lends_now v p) (owned v.state c.args.task)) (sym level) ∙ sym c.in-Some-lender_at.ensures in
     let known : IsMutex v.state c.in-Some-lender_at.mutex =
     found_known v calm.ready.sound.lists c.args.task c.in-Some-lender_at.mutex (lends_now v (stored_at v c.args.task)) found in
-    c.first_waiter.ensures ∙ waiter_here v c.in-Some-lender_at.mutex calm known
+    c.waiter_reason.ensures ∙ waiter_here v c.in-Some-lender_at.mutex calm known
     ∙ reason_waiter v c.args.task calm c.requires.known
     (λ e. c.if-level-get.false (level ∙ e ∙ sym (c.get.ensures.value ∙ c.known_base.ensures)))
     (Some c.in-Some-lender_at.mutex)

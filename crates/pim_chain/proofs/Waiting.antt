@@ -18,7 +18,7 @@ use Rattle.pim_base.proofs.Places.{nth_within}
 use Rattle.pim_base.proofs.Stored.{own_priority-le-local_priority, stored-le-local_priority, local_priority-le, holds_from, from_holds}
 use Rattle.pim_queue.specs.Waiters.{is_of, without, IsOrdered}
 use Rattle.pim_queue.proofs.Order.{found, all_both, all_each, before_prio, told_before, Before, all_without, ordered_without, any_without, all_place, ordered_place, any_place_new, any_place}
-use Rattle.pim_chain.specs.Views.{front_prio, waits_for, Shows, IsQueue, WaitsFit}
+use Rattle.pim_chain.specs.Views.{first_prio, waits_for, Shows, IsQueue, WaitsFit}
 use Rattle.pim_chain.proofs.Local.{top, through, heir_at, waits_for_from}
 
 pub waiting_known : (S : State) → IsState S → (t : ℕ) (w : Wait) → wait_of S t ≡ Some w → IsTask S t
@@ -46,7 +46,7 @@ pub top_front :
     (S : State) (stored : ℕ → ℕ) (m : ℕ) (ws : List Waiter)
     → IsState S
     → IsQueue (wait_of S) stored m ws
-    → top S stored m ≡ front_prio ws
+    → top S stored m ≡ first_prio ws
 top_front S stored m [] lists q =
     le_antisymm
     (greatest_of-le stored (waits_for (wait_of S) m) (length S.base) 0 (λ u _ _ h. absurd (both_ways false refl (q.complete u h))))

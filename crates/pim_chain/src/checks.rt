@@ -1,0 +1,67 @@
+//! The checks of a step, but for the deadlock test.
+
+ghost use Rattle.std.specs.Prelude.{◌≡◌, ◌↔◌, IsTrue, ℕ, Some};
+ghost use Rattle.pim_base.specs.Lists.{holds};
+ghost use Rattle.pim_base.specs.State.{owner_of, wait_of};
+ghost use Rattle.pim_base.specs.Checks.{unknown_task, unknown_mutex, is_waiting, is_owned, above_ceiling};
+
+use crate::tables::Tables;
+use pim_base::{MutexNo, TaskNo};
+
+impl Tables {
+    /// Whether no task has this number.
+    pub fn is_unknown_task(&self, task: TaskNo) -> bool
+        ensures { result ≡ unknown_task self.now.state task }
+    {
+        task.get() == 0 || self.tasks() < task.get()
+    }
+
+    /// Whether no mutex has this number.
+    pub fn is_unknown_mutex(&self, mutex: MutexNo) -> bool
+        ensures { result ≡ unknown_mutex self.now.state mutex }
+    {
+        mutex.get() == 0 || self.mutexes() < mutex.get()
+    }
+
+    /// Whether the task waits for a mutex.
+    pub fn is_waiting(&self, task: TaskNo) -> bool
+        ensures { result ≡ is_waiting self.now.state task }
+    {
+        self.waits_for(task).is_some()
+    }
+
+    /// Whether the mutex has an owner.
+    pub fn is_owned(&self, mutex: MutexNo) -> bool
+        ensures { result ≡ is_owned self.now.state mutex }
+    {
+        self.owner(mutex).is_some()
+    }
+
+    /// Whether the task owns the mutex.
+    pub fn owns(&self, task: TaskNo, mutex: MutexNo) -> bool
+        ensures { result ≡ holds (owner_of self.now.state mutex) task }
+    {
+        self.owner(mutex) == Some(task)
+    }
+
+    /// Whether somebody waits for the mutex with this ticket. Looks at each waiter.
+    pub fn has_ticket(&self, mutex: MutexNo, ticket: u64) -> bool
+        ensures { IsTrue result ↔ ((t : ℕ) × (wait_of self.now.state t ≡ Some (record { mutex = mutex; ticket = ticket }))) }
+    {
+        let _tasks = self.tasks();
+        match self.queue(mutex) {
+            Some(queue) => queue.has_ticket(ticket),
+            None => false,
+        }
+    }
+
+    /// Whether the base of the task is above the ceiling of the mutex.
+    pub fn is_above_ceiling(&self, task: TaskNo, mutex: MutexNo) -> bool
+        ensures { result ≡ above_ceiling self.now.state task mutex }
+    {
+        match (self.ceiling(mutex), self.base(task)) {
+            (Some(ceiling), Some(base)) => ceiling < base,
+            _ => false,
+        }
+    }
+}

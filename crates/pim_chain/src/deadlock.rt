@@ -1,0 +1,48 @@
+//! The deadlock test.
+
+ghost use Rattle.std.specs.Prelude.{◌≡◌};
+ghost use Rattle.pim_base.specs.Lists.{contains};
+ghost use Rattle.pim_base.specs.Chains.{blocker, waits_chain, closes_cycle};
+
+use crate::tables::Tables;
+use pim_base::{MutexNo, TaskNo};
+
+impl Tables {
+    /// Returns the owner of the mutex that the task waits for.
+    pub fn blocker(&self, task: TaskNo) -> Option<TaskNo>
+        ensures { result ≡ blocker self.now.state task }
+    {
+        self.owner(self.waits_for(task)?.mutex)
+    }
+
+    /// Whether the task is `from`, or is reached from it by hops to the owner of the mutex that a task waits for.
+    ///
+    /// Makes at most as many hops as there are tasks, through mutexes of any protocol.
+    #[tactic(auto, using(crate::proofs::Hopping::contains_onward))]
+    pub fn on_chain(&self, from: TaskNo, task: TaskNo) -> bool
+        ensures { result ≡ contains (waits_chain self.now.state from) task }
+    {
+        let mut at = from;
+        for _hop in 0..self.tasks() {
+            if task == at {
+                return true;
+            }
+            match self.blocker(at) {
+                Some(next) => at = next,
+                None => return false,
+            }
+        }
+        task == at
+    }
+
+    /// Whether the wait of the task for the mutex would close a cycle: the mutex is owned, and the task is on the chain
+    /// of its owner.
+    pub fn closes_cycle(&self, task: TaskNo, mutex: MutexNo) -> bool
+        ensures { result ≡ closes_cycle self.now.state task mutex }
+    {
+        match self.owner(mutex) {
+            Some(owner) => self.on_chain(owner, task),
+            None => false,
+        }
+    }
+}
