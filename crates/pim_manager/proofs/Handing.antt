@@ -15,7 +15,7 @@ use Rattle.pim_chain.specs.Views.{View, Ready, IsQueue, with_state, stored_in, s
 use Rattle.pim_chain.specs.Settled.{SettledBut, Unsettles, left}
 use Rattle.pim_chain.specs.Work.{Work, Tells}
 use Rattle.pim_chain.proofs.Models.{queue_is}
-use Rattle.pim_chain.proofs.Queues.{waiting_known}
+use Rattle.pim_chain.proofs.Waiting.{waiting_known}
 use Rattle.pim_chain.proofs.Told.{tells-trans}
 use Rattle.pim_manager.specs.Settled.{IsSettled}
 use Rattle.pim_manager.proofs.Works.{Walked, walked}

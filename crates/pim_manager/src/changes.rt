@@ -97,7 +97,7 @@ impl Manager {
         ensures most { visits.new.count ≤ visits.old.count + 2 }
         ensures handed { 1 ≤ handed_mutex_count self.old self.new }
     {
-        let first = self.tables.front(mutex);
+        let first = self.tables.first_waiter(mutex);
         self.tables.unbind(mutex);
         self.tables.settle_from(owner, visits);
         if let Some(waiter) = &first {
