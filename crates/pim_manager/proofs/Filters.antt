@@ -5,16 +5,7 @@ use Rattle.std.specs.List.{range_with_len}
 use Rattle.pim_base.specs.Lists.{numbers}
 use Rattle.pim_base.specs.Counts.{count}
 use Rattle.pim_base.proofs.Greatest.{filter_numbers-more}
-
--- tests that agree pass the same numbers
-pub filter-same :
-    (p q : ℕ → Bool) (a n : ℕ)
-    → ((k : ℕ) → a ≤ k → k < a + n → p k ≡ q k)
-    → filter p (range_with_len a n) ≡ filter q (range_with_len a n)
-filter-same p q a zero same = refl
-filter-same p q a (suc n) same =
-    ap (λ xs. cond (p a) (a ∷ xs) xs) (filter-same p q (a + 1) n (λ k low high. same k (omega (arith, low)) (omega (arith, high))))
-    ∙ ap (λ b. cond b (a ∷ filter q (range_with_len (a + 1) n)) (filter q (range_with_len (a + 1) n))) (same a (omega arith) (omega arith))
+use Rattle.pim_chain.proofs.Members.{filter_same}
 
 -- no more pass than there are
 pub few_pass : (p : ℕ → Bool) (a n : ℕ) → length (filter p (range_with_len a n)) ≤ n
@@ -70,7 +61,7 @@ filter-rest p q a (suc n) m xs h gone same = go (p a) refl h (λ k. filter-rest 
         let is : a ≡ m = cc in
         let rest : filter p (range_with_len (a + 1) n) ≡ xs = cc in
         ap (λ b. cond b (a ∷ filter q (range_with_len (a + 1) n)) (filter q (range_with_len (a + 1) n))) (ap q is ∙ gone)
-        ∙ filter-same q p (a + 1) n (λ k low high. same k (λ k_is. absurd (omega (arith, low, is, k_is)))) ∙ rest
+        ∙ filter_same q p (a + 1) n (λ k low high. same k (λ k_is. absurd (omega (arith, low, is, k_is)))) ∙ rest
     go false e h later =
         ap (λ b. cond b (a ∷ filter q (range_with_len (a + 1) n)) (filter q (range_with_len (a + 1) n))) (at (cases_eq m a))
         ∙ later h

@@ -15,7 +15,7 @@ use Rattle.pim_chain.specs.Views.{View, Ready, IsQueue, with_state, stored_in, s
 use Rattle.pim_chain.specs.Settled.{SettledBut, Unsettles, left}
 use Rattle.pim_chain.specs.Work.{Work, Tells}
 use Rattle.pim_chain.proofs.Models.{queue_is}
-use Rattle.pim_chain.proofs.Queues.{waiting_known}
+use Rattle.pim_chain.proofs.Waiting.{waiting_known}
 use Rattle.pim_chain.proofs.Told.{tells-trans}
 use Rattle.pim_manager.specs.Settled.{IsSettled}
 use Rattle.pim_manager.proofs.Works.{Walked, walked}
@@ -103,19 +103,6 @@ pub record Passed (S : State) (u x : View) (m t : ℕ) : Type 0 where
   pub idle : wait_of x.state t ≡ None
   pub free : owner_of x.state m ≡ None
 
--- the first waiter still waits until then
-pub still_waits :
-    (v u : View) (S : State) (m : ℕ) (w : Waiter)
-    → IsSettled v
-    → v.state ≡ S
-    → IsMutex S m
-    → first_item (queue_at v m) ≡ Some w
-    → u.state ≡ with_owner S m None
-    → wait_of u.state w.task ≡ Some (record { mutex = m; ticket = w.ticket })
-still_waits v u S m w before shown known first freed =
-    ap (λ (U : State). wait_of U w.task) freed ∙ ap (λ (U : State). wait_of U w.task) (sym shown)
-    ∙ first_waits v m w before.calm.ready (subst (λ (U : State). IsMutex U m) (sym shown) known) first
-
 pub passed :
     (v r u x : View) (S : State) (m : ℕ) (w : Waiter)
     → IsSettled v
@@ -135,8 +122,7 @@ passed v r u x S m w before shown known first freed same settled leaves unsettle
   mutex = subst (λ (U : State). IsMutex U m) (sym is) known;
   known =
       subst (λ (U : State). IsTask U w.task) (ap (λ (U : State). with_wait (with_owner U m None) w.task None) shown ∙ sym is)
-      (waiting_known v.state before.steady.sound.lists w.task (record { mutex = m; ticket = w.ticket })
-      (first_waits v m w before.calm.ready (subst (λ (U : State). IsMutex U m) (sym shown) known) first));
+      (waiting_known v.state before.steady.sound.lists w.task (record { mutex = m; ticket = w.ticket }) waited);
   idle = ap (λ U. wait_of U w.task) is ∙ idle_now (with_owner S m None) w.task;
   free = ap (λ U. owner_of U m) is ∙ freed_owner S m;
 }
@@ -144,8 +130,11 @@ passed v r u x S m w before shown known first freed same settled leaves unsettle
     is_freed : u.state ≡ with_owner S m None
     is_freed = same ∙ ap (λ (y : View). y.state) freed ∙ ap (λ (U : State). with_owner U m None) shown
 
+    waited : wait_of v.state w.task ≡ Some (record { mutex = m; ticket = w.ticket })
+    waited = first_waits v m w before.calm.ready (subst (λ (U : State). IsMutex U m) (sym shown) known) first
+
     waits : wait_of u.state w.task ≡ Some (record { mutex = m; ticket = w.ticket })
-    waits = still_waits v u S m w before shown known first is_freed
+    waits = ap (λ (U : State). wait_of U w.task) (is_freed ∙ ap (λ (U : State). with_owner U m None) (sym shown)) ∙ waited
 
     gone : HasLeft u x w.task
     gone = has_left u x w.task (λ none. none-some (record { mutex = m; ticket = w.ticket }) (sym none ∙ waits)) leaves

@@ -11,11 +11,12 @@ use Rattle.pim_base.proofs.Kept.{kept_by_step}
 use Rattle.pim_base.proofs.Places.{length-put}
 use Rattle.pim_chain.specs.Views.{View, stored_at}
 use Rattle.pim_chain.specs.Work.{Work, noted_of, has_changed}
+use Rattle.pim_chain.proofs.Members.{filter_same}
 use Rattle.pim_chain.proofs.Walking.{settled_effective}
 use Rattle.pim_manager.specs.declared.changed_tasks.ChangedTask.{ChangedTask}
 use Rattle.pim_manager.specs.Changed.{changed_task, noted_changes}
 use Rattle.pim_manager.specs.Settled.{IsSettled, Worked}
-use Rattle.pim_manager.proofs.Filters.{filter-same, few_pass}
+use Rattle.pim_manager.proofs.Filters.{few_pass}
 use Rattle.pim_manager.proofs.Handing.{base-hand_over}
 
 -- a step keeps the number of tasks
@@ -39,7 +40,7 @@ pub noted_changes_of_step :
     → noted_changes T b ≡ changed_tasks S T
 noted_changes_of_step S T a b bases work kept none =
     ap (λ n. filter (has_changed (effective_priority T) b) (numbers n)) bases
-    ∙ filter-same (has_changed (effective_priority T) b)
+    ∙ filter_same (has_changed (effective_priority T) b)
     (λ t. not (eqb (effective_priority S t) (effective_priority T t))) 1 (length S.base)
     (λ t low high. ap (λ p. not (eqb p (effective_priority T t)))
     ((work.noted kept).1 t low (omega (arith, high)) ∙ ap (λ o. unwrap_or o (effective_priority S t)) (none t)))
@@ -51,7 +52,7 @@ pub noted_changes_shown :
     → v.state ≡ S
     → filter (has_changed (stored_at v) w) (task_numbers v.state) ≡ noted_changes S w
 noted_changes_shown v S w settled shown =
-    filter-same (has_changed (stored_at v) w)
+    filter_same (has_changed (stored_at v) w)
     (has_changed (effective_priority v.state) w) 1 (length v.state.base)
     (λ t low high. ap (λ p. not (eqb (unwrap_or (noted_of w t) p) p))
     (settled_effective v.state (stored_at v) settled.calm.ready.sound settled.calm.settled t (low, omega (arith, high))))

@@ -13,8 +13,8 @@ use Rattle.pim_base.specs.declared.steps.Waiter.{Waiter}
 use Rattle.pim_base.proofs.InOrder.{queue_law}
 use Rattle.pim_base.proofs.Kept.{known_from_tests}
 use Rattle.pim_base.proofs.Places.{nth-get_or}
-use Rattle.pim_queue.specs.Line.{Line}
-use Rattle.pim_chain.specs.Views.{View, stored_at, line_in}
+use Rattle.pim_queue.specs.QueueView.{QueueView}
+use Rattle.pim_chain.specs.Views.{View, stored_at, view_in}
 use Rattle.pim_chain.specs.Settled.{Calm}
 use Rattle.pim_chain.proofs.Walking.{settled_effective}
 use Rattle.pim_chain.proofs.Models.{queue_is}
@@ -62,16 +62,16 @@ known_mutex S m h = grind (arith, nat_tests)
 pub queue_shown :
     (v : View) (m : ℕ)
     → Calm v
-    → option_map (λ (q : Line). q.waiters) (nth v.queues m) ≡ of_mutex v.state m (queue_of v.state m)
+    → option_map (λ (q : QueueView). q.waiters) (nth v.queues m) ≡ of_mutex v.state m (queue_of v.state m)
 queue_shown v m calm =
-    ap (option_map (λ (q : Line). q.waiters))
+    ap (option_map (λ (q : QueueView). q.waiters))
     (at_number v.queues (length v.state.protocol) m (record { waiters = []; room = 0 }) calm.ready.queues_len)
     ∙ go (unknown_mutex v.state m) refl
   where
     go :
         (b : Bool)
         → unknown_mutex v.state m ≡ b
-        → option_map (λ (q : Line). q.waiters) (cond b None (Some (line_in v.queues m))) ≡ cond b None (Some (queue_of v.state m))
+        → option_map (λ (q : QueueView). q.waiters) (cond b None (Some (view_in v.queues m))) ≡ cond b None (Some (queue_of v.state m))
     go true e = refl
     go false e = ap Some (queue_is v m calm (known_mutex v.state m e))
 

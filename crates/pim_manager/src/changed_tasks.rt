@@ -18,9 +18,11 @@ pub struct ChangedTask {
     pub reason: Reason,
 }
 
-/// The tasks whose effective priority a step changed, in ascending order. It has room for all tasks from the start.
+/// The tasks whose effective priority a step changed, in ascending order. It has room for all
+/// tasks from the start.
 ///
-/// In contracts its value is the list. Beside it stand the notes of what the tasks had before the step.
+/// In contracts its value is the list. Beside it stand the notes of what the tasks had before the
+/// step.
 #[derive(Drop)]
 pub struct ChangedTasks {
     pub(crate) tasks: Vec<ChangedTask>,
@@ -45,7 +47,7 @@ impl ChangedTasks {
     ///
     /// # Errors
     ///
-    /// `AllocError` if memory was refused.
+    /// `AllocError` if out of memory.
     pub fn new(alloc: Global) -> Result<ChangedTasks, AllocError>
         ensures { IfOk result (λ changed. changed ≡ []) }
     {

@@ -1,4 +1,5 @@
-//! The changes of a step, each with the walks from the tasks whose local priority it may have changed.
+//! The changes of a step, each with the walks from the tasks whose local priority it may have
+//! changed.
 
 ghost use Rattle.std.specs.Prelude.{◌≡◌, ◌≤◌, ◌<◌, ◌+◌, ◌-◌, ◌^◌, Some, None, false};
 ghost use Rattle.pim_base.specs.State.{IsTask, IsMutex, owner_of, wait_of, with_owner, with_wait, with_base, queued};
@@ -29,8 +30,8 @@ impl Manager {
         self.tables.settle_from(task, visits);
     }
 
-    /// Lets the task, which doesn't wait, wait with the next ticket for the mutex, which has this owner. That closes no
-    /// cycle.
+    /// Lets the task, which doesn't wait, wait with the next ticket for the mutex, which has this
+    /// owner. That closes no cycle.
     pub(crate) fn enqueue(
         &mut self,
         task: TaskNo,
@@ -79,8 +80,8 @@ impl Manager {
         self.tables.settle_from(task, visits);
     }
 
-    /// Takes the mutex from its owner, who doesn't wait, and hands it to the first waiter, if there is one. Returns that
-    /// waiter.
+    /// Takes the mutex from its owner, who doesn't wait, and hands it to the first waiter, if
+    /// there is one. Returns that waiter.
     pub(crate) fn hand_over(
         &mut self,
         mutex: MutexNo,
@@ -97,7 +98,7 @@ impl Manager {
         ensures most { visits.new.count ≤ visits.old.count + 2 }
         ensures handed { 1 ≤ handed_mutex_count self.old self.new }
     {
-        let first = self.tables.front(mutex);
+        let first = self.tables.first_waiter(mutex);
         self.tables.unbind(mutex);
         self.tables.settle_from(owner, visits);
         if let Some(waiter) = &first {

@@ -6,16 +6,16 @@ ghost use Rattle.pim_manager.specs.declared.make_fault.MakeFault.TheVariants.{Me
 use std::alloc::AllocError;
 use thiserror::Error;
 
-/// Why no manager was made. They are tested in this order.
+/// Why no manager was made. The first that applies is answered.
 #[derive(Clone, Copy, Debug, PartialEq, Eq, Error)]
 pub enum MakeFault {
-    /// There are more than 256 tasks.
+    /// There are more than `MAX_TASKS` tasks.
     #[error("too many tasks")]
     TooManyTasks,
-    /// There are more than 256 mutexes.
+    /// There are more than `MAX_MUTEXES` mutexes.
     #[error("too many mutexes")]
     TooManyMutexes,
-    /// Memory was refused.
+    /// Out of memory.
     #[error("memory")]
     Memory,
 }

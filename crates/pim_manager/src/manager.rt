@@ -27,10 +27,11 @@ use std::marker::Model;
 
 /// The owners, the waiters and the priorities in force.
 ///
-/// Its value in contracts is the state of the definitions: what is declared, owned and waited for, and the next ticket.
-/// So equal managers answer alike and stay equal. Between two calls each stored priority is the effective one, each
-/// queue is in order, and the state is steady: no cycle of waits stands, each task that waits has a ticket of its own,
-/// which is below the next one, and no free mutex has waiters.
+/// Its value in contracts is the state of the definitions: what is declared, owned and waited
+/// for, and the next ticket. So equal managers answer alike and stay equal. Between two calls
+/// each stored priority is the effective one, each queue is in order, and the state is steady: no
+/// cycle of waits stands, each task that waits has a ticket of its own, which is below the next
+/// one, and no free mutex has waiters.
 #[derive(Drop)]
 pub struct Manager {
     pub(crate) tables: Tables,
@@ -48,12 +49,13 @@ impl Model for Manager {
 }
 
 impl Manager {
-    /// Returns a manager of tasks with these base priorities and of mutexes with these protocols. All mutexes are free,
-    /// nobody waits, and the next ticket is 1.
+    /// Returns a manager of tasks with these base priorities and of mutexes with these protocols.
+    /// All mutexes are free, nobody waits, and the next ticket is 1.
     ///
     /// # Errors
     ///
-    /// `TooManyTasks` or `TooManyMutexes` beyond 256 of either, in this order, else `Memory` if it was refused.
+    /// `TooManyTasks` above `MAX_TASKS`, else `TooManyMutexes` above `MAX_MUTEXES`, else `Memory`
+    /// if out of memory.
     pub fn new(alloc: Global, bases: &[Prio], protocols: &[Protocol]) -> Result<Manager, MakeFault>
         ensures made { IfOk result (λ manager. manager ≡ start bases.now protocols.now 1) }
         ensures tasks { IsErrOf result MakeFault.TooManyTasks ↔ (MAX_TASKS < length bases.now) }
@@ -62,7 +64,8 @@ impl Manager {
         Manager::with_next_ticket(alloc, bases, protocols, 1)
     }
 
-    /// Returns such a manager with another next ticket, which is at least 1. At `LAST_TICKET` no ticket is left.
+    /// Returns such a manager with another next ticket, which is at least 1. At `LAST_TICKET` no
+    /// ticket is left.
     ///
     /// # Errors
     ///
@@ -93,7 +96,7 @@ impl Manager {
     ///
     /// # Errors
     ///
-    /// `AllocError` if memory was refused.
+    /// `AllocError` if out of memory.
     pub fn try_clone(&self, alloc: Global) -> Result<Manager, AllocError>
         ensures { IfOk result (λ manager. manager ≡ self.now) }
     {
@@ -101,7 +104,7 @@ impl Manager {
         Ok(Manager { tables })
     }
 
-    /// Returns how many tasks there are, at most 256. They have the numbers from 1 on.
+    /// Returns how many tasks there are, at most `MAX_TASKS`. They have the numbers from 1 on.
     pub fn tasks(&self) -> u16
         ensures count { result ≡ length self.now.base }
         ensures few { result ≤ MAX_TASKS }
@@ -110,7 +113,8 @@ impl Manager {
         self.tables.tasks()
     }
 
-    /// Returns how many mutexes there are, at most 256. They have the numbers from 1 on.
+    /// Returns how many mutexes there are, at most `MAX_MUTEXES`. They have the numbers from 1
+    /// on.
     pub fn mutexes(&self) -> u16
         ensures count { result ≡ length self.now.protocol }
         ensures few { result ≤ MAX_MUTEXES }
@@ -118,7 +122,7 @@ impl Manager {
         self.tables.mutexes()
     }
 
-    /// Returns the ticket that the next waiter gets.
+    /// Returns the ticket that the next waiter gets; at `LAST_TICKET` none is left.
     pub fn next_ticket(&self) -> u64
         ensures { result ≡ self.now.next }
     {
@@ -139,8 +143,8 @@ impl Manager {
         self.tables.base(task)
     }
 
-    /// Returns why the task has its effective priority, None for an unknown one. It looks at the mutexes that the task
-    /// owns, twice at most.
+    /// Returns why the task has its effective priority, None for an unknown one. It looks at the
+    /// mutexes that the task owns, twice at most.
     pub fn reason(&self, task: TaskNo) -> Option<Reason>
         ensures { result ≡ of_task self.now task (reason_of self.now task) }
     {
@@ -151,7 +155,8 @@ impl Manager {
         }
     }
 
-    /// Returns the mutex that the task waits for, or that it waits for none; None for an unknown one.
+    /// Returns the mutex that the task waits for, or that it waits for none; None for an unknown
+    /// one.
     pub fn waits_for(&self, task: TaskNo) -> Option<Option<MutexNo>>
         ensures waits { result ≡ of_task self.now task (option_map (λ (w : Wait). w.mutex) (wait_of self.now task)) }
         ensures no_cycle { ¬ HasCycle self.now }
@@ -181,8 +186,8 @@ impl Manager {
         self.tables.protocol(mutex)
     }
 
-    /// Returns those who wait for the mutex, each with its effective priority and its ticket: the higher priority first,
-    /// then the smaller ticket. None for an unknown mutex.
+    /// Returns those who wait for the mutex, each with its effective priority and its ticket: the
+    /// higher priority first, then the smaller ticket. None for an unknown mutex.
     pub fn waiters(&self, mutex: MutexNo) -> Option<&[Waiter]>
         ensures queue { option_copied result ≡ of_mutex self.now mutex (queue_of self.now mutex) }
         ensures in_order { IfSome (option_copied result) (AllPairs Precedes) }
@@ -193,12 +198,15 @@ impl Manager {
         }
     }
 
-    /// Makes one step, which is always answered. A refused step changes nothing at all, and no step takes memory.
+    /// Makes one step, which is always answered. A refused step changes nothing at all, and no
+    /// step takes memory.
     ///
-    /// The visits, each of which computes one priority, are at least the tasks whose effective priority differs then, and
-    /// at most one more and two for each mutex whose owner differs. What they leave out is bounded by numbers of its
-    /// own: a visit looks at the mutexes that its task owns, once each; where it stores another priority, it shifts at
-    /// most the waiters of one queue; and the deadlock test of a lock makes at most as many hops as there are tasks.
+    /// The visits count the priorities that were computed: at least the tasks whose effective
+    /// priority differs then, and at most one more and two for each mutex whose owner differs.
+    /// What they do not count is bounded by numbers of its own: a visit looks once at each mutex
+    /// that its task owns; a task whose priority is stored, or that queues or leaves a queue,
+    /// shifts at most the waiters of that queue; and the deadlock test of a lock makes at most as
+    /// many hops as there are tasks.
     pub fn step(&mut self, step: Step) -> Done
         ensures reply { result.reply ≡ reply_of self.old step }
         ensures state { self.new ≡ after self.old step }
@@ -213,9 +221,10 @@ impl Manager {
         }
     }
 
-    /// Makes one step as `step` does, and lists the tasks whose effective priority differs then, in ascending order, each
-    /// with that priority and the reason. This takes no memory either, and looks only at tasks whose priority was
-    /// stored in the step.
+    /// Makes one step as `step` does, and lists the tasks whose effective priority differs then,
+    /// in ascending order, each with that priority and the reason. This takes no memory either.
+    /// Beyond the step it looks at each task whose priority was stored, and for a reason twice at
+    /// most at each mutex that a listed task owns.
     pub fn step_with_changes(&mut self, step: Step, changed: &mut ChangedTasks) -> Done
         ensures reply { result.reply ≡ reply_of self.old step }
         ensures state { self.new ≡ after self.old step }

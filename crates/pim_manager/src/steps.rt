@@ -11,7 +11,7 @@ use pim_base::{LAST_TICKET, MutexNo, Op, Prio, Refusal, Reply, Step, TaskNo};
 use pim_chain::Visits;
 
 impl Manager {
-    /// Makes the step, and counts its visits.
+    /// Makes the step with these visits, of which there were none, and returns the reply.
     pub(crate) fn reply_to(&mut self, step: Step, visits: &mut Visits) -> Reply
         requires { visits.old.count ≡ 0 }
         ensures reply { result ≡ reply_of self.old step }
@@ -36,6 +36,9 @@ impl Manager {
         }
     }
 
+    /// Answers a lock by a known task that does not wait: the mutex is granted if it is free,
+    /// else the actor queues for it. The deadlock test makes at most as many hops as there are
+    /// tasks.
     fn answer_lock(&mut self, actor: TaskNo, mutex: MutexNo, visits: &mut Visits) -> Reply
         requires known { IsTask self.old actor }
         requires idle { wait_of self.old actor ≡ None }
@@ -65,6 +68,7 @@ impl Manager {
         Reply::Queued
     }
 
+    /// Answers a try by a known task that does not wait: the mutex is granted if it is free.
     fn answer_try(&mut self, actor: TaskNo, mutex: MutexNo, visits: &mut Visits) -> Reply
         requires known { IsTask self.old actor }
         requires idle { wait_of self.old actor ≡ None }
@@ -87,6 +91,8 @@ impl Manager {
         Reply::Granted
     }
 
+    /// Answers an unlock by a task that does not wait: the mutex goes to the first waiter, or is
+    /// free.
     fn answer_unlock(&mut self, actor: TaskNo, mutex: MutexNo, visits: &mut Visits) -> Reply
         requires idle { wait_of self.old actor ≡ None }
         requires fresh { visits.old.count ≡ 0 }
@@ -107,7 +113,8 @@ impl Manager {
         }
     }
 
-    /// Hands over all mutexes of the actor, in ascending order.
+    /// Answers a release by a task that does not wait: all mutexes that it owns are handed over,
+    /// in ascending order.
     fn answer_release_all(&mut self, actor: TaskNo, visits: &mut Visits) -> Reply
         requires idle { wait_of self.old actor ≡ None }
         requires fresh { visits.old.count ≡ 0 }
@@ -124,6 +131,7 @@ impl Manager {
         Reply::Released(released)
     }
 
+    /// Answers the cancel of a wait: the task leaves the queue that it waits in.
     fn answer_cancel(&mut self, actor: TaskNo, task: TaskNo, visits: &mut Visits) -> Reply
         requires { visits.old.count ≡ 0 }
         ensures reply { result ≡ answer self.old actor (Op.Cancel task) }
@@ -142,6 +150,7 @@ impl Manager {
         Reply::Withdrawn
     }
 
+    /// Answers the change of a base priority.
     fn answer_set_base(
         &mut self,
         actor: TaskNo,

@@ -1,4 +1,5 @@
-//! Each public call once, with values worked out by hand. The scenarios of the steps are in pim_agreement.
+//! Each public call once, with values worked out by hand. The scenarios of the steps are in
+//! pim_agreement.
 
 use crate::{ChangedTask, ChangedTasks, Done, MakeFault, Manager};
 use Op::{Cancel, Lock, ReleaseAll, SetBase, Try, Unlock};

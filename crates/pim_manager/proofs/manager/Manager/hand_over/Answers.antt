@@ -13,21 +13,21 @@ pub bind-requires : goal.bind-requires
 bind-requires c =
     let p : Passed c.args.self.now c.settle_from.new.self c.leave.new.self c.args.mutex c.in-Some.waiter.task =
     passed c.self.inside.tables c.unbind.new.self _ _ _ _ c.in-Some.waiter c.self.invariant c.self.view_is c.requires.mutex
-    (sym c.front-first.ensures ∙ c.in-Some.is) c.unbind.ensures.state c.settle_from.ensures.state c.settle_from.ensures.settled c.leave.ensures.left c.leave.ensures.unsettles in
+    (sym c.first_waiter-first.ensures ∙ c.in-Some.is) c.unbind.ensures.state c.settle_from.ensures.state c.settle_from.ensures.settled c.leave.ensures.left c.leave.ensures.unsettles in
     record { mutex = p.mutex; free = p.free; known = p.known; idle = p.idle }
 
 pub settle_from-requires-in-Some-clause-settled : goal.settle_from-requires-in-Some-clause-settled
 settle_from-requires-in-Some-clause-settled c =
     let p : Passed c.args.self.now c.settle_from.new.self c.leave.new.self c.args.mutex c.in-Some.waiter.task =
     passed c.self.inside.tables c.unbind.new.self _ _ _ _ c.in-Some.waiter c.self.invariant c.self.view_is c.requires.mutex
-    (sym c.front-first.ensures ∙ c.in-Some.is) c.unbind.ensures.state c.settle_from.ensures.state c.settle_from.ensures.settled c.leave.ensures.left c.leave.ensures.unsettles in
+    (sym c.first_waiter-first.ensures ∙ c.in-Some.is) c.unbind.ensures.state c.settle_from.ensures.state c.settle_from.ensures.settled c.leave.ensures.left c.leave.ensures.unsettles in
     c.bind.ensures.unsettles p.settled
 
 pub settle_from-requires-in-Some-clause-known : goal.settle_from-requires-in-Some-clause-known
 settle_from-requires-in-Some-clause-known c =
     let p : Passed c.args.self.now c.settle_from.new.self c.leave.new.self c.args.mutex c.in-Some.waiter.task =
     passed c.self.inside.tables c.unbind.new.self _ _ _ _ c.in-Some.waiter c.self.invariant c.self.view_is c.requires.mutex
-    (sym c.front-first.ensures ∙ c.in-Some.is) c.unbind.ensures.state c.settle_from.ensures.state c.settle_from.ensures.settled c.leave.ensures.left c.leave.ensures.unsettles in
+    (sym c.first_waiter-first.ensures ∙ c.in-Some.is) c.unbind.ensures.state c.settle_from.ensures.state c.settle_from.ensures.settled c.leave.ensures.left c.leave.ensures.unsettles in
     subst (λ (w : View). IsTask w.state c.in-Some.waiter.task) (sym c.bind.ensures.state) p.known
 
 pub settle_from-requires-in-Some-clause-room : goal.settle_from-requires-in-Some-clause-room
@@ -45,9 +45,9 @@ gone :
 gone c =
     let p : Passed c.args.self.now c.settle_from.new.self c.leave.new.self c.args.mutex c.in-Some.waiter.task =
     passed c.self.inside.tables c.unbind.new.self _ _ _ _ c.in-Some.waiter c.self.invariant c.self.view_is c.requires.mutex
-    (sym c.front-first.ensures ∙ c.in-Some.is) c.unbind.ensures.state c.settle_from.ensures.state c.settle_from.ensures.settled c.leave.ensures.left c.leave.ensures.unsettles in
+    (sym c.first_waiter-first.ensures ∙ c.in-Some.is) c.unbind.ensures.state c.settle_from.ensures.state c.settle_from.ensures.settled c.leave.ensures.left c.leave.ensures.unsettles in
     let S : State = c.args.self.now in
-    let first = first_is c.self.inside.tables S c.args.mutex c.front-first.result c.self.invariant c.self.view_is c.requires.mutex c.front-first.ensures in
+    let first = first_is c.self.inside.tables S c.args.mutex c.first_waiter-first.result c.self.invariant c.self.view_is c.requires.mutex c.first_waiter-first.ensures in
     two_walks c.self.inside.tables c.unbind.new.self c.settle_from.new.self c.leave.new.self c.bind.new.self c.settle_from-in-Some.new.self
     S (hand_over S c.args.mutex) c.args.mutex c.in-Some.waiter.task c.args.visits.now c.settle_from.new.visits c.settle_from-in-Some.new.visits
     c.self.invariant c.self.view_is
@@ -64,12 +64,12 @@ pub returns-in-Some : goal.returns-in-Some
 returns-in-Some c =
     let p : Passed c.args.self.now c.settle_from.new.self c.leave.new.self c.args.mutex c.in-Some.waiter.task =
     passed c.self.inside.tables c.unbind.new.self _ _ _ _ c.in-Some.waiter c.self.invariant c.self.view_is c.requires.mutex
-    (sym c.front-first.ensures ∙ c.in-Some.is) c.unbind.ensures.state c.settle_from.ensures.state c.settle_from.ensures.settled c.leave.ensures.left c.leave.ensures.unsettles in
+    (sym c.first_waiter-first.ensures ∙ c.in-Some.is) c.unbind.ensures.state c.settle_from.ensures.state c.settle_from.ensures.settled c.leave.ensures.left c.leave.ensures.unsettles in
     let one : c.settle_from.new.visits.count ≡ c.args.visits.now.count + 1 =
     c.settle_from.ensures.single
     (heir_idle c.unbind.new.self.state c.args.owner
     (ap (λ (w : View). wait_of w.state c.args.owner) c.unbind.ensures.state ∙ ap (λ (U : State). wait_of U c.args.owner) c.self.view_is ∙ c.requires.idle)) in
-    let first = first_is c.self.inside.tables c.args.self.now c.args.mutex c.front-first.result c.self.invariant c.self.view_is c.requires.mutex c.front-first.ensures in
+    let first = first_is c.self.inside.tables c.args.self.now c.args.mutex c.first_waiter-first.result c.self.invariant c.self.view_is c.requires.mutex c.first_waiter-first.ensures in
     let two : c.settle_from-in-Some.new.visits.count ≡ c.settle_from.new.visits.count + 1 =
     c.settle_from-in-Some.ensures.single
     (heir_idle c.bind.new.self.state c.in-Some.waiter.task (ap (λ (w : View). wait_of w.state c.in-Some.waiter.task) c.bind.ensures.state ∙ p.idle)) in
@@ -92,7 +92,7 @@ freed_state :
     (c : goal.In_default)
     → c.unbind.new.self.state ≡ hand_over c.args.self.now c.args.mutex
 freed_state c =
-    let first = first_is c.self.inside.tables c.args.self.now c.args.mutex c.front-first.result c.self.invariant c.self.view_is c.requires.mutex c.front-first.ensures in
+    let first = first_is c.self.inside.tables c.args.self.now c.args.mutex c.first_waiter-first.result c.self.invariant c.self.view_is c.requires.mutex c.first_waiter-first.ensures in
     ap (λ (w : View). w.state) c.unbind.ensures.state ∙ ap (λ (U : State). with_owner U c.args.mutex None) c.self.view_is
     ∙ ap (hand_over_to c.args.self.now c.args.mutex) (sym c.in_default.is ∙ first)
 
@@ -117,7 +117,7 @@ returns-in_default c =
     (heir_idle c.unbind.new.self.state c.args.owner
     (ap (λ (w : View). wait_of w.state c.args.owner) c.unbind.ensures.state ∙ ap (λ (U : State). wait_of U c.args.owner) c.self.view_is ∙ c.requires.idle)) in
     record {
-      first = first_is c.self.inside.tables c.args.self.now c.args.mutex c.front-first.result c.self.invariant c.self.view_is c.requires.mutex c.front-first.ensures;
+      first = first_is c.self.inside.tables c.args.self.now c.args.mutex c.first_waiter-first.result c.self.invariant c.self.view_is c.requires.mutex c.first_waiter-first.ensures;
       state = c.settle_from.ensures.state ∙ freed_state c;
       work = (freed c).work;
       most = omega (arith, one);
