@@ -10,7 +10,7 @@ use Rattle.pim_base.specs.declared.steps.Reason.{Reason}
 use Rattle.pim_base.specs.declared.steps.Waiter.{Waiter}
 use Rattle.pim_chain.specs.Views.{View, queue_at, first_prio}
 
--- what a mutex lends to its owner: its ceiling, or the priority at the front of its queue
+-- what a mutex lends to its owner: its ceiling, or the priority of its first waiter
 abbrev pub worth : View → ℕ → ℕ
 worth v m = max (ceiling_of v.state m) (cond (is_some (heir_of v.state m)) (first_prio (queue_at v m)) 0)
 

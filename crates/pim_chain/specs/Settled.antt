@@ -38,7 +38,7 @@ joined v t w = record v {
       put_queue v.queues w.mutex (insert_by precedes (queue_at v w.mutex) (record { task = t; prio = stored_at v t; ticket = w.ticket }));
 }
 
--- the task waits no more for the mutex, and has left its queue
+-- the task stopped waiting for the mutex, and left its queue
 abbrev pub left : View → ℕ → ℕ → View
 left v t m = record v {
   state = with_wait v.state t None;
