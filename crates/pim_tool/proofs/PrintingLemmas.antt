@@ -79,6 +79,10 @@ pub prints_err : {T : Type 0} {a b : Told} {bytes : List ℕ} {fault : Fault} (p
 prints_err page (Ok x) h s = absurd h
 prints_err {T} {a} {b} {bytes} {fault} page (Err e) h s = subst (λ (f : Fault). Stops a b bytes f) (sym h) s
 
+-- memory was refused before anything was written
+pub prints_unwritten : {T : Type 0} (a : Told) (bytes page : List ℕ) (r : Result T Fault) → IsErrAnd r (λ e. e ≡ faults.Memory) → Prints a a bytes page r
+prints_unwritten a bytes page r is = prints_err page r is (stops_memory refl (puts_none {bytes = bytes} refl))
+
 but_all : (a b : Option (List ℕ)) (whole : List ℕ) → AppendsBut a b whole [] → Appends a b whole
 but_all None b whole h = tt
 but_all (Some had) b whole (f, is, e) = e ∙ ap (λ (t : List ℕ). Some (had ++ t)) (sym (is ∙ append-nil f))

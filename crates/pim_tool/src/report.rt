@@ -37,6 +37,7 @@ impl<'a, W: Sink> Report<'a, W> {
     }
 
     /// Adds the line of a step's reply, and one for each task whose priority the step changed.
+    #[tactic(auto, using(crate::proofs::PrintingLemmas::prints_unwritten))]
     pub fn answer(
         &mut self,
         number: u32,
@@ -53,6 +54,7 @@ impl<'a, W: Sink> Report<'a, W> {
     }
 
     /// Adds both lines of a step whose recorded reply differs from the model's.
+    #[tactic(auto, using(crate::proofs::PrintingLemmas::prints_unwritten))]
     pub fn rejection(&mut self, number: u32, reply: &Reply, recorded: &Reply) -> Result<(), Fault>
         ensures { Takes W.told self.old self.new (differing_line number reply.now recorded.now ++ rejected number) result }
     {
@@ -61,6 +63,7 @@ impl<'a, W: Sink> Report<'a, W> {
     }
 
     /// Adds the last line of a report in which no recorded reply differs.
+    #[tactic(auto, using(crate::proofs::PrintingLemmas::prints_unwritten))]
     pub fn accepted(&mut self, count: u32) -> Result<(), Fault>
         ensures { Takes W.told self.old self.new (accepted count) result }
     {
