@@ -87,15 +87,16 @@ impl Iterator for Numbers {
     ghost remaining = { item_count (λ rest. rest) };
 
     fn next(&mut self) -> Option<u16> {
-        while self.index < 5 {
-            let word = self.left.words[self.index];
+        for index in self.index..5 {
+            let word = self.left.words[index];
             if word != 0 {
-                let number = self.index as u16 * 64 + lowest_bit(word) as u16;
+                let number = index as u16 * 64 + lowest_bit(word) as u16;
+                self.index = index;
                 self.left.remove(number);
                 return Some(number);
             }
-            self.index += 1;
         }
+        self.index = 5;
         None
     }
 }

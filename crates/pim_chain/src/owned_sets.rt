@@ -1,11 +1,13 @@
 //! The sets of what each task owns.
 
 ghost use Rattle.std.specs.Prelude.{◌≡◌, ◌≢◌, ◌≤◌, ◌<◌, ◌==◌, ◌&&◌, ◌||◌, ℕ, not, false, length, IfOk};
+ghost use Rattle.std.specs.Option.{option_copied};
+ghost use Rattle.pim_base.specs.Lists.{nth};
 ghost use Rattle.pim_chain.specs.Numbers.{has, members};
 ghost use Rattle.pim_chain.specs.Sets.{words_in, AreEmpty};
 
 use crate::number_set::NumberSet;
-use crate::numbered::{filled, nth};
+use crate::numbered::filled;
 use crate::owned::Owned;
 use pim_base::{MutexNo, TaskNo};
 use std::alloc::{AllocError, Global};
@@ -55,10 +57,18 @@ impl OwnedSets {
     pub fn of(&self, task: TaskNo) -> Owned
         ensures { result ≡ members (words_in self.now task) }
     {
-        match nth(&self.sets, task.get()) {
-            Some(set) => Owned::new(&set),
+        match self.set_of(task) {
+            Some(set) => Owned::new(set),
             None => Owned::new(&NumberSet::new()),
         }
+    }
+
+    // the task's set, of which a copy is made only once
+    fn set_of(&self, task: TaskNo) -> Option<&NumberSet>
+        ensures { option_copied result ≡ nth self.now task }
+    {
+        let place = (task.get() as usize).checked_sub(1)?;
+        self.sets.get(place)
     }
 
     /// Puts the mutex in the task's set.

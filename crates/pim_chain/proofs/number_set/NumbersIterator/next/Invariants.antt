@@ -1,13 +1,10 @@
-use Rattle.std.proofs.Common.{◌≡◌, ◌-◌}
+use Rattle.std.proofs.Common.{◌≡◌}
 use Rattle.pim_chain.specs.Numbers.{members, NoneBelow}
 use Rattle.pim_chain.proofs.number_set.NumbersIterator.next.Given as goal
 
 -- nothing was taken yet
-abbrev pub invariant-loop-self : goal.invariant-loop-self
-invariant-loop-self l = record {
+abbrev pub invariant-loop-index : goal.invariant-loop-index
+invariant-loop-index l = record {
   left : members l.self-inside.left.words ≡ l.fn.self;
-  none : NoneBelow l.self-inside.left.words l.self-inside.index;
+  none : NoneBelow l.self-inside.left.words l.index;
 }
-
-abbrev pub decreases-loop-self : goal.decreases-loop-self
-decreases-loop-self l = 5 - l.self-inside.index
