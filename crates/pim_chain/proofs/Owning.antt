@@ -2,7 +2,6 @@
 use Rattle.std.proofs.Common.{◌≡◌, ◌≢◌, ℕ, zero, suc, ◌<◌, ◌≤◌, ◌==◌, ◌&&◌, ◌||◌, Bool, true, false, not, ◌⊎◌, inl, inr, refl, sym, ◌∙◌, ap, subst, arith, Option, Some, None, List, [], length, replicate, unwrap_or}
 use Rattle.std.specs.Option.{option_map_or}
 use Rattle.std.proofs.lemmas.Bool.{cases_eq, cases_lt, eq-eqb, ne_eqb}
-use Rattle.std.proofs.lemmas.List.{length-replicate}
 use Rattle.pim_base.specs.Lists.{put, holds}
 use Rattle.std.proofs.lemmas.Option.{slice_get_past}
 use Rattle.pim_base.specs.State.{IsTask, IsMutex, owner_of, owned as owned_by}
@@ -14,7 +13,7 @@ use Rattle.pim_chain.specs.Sets.{words_in, owner_in, AreEmpty, AreOwned}
 use Rattle.pim_chain.specs.Views.{View, Ready}
 use Rattle.pim_chain.proofs.Lent.{owned_known}
 use Rattle.pim_chain.proofs.Members.{members_known, no_number}
-use Rattle.pim_chain.proofs.Repeated.{nth-replicate_none, nth-replicate_same}
+use Rattle.pim_chain.proofs.Repeated.{nth-replicate_none}
 
 owner_put : (owners : List (Option ℕ)) (m : ℕ) (o : Option ℕ) → 1 ≤ m → m ≤ length owners → owner_in (put owners m o) m ≡ o
 owner_put owners m o low high = ap (λ x. unwrap_or x None) (nth-put_same owners m o low high)

@@ -1,8 +1,6 @@
 //! The sets of what each task owns.
 
 ghost use Rattle.std.specs.Prelude.{◌≡◌, ◌≢◌, ◌≤◌, ◌<◌, ◌==◌, ◌&&◌, ◌||◌, ℕ, not, false, length, IfOk};
-ghost use Rattle.std.specs.Option.{option_copied};
-ghost use Rattle.pim_base.specs.Lists.{nth};
 ghost use Rattle.pim_chain.specs.Numbers.{has, members};
 ghost use Rattle.pim_chain.specs.Sets.{words_in, AreEmpty};
 
@@ -53,22 +51,13 @@ impl OwnedSets {
         Ok(OwnedSets { sets })
     }
 
-    /// Returns the mutexes in the task's set, in ascending order, none for an unknown task.
+    /// Returns the mutexes in the task's set, in ascending order.
     pub fn of(&self, task: TaskNo) -> Owned
+        requires least { 1 ≤ task }
+        requires most { task ≤ length self.now }
         ensures { result ≡ members (words_in self.now task) }
     {
-        match self.set_of(task) {
-            Some(set) => Owned::new(set),
-            None => Owned::new(&NumberSet::new()),
-        }
-    }
-
-    // the task's set, of which a copy is made only once
-    fn set_of(&self, task: TaskNo) -> Option<&NumberSet>
-        ensures { option_copied result ≡ nth self.now task }
-    {
-        let place = (task.get() as usize).checked_sub(1)?;
-        self.sets.get(place)
+        Owned::new(&self.sets[task.get() as usize - 1])
     }
 
     /// Puts the mutex in the task's set.

@@ -49,6 +49,7 @@ impl Tables {
 
     // the least mutex of the task with this ceiling
     fn ceiling_at(&self, task: TaskNo, level: u16) -> Option<MutexNo>
+        requires { IsTask self.now.state task }
         ensures { result ≡ find (λ m. ceiling_of self.now.state m == level) (owned self.now.state task) }
     {
         self.owned(task)
@@ -57,6 +58,7 @@ impl Tables {
 
     // the least INHERIT mutex of the task whose first waiter has this priority
     fn lender_at(&self, task: TaskNo, level: u16) -> Option<MutexNo>
+        requires { IsTask self.now.state task }
         ensures { result ≡ find (lends_now self.now level) (owned self.now.state task) }
     {
         self.owned(task).find(|mutex| self.lends(*mutex, level))

@@ -152,8 +152,9 @@ impl Tables {
         }
     }
 
-    /// Returns the mutexes that the task owns, in ascending order, none for an unknown task.
+    /// Returns the mutexes that a known task owns, in ascending order.
     pub fn owned(&self, task: TaskNo) -> Owned
+        requires { IsTask self.now.state task }
         ensures { result ≡ owned self.now.state task }
     {
         self.owned.of(task)

@@ -411,9 +411,9 @@ fn checks_answer_from_what_stands(rt: HostRuntime) -> Result<(), Fail> {
 #[test]
 fn owned_mutexes_come_in_ascending_order(rt: HostRuntime) -> Result<(), Fail> {
     let tables = scene(&rt, rt.alloc())?;
+    assert!(rt; !tables.is_unknown_task(TaskNo(1)));
     let owned: Vec<MutexNo> = tables.owned(TaskNo(1)).collect(rt.alloc())?;
     assert_eq!(rt; owned.as_slice(), [MutexNo(1), MutexNo(2)].as_slice());
-    assert_eq!(rt; tables.owned(TaskNo(4)).next(), None);
     Ok(())
 }
 

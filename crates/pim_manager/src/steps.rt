@@ -116,6 +116,7 @@ impl Manager {
     /// Answers a release by a task that does not wait: all mutexes that it owns are handed over,
     /// in ascending order.
     fn answer_release_all(&mut self, actor: TaskNo, visits: &mut Visits) -> Reply
+        requires known { IsTask self.old actor }
         requires idle { wait_of self.old actor ≡ None }
         requires fresh { visits.old.count ≡ 0 }
         ensures reply { result ≡ answer self.old actor Op.ReleaseAll }

@@ -1,4 +1,4 @@
-use Rattle.std.proofs.Common.{◌≡◌, ◌+◌, ◌*◌, ◌<◌, List, [], ◌∷◌, ℕ, Some, length, rules, refl, sym, ◌∙◌, ap, arith}
+use Rattle.std.proofs.Common.{◌≡◌, ◌+◌, ◌*◌, List, [], ◌∷◌, ℕ, Some, length, rules, refl, sym, ◌∙◌, ap, arith}
 use Rattle.std.specs.Iterator.{MakesProgress, item_count}
 use Rattle.pim_chain.specs.Numbers.{members}
 use Rattle.pim_chain.proofs.Members.{least_first, none_still, none_in_word, none_in_all}
