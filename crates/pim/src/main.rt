@@ -5,7 +5,8 @@
 //! contract can say: the streams, the texts and the process.
 #![tactic(auto)]
 
-use pim_tool::{Input, Job, Output, command, judge, status};
+use clap::error::ErrorKind;
+use pim_tool::{Fault, Input, Job, Output, command, judge, status};
 use std::io;
 use std::process::ExitCode;
 
@@ -13,7 +14,18 @@ use std::process::ExitCode;
 const FAULT: u8 = 2;
 
 fn main(rt: HostRuntime) -> ExitCode {
-    answer(&rt).unwrap_or(ExitCode::from(FAULT))
+    match answer(&rt) {
+        Ok(status) => status,
+        Err(error) => {
+            // Where not even this line can be written, the status tells.
+            let _unwritten = match error.kind() {
+                io::ErrorKind::OutOfMemory => eprintln!(&rt; "pim: {}", Fault::Memory),
+                io::ErrorKind::InvalidData => eprintln!(&rt; "pim: a word is not UTF-8"),
+                _ => eprintln!(&rt; "pim: {error}"),
+            };
+            ExitCode::from(FAULT)
+        }
+    }
 }
 
 /// Does what the words ask for, and returns the exit status.
@@ -29,6 +41,10 @@ fn answer(rt: &HostRuntime) -> io::Result<ExitCode> {
         Ok(Job::Judge) => judge_input(rt),
         Ok(Job::Run) | Ok(Job::Check) => {
             eprintln!(rt; "pim: run and check are not there yet")?;
+            Ok(ExitCode::from(FAULT))
+        }
+        Err(error) if error.kind() == ErrorKind::OutOfMemory => {
+            eprintln!(rt; "pim: {}", Fault::Memory)?;
             Ok(ExitCode::from(FAULT))
         }
         Err(error) => {

@@ -48,6 +48,7 @@ impl Tables {
     pub fn has_ticket(&self, mutex: MutexNo, ticket: u64) -> bool
         ensures { IsTrue result ↔ ((t : ℕ) × (wait_of self.now.state t ≡ Some (record { mutex = mutex; ticket = ticket }))) }
     {
+        // Its contract tells the proof what always holds of the tables.
         let _tasks = self.tasks();
         match self.queue(mutex) {
             Some(queue) => queue.has_ticket(ticket),

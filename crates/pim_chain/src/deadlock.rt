@@ -23,6 +23,7 @@ impl Tables {
         ensures { result ≡ contains (waits_chain self.now.state from) task }
     {
         let mut at = from;
+        // No chain without a cycle is longer, and a loop has to end.
         for _hop in 0..self.tasks() {
             if task == at {
                 return true;

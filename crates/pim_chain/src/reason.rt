@@ -23,6 +23,7 @@ impl Tables {
         requires known { IsTask self.now.state task }
         ensures { result ≡ reason_of self.now.state task }
     {
+        // Its contract tells the proof what always holds of the tables.
         let _tasks = self.tasks();
         let level = self.known_stored(task).get();
         if level == self.known_base(task).get() {

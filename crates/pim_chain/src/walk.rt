@@ -59,6 +59,7 @@ impl Tables {
         ensures ready { Ready self.now }
     {
         visits.add();
+        // Its contract tells the proof what always holds of the tables.
         let _tasks = self.tasks();
         let mut prio = self.known_base(task);
         for mutex in self.owned(task) {
@@ -143,6 +144,7 @@ impl Tables {
         ensures work { Tells (length self.old.state.base) (stored_at self.old) visits.old (stored_at self.new) visits.new }
         ensures at_most { visits.new.count ≤ visits.old.count + changed self.old self.new + 1 }
     {
+        // Its contract tells the proof what always holds of the tables.
         let _tasks = self.tasks();
         // [1]
         let mut next = Some(task);

@@ -251,6 +251,7 @@ impl Manager {
         for task in self.tables.changed(visits) {
             let prio = self.tables.known_stored(task);
             let reason = self.tables.reason(task);
+            // There is room: no more tasks are listed than there are.
             tasks.push(ChangedTask { task, prio, reason }).unwrap();
         }
     }

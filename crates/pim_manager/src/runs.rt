@@ -18,6 +18,7 @@ impl Manager {
         ensures run { IsRun self.old (entries steps.now (replies_of self.old steps.now)) self.new }
         ensures no_cycle { ¬ HasCycle self.new }
     {
+        // Its contract tells the proof that the state is steady.
         let _steady = self.tasks();
         for step in steps {
             self.step(*step);
@@ -37,6 +38,7 @@ impl Manager {
         let mut replies = Vec::with_capacity(alloc, steps.len())?;
         for step in steps {
             let reply = self.step(*step).reply;
+            // There is room for the reply to each step.
             replies.push(reply).unwrap();
         }
         Ok(replies)

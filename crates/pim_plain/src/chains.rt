@@ -57,6 +57,7 @@ impl PlainManager {
         ensures { result ≡ contains (chain (blocker self.now) hops from) task }
     {
         let mut at = from;
+        // No chain without a cycle is longer, and a loop has to end.
         for _hop in 0..hops {
             if task == at {
                 return true;
@@ -74,6 +75,7 @@ impl PlainManager {
         ensures { result ≡ contains (chain (heir self.now) hops from) task }
     {
         let mut at = from;
+        // No chain without a cycle is longer, and a loop has to end.
         for _hop in 0..hops {
             if task == at {
                 return true;

@@ -29,6 +29,7 @@ impl<R: Read> Source for Input<R> {
     ghost failures = { λ input. input.failures };
 
     fn read(&mut self, buffer: &mut [u8]) -> Result<usize, Failed> {
+        // For ever, in practice: but a loop has to end.
         for _attempt in 0..u64::MAX {
             match self.reader.read(buffer) {
                 Ok(count) => return Ok(count),
@@ -79,6 +80,7 @@ impl<W: Write> Sink for Output<W> {
     ghost told = { λ output. record { contents = None; failures = output.failures; stalls = output.stalls } };
 
     fn write(&mut self, piece: &[u8]) -> Result<usize, Failed> {
+        // For ever, in practice: but a loop has to end.
         for _attempt in 0..u64::MAX {
             match self.writer.write(piece) {
                 Ok(0) => {
