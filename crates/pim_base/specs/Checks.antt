@@ -1,6 +1,6 @@
 -- What refuses a step: the tests, and their order. (POSIX.1-2017: the errors of pthread_mutex_lock,
 -- pthread_mutex_trylock, pthread_mutex_unlock and pthread_setschedprio)
-use Rattle.std.specs.Prelude.{ℕ, ◌==◌, nat_lt, nat_le, ◌&&◌, ◌||◌, not, is_some, Bool, false, List, [], ◌∷◌, length}
+use Rattle.std.specs.Prelude.{ℕ, ◌+◌, ◌==◌, nat_lt, nat_le, ◌&&◌, ◌||◌, not, is_some, Bool, false, List, [], ◌∷◌, length}
 use Rattle.std.specs.Option.{option_map_or}
 use Rattle.pim_base.specs.Lists.{holds}
 use Rattle.pim_base.specs.State.{State, base_of, owner_of, wait_of, protocol_of}
@@ -32,9 +32,9 @@ is_owned S m = is_some (owner_of S m)
 abbrev pub above_ceiling : State → ℕ → ℕ → Bool
 above_ceiling S t m = option_map_or (λ c. nat_lt c (base_of S t)) (ceiling (protocol_of S m)) false
 
--- no ticket is left
+-- no ticket is left: the last one has been given out
 abbrev pub no_tickets : State → Bool
-no_tickets S = S.next == LAST_TICKET
+no_tickets S = S.next == LAST_TICKET + 1
 
 -- the step is the withdrawal of the actor itself
 abbrev pub withdraws_itself : ℕ → Op → Bool

@@ -1,18 +1,31 @@
 -- What holds of steps and of whole runs.
-use Rattle.std.specs.Prelude.{◌≡◌, ℕ, List, length, map}
+use Rattle.std.specs.Prelude.{◌≡◌, ◌-◌, ◌^◌, ◌↔◌, ℕ, List, length, map, IsTrue}
 use Rattle.pim_base.specs.State.{State, start}
 use Rattle.pim_base.specs.Steps.{reply_of, after}
 use Rattle.pim_base.specs.Counts.{changed_task_count}
-use Rattle.pim_base.specs.Reports.{changed_tasks}
+use Rattle.pim_base.specs.Reports.{changed_tasks, same_reply}
 use Rattle.pim_base.specs.Runs.{IsRun}
 use Rattle.pim_base.specs.Steady.{IsSteady}
 use Rattle.pim_base.specs.declared.steps.Entry.{Entry}
+use Rattle.pim_base.specs.declared.limits.TheConstants.{MAX_TASKS, MAX_MUTEXES, MAX_STEPS, LAST_TICKET}
 use Rattle.pim_base.specs.declared.steps.Protocol.{Protocol}
+use Rattle.pim_base.specs.declared.steps.Reply.{Reply}
 use Rattle.pim_base.specs.declared.steps.Step.{Step}
 
 -- From equal states the same step has equal replies and leaves equal states.
 abbrev pub SameStepLaw : Type 0
 SameStepLaw = (S T : State) (step : Step) → S ≡ T → (reply_of S step ≡ reply_of T step) × (after S step ≡ after T step)
+
+-- The limits are these numbers.
+pub record LimitsLaw : Type 0 where
+  pub tasks : MAX_TASKS ≡ 256
+  pub mutexes : MAX_MUTEXES ≡ 256
+  pub steps : MAX_STEPS ≡ 65536
+  pub tickets : LAST_TICKET ≡ 2 ^ 64 - 2
+
+-- Two replies are taken for the same exactly where they are equal.
+abbrev pub SameReplyLaw : Type 0
+SameReplyLaw = (r q : Reply) → IsTrue (same_reply r q) ↔ r ≡ q
 
 -- The bound on the work of a step counts the very tasks that a report lists.
 abbrev pub ChangedCountLaw : Type 0
@@ -32,10 +45,10 @@ SameRunLaw =
 abbrev pub SteadyStepLaw : Type 0
 SteadyStepLaw = (S : State) (step : Step) → IsSteady S → IsSteady (after S step)
 
--- So does each run.
+-- Each run leaves a steady state steady.
 abbrev pub SteadyRunLaw : Type 0
 SteadyRunLaw = (S end : State) (es : List Entry) → IsRun S es end → IsSteady S → IsSteady end
 
--- And the start is steady, so that all these hold after every run from it.
+-- The start is steady, and so is the state after every run from it.
 abbrev pub StartLaw : Type 0
 StartLaw = (bases : List ℕ) (protocols : List Protocol) (next : ℕ) → IsSteady (start bases protocols next)

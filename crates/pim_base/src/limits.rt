@@ -9,5 +9,5 @@ pub const MAX_MUTEXES: usize = 256;
 /// The most step lines that a text has.
 pub const MAX_STEPS: usize = 65_536;
 
-/// The next ticket at which none is left: the tickets that are given out are below it.
-pub const LAST_TICKET: u64 = u64::MAX;
+/// The last ticket that is given out; where the next one would be above it, none is left.
+pub const LAST_TICKET: u64 = u64::MAX - 1;

@@ -11,7 +11,7 @@ use std::alloc::{AllocError, Global};
 use std::marker::Model;
 
 /// Which tasks are noted, and the priority that each of them had.
-#[derive(Drop)]
+#[derive(Debug, Drop)]
 pub struct Notes {
     tasks: NumberSet,
     // the level of each noted task; any number at the others

@@ -8,7 +8,7 @@ use crate::bits::{has_bit, lowest_bit, with_bit, without_bit};
 use std::marker::Model;
 
 /// A set of numbers below 320, a bit for each.
-#[derive(Clone, Copy)]
+#[derive(Clone, Copy, Debug)]
 pub struct NumberSet {
     words: [u64; 5],
 }

@@ -31,7 +31,7 @@ impl OwnedSets {
     ///
     /// # Errors
     ///
-    /// Fails where memory is refused.
+    /// Returns `AllocError` if out of memory.
     pub fn new(alloc: Global, tasks: usize) -> Result<OwnedSets, AllocError>
         ensures { IfOk result (AreEmpty tasks) }
     {
@@ -43,7 +43,7 @@ impl OwnedSets {
     ///
     /// # Errors
     ///
-    /// Fails where memory is refused.
+    /// Returns `AllocError` if out of memory.
     pub fn try_clone(&self, alloc: Global) -> Result<OwnedSets, AllocError>
         ensures { IfOk result (λ sets. sets ≡ self.now) }
     {

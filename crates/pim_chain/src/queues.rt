@@ -33,7 +33,7 @@ impl Queues {
     ///
     /// # Errors
     ///
-    /// Fails where memory is refused.
+    /// Returns `AllocError` if out of memory.
     pub fn new(alloc: Global, count: usize, room: u16) -> Result<Queues, AllocError>
         ensures { IfOk result (λ queues. queues ≡ replicate count (record { waiters = []; room = room })) }
     {
@@ -48,7 +48,7 @@ impl Queues {
     ///
     /// # Errors
     ///
-    /// Fails where memory is refused.
+    /// Returns `AllocError` if out of memory.
     pub fn try_clone(&self, alloc: Global) -> Result<Queues, AllocError>
         ensures { IfOk result (λ queues. queues ≡ self.now) }
     {

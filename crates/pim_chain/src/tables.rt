@@ -27,8 +27,9 @@ use std::marker::Model;
 
 /// The facts about tasks and mutexes, the stored priorities and the queues.
 ///
-/// Only `new` and `try_clone` take memory: they make all the room that the other calls use. A getter answers None for
-/// an unknown number; every other call must be given known ones.
+/// Only `new` and `try_clone` take memory: they make all the room that the other calls use. A getter returns None for
+/// an unknown number, and a test answers what the definitions say of it; the calls that change a fact, those whose
+/// name begins with `known`, and `owned`, `local`, `reason` and `settle_from` must be given known ones.
 #[derive(Drop)]
 pub struct Tables {
     base: Vec<Prio>,
@@ -59,7 +60,7 @@ impl Tables {
     ///
     /// # Errors
     ///
-    /// Fails where memory is refused.
+    /// Returns `AllocError` if out of memory.
     pub fn new(alloc: Global, bases: &[Prio], protocols: &[Protocol]) -> Result<Tables, AllocError>
         requires tasks { length bases.now ≤ MAX_TASKS }
         requires mutexes { length protocols.now ≤ MAX_MUTEXES }
@@ -82,7 +83,7 @@ impl Tables {
     ///
     /// # Errors
     ///
-    /// Fails where memory is refused.
+    /// Returns `AllocError` if out of memory.
     pub fn try_clone(&self, alloc: Global) -> Result<Tables, AllocError>
         ensures { IfOk result (λ tables. tables ≡ self.now) }
     {
@@ -211,8 +212,8 @@ impl Tables {
         self.stored[task.get() as usize - 1]
     }
 
-    /// Returns the tasks whose stored priority isn't the one that they had when the visits began to note, in ascending
-    /// order. Looks at the noted tasks alone.
+    /// Returns the tasks whose stored priority isn't the one that the visits noted, in ascending order; none where the
+    /// visits keep no notes. Looks at the noted tasks alone.
     pub fn changed<'a>(&'a self, visits: &'a Visits) -> Changed<'a>
         ensures { result ≡ filter (has_changed (stored_at self.now) visits.now) (task_numbers self.now.state) }
     {

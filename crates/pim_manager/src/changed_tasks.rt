@@ -47,7 +47,7 @@ impl ChangedTasks {
     ///
     /// # Errors
     ///
-    /// `AllocError` if out of memory.
+    /// Returns `AllocError` if out of memory.
     pub fn new(alloc: Global) -> Result<ChangedTasks, AllocError>
         ensures { IfOk result (λ changed. changed ≡ []) }
     {

@@ -44,7 +44,7 @@ impl Manager {
         requires idle { wait_of self.old task ≡ None }
         requires owned { owner_of self.old mutex ≡ Some owner }
         requires closes_none { closes_cycle self.old task mutex ≡ false }
-        requires tickets { self.old.next < LAST_TICKET }
+        requires tickets { self.old.next ≤ LAST_TICKET }
         requires room { visits.old.count ≤ 2 ^ 32 - 1 - MAX_TASKS }
         ensures state { self.new ≡ queued self.old task mutex }
         ensures work { Worked self.old visits.old self.new visits.new }

@@ -1,8 +1,8 @@
-//! What a step is answered.
+//! The reply to a step, and its work.
 
 use pim_base::Reply;
 
-/// What a step is answered, and how much work it was.
+/// The reply to a step, and its work.
 #[derive(Clone, Copy, Debug, PartialEq, Eq)]
 pub struct Done {
     /// The reply to the task that made the step.

@@ -64,7 +64,7 @@ impl Manager {
         Manager::with_next_ticket(alloc, bases, protocols, 1)
     }
 
-    /// Returns such a manager with another next ticket, which is at least 1. At `LAST_TICKET` no
+    /// Returns such a manager with another next ticket, which is at least 1. Above `LAST_TICKET` no
     /// ticket is left.
     ///
     /// # Errors
@@ -96,7 +96,7 @@ impl Manager {
     ///
     /// # Errors
     ///
-    /// `AllocError` if out of memory.
+    /// Returns `AllocError` if out of memory.
     pub fn try_clone(&self, alloc: Global) -> Result<Manager, AllocError>
         ensures { IfOk result (λ manager. manager ≡ self.now) }
     {
@@ -122,7 +122,7 @@ impl Manager {
         self.tables.mutexes()
     }
 
-    /// Returns the ticket that the next waiter gets; at `LAST_TICKET` none is left.
+    /// Returns the ticket that the next waiter gets; above `LAST_TICKET` none is left.
     pub fn next_ticket(&self) -> u64
         ensures { result ≡ self.now.next }
     {

@@ -29,7 +29,7 @@ impl Manager {
     ///
     /// # Errors
     ///
-    /// `AllocError` if out of memory, before the first step: then nothing has changed.
+    /// Returns `AllocError` if out of memory, before the first step: then nothing has changed.
     pub fn run_replies(&mut self, alloc: Global, steps: &[Step]) -> Result<Vec<Reply>, AllocError>
         ensures run { IfOk result (λ replies. IsRun self.old (entries steps.now replies.items) self.new) }
         ensures count { IfOk result (λ replies. length replies.items ≡ length steps.now) }

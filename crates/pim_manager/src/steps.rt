@@ -61,7 +61,7 @@ impl Manager {
             self.grant(mutex, actor, visits);
             return Reply::Granted;
         };
-        if self.tables.next_ticket() == LAST_TICKET {
+        if self.tables.next_ticket() > LAST_TICKET {
             return Reply::Refused(Refusal::Tickets);
         }
         self.enqueue(actor, mutex, owner, visits);

@@ -46,7 +46,7 @@ impl PlainManager {
     ///
     /// # Errors
     ///
-    /// Only where memory is refused.
+    /// Returns `AllocError` if out of memory.
     pub fn new(
         alloc: Global,
         bases: &[Prio],
@@ -105,7 +105,7 @@ impl PlainManager {
         nth(&self.wait, task.get()).flatten()
     }
 
-    /// Returns the number of tasks, 0 to 256.
+    /// Returns the number of tasks, at most `MAX_TASKS`.
     pub fn tasks(&self) -> u16
         ensures count { result ≡ length self.now.base }
         ensures few { result ≤ MAX_TASKS }
@@ -113,7 +113,7 @@ impl PlainManager {
         self.base.len() as u16
     }
 
-    /// Returns the number of mutexes, 0 to 256.
+    /// Returns the number of mutexes, at most `MAX_MUTEXES`.
     pub fn mutexes(&self) -> u16
         ensures count { result ≡ length self.now.protocol }
         ensures few { result ≤ MAX_MUTEXES }
@@ -159,7 +159,7 @@ impl PlainManager {
 
     /// Lets the task wait for the mutex with the next ticket, which rises by one; an unknown task doesn't wait.
     pub(crate) fn join(&mut self, task: TaskNo, mutex: MutexNo)
-        requires { self.old.next < LAST_TICKET }
+        requires { self.old.next ≤ LAST_TICKET }
         ensures { self.new ≡ queued self.old task mutex }
     {
         let wait = Wait {

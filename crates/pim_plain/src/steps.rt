@@ -50,7 +50,7 @@ impl PlainManager {
             self.put_owner(mutex, Some(actor));
             return Reply::Granted;
         }
-        if self.next_ticket() == LAST_TICKET {
+        if self.next_ticket() > LAST_TICKET {
             return Reply::Refused(Refusal::Tickets);
         }
         self.join(actor, mutex);

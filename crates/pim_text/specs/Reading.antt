@@ -13,7 +13,7 @@ use Rattle.pim_text.specs.declared.text.Text.{Text}
 abbrev pub trace_of : Text → Trace
 trace_of text = record { bases = text.bases.items; protocols = text.protocols.items; steps = text.lines.items }
 
--- the parts of what stands behind a separator: none where there was none
+-- the parts of what follows a separator: none where there was none
 abbrev pub pieces : ℕ → Option (Bor (List ℕ)) → List (List ℕ)
 pieces separator None = []
 pieces separator (Some rest) = slice_split (λ b. b == separator) rest.now
@@ -42,7 +42,7 @@ with_line t (lines.Task n base) = record t { bases = t.bases ++ base ∷ [] }
 with_line t (lines.Mutex n protocol) = record t { protocols = t.protocols ++ protocol ∷ [] }
 with_line t (lines.Step step) = record t { steps = t.steps ++ step ∷ [] }
 
--- the line may stand below those of the text
+-- the line may follow those of the text
 abbrev pub MayFollow : Trace → Line → Type 0
 MayFollow t (lines.Task n base) = (length t.bases < MAX_TASKS) × (n ≡ length t.bases + 1) × (t.protocols ≡ []) × (t.steps ≡ [])
 MayFollow t (lines.Mutex n protocol) = (length t.protocols < MAX_MUTEXES) × (n ≡ length t.protocols + 1) × (t.steps ≡ [])

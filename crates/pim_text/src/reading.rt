@@ -35,7 +35,7 @@ pub fn parse(alloc: Global, bytes: &[u8]) -> Result<Text, TextFault>
 /// # Errors
 ///
 /// `TextFault::Line(n)` exactly where line n, counted from 1, is the first that is invalid in a script;
-/// `TextFault::Memory` where memory runs out.
+/// `TextFault::Memory` if out of memory.
 pub fn parse_script(alloc: Global, bytes: &[u8]) -> Result<Text, TextFault>
     ensures { MatchResult result
         (λ text. SpellsScript (lines_of bytes.now) (trace_of text))

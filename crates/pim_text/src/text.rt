@@ -31,7 +31,7 @@ impl Text {
         }
     }
 
-    /// Takes one more line, and returns whether it may stand below those of the text.
+    /// Takes one more line, and returns whether it may follow those of the text.
     pub(crate) fn add(&mut self, line: &Line) -> Result<bool, AllocError>
         ensures added { IfOk result (λ added. MatchBool added
             (MayFollow (trace_of self.old) line.now × (trace_of self.new ≡ with_line (trace_of self.old) line.now))

@@ -29,7 +29,7 @@ use std::alloc::Global;
 /// # Errors
 ///
 /// `Fault::Line(n)` where line n, counted from 1, is the first invalid one; `Fault::Read` and `Fault::Write` where a read
-/// or a write of this call failed; `Fault::Memory` where memory runs out.
+/// or a write of this call failed; `Fault::Memory` if out of memory.
 #[tactic(auto, using(crate::proofs::PrintingLemmas::puts_whole, crate::proofs::PrintingLemmas::stops_front))]
 pub fn judge<R: Source, W: Sink>(
     alloc: Global,
@@ -83,7 +83,7 @@ fn read_text<R: Source>(alloc: Global, reader: &mut R) -> Result<Text, Fault>
 pub struct Judged {
     /// The bytes of the report.
     pub report: Vec<u8>,
-    /// What the report says in the end.
+    /// The verdict, the report's last line.
     pub verdict: Verdict,
 }
 

@@ -25,7 +25,7 @@ impl<'a> MemoryReader<'a> {
         MemoryReader::piecewise(bytes, usize::MAX, 0)
     }
 
-    /// Returns a reader that hands over at most so many bytes a call, at least one, and whose call of this number fails,
+    /// Returns a reader that hands over at most `most` bytes a call, at least one, and whose call number `fails_at` fails,
     /// counted from 1; none fails where that is 0.
     pub fn piecewise(bytes: &'a [u8], most: usize, fails_at: u64) -> MemoryReader<'a>
         ensures remaining { ⟦<MemoryReader<'static> as Source>⟧.remaining result ≡ Some bytes.now }
@@ -91,7 +91,7 @@ impl MemoryWriter {
         MemoryWriter::piecewise(alloc, usize::MAX, Trouble::Fails, 0)
     }
 
-    /// Returns an empty writer that takes at most so many bytes a call, and whose call of this number goes wrong, counted
+    /// Returns an empty writer that takes at most `most` bytes a call, and whose call number `at` goes wrong, counted
     /// from 1; none does where that is 0.
     pub fn piecewise(alloc: Global, most: usize, trouble: Trouble, at: u64) -> MemoryWriter
         ensures { ⟦<MemoryWriter as Sink>⟧.told result ≡ record { contents = Some []; failures = 0; stalls = 0 } }
@@ -114,7 +114,7 @@ impl MemoryWriter {
         self.bytes.as_slice()
     }
 
-    /// Returns what was written, and gives up the writer.
+    /// Returns what was written, consuming the writer.
     pub fn into_bytes(self) -> Vec<u8>
         ensures { (⟦<MemoryWriter as Sink>⟧.told self).contents ≡ Some result.items }
     {

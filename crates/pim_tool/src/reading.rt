@@ -29,7 +29,7 @@ pub fn parse(alloc: Global, bytes: &[u8]) -> Result<Text, Fault>
 /// # Errors
 ///
 /// `Fault::Line(n)` exactly where line n, counted from 1, is the first that is invalid in a script; `Fault::Memory`
-/// where memory runs out. There is no other fault.
+/// if out of memory. There is no other fault.
 pub fn parse_script(alloc: Global, bytes: &[u8]) -> Result<Text, Fault>
     ensures { MatchResult result
         (λ text. SpellsScript (lines_of bytes.now) (trace_of text))

@@ -10,5 +10,5 @@ returns-then-closes_cycle-clause-work c = worked_none c.args.self.now c.args.vis
 pub returns-then-is_above_ceiling-clause-work : goal.returns-then-is_above_ceiling-clause-work
 returns-then-is_above_ceiling-clause-work c = worked_none c.args.self.now c.args.visits.now
 
-pub returns-then-next_ticket-clause-work : goal.returns-then-next_ticket-clause-work
-returns-then-next_ticket-clause-work c = worked_none c.args.self.now c.args.visits.now
+pub returns-then-next_ticket-gt-LAST_TICKET-clause-work : goal.returns-then-next_ticket-gt-LAST_TICKET-clause-work
+returns-then-next_ticket-gt-LAST_TICKET-clause-work c = worked_none c.args.self.now c.args.visits.now
