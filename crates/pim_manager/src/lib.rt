@@ -13,14 +13,12 @@
 //!
 //! ```text
 //! let mut manager = Manager::new(alloc, &[low, medium, high], &[Protocol::Inherit])?;
-//! let lock = Op::Lock(MutexNo(1));
-//! manager.step(Step { actor: TaskNo(1), op: lock }); // Granted
-//! manager.step(Step { actor: TaskNo(3), op: lock }); // Queued
+//! manager.step(Step { actor: TaskNo(1), op: Op::Lock(MutexNo(1)) }); // Granted
+//! manager.step(Step { actor: TaskNo(3), op: Op::Lock(MutexNo(1)) }); // Queued
 //! manager.effective(TaskNo(1)); // Some(high), which is above medium
 //! manager.reason(TaskNo(1)); // Some(Reason::Waiter(TaskNo(3), MutexNo(1)))
 //! manager.waits_for(TaskNo(3)); // Some(Some(MutexNo(1)))
-//! let unlock = Op::Unlock(MutexNo(1));
-//! manager.step(Step { actor: TaskNo(1), op: unlock }); // Handed(TaskNo(3))
+//! manager.step(Step { actor: TaskNo(1), op: Op::Unlock(MutexNo(1)) }); // Handed(TaskNo(3))
 //! manager.effective(TaskNo(1)); // Some(low)
 //! ```
 #![tactic(auto)]

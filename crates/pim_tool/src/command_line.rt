@@ -19,7 +19,7 @@ pub enum Job {
 
 /// The text below the options in `--help`.
 const MORE: &str = "\
-A trace declares tasks with their base priorities and mutexes with their protocols, and has a step a line:
+To judge a trace: pim < TRACE
 
     $ printf 'pim 1\\ntask 1 10\\ntask 2 50\\nmutex 1 inherit\\n1 lock 1\\n2 lock 1\\n' | pim
     1 granted
@@ -27,9 +27,17 @@ A trace declares tasks with their base priorities and mutexes with their protoco
       task 1 at 50 waiter 2 mutex 1
     accepted 2
 
+Line 1 is 'pim 1'. Then come the tasks with their base priorities, then the mutexes with their protocols, then the
+steps, one a line. Tasks are numbered from 1 without a gap, and so are mutexes. Words are one space apart; there
+is no blank line, no comment and no carriage return.
+
 Lines: task <n> <base>; mutex <n> none | inherit | protect <ceiling>; <task> lock | try | unlock <mutex>;
-<task> release; <task> cancel <task>; <task> base <task> <priority>. A step may be followed by ' = <reply>', the
-reply that was recorded; the report ends at the first that differs.
+<task> release; <task> cancel <task>; <task> base <task> <priority>.
+Limits: priorities and ceilings 1 to 99, 99 the highest; 256 tasks, 256 mutexes, 65536 steps.
+
+A step may end with ' = <reply>', the reply that was recorded; the report ends at the first that differs.
+Replies: granted, queued, freed, handed <task>, released <count>, withdrawn, set, refused <name>. The names:
+no-task, waiting, no-mutex, deadlock, ceiling, busy, not-owner, not-waiting, priority, tickets.
 
 Input is standard input, results go to standard output, faults to standard error.
 Exit status: 0 accepted, 1 rejected, 2 any fault: 'pim: line <n>' where line n is the first that is invalid,
@@ -60,7 +68,9 @@ fn pim<'a>(alloc: Global) -> Result<Command<'a>, AllocError>
     let run = Command::new(alloc, "run").about("Run a script and print its trace (not yet)");
     let check = Command::new(alloc, "check").about("Run a script and judge its trace (not yet)");
     Command::new(alloc, "pim")
-        .about("Judge traces of mutexes with the POSIX protocols: who ran boosted, when, and why")
+        .about(
+            "Judge traces of mutexes with the POSIX protocols: say which task executes at which priority, and why",
+        )
         .version("0.1.0")
         .after_help(MORE)
         .subcommand(judge)?
