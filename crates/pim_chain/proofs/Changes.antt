@@ -169,7 +169,7 @@ differs_base S x p = record {
         ∙ sym (greatest-cons (base_of (with_base S x p) t) (map (ceiling_of S) (owned S t)))
 
 -- ---- what is ready stays so
-pub ready_bound :
+ready_bound :
     (v : View) (m : ℕ) (o : Option ℕ)
     → ((t : ℕ) → o ≡ Some t → (IsTask v.state t) × (wait_of v.state t ≡ None))
     → Ready v
@@ -199,6 +199,19 @@ ready_bound v m o may ready = record {
         go : (owner_of (with_owner v.state m o) m ≡ o) ⊎ (owner_of (with_owner v.state m o) m ≡ None) → IsTask v.state t
         go (inl is) = (may t (sym is ∙ at)).0
         go (inr none) = absurd (none-some t (sym none ∙ at))
+
+-- a task that waits for nothing is the owner
+pub ready_owned :
+    (v : View) (m t : ℕ)
+    → IsTask v.state t
+    → wait_of v.state t ≡ None
+    → Ready v
+    → Ready (with_state v (with_owner v.state m (Some t)))
+ready_owned v m t known idle =
+    ready_bound v m (Some t) (λ y e. subst (λ z. IsTask v.state z × (wait_of v.state z ≡ None)) (same_Some t y e) (known, idle))
+
+pub ready_freed : (v : View) (m : ℕ) → Ready v → Ready (with_state v (with_owner v.state m None))
+ready_freed v m = ready_bound v m None (λ y e. absurd (none-some y e))
 
 pub ready_based : (v : View) (t p : ℕ) → Ready v → Ready (with_state v (with_base v.state t p))
 ready_based v t p ready = record {

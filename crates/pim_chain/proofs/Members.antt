@@ -175,10 +175,6 @@ none_still words after index x none removed k high = removed k ∙ ap (λ b. not
     never false = refl
 
 -- ---- which numbers a set has
-pub members_empty : (words : List ℕ) → ((k : ℕ) → has words k ≡ false) → members words ≡ []
-unfolding members
-members_empty words none = filter_none (has words) 0 320 (λ k _ _. none k)
-
 -- no words, no numbers
 pub no_number : (k : ℕ) → has [] k ≡ false
 no_number k = ap (λ b. b == 1) (bit_at-zero (k % 64))

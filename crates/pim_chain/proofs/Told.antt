@@ -12,9 +12,6 @@ use Rattle.pim_chain.proofs.Members.{filter_members}
 use Rattle.pim_chain.proofs.Walking.{differing_none, differing_over}
 
 -- ---- where notes are kept
-pub keeps-refl : (n : ℕ) (f : ℕ → ℕ) (a : Work) → KeepsTelling n f a f a
-keeps-refl n f a some = (some, λ t low high. refl)
-
 pub keeps-trans :
     (n : ℕ) (f g h : ℕ → ℕ) (a b d : Work)
     → KeepsTelling n f a g b

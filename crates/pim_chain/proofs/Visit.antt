@@ -83,7 +83,7 @@ queue_moved v x p w ready known at =
     back : (u : ℕ) → (u ≡ x → ⊥) → wait_of v.state u ≡ away u
     back u ne = sym (ap (λ b. cond b None (wait_of v.state u)) (ne_eqb u x ne))
 
-pub restored_free :
+restored_free :
     (v : View) (x p : ℕ)
     → wait_of v.state x ≡ None
     → Ready v
@@ -99,7 +99,7 @@ restored_free v x p at ready = record {
   room = ready.room;
 }
 
-pub restored_waiting :
+restored_waiting :
     (v : View) (x p : ℕ) (w : Wait)
     → IsTask v.state x
     → wait_of v.state x ≡ Some w
