@@ -1,15 +1,19 @@
--- The report from a line on, by what its step says.
-use Rattle.std.proofs.Common.{◌≡◌, ◌≤◌, ◌<◌, ◌+◌, ◌-◌, ℕ, suc, Bool, true, false, arith, List, [], ◌∷◌, ◌++◌, length, map, drop, get_or, Some, ◌∙◌, ap, sym, drop-cons, add-one, if◌then◌else◌}
+-- What a step shows, and the report from a line on.
+use Rattle.std.proofs.Common.{◌≡◌, ◌≤◌, ◌<◌, ◌+◌, ◌-◌, ℕ, suc, Bool, arith, List, [], ◌∷◌, ◌++◌, length, map, drop, get_or, Result, ◌∙◌, ap, sym, subst, drop-cons, add-one, if◌then◌else◌}
 use Rattle.std.specs.List.{flat_map}
 use Rattle.std.proofs.lemmas.List.{drop_all, append-nil}
 use Rattle.std.proofs.lemmas.List.Folds.{flat_map-map}
 use Rattle.pim_base.specs.State.{State}
 use Rattle.pim_base.specs.Steps.{after, reply_of}
-use Rattle.pim_base.specs.Reports.{agrees, reply_line, differing_line, rejected, rejection_lines, change_line, changed_tasks, answer_lines, accepted, report_from, verdict_from}
+use Rattle.pim_base.specs.Reports.{agrees, reply_line, rejection_lines, step_lines, change_line, changed_tasks, accepted, report_from, verdict_from}
 use Rattle.pim_base.specs.declared.steps.Reply.{Reply}
 use Rattle.pim_base.specs.declared.lines.StepLine.{StepLine}
 use Rattle.pim_base.specs.declared.lines.Verdict.TheVariants as verdicts
-use Rattle.pim_tool.specs.Printed.{changed_line, line_of}
+use Rattle.pim_tool.specs.Ends.{Told}
+use Rattle.pim_tool.specs.Printed.{changed_line, line_of, shown_lines}
+use Rattle.pim_tool.specs.Reported.{Takes}
+use Rattle.pim_tool.specs.declared.fault.Fault.{Fault}
+use Rattle.pim_tool.specs.declared.report.Report.{Report}
 use Rattle.pim_manager.specs.Changed.{changed_task}
 use Rattle.pim_manager.specs.declared.changed_tasks.ChangedTask.{ChangedTask}
 
@@ -21,16 +25,27 @@ unfolding change_line changed_line
 lines_are S ts = flat_map-map line_of (changed_task S) ts
 
 -- with the reply and the changes of a step these are its lines
-answer_is :
+shown_is :
     (k : ℕ) (S T : State) (line : StepLine) (reply : Reply) (cs : List ChangedTask)
     → reply ≡ reply_of S line.step
     → T ≡ after S line.step
     → cs ≡ map (changed_task T) (changed_tasks S T)
-    → answer_lines k S line ≡ reply_line k reply ++ flat_map line_of cs
-answer_is k S T line reply cs is next are =
-    let shown : List ℕ → List ℕ = λ bytes. reply_line k reply ++ bytes in
-    sym (ap shown (ap (flat_map line_of) are ∙ lines_are T (changed_tasks S T) ∙ ap (λ (U : State). flat_map (change_line U) (changed_tasks S U)) next)
-    ∙ ap (λ (r : Reply). reply_line k r ++ flat_map (change_line (after S line.step)) (changed_tasks S (after S line.step))) is)
+    → shown_lines k reply line.recorded cs ≡ step_lines k S line
+unfolding shown_lines
+shown_is k S T line reply cs is next are =
+    ap (λ bytes. if agrees line.recorded reply then reply_line k reply ++ bytes else rejection_lines k reply line.recorded)
+    (ap (flat_map line_of) are ∙ lines_are T (changed_tasks S T) ∙ ap (λ (U : State). flat_map (change_line U) (changed_tasks S U)) next)
+    ∙ ap (λ (r : Reply). if agrees line.recorded r then reply_line k r ++ flat_map (change_line (after S line.step)) (changed_tasks S (after S line.step)) else rejection_lines k r line.recorded) is
+
+-- so the report has what the step shows
+pub takes_step :
+    {W T : Type 0} (told : W → Told) (a b : Report W) (r : Result T Fault) (k : ℕ) (S U : State) (line : StepLine) (reply : Reply) (cs : List ChangedTask)
+    → Takes told a b (shown_lines k reply line.recorded cs) r
+    → reply ≡ reply_of S line.step
+    → U ≡ after S line.step
+    → cs ≡ map (changed_task U) (changed_tasks S U)
+    → Takes told a b (step_lines k S line) r
+takes_step told a b r k S U line reply cs h is next are = subst (λ bytes. Takes told a b bytes r) (shown_is k S U line reply cs is next are) h
 
 -- ---- the lines from one on
 
@@ -38,47 +53,20 @@ from_line : (ls : List StepLine) (i : ℕ) (line : StepLine) → i < length ls �
 from_line ls i line inside at =
     drop-cons ls i line inside ∙ ap (λ (l : StepLine). l ∷ drop (suc i) ls) (sym at) ∙ ap (λ j. line ∷ drop j ls) (sym (add-one i))
 
-module _ (k : ℕ) (S : State) (ls : List StepLine) (i : ℕ) (line : StepLine) (reply : Reply)
-    (inside : i < length ls) (at : line ≡ get_or ls i line) (is : reply ≡ reply_of S line.step) where
-  -- the report and its verdict, by whether the reply agrees
-  report_by : (b : Bool) → agrees line.recorded reply ≡ b →
-      report_from k S (drop i ls)
-      ≡ (if b then answer_lines k S line else rejection_lines k (reply_of S line.step) line.recorded)
-      ++ (if b then report_from (k + 1) (after S line.step) (drop (i + 1) ls) else [])
-  report_by b says =
+module _ (k : ℕ) (S T : State) (ls : List StepLine) (i : ℕ) (line : StepLine) (goes_on : Bool)
+    (inside : i < length ls) (at : line ≡ get_or ls i line) (next : T ≡ after S line.step) (says : goes_on ≡ agrees line.recorded (reply_of S line.step)) where
+  -- it goes on where the reply agrees, and ends where it doesn't
+  pub report_next : report_from k S (drop i ls) ≡ step_lines k S line ++ (if goes_on then report_from (k + 1) T (drop (i + 1) ls) else [])
+  report_next =
       ap (report_from k S) (from_line ls i line inside at)
-      ∙ ap (λ (c : Bool). (if c then answer_lines k S line else rejection_lines k (reply_of S line.step) line.recorded)
-      ++ (if c then report_from (k + 1) (after S line.step) (drop (i + 1) ls) else [])) (ap (agrees line.recorded) (sym is) ∙ says)
+      ∙ ap (λ b. step_lines k S line ++ (if b then report_from (k + 1) (after S line.step) (drop (i + 1) ls) else [])) (sym says)
+      ∙ ap (λ (U : State). step_lines k S line ++ (if goes_on then report_from (k + 1) U (drop (i + 1) ls) else [])) (sym next)
 
-  verdict_by : (b : Bool) → agrees line.recorded reply ≡ b →
-      verdict_from k S (drop i ls) ≡ (if b then verdict_from (k + 1) (after S line.step) (drop (i + 1) ls) else verdicts.Rejected k)
-  verdict_by b says =
+  pub verdict_next : verdict_from k S (drop i ls) ≡ (if goes_on then verdict_from (k + 1) T (drop (i + 1) ls) else verdicts.Rejected k)
+  verdict_next =
       ap (verdict_from k S) (from_line ls i line inside at)
-      ∙ ap (λ (c : Bool). if c then verdict_from (k + 1) (after S line.step) (drop (i + 1) ls) else verdicts.Rejected k) (ap (agrees line.recorded) (sym is) ∙ says)
-
-  -- it goes on where the reply agrees
-  pub report_goes_on : (T : State) (cs : List ChangedTask) → agrees line.recorded reply ≡ true → T ≡ after S line.step →
-      cs ≡ map (changed_task T) (changed_tasks S T) →
-      report_from k S (drop i ls) ≡ (reply_line k reply ++ flat_map line_of cs) ++ report_from (k + 1) T (drop (i + 1) ls)
-  report_goes_on T cs says next are =
-      report_by true says
-      ∙ ap (λ (U : State). answer_lines k S line ++ report_from (k + 1) U (drop (i + 1) ls)) (sym next)
-      ∙ ap (λ (bytes : List ℕ). bytes ++ report_from (k + 1) T (drop (i + 1) ls)) (answer_is k S T line reply cs is next are)
-
-  pub verdict_goes_on : (T : State) → agrees line.recorded reply ≡ true → T ≡ after S line.step →
-      verdict_from (k + 1) T (drop (i + 1) ls) ≡ verdict_from k S (drop i ls)
-  verdict_goes_on T says next = ap (λ (U : State). verdict_from (k + 1) U (drop (i + 1) ls)) next ∙ sym (verdict_by true says)
-
-  -- and ends where it doesn't
-  pub report_stops : (recorded : Reply) → line.recorded ≡ Some recorded → agrees line.recorded reply ≡ false →
-      report_from k S (drop i ls) ≡ (differing_line k reply recorded ++ rejected k) ++ []
-  report_stops recorded was says =
-      report_by false says
-      ∙ ap (λ r. rejection_lines k (reply_of S line.step) r ++ []) was
-      ∙ ap (λ (r : Reply). (differing_line k r recorded ++ rejected k) ++ []) (sym is)
-
-  pub verdict_stops : agrees line.recorded reply ≡ false → verdicts.Rejected k ≡ verdict_from k S (drop i ls)
-  verdict_stops says = sym (verdict_by false says)
+      ∙ ap (λ b. if b then verdict_from (k + 1) (after S line.step) (drop (i + 1) ls) else verdicts.Rejected k) (sym says)
+      ∙ ap (λ (U : State). if goes_on then verdict_from (k + 1) U (drop (i + 1) ls) else verdicts.Rejected k) (sym next)
 
 -- after the last line
 pub report_end : (S : State) (ls : List StepLine) (i : ℕ) → i ≡ length ls → report_from (i + 1) S (drop i ls) ≡ accepted (length ls) ++ []

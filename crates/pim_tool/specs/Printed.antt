@@ -1,8 +1,9 @@
--- The line of a task whose priority changed, by what stands in it.
-use Rattle.std.specs.Prelude.{ℕ, List, ◌++◌, codes, decimal}
+-- What a step shows, by what stands in it.
+use Rattle.std.specs.Prelude.{ℕ, List, ◌++◌, Option, codes, decimal, flat_map, if◌then◌else◌}
 use Rattle.std.specs.List.{join_with_byte}
 use Rattle.pim_base.specs.Spelling.{SPACE}
-use Rattle.pim_base.specs.Reports.{reason_words}
+use Rattle.pim_base.specs.Reports.{agrees, reason_words, reply_line, rejection_lines}
+use Rattle.pim_base.specs.declared.steps.Reply.{Reply}
 use Rattle.pim_base.specs.declared.steps.Reason.{Reason}
 use Rattle.pim_manager.specs.declared.changed_tasks.ChangedTask.{ChangedTask}
 
@@ -16,3 +17,8 @@ changed_line t p r = codes "  task " ++ decimal t ++ codes " at " ++ decimal p +
 -- that line
 abbrev pub line_of : ChangedTask → List ℕ
 line_of c = changed_line c.task c.prio c.reason
+
+-- the lines of a step with this reply, which changed these tasks
+unfoldable pub shown_lines : ℕ → Reply → Option Reply → List ChangedTask → List ℕ
+shown_lines k reply recorded cs =
+    if agrees recorded reply then reply_line k reply ++ flat_map line_of cs else rejection_lines k reply recorded

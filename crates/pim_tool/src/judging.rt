@@ -1,8 +1,9 @@
 //! From a reader to a writer.
-ghost use Rattle.std.specs.Prelude.{◌≡◌, ◌<◌, ◌^◌, ℕ, ◌⊎◌, [], length, Some, IfOk, IfSome, Err, MatchOption, MatchResult, true, false};
+ghost use Rattle.std.specs.Prelude.{◌≡◌, ◌<◌, ◌^◌, ℕ, ◌⊎◌, [], length, Some, IfOk, IfSome, Err, MatchResult};
 ghost use Rattle.pim_base.specs.State.{start};
+ghost use Rattle.pim_base.specs.Steps.{after, reply_of};
 ghost use Rattle.pim_base.specs.Texts.{Trace, lines_of, Spells, IsTrace, IsWithinLimits, FirstBadLine};
-ghost use Rattle.pim_base.specs.Reports.{agrees, report_from, report_of, verdict_from, verdict_of};
+ghost use Rattle.pim_base.specs.Reports.{agrees, step_lines, report_from, report_of, verdict_from, verdict_of};
 ghost use Rattle.pim_tool.specs.Ends.{Happened, Fails, Appends, AppendsFront, Prints};
 ghost use Rattle.pim_text.specs.Reading.{trace_of};
 ghost use Rattle.pim_tool.specs.Faults.{IsParseFault};
@@ -16,7 +17,7 @@ use crate::page::Page;
 use crate::reading::parse;
 use crate::report::Report;
 use crate::transfer::read_all;
-use pim_base::{Reply, StepLine, Verdict};
+use pim_base::{StepLine, Verdict};
 use pim_manager::{ChangedTasks, Manager};
 use pim_text::Text;
 use std::alloc::Global;
@@ -138,28 +139,30 @@ fn make_steps<W: Sink>(
 {
     for (index, line) in lines.iter().enumerate() {
         let number = index as u32 + 1;
-        let reply = manager.step_with_changes(line.step, changed).reply;
-        if let Some(recorded) = differing(line, &reply) {
-            report.rejection(number, &reply, recorded)?;
+        if !make_step(report, manager, changed, number, line)? {
             return Ok(Verdict::Rejected(number));
         }
-        report.answer(number, &reply, changed.as_slice())?;
     }
     let count = lines.len() as u32;
     report.accepted(count)?;
     Ok(Verdict::Accepted(count))
 }
 
-/// Returns the recorded reply, where it differs from the model's.
-fn differing<'a>(line: &'a StepLine, reply: &Reply) -> Option<&'a Reply>
-    ensures { MatchOption result
-        (agrees line.now.recorded reply.now ≡ true)
-        (λ recorded. (line.now.recorded ≡ Some recorded.now) × (agrees line.now.recorded reply.now ≡ false)) }
+/// Makes a step, and reports on it. Returns whether the recorded reply agrees with the model's.
+#[tactic(auto, using(crate::proofs::ReportLemmas::takes_step))]
+fn make_step<W: Sink>(
+    report: &mut Report<'_, W>,
+    manager: &mut Manager,
+    changed: &mut ChangedTasks,
+    number: u32,
+    line: &StepLine,
+) -> Result<bool, Fault>
+    ensures report { Takes W.told report.old report.new (step_lines number manager.old line.now) result }
+    ensures agrees { IfOk result (λ goes_on. goes_on ≡ agrees line.now.recorded (reply_of manager.old line.now.step)) }
+    ensures after { manager.new ≡ after manager.old line.now.step }
 {
-    match &line.recorded {
-        Some(recorded) if recorded != reply => Some(recorded),
-        _ => None,
-    }
+    let reply = manager.step_with_changes(line.step, changed).reply;
+    report.step(number, &reply, &line.recorded, changed.as_slice())
 }
 
 /// Returns the manager of what a text declares, in which all mutexes are free.

@@ -1,7 +1,7 @@
 //! A report on its way to its writer.
-ghost use Rattle.std.specs.Prelude.{◌≡◌, ◌++◌, [], flat_map};
-ghost use Rattle.pim_base.specs.Reports.{reply_line, differing_line, rejected, accepted};
-ghost use Rattle.pim_tool.specs.Printed.{line_of};
+ghost use Rattle.std.specs.Prelude.{◌≡◌, [], IfOk};
+ghost use Rattle.pim_base.specs.Reports.{agrees, accepted};
+ghost use Rattle.pim_tool.specs.Printed.{shown_lines};
 
 use crate::ends::Sink;
 use crate::fault::Fault;
@@ -36,30 +36,32 @@ impl<'a, W: Sink> Report<'a, W> {
         Report { writer, page }
     }
 
-    /// Adds the line of a step's reply, and one for each task whose priority the step changed.
-    #[tactic(auto, using(crate::proofs::PrintingLemmas::prints_unwritten))]
-    pub fn answer(
+    /// Adds the line of a step's reply, and one for each task whose priority the step changed; or both lines of the rejection,
+    /// where the recorded reply differs from this one. Returns whether it agrees.
+    #[tactic(auto, using(crate::proofs::PrintingLemmas::prints_unwritten), unfolding(crate::specs::Printed::shown_lines))]
+    pub fn step(
         &mut self,
         number: u32,
         reply: &Reply,
+        recorded: &Option<Reply>,
         changed: &[ChangedTask],
-    ) -> Result<(), Fault>
-        ensures { Takes W.told self.old self.new (reply_line number reply.now ++ flat_map line_of changed.now) result }
+    ) -> Result<bool, Fault>
+        ensures lines { Takes W.told self.old self.new (shown_lines number reply.now recorded.now changed.now) result }
+        ensures agrees { IfOk result (λ goes_on. goes_on ≡ agrees recorded.now reply.now) }
     {
-        self.page.answer(number, reply, changed)?;
-        if self.page.is_full() {
-            return self.write();
+        match recorded {
+            Some(recorded) if recorded != reply => {
+                self.page.rejection(number, reply, recorded)?;
+                Ok(false)
+            }
+            _ => {
+                self.page.answer(number, reply, changed)?;
+                if self.page.is_full() {
+                    self.write()?;
+                }
+                Ok(true)
+            }
         }
-        Ok(())
-    }
-
-    /// Adds both lines of a step whose recorded reply differs from the model's.
-    #[tactic(auto, using(crate::proofs::PrintingLemmas::prints_unwritten))]
-    pub fn rejection(&mut self, number: u32, reply: &Reply, recorded: &Reply) -> Result<(), Fault>
-        ensures { Takes W.told self.old self.new (differing_line number reply.now recorded.now ++ rejected number) result }
-    {
-        self.page.rejection(number, reply, recorded)?;
-        Ok(())
     }
 
     /// Adds the last line of a report in which no recorded reply differs.

@@ -1,45 +1,40 @@
-use Rattle.std.proofs.Common.{◌≡◌, length, arith, ◌∙◌}
+use Rattle.std.proofs.Common.{◌≡◌, length, arith, ◌∙◌, sym, refl}
 use Rattle.pim_tool.proofs.PrintingLemmas.{prints_err, stops_next, puts_next, puts_last}
-use Rattle.pim_tool.proofs.ReportLemmas.{report_goes_on, report_stops, verdict_goes_on, verdict_stops, report_end}
+use Rattle.pim_tool.proofs.ReportLemmas.{report_next, verdict_next, report_end}
 use Rattle.pim_tool.proofs.judging.make_steps.Goals as goal
 
-pub returns-in_err-rejection-clause-report : goal.returns-in_err-rejection-clause-report
-returns-in_err-rejection-clause-report g c =
-    let stops = report_stops _ _ c.args.lines.now c.loop-index.index _ _ c.loop-index-test.true c.index-lines-index.is c.step_with_changes-reply.ensures.reply _ c.in-Some.ensures.0 c.in-Some.ensures.1 in
+pub returns-in_err-make_step-clause-report : goal.returns-in_err-make_step-clause-report
+returns-in_err-make_step-clause-report g c =
+    let next = report_next _ _ _ c.args.lines.now c.loop-index.index _ _ c.loop-index-test.true c.index-lines-index.is c.make_step.ensures.after refl in
     record {
-      same_writer = c.rejection.ensures.same_writer ∙ c.loop-index.invariant.same_writer;
-      prints = prints_err _ _ c.from_residual.ensures.1 (stops_next _ _ _ _ stops c.loop-index.invariant.put c.in_err-rejection.ensures.prints);
+      same_writer = c.make_step.ensures.report.same_writer ∙ c.loop-index.invariant.same_writer;
+      prints = prints_err _ _ c.from_residual.ensures.1 (stops_next _ _ _ _ next c.loop-index.invariant.put c.in_err-make_step.ensures.report.prints);
     }
 
-pub returns-in-Some-clause-report : goal.returns-in-Some-clause-report
-returns-in-Some-clause-report g c =
-    let stops = report_stops _ _ c.args.lines.now c.loop-index.index _ _ c.loop-index-test.true c.index-lines-index.is c.step_with_changes-reply.ensures.reply _ c.in-Some.ensures.0 c.in-Some.ensures.1 in
+pub returns-then-not-branch-clause-report : goal.returns-then-not-branch-clause-report
+returns-then-not-branch-clause-report g c =
+    let says = sym c.if-not-branch.true ∙ c.in_ok-make_step.ensures.agrees in
+    let next = report_next _ _ _ c.args.lines.now c.loop-index.index _ _ c.loop-index-test.true c.index-lines-index.is c.make_step.ensures.after says in
     record {
-      same_writer = c.rejection.ensures.same_writer ∙ c.loop-index.invariant.same_writer;
-      prints = puts_last _ _ _ stops c.loop-index.invariant.put c.in_ok-rejection.ensures.prints;
+      same_writer = c.make_step.ensures.report.same_writer ∙ c.loop-index.invariant.same_writer;
+      prints = puts_last _ _ _ next c.loop-index.invariant.put c.in_ok-make_step.ensures.report.prints;
     }
 
-pub returns-in-Some-clause-verdict : goal.returns-in-Some-clause-verdict
-returns-in-Some-clause-verdict g c =
-    verdict_stops _ _ c.args.lines.now c.loop-index.index _ _ c.loop-index-test.true c.index-lines-index.is c.step_with_changes-reply.ensures.reply c.in-Some.ensures.1
+pub returns-then-not-branch-clause-verdict : goal.returns-then-not-branch-clause-verdict
+returns-then-not-branch-clause-verdict g c =
+    let says = sym c.if-not-branch.true ∙ c.in_ok-make_step.ensures.agrees in
+    sym (verdict_next _ _ _ c.args.lines.now c.loop-index.index _ _ c.loop-index-test.true c.index-lines-index.is c.make_step.ensures.after says)
     ∙ c.loop-index.invariant.verdict
-
-pub returns-in_err-answer-clause-report : goal.returns-in_err-answer-clause-report
-returns-in_err-answer-clause-report g c =
-    let next = report_goes_on _ _ c.args.lines.now c.loop-index.index _ _ c.loop-index-test.true c.index-lines-index.is c.step_with_changes-reply.ensures.reply _ _ c.in_default.ensures c.step_with_changes-reply.ensures.state (c.as_slice.ensures ∙ c.step_with_changes-reply.ensures.changed) in
-    record {
-      same_writer = c.answer.ensures.same_writer ∙ c.loop-index.invariant.same_writer;
-      prints = prints_err _ _ c.from_residual-in_err-answer.ensures.1 (stops_next _ _ _ _ next c.loop-index.invariant.put c.in_err-answer.ensures.prints);
-    }
 
 pub loop-index-preserved : goal.loop-index-preserved
 loop-index-preserved g c =
-    let next = report_goes_on _ _ c.args.lines.now c.loop-index.index _ _ c.loop-index-test.true c.index-lines-index.is c.step_with_changes-reply.ensures.reply _ _ c.in_default.ensures c.step_with_changes-reply.ensures.state (c.as_slice.ensures ∙ c.step_with_changes-reply.ensures.changed) in
+    let says = sym c.if-not-branch.false ∙ c.in_ok-make_step.ensures.agrees in
+    let next = report_next _ _ _ c.args.lines.now c.loop-index.index _ _ c.loop-index-test.true c.index-lines-index.is c.make_step.ensures.after says in
     record {
-      same_writer = c.answer.ensures.same_writer ∙ c.loop-index.invariant.same_writer;
-      put = puts_next _ _ _ _ next c.loop-index.invariant.put c.in_ok-answer.ensures.prints;
+      same_writer = c.make_step.ensures.report.same_writer ∙ c.loop-index.invariant.same_writer;
+      put = puts_next _ _ _ _ next c.loop-index.invariant.put c.in_ok-make_step.ensures.report.prints;
       verdict =
-          verdict_goes_on _ _ c.args.lines.now c.loop-index.index _ _ c.loop-index-test.true c.index-lines-index.is c.step_with_changes-reply.ensures.reply _ c.in_default.ensures c.step_with_changes-reply.ensures.state
+          sym (verdict_next _ _ _ c.args.lines.now c.loop-index.index _ _ c.loop-index-test.true c.index-lines-index.is c.make_step.ensures.after says)
           ∙ c.loop-index.invariant.verdict;
     }
 
