@@ -1,4 +1,4 @@
--- The report from a line on, by what its step says.
+-- What a step shows, and the report from a line on.
 use Rattle.std.proofs.Common.{◌≡◌, ◌≤◌, ◌<◌, ◌+◌, ◌-◌, ℕ, suc, Bool, arith, List, [], ◌∷◌, ◌++◌, length, map, drop, get_or, Result, ◌∙◌, ap, sym, subst, drop-cons, add-one, if◌then◌else◌}
 use Rattle.std.specs.List.{flat_map}
 use Rattle.std.proofs.lemmas.List.{drop_all, append-nil}
@@ -9,8 +9,8 @@ use Rattle.pim_base.specs.Reports.{agrees, reply_line, rejection_lines, step_lin
 use Rattle.pim_base.specs.declared.steps.Reply.{Reply}
 use Rattle.pim_base.specs.declared.lines.StepLine.{StepLine}
 use Rattle.pim_base.specs.declared.lines.Verdict.TheVariants as verdicts
-use Rattle.pim_tool.specs.Printed.{changed_line, line_of, shown_lines}
 use Rattle.pim_tool.specs.Ends.{Told}
+use Rattle.pim_tool.specs.Printed.{changed_line, line_of, shown_lines}
 use Rattle.pim_tool.specs.Reported.{Takes}
 use Rattle.pim_tool.specs.declared.fault.Fault.{Fault}
 use Rattle.pim_tool.specs.declared.report.Report.{Report}
@@ -37,6 +37,7 @@ shown_is k S T line reply cs is next are =
     (ap (flat_map line_of) are ∙ lines_are T (changed_tasks S T) ∙ ap (λ (U : State). flat_map (change_line U) (changed_tasks S U)) next)
     ∙ ap (λ (r : Reply). if agrees line.recorded r then reply_line k r ++ flat_map (change_line (after S line.step)) (changed_tasks S (after S line.step)) else rejection_lines k r line.recorded) is
 
+-- so the report has what the step shows
 pub takes_step :
     {W T : Type 0} (told : W → Told) (a b : Report W) (r : Result T Fault) (k : ℕ) (S U : State) (line : StepLine) (reply : Reply) (cs : List ChangedTask)
     → Takes told a b (shown_lines k reply line.recorded cs) r

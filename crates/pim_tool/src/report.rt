@@ -36,8 +36,9 @@ impl<'a, W: Sink> Report<'a, W> {
         Report { writer, page }
     }
 
-    /// Adds what a step with this reply shows, which changed these tasks. Returns whether the recorded reply agrees.
-    #[tactic(auto, using(crate::proofs::PrintingLemmas::prints_unwritten, crate::proofs::PrintingLemmas::prints_err), unfolding(crate::specs::Printed::shown_lines))]
+    /// Adds the line of a step's reply, and one for each task whose priority the step changed; or both lines of the rejection,
+    /// where the recorded reply differs from this one. Returns whether it agrees.
+    #[tactic(auto, using(crate::proofs::PrintingLemmas::prints_unwritten), unfolding(crate::specs::Printed::shown_lines))]
     pub fn step(
         &mut self,
         number: u32,
