@@ -323,10 +323,7 @@ ready_left v t w at ready = record {
       where
         go : (u ≡ t) ⊎ (u ≡ t → ⊥) → wait_of v.state u ≡ Some x
         go (inr ne) = sym (wait_other v.state t None u ne) ∙ e
-        go (inl is) = clash (sym (subst (λ y. wait_of (with_wait v.state t None) y ≡ None) (sym is) idle) ∙ e)
-          where
-            clash : None ≡ Some x → wait_of v.state u ≡ Some x
-            clash h = cc
+        go (inl is) = absurd (none-some x (sym (subst (λ y. wait_of (with_wait v.state t None) y ≡ None) (sym is) idle) ∙ e))
 
 pub ready_joined :
     (v : View) (t : ℕ) (w : Wait)

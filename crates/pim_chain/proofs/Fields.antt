@@ -1,9 +1,9 @@
 -- The tables after a field was written, and what the calls on the queues ask for.
-use Rattle.std.proofs.Common.{◌≡◌, ℕ, ◌≤◌, ◌<◌, ◌-◌, Bool, true, false, ◌⊎◌, inl, inr, refl, sym, ◌∙◌, ap, subst, arith, Option, Some, None, List, [], ◌∷◌, length, get_or, unwrap_or}
+use Rattle.std.proofs.Common.{◌≡◌, ℕ, ◌≤◌, ◌<◌, ◌-◌, true, false, ◌⊎◌, inl, inr, sym, ◌∙◌, ap, subst, arith, Option, Some, None, List, [], ◌∷◌, length, get_or, unwrap_or}
 use Rattle.pim_base.proofs.Places.{nth-get_or, nth_within}
 use Rattle.pim_chain.proofs.Waiting.{room_for}
 use Rattle.std.specs.List.{list_any, find, AllByRecursion}
-use Rattle.std.proofs.lemmas.Bool.{eqb-true, eq-eqb, or_cases, or_left, or_right}
+use Rattle.std.proofs.lemmas.Bool.{false_from_ne_true, eqb-true, eq-eqb, or_cases, or_left, or_right}
 use Rattle.std.proofs.lemmas.Option.{none-some, same_Some}
 use Rattle.pim_base.specs.Lists.{nth, put, insert_by}
 use Rattle.pim_base.specs.State.{IsTask, IsMutex, wait_of, with_owner, with_wait, with_base}
@@ -143,18 +143,17 @@ pub not_here :
     → wait_of u.state t ≡ None
     → Ready v
     → list_any (is_of t) (queue_at v m) ≡ false
-not_here v u t m same mutex idle ready = go (list_any (is_of t) (queue_at v m)) refl
+not_here v u t m same mutex idle ready = false_from_ne_true _ there
   where
     q : IsQueue (wait_of v.state) (stored_at v) m (queue_at v m)
     q = ready.queues m (subst (λ (x : View). IsMutex x.state m) (sym same) mutex)
 
-    go : (b : Bool) → list_any (is_of t) (queue_at v m) ≡ b → b ≡ false
-    go false h = refl
-    go true h =
+    there : list_any (is_of t) (queue_at v m) ≡ true → ⊥
+    there h =
         let it : Found (is_of t) (Shows (wait_of v.state) (stored_at v) m) (queue_at v m) =
         found (is_of t) (Shows (wait_of v.state) (stored_at v) m) (queue_at v m) h q.sound in
-        absurd (none-some _ (sym (subst (λ (x : View). wait_of x.state t ≡ None) (sym same) idle) ∙ ap (wait_of v.state)
-        (sym (eqb-true it.one.task t it.passes)) ∙ it.holds.waits))
+        none-some _ (sym (subst (λ (x : View). wait_of x.state t ≡ None) (sym same) idle) ∙ ap (wait_of v.state)
+        (sym (eqb-true it.one.task t it.passes)) ∙ it.holds.waits)
 
 -- a ticket that nobody waits with is in no queue
 pub ticket_not_here :
@@ -164,18 +163,17 @@ pub ticket_not_here :
     → ((y : ℕ) → wait_of u.state y ≡ Some (record { mutex = m; ticket = k }) → ⊥)
     → Ready v
     → list_any (has_ticket k) (queue_at v m) ≡ false
-ticket_not_here v u m k same mutex fresh ready = go (list_any (has_ticket k) (queue_at v m)) refl
+ticket_not_here v u m k same mutex fresh ready = false_from_ne_true _ there
   where
     q : IsQueue (wait_of v.state) (stored_at v) m (queue_at v m)
     q = ready.queues m (subst (λ (x : View). IsMutex x.state m) (sym same) mutex)
 
-    go : (b : Bool) → list_any (has_ticket k) (queue_at v m) ≡ b → b ≡ false
-    go false h = refl
-    go true h =
+    there : list_any (has_ticket k) (queue_at v m) ≡ true → ⊥
+    there h =
         let it : Found (has_ticket k) (Shows (wait_of v.state) (stored_at v) m) (queue_at v m) =
         found (has_ticket k) (Shows (wait_of v.state) (stored_at v) m) (queue_at v m) h q.sound in
-        absurd (fresh it.one.task (subst (λ (x : View). wait_of x.state it.one.task ≡ Some (record { mutex = m; ticket = k })) same
-        (it.holds.waits ∙ ap (λ n. Some (record { mutex = m; ticket = n })) (eqb-true it.one.ticket k it.passes))))
+        fresh it.one.task (subst (λ (x : View). wait_of x.state it.one.task ≡ Some (record { mutex = m; ticket = k })) same
+        (it.holds.waits ∙ ap (λ n. Some (record { mutex = m; ticket = n })) (eqb-true it.one.ticket k it.passes)))
 
 -- who waits with the ticket shows it
 ticket_there :

@@ -1,7 +1,7 @@
 -- The local priority, and what one mended task leaves of it.
 use Rattle.std.proofs.Common.{◌≡◌, ℕ, eqb, ◌+◌, ◌≤◌, max, Bool, true, false, cond, ◌⊎◌, inl, inr, refl, sym, ◌∙◌, ap, subst, arith, le_antisymm, le_trans, Option, Some, None, length, option_and_then}
 use Rattle.std.specs.Option.{option_map_or}
-use Rattle.std.proofs.lemmas.Bool.{cases_eq, eqb-true, eq-eqb}
+use Rattle.std.proofs.lemmas.Bool.{both_ways, cases_eq, eqb-true, eq-eqb}
 use Rattle.std.proofs.lemmas.Option.{none-some, same_Some}
 use Rattle.pim_base.specs.State.{State, IsTask, wait_of}
 use Rattle.pim_base.specs.Chains.{heir, heir_of}
@@ -81,10 +81,7 @@ heir_at S m u h = go (wait_of S u) h
         (o : Option Wait)
         → option_map_or (λ (w : Wait). eqb w.mutex m) o false ≡ true
         → option_and_then (λ (w : Wait). heir_of S w.mutex) o ≡ heir_of S m
-    go None k = absurd (none_true k)
-      where
-        none_true : false ≡ true → ⊥
-        none_true e = cc
+    go None k = absurd (both_ways false refl k)
     go (Some w) k = ap (heir_of S) (eqb-true _ _ k)
 
 pub waits_for_from : (wait : ℕ → Option Wait) (u : ℕ) (w : Wait) → wait u ≡ Some w → waits_for wait w.mutex u ≡ true

@@ -25,24 +25,23 @@ filter_same p q a (suc n) same =
 
 filter_filter : (p q : ℕ → Bool) (xs : List ℕ) → filter p (filter q xs) ≡ filter (λ k. p k && q k) xs
 filter_filter p q [] = refl
-filter_filter p q (x ∷ xs) = go (q x) (p x) refl (filter_filter p q xs)
+filter_filter p q (x ∷ xs) = go (q x) (filter_filter p q xs)
   where
-    go :
+    kept : List ℕ
+    kept = filter (λ k. p k && q k) xs
+
+    both :
         (b d : Bool)
-        → p x ≡ d
-        → filter p (filter q xs) ≡ filter (λ k. p k && q k) xs
-        → filter p (cond b (x ∷ filter q xs) (filter q xs)) ≡ cond (p x && b) (x ∷ filter (λ k. p k && q k) xs) (filter (λ k. p k && q k) xs)
-    go true d is rest =
-        ap (λ e. cond e (x ∷ filter p (filter q xs)) (filter p (filter q xs))) is
-        ∙ ap (λ ys. cond d (x ∷ ys) ys) rest
-        ∙ both d
-        ∙ sym (ap (λ e. cond (e && true) (x ∷ filter (λ k. p k && q k) xs) (filter (λ k. p k && q k) xs)) is)
-      where
-        both : (d : Bool) → cond d (x ∷ filter (λ k. p k && q k) xs) (filter (λ k. p k && q k) xs) ≡ cond (d && true) (x ∷ filter (λ k. p k && q k) xs) (filter (λ k. p k && q k) xs)
-        both true = refl
-        both false = refl
-    go false true is rest = rest ∙ sym (ap (λ e. cond (e && false) (x ∷ filter (λ k. p k && q k) xs) (filter (λ k. p k && q k) xs)) is)
-    go false false is rest = rest ∙ sym (ap (λ e. cond (e && false) (x ∷ filter (λ k. p k && q k) xs) (filter (λ k. p k && q k) xs)) is)
+        → filter p (filter q xs) ≡ kept
+        → cond b (cond d (x ∷ filter p (filter q xs)) (filter p (filter q xs))) (filter p (filter q xs)) ≡ cond (d && b) (x ∷ kept) kept
+    both true true rest = ap (λ ys. x ∷ ys) rest
+    both true false rest = rest
+    both false true rest = rest
+    both false false rest = rest
+
+    go : (b : Bool) → filter p (filter q xs) ≡ kept → filter p (cond b (x ∷ filter q xs) (filter q xs)) ≡ cond (p x && b) (x ∷ kept) kept
+    go true = both true (p x)
+    go false = both false (p x)
 
 -- what comes after the last that passes adds nothing
 filter_prefix :

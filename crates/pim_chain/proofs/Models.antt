@@ -34,6 +34,13 @@ among_in S n u l = go (ltb n u) refl
 among_out : (S : State) (n u : ℕ) → n < u → among S n u ≡ None
 among_out S n u l = ap (λ b. cond b None (wait_of S u)) (lt-ltb n u l)
 
+among_from : (S : State) (n u : ℕ) (w : Wait) → among S n u ≡ Some w → wait_of S u ≡ Some w
+among_from S n u w e = go (ltb n u) e
+  where
+    go : (b : Bool) → cond b None (wait_of S u) ≡ Some w → wait_of S u ≡ Some w
+    go true g = cc
+    go false g = g
+
 among_more : (S : State) (n u : ℕ) → (u ≡ suc n → ⊥) → among S (suc n) u ≡ among S n u
 among_more S n u ne = go (cases_lt n u)
   where
@@ -121,15 +128,8 @@ model_upto S fit m (suc n) = go (model_upto S fit m n) (wait_of S (suc n)) refl
             (record { task = suc n; prio = effective_priority S (suc n); ticket = w.ticket }))) is
             (queue_joined (among S n) (among S (suc n)) (effective_priority S) (effective_priority S) (suc n) w
             (queue_upto (waiter_of S m) n) (among_more S n) (λ u _. refl) (not_waiting (among S n) w.mutex (suc n) idle) (here ∙ e)
-            (λ u ne f. ne (fit.tickets u (suc n) w (known u f) e))
+            (λ u ne f. ne (fit.tickets u (suc n) w (among_from S n u w f) e))
             (subst (λ k. IsQueue (among S n) (effective_priority S) k (queue_upto (waiter_of S m) n)) (sym is) q)))
-          where
-            known : (u : ℕ) → among S n u ≡ Some w → wait_of S u ≡ Some w
-            known u f = from (ltb n u) f
-              where
-                from : (b : Bool) → cond b None (wait_of S u) ≡ Some w → wait_of S u ≡ Some w
-                from true g = cc
-                from false g = g
 
 -- who is listed waits
 listed_waits :
@@ -141,13 +141,6 @@ listed_waits wait stored m t ws h shows =
     let it : Found (is_of t) (Shows wait stored m) ws = found (is_of t) (Shows wait stored m) ws h shows in
     subst (λ u. waits_for wait m u ≡ true) (eqb-true it.one.task t it.passes)
     (waits_for_from wait it.one.task (record { mutex = m; ticket = it.one.ticket }) it.holds.waits)
-
-among_from : (S : State) (n u : ℕ) (w : Wait) → among S n u ≡ Some w → wait_of S u ≡ Some w
-among_from S n u w e = go (ltb n u) e
-  where
-    go : (b : Bool) → cond b None (wait_of S u) ≡ Some w → wait_of S u ≡ Some w
-    go true g = cc
-    go false g = g
 
 same_waits_for : (f g : ℕ → Option Wait) (m t : ℕ) → f t ≡ g t → waits_for f m t ≡ true → waits_for g m t ≡ true
 same_waits_for f g m t e h = ap (λ o. option_map_or (λ (x : Wait). eqb x.mutex m) o false) (sym e) ∙ h

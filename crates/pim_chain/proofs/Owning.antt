@@ -1,7 +1,7 @@
 -- The sets of owned mutexes after a change of one owner.
-use Rattle.std.proofs.Common.{◌≡◌, ◌≢◌, ℕ, zero, suc, ◌<◌, ◌≤◌, ◌==◌, ◌&&◌, ◌||◌, Bool, true, false, not, ◌⊎◌, inl, inr, refl, sym, ◌∙◌, ap, subst, arith, Option, Some, None, List, [], length, replicate, unwrap_or}
+use Rattle.std.proofs.Common.{◌≡◌, ◌≢◌, ℕ, zero, suc, ◌<◌, ◌≤◌, ◌==◌, ◌&&◌, ◌||◌, false, not, ◌⊎◌, inl, inr, refl, sym, ◌∙◌, ap, subst, arith, Option, Some, None, List, [], length, replicate, unwrap_or}
 use Rattle.std.specs.Option.{option_map_or}
-use Rattle.std.proofs.lemmas.Bool.{cases_eq, cases_lt, eq-eqb, ne_eqb}
+use Rattle.std.proofs.lemmas.Bool.{false_from_ne_true, cases_eq, cases_lt, eq-eqb, ne_eqb}
 use Rattle.pim_base.specs.Lists.{put, holds}
 use Rattle.std.proofs.lemmas.Option.{slice_get_past}
 use Rattle.pim_base.specs.State.{IsTask, IsMutex, owner_of, owned as owned_by}
@@ -169,16 +169,15 @@ module _ (v u : View) (same : v ≡ u) (ready : Ready v) (sets : List NumberSet)
   sets_tell t k =
       subst (λ (x : View). has (words_in sets t) k ≡ holds (owner_of x.state k) t) same (go t (cases_lt (length v.state.base) t))
     where
-      nobody : (t : ℕ) → (IsTask v.state t → ⊥) → (b : Bool) → holds (owner_of v.state k) t ≡ b → false ≡ b
-      nobody t unknown false h = refl
-      nobody t unknown true h = absurd (unknown (ready.waits.owners k t (from_holds (owner_of v.state k) t h)))
+      nobody : (t : ℕ) → (IsTask v.state t → ⊥) → false ≡ holds (owner_of v.state k) t
+      nobody t unknown = sym (false_from_ne_true _ (λ h. unknown (ready.waits.owners k t (from_holds (owner_of v.state k) t h))))
 
       go : (t : ℕ) → (length v.state.base < t) ⊎ (t ≤ length v.state.base) → has (words_in sets t) k ≡ holds (owner_of v.state k) t
-      go zero _ = no_number k ∙ nobody zero (λ known. let low = known.0 in absurd (omega (arith, low))) _ refl
+      go zero _ = no_number k ∙ nobody zero (λ known. let low = known.0 in absurd (omega (arith, low)))
       go (suc t) (inr le) = owned.members (suc t) k (omega arith) le
       go (suc t) (inl past) =
           ap (λ o. has (option_map_or (λ (s : NumberSet). s.words) o []) k) (slice_get_past sets t (omega (arith, past, owned.len)))
-          ∙ no_number k ∙ nobody (suc t) (λ known. let high = known.1 in absurd (omega (arith, high, past))) _ refl
+          ∙ no_number k ∙ nobody (suc t) (λ known. let high = known.1 in absurd (omega (arith, high, past)))
 
   -- its numbers are the mutexes that the task owns
   pub owned_members : (t : ℕ) → members (words_in sets t) ≡ owned_by u.state t
@@ -191,8 +190,5 @@ module _ (v u : View) (same : v ≡ u) (ready : Ready v) (sets : List NumberSet)
       tell k = sets_tell t k ∙ ap (λ (x : View). holds (owner_of x.state k) t) (sym same)
 
       unknown : (k : ℕ) → length v.state.protocol < k → holds (owner_of v.state k) t ≡ false
-      unknown k past = go (holds (owner_of v.state k) t) refl
-        where
-          go : (b : Bool) → holds (owner_of v.state k) t ≡ b → b ≡ false
-          go false h = refl
-          go true h = let high = (owned_known v.state ready.sound.lists k t h).1 in absurd (omega (arith, high, past))
+      unknown k past =
+          false_from_ne_true _ (λ h. let high = (owned_known v.state ready.sound.lists k t h).1 in absurd (omega (arith, high, past)))

@@ -51,14 +51,11 @@ queue_moved v x p w ready known at =
     subst (λ k. IsQueue (wait_of v.state) (stored_in (put v.stored x p)) w.mutex (placed p k)) (sym ticket)
     (subst (λ n. IsQueue (wait_of v.state) (stored_in (put v.stored x p)) w.mutex (placed n w.ticket)) (stored_now v x p ready known)
     (queue_joined away (wait_of v.state) (stored_at v) (stored_in (put v.stored x p)) x w (without x (queue_at v w.mutex))
-    back (stored_else v x p) (λ h. none_true (sym (ap (λ o. waits_in o) idle) ∙ h)) at
+    back (stored_else v x p) (not_waiting away w.mutex x idle) at
     (λ u ne e. ne (ready.waits.tickets u x w (back u ne ∙ e) at))
     (queue_left (wait_of v.state) away (stored_at v) (stored_at v) x w.mutex (queue_at v w.mutex) (λ u ne. sym (back u ne)) (λ u _. refl)
-    (λ h. none_true (sym (ap (λ o. waits_in o) idle) ∙ h)) here)))
+    (not_waiting away w.mutex x idle) here)))
   where
-    none_true : false ≡ true → ⊥
-    none_true e = cc
-
     here : IsQueue (wait_of v.state) (stored_at v) w.mutex (queue_at v w.mutex)
     here = ready.queues w.mutex (ready.waits.mutexes x w at)
 
@@ -69,9 +66,6 @@ queue_moved v x p w ready known at =
     ticket =
         ticket_shown (wait_of v.state) (stored_at v) x w (queue_at v w.mutex) here at
         (here.complete x (waits_for_from (wait_of v.state) x w at))
-
-    waits_in : Option Wait → Bool
-    waits_in o = option_map_or (λ (y : Wait). eqb y.mutex w.mutex) o false
 
     -- the waits without that of x
     away : ℕ → Option Wait

@@ -3,6 +3,7 @@ use Rattle.std.proofs.Common.{◌≡◌, ℕ, eqb, suc, ◌<◌, ◌≤◌, max,
 use Rattle.std.specs.List.{list_any, AllByRecursion, IsDistinct}
 use Rattle.std.specs.Option.{option_map_or}
 use Rattle.std.proofs.lemmas.Bool.{both_ways, cases_eq, eqb-true, eq-eqb, ne_eqb, cond_both, or_cases}
+use Rattle.std.proofs.lemmas.List.{length-map}
 use Rattle.std.proofs.lemmas.Option.{same_Some}
 use Rattle.std.proofs.lemmas.Map.Steps.{length-le_from_distinct_below}
 use Rattle.std.proofs.Math.Nat.{le-max_left, le-max_right, max-le}
@@ -192,6 +193,13 @@ queue_joined wait wait' old new x w ws waits others away now fresh q = record {
         (q.complete t (ap (λ o. option_map_or (λ (w' : Wait). eqb w'.mutex w.mutex) o false) (sym (waits t ne)) ∙ h))
 
 -- ---- there is room for one who isn't in it
+apart :
+    (y : ℕ) (us : List Waiter)
+    → AllByRecursion (λ u. y ≡ u.task → ⊥) us
+    → AllByRecursion (λ z. eqb y z ≡ false) (map (λ (w : Waiter). w.task) us)
+apart y [] h = tt
+apart y (u ∷ us) h = (ne_eqb y u.task h.0, apart y us h.1)
+
 distinct_tasks :
     (wait : ℕ → Option Wait) (stored : ℕ → ℕ) (m : ℕ) (ws : List Waiter)
     → IsOrdered ws
@@ -200,18 +208,7 @@ distinct_tasks :
 unfolding IsDistinct
 distinct_tasks wait stored m [] ordered shows = tt
 distinct_tasks wait stored m (v ∷ vs) ordered shows =
-    (apart vs (others_behind wait stored m v vs ordered.0 shows.0 shows.1), distinct_tasks wait stored m vs ordered.1 shows.1)
-  where
-    apart :
-        (us : List Waiter)
-        → AllByRecursion (λ u. v.task ≡ u.task → ⊥) us
-        → AllByRecursion (λ y. eqb v.task y ≡ false) (map (λ (w : Waiter). w.task) us)
-    apart [] h = tt
-    apart (u ∷ us) h = (ne_eqb v.task u.task h.0, apart us h.1)
-
-length-tasks : (ws : List Waiter) → length (map (λ (w : Waiter). w.task) ws) ≡ length ws
-length-tasks [] = refl
-length-tasks (w ∷ ws) = ap suc (length-tasks ws)
+    (apart v.task vs (others_behind wait stored m v vs ordered.0 shows.0 shows.1), distinct_tasks wait stored m vs ordered.1 shows.1)
 
 among :
     (S : State) (stored : ℕ → ℕ) (m : ℕ)
@@ -255,15 +252,8 @@ room_for S stored m x ws lists known away q =
       ),
     )
     below in
-    omega (arith, all, length-tasks ws)
+    omega (arith, all, length-map ws (λ (w : Waiter). w.task))
   where
-    apart :
-        (y : ℕ) (us : List Waiter)
-        → AllByRecursion (λ u. y ≡ u.task → ⊥) us
-        → AllByRecursion (λ z. eqb y z ≡ false) (map (λ (w : Waiter). w.task) us)
-    apart y [] h = tt
-    apart y (u ∷ us) h = (ne_eqb y u.task h.0, apart y us h.1)
-
     below : (k : ℕ) → list_any (λ y. eqb k y) (0 ∷ x ∷ map (λ (w : Waiter). w.task) ws) ≡ true → k < suc (length S.base)
     below k h = go (or_cases _ _ h)
       where
