@@ -1,6 +1,7 @@
 -- Mutexes handed over one after another, in ascending order.
-use Rattle.std.proofs.Common.{◌≡◌, ◌≢◌, ◌⊎◌, inl, inr, ℕ, zero, suc, ◌+◌, ◌<◌, ◌≤◌, arith, sym, Bool, true, false, cond, [], ◌∷◌, ◌++◌, filter, length, length-append, Option, Some, None, refl, ◌∙◌, ap, fold, unwrap_or, eq-or-lt_of_le}
+use Rattle.std.proofs.Common.{◌≡◌, ◌≢◌, ◌⊎◌, inl, inr, ℕ, zero, suc, ◌+◌, ◌<◌, ◌≤◌, arith, sym, Bool, true, false, [], ◌∷◌, ◌++◌, filter, length, length-append, Option, Some, None, refl, ◌∙◌, ap, fold, unwrap_or, eq-or-lt_of_le}
 use Rattle.std.proofs.lemmas.Bool.{cases_eq}
+use Rattle.std.proofs.lemmas.List.Sums.{fold-append}
 use Rattle.pim_base.specs.Lists.{holds, numbers}
 use Rattle.pim_base.specs.State.{State, owner_of, wait_of, with_owner, with_wait}
 use Rattle.pim_base.specs.Queues.{first_of}
@@ -8,26 +9,9 @@ use Rattle.pim_base.specs.Steps.{hand_over, hand_over_to}
 use Rattle.pim_base.specs.declared.steps.Waiter.{Waiter}
 use Rattle.pim_base.proofs.Places.{nth-put_other}
 use Rattle.pim_base.proofs.NoCycle.{idle_now}
-use Rattle.pim_base.proofs.Greatest.{filter_numbers-more, append_nothing}
-use Rattle.pim_base.proofs.Firsts.{fold-append_one}
+use Rattle.pim_base.proofs.Greatest.{filter_numbers-pass, filter_numbers-fail}
 
 -- ---- the numbers that pass a test
-
--- one more number, which passes
-pub filter_numbers-pass : (p : ℕ → Bool) (n m : ℕ) → m + 1 ≡ n → p n ≡ true → filter p (numbers n) ≡ filter p (numbers m) ++ n ∷ []
-filter_numbers-pass p n m e h = rw (← e) (go (rw (← e) at h))
-  where
-    go : p (m + 1) ≡ true → filter p (numbers (m + 1)) ≡ filter p (numbers m) ++ (m + 1) ∷ []
-    go h = filter_numbers-more p m ∙ ap (λ b. filter p (numbers m) ++ cond b ((m + 1) ∷ []) []) h
-
--- one more number, which fails
-pub filter_numbers-fail : (p : ℕ → Bool) (n m : ℕ) → m + 1 ≡ n → p n ≡ false → filter p (numbers n) ≡ filter p (numbers m)
-filter_numbers-fail p n m e h = rw (← e) (go (rw (← e) at h))
-  where
-    go : p (m + 1) ≡ false → filter p (numbers (m + 1)) ≡ filter p (numbers m)
-    go h =
-        filter_numbers-more p m ∙ ap (λ b. filter p (numbers m) ++ cond b ((m + 1) ∷ []) []) h
-        ∙ append_nothing (filter p (numbers m))
 
 -- numbers that fail are left out
 pub filter_numbers-until :
@@ -130,7 +114,7 @@ pub released_more :
     → IsReleasedTo S (hand_over T m) a m (k + 1)
 released_more S T a n m k e owns before = record {
   state =
-      ap (λ U. hand_over U m) before.state ∙ sym (fold-append_one hand_over S (filter p (numbers n)) m)
+      ap (λ U. hand_over U m) before.state ∙ sym (fold-append hand_over S (filter p (numbers n)) (m ∷ []))
       ∙ ap (fold hand_over S) (sym more);
   count = ap (λ j. j + 1) before.count ∙ sym (length-append (filter p (numbers n)) (m ∷ [])) ∙ ap length (sym more);
   few = omega (arith, before.few, e);

@@ -1,10 +1,10 @@
 -- The numbers of a range that pass a test.
-use Rattle.std.proofs.Common.{◌≡◌, ◌≢◌, ◌<◌, ◌≤◌, ℕ, zero, suc, ◌+◌, Bool, true, false, cond, ◌⊎◌, inl, inr, List, [], ◌∷◌, ◌++◌, filter, length, length-append, add-one, refl, sym, ◌∙◌, ap, subst, arith}
+use Rattle.std.proofs.Common.{◌≡◌, ◌≢◌, ◌<◌, ◌≤◌, ℕ, zero, suc, ◌+◌, Bool, true, false, cond, ◌⊎◌, inl, inr, List, [], ◌∷◌, filter, length, refl, sym, ◌∙◌, ap, subst, arith}
 use Rattle.std.proofs.lemmas.Bool.{cases_eq}
 use Rattle.std.specs.List.{range_with_len}
 use Rattle.pim_base.specs.Lists.{numbers}
 use Rattle.pim_base.specs.Counts.{count}
-use Rattle.pim_base.proofs.Greatest.{filter_numbers-more}
+use Rattle.pim_base.proofs.Counting.{count-length}
 use Rattle.pim_chain.proofs.Members.{filter_same}
 
 -- no more pass than there are
@@ -87,35 +87,27 @@ filter-none p a (suc n) k h low high = go (p a) refl h (filter-none p (a + 1) n 
     go false e h later (inr ne) = later h (omega (arith, low, ne)) (omega (arith, high))
 
 -- where the one test holds the other does too, as many pass at least
+count_over :
+    (p q : ℕ → Bool) (n : ℕ)
+    → ((k : ℕ) → 1 ≤ k → k ≤ n → p k ≡ true → q k ≡ true)
+    → count n p ≤ count n q
+unfolding count
+count_over p q zero over = omega arith
+count_over p q (suc n) over =
+    go (p (suc n)) (over (suc n) (omega arith) (omega arith)) (count_over p q n (λ k low high. over k low (omega (arith, high))))
+  where
+    go :
+        (b : Bool)
+        → (b ≡ true → q (suc n) ≡ true)
+        → count n p ≤ count n q
+        → count n p + cond {A = ℕ} b 1 0 ≤ count n q + cond {A = ℕ} (q (suc n)) 1 0
+    go true same le =
+        let one : cond {A = ℕ} (q (suc n)) 1 0 ≡ 1 = ap {B = ℕ} (λ (c : Bool). cond {A = ℕ} c 1 0) (same refl) in
+        omega (arith, one, le)
+    go false same le = omega (arith, le)
+
 pub length-le-count :
     (p q : ℕ → Bool) (n : ℕ)
     → ((k : ℕ) → 1 ≤ k → k ≤ n → p k ≡ true → q k ≡ true)
     → length (filter p (numbers n)) ≤ count n q
-unfolding count
-length-le-count p q zero over = omega arith
-length-le-count p q (suc n) over =
-    go (p (suc n)) refl (length-le-count p q n (λ k low high. over k low (omega (arith, high))))
-  where
-    is : filter p (numbers (suc n)) ≡ filter p (numbers n) ++ cond (p (suc n)) (suc n ∷ []) []
-    is = subst (λ m. filter p (numbers m) ≡ filter p (numbers n) ++ cond (p m) (m ∷ []) []) (add-one n) (filter_numbers-more p n)
-
-    go :
-        (b : Bool)
-        → p (suc n) ≡ b
-        → length (filter p (numbers n)) ≤ count n q
-        → length (filter p (numbers (suc n))) ≤ count n q + cond {A = ℕ} (q (suc n)) 1 0
-    go b e le =
-        let more : length (filter p (numbers (suc n))) ≡ length (filter p (numbers n)) + length (cond b (suc n ∷ []) []) =
-        ap length is ∙ length-append (filter p (numbers n)) (cond (p (suc n)) (suc n ∷ []) []) ∙ ap
-        (λ c. length (filter p (numbers n)) + length (cond c (suc n ∷ []) [])) e in
-        at b e more
-      where
-        at :
-            (b : Bool)
-            → p (suc n) ≡ b
-            → length (filter p (numbers (suc n))) ≡ length (filter p (numbers n)) + length (cond b (suc n ∷ []) [])
-            → length (filter p (numbers (suc n))) ≤ count n q + cond {A = ℕ} (q (suc n)) 1 0
-        at true e more =
-            let one : cond {A = ℕ} (q (suc n)) 1 0 ≡ 1 = ap {B = ℕ} (λ (c : Bool). cond {A = ℕ} c 1 0) (over (suc n) (omega arith) (omega arith) e) in
-            omega (arith, one, more, le)
-        at false e more = omega (arith, more, le)
+length-le-count p q n over = subst (λ k. k ≤ count n q) (count-length n p) (count_over p q n over)

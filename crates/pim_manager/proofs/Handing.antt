@@ -192,10 +192,3 @@ two_walks v r u x y z S T m t a b c before shown steady bases freed one stored g
 
     z_bases : length z.state.base ≡ n
     z_bases = ap (λ (U : State). length U.base) same ∙ y_bases
-
-pub base-hand_over : (S : State) (m : ℕ) → (hand_over S m).base ≡ S.base
-base-hand_over S m = go (first_of S m)
-  where
-    go : (o : Option Waiter) → (hand_over_to S m o).base ≡ S.base
-    go None = refl
-    go (Some w) = refl

@@ -17,7 +17,7 @@ use Rattle.pim_manager.specs.declared.changed_tasks.ChangedTask.{ChangedTask}
 use Rattle.pim_manager.specs.Changed.{changed_task, noted_changes}
 use Rattle.pim_manager.specs.Settled.{IsSettled, Worked}
 use Rattle.pim_manager.proofs.Filters.{few_pass}
-use Rattle.pim_manager.proofs.Handing.{base-hand_over}
+use Rattle.pim_base.proofs.HandOvers.{base-hand_over}
 
 -- a step keeps the number of tasks
 pub bases_after : (S : State) (step : Step) → length (after S step).base ≡ length S.base

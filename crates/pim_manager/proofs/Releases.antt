@@ -1,9 +1,9 @@
 -- Mutexes handed over one after another.
-use Rattle.std.proofs.Common.{◌≡◌, ◌≢◌, ◌≤◌, ◌<◌, ℕ, zero, suc, cond, ◌+◌, ◌*◌, Bool, true, false, not, eqb, List, [], ◌∷◌, length, filter, All, Option, Some, None, refl, sym, ◌∙◌, ap, subst, arith, eq-or-lt_of_le, fold, unwrap_or, ◌⊎◌, inl, inr}
-use Rattle.std.proofs.lemmas.Bool.{both_ways, cases_eq, eq-eqb, ne_eqb}
+use Rattle.std.proofs.Common.{◌≡◌, ◌≤◌, ◌<◌, ℕ, zero, suc, cond, ◌+◌, ◌*◌, Bool, true, false, not, eqb, List, [], ◌∷◌, length, filter, All, Option, Some, None, refl, sym, ◌∙◌, ap, subst, arith, eq-or-lt_of_le, fold, ◌⊎◌, inl, inr}
+use Rattle.std.proofs.lemmas.Bool.{both_ways, eq-eqb, ne_eqb}
 use Rattle.std.proofs.lemmas.Option.{none-some, same_Some}
 use Rattle.pim_base.specs.Lists.{first_item, holds, numbers}
-use Rattle.pim_base.specs.State.{State, IsTask, IsMutex, owned, owner_of, wait_of, with_owner, with_wait}
+use Rattle.pim_base.specs.State.{State, IsTask, IsMutex, owned, owner_of, wait_of, with_owner}
 use Rattle.pim_base.specs.Queues.{waiter_of, queue_of, first_of}
 use Rattle.pim_base.specs.Steps.{hand_over, hand_over_to}
 use Rattle.pim_base.specs.Steady.{HasOwnTickets, IsSteady}
@@ -12,44 +12,18 @@ use Rattle.pim_base.specs.Priorities.{effective_priority}
 use Rattle.pim_base.specs.declared.limits.TheConstants.{MAX_MUTEXES}
 use Rattle.pim_base.specs.declared.steps.Waiter.{Waiter}
 use Rattle.pim_base.proofs.InOrder.{queue_law, waits_for}
-use Rattle.pim_base.proofs.Places.{nth-put_other}
-use Rattle.pim_base.proofs.NoCycle.{idle_now, unwrap_or-put_same}
+use Rattle.pim_base.proofs.HandOvers.{owner_of-hand_over_other, protocol-hand_over, base-hand_over, idle-hand_over}
+use Rattle.pim_base.proofs.NoCycle.{unwrap_or-put_same}
 use Rattle.pim_base.proofs.Steady.{steady_kept}
 use Rattle.pim_base.proofs.Stored.{from_holds}
 use Rattle.pim_chain.specs.Work.{Work, Tells}
-use Rattle.pim_chain.proofs.Changes.{wait_other}
 use Rattle.pim_chain.proofs.Told.{tells-trans}
 use Rattle.pim_manager.specs.Settled.{Worked}
 use Rattle.pim_manager.proofs.Works.{worked_none}
 use Rattle.pim_manager.proofs.Filters.{few_pass, first_passes, filter-rest, filter-none, length-le-count}
-use Rattle.pim_manager.proofs.Handing.{base-hand_over, freed_owner}
+use Rattle.pim_manager.proofs.Handing.{freed_owner}
 
 -- ---- one hand-over
-owner_of-hand_over_other : (S : State) (m k : ℕ) → m ≢ k → owner_of (hand_over S m) k ≡ owner_of S k
-owner_of-hand_over_other S m k other = go (first_of S m)
-  where
-    go : (o : Option Waiter) → owner_of (hand_over_to S m o) k ≡ owner_of S k
-    go None = ap (λ x. unwrap_or x None) (nth-put_other S.owner m k None other)
-    go (Some w) = ap (λ x. unwrap_or x None) (nth-put_other S.owner m k (Some w.task) other)
-
-protocol-hand_over : (S : State) (m : ℕ) → (hand_over S m).protocol ≡ S.protocol
-protocol-hand_over S m = go (first_of S m)
-  where
-    go : (o : Option Waiter) → (hand_over_to S m o).protocol ≡ S.protocol
-    go None = refl
-    go (Some w) = refl
-
-idle-hand_over : (S : State) (m t : ℕ) → wait_of S t ≡ None → wait_of (hand_over S m) t ≡ None
-idle-hand_over S m t idle = go (first_of S m)
-  where
-    go : (o : Option Waiter) → wait_of (hand_over_to S m o) t ≡ None
-    go None = idle
-    go (Some w) = at (cases_eq t w.task)
-      where
-        at : (t ≡ w.task) ⊎ (t ≡ w.task → ⊥) → wait_of (with_wait (with_owner S m (Some w.task)) w.task None) t ≡ None
-        at (inl is) =
-            ap (wait_of (with_wait (with_owner S m (Some w.task)) w.task None)) is ∙ idle_now (with_owner S m (Some w.task)) w.task
-        at (inr ne) = wait_other (with_owner S m (Some w.task)) w.task None t ne ∙ idle
 
 -- the first waiter waits
 first_of-waits : (S : State) (m : ℕ) (w : Waiter) → HasOwnTickets S → first_of S m ≡ Some w → wait_of S w.task ≡ None → ⊥

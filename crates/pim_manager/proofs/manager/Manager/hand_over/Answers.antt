@@ -2,10 +2,11 @@ use Rattle.std.proofs.Common.{◌≡◌, ◌≤◌, ◌+◌, None, sym, subst, �
 use Rattle.pim_base.specs.State.{State, IsTask, wait_of, with_owner}
 use Rattle.pim_base.specs.Counts.{handed_mutex_count}
 use Rattle.pim_base.specs.Steps.{hand_over, hand_over_to}
+use Rattle.pim_base.proofs.HandOvers.{base-hand_over}
 use Rattle.pim_base.proofs.Steady.{steady_kept}
 use Rattle.pim_chain.specs.Views.{View}
 use Rattle.pim_manager.proofs.Works.{Walked, walked, steady_shown}
-use Rattle.pim_manager.proofs.Handing.{Passed, passed, passed_state, first_is, heir_idle, two_walks, base-hand_over}
+use Rattle.pim_manager.proofs.Handing.{Passed, passed, passed_state, first_is, heir_idle, two_walks}
 use Rattle.pim_manager.proofs.Releases.{handed_once}
 use Rattle.pim_manager.proofs.manager.Manager.hand_over.Goals as goal
 
