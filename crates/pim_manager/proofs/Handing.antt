@@ -52,6 +52,16 @@ is_waiting-blocker S t steady = go (wait_of S t) refl
 pub heir_idle : (S : State) (t : ℕ) → wait_of S t ≡ None → heir S t ≡ None
 heir_idle S t e = ap (option_and_then (λ (w : Wait). heir_of S w.mutex)) e
 
+-- whoever doesn't wait has no heir either once the mutex is free
+pub freed_idle :
+    {v r : View} {S : State} (m a : ℕ)
+    → r ≡ with_state v (with_owner v.state m None)
+    → v.state ≡ S
+    → wait_of S a ≡ None
+    → heir r.state a ≡ None
+freed_idle {v} {r} {S} m a freed shown idle =
+    heir_idle r.state a (ap (λ (w : View). wait_of w.state a) freed ∙ ap (λ (U : State). wait_of U a) shown ∙ idle)
+
 set-set : {X : Type 0} (xs : List X) (i : ℕ) (x y : X) → set (set xs i x) i y ≡ set xs i y
 set-set [] i x y = refl
 set-set (z ∷ zs) zero x y = refl
@@ -84,13 +94,13 @@ first_waits v m w ready known e = go (queue_at v m) (ready.queues m known) e
 
 -- the first of the queue is the first waiter
 pub first_is :
-    (v : View) (S : State) (m : ℕ) (first : Option Waiter)
+    {v : View} {S : State} {m : ℕ} {first : Option Waiter}
     → IsSettled v
     → v.state ≡ S
     → IsMutex S m
     → first ≡ first_item (queue_at v m)
     → first ≡ first_of S m
-first_is v S m first before shown known is =
+first_is {v} {S} {m} {first} before shown known is =
     is ∙ ap first_item (queue_is v m before.calm (subst (λ (U : State). IsMutex U m) (sym shown) known)) ∙ ap (λ (U : State). first_of U m) shown
 
 -- The owner has lost the mutex, and its tables u are settled; then the first waiter has left the queue, and they are x.

@@ -86,4 +86,4 @@ queue_in_order v S m ws settled shown is = go (unknown_mutex S m) is
   where
     go : (b : Bool) → Some ws ≡ cond b None (Some (queue_of S m)) → AllPairs Precedes ws
     go true e = absurd (none-some ws (sym e))
-    go false e = subst (AllPairs Precedes) (sym (same_Some ws (queue_of S m) e)) (queue_law S m (steady_shown v S settled shown).tickets).in_order
+    go false e = subst (AllPairs Precedes) (sym (same_Some ws (queue_of S m) e)) (queue_law S m (steady_shown settled shown).tickets).in_order

@@ -89,5 +89,5 @@ walked v w x S T a b before shown steady bases is stored same settled ready told
     effective = both_effective v x before.calm after (ap (λ (U : State). length U.base) same ∙ w_bases)
 
 -- the state that settled tables show is steady
-pub steady_shown : (v : View) (S : State) → IsSettled v → v.state ≡ S → IsSteady S
-steady_shown v S settled shown = subst IsSteady shown settled.steady
+pub steady_shown : {v : View} {S : State} → IsSettled v → v.state ≡ S → IsSteady S
+steady_shown settled shown = subst IsSteady shown settled.steady

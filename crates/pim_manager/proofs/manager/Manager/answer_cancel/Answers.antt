@@ -21,6 +21,6 @@ returns-in_default-clause-reply c =
     let known : unknown_task S c.args.task ≡ false =
     ap (λ (U : State). unknown_task U c.args.task) (sym c.self.view_is) ∙ sym c.is_unknown_task.ensures ∙ c.if-is_unknown_task.false in
     let idle : is_waiting S c.args.task ≡ false =
-    is_waiting-blocker S c.args.task (steady_shown c.self.inside.tables S c.self.invariant c.self.view_is)
+    is_waiting-blocker S c.args.task (steady_shown c.self.invariant c.self.view_is)
     ∙ ap is_some (ap (λ (U : State). blocker U c.args.task) (sym c.self.view_is) ∙ sym c.blocker.ensures ∙ c.in_default.is) in
     ap₂ (λ (u w : Bool). unless ((u, Refusal.NoTask) ∷ (not w, Refusal.NotWaiting) ∷ []) Reply.Withdrawn) (sym known) (sym idle)

@@ -11,7 +11,7 @@ loop-mutex-init c =
     let S : State = c.args.self.now in
     releasing_none S c.args.actor c.into_iter-mutex-iterator.result c.args.visits.now
     (c.into_iter-mutex-iterator.ensures.into_iter_gives ∙ c.owned-mutex-items.ensures ∙ ap (λ (U : State). owned U c.args.actor) c.self.view_is)
-    c.requires.idle (steady_shown c.self.inside.tables S c.self.invariant c.self.view_is)
+    c.requires.idle (steady_shown c.self.invariant c.self.view_is)
     (subst (λ (U : State). length U.protocol ≤ MAX_MUTEXES) c.self.view_is c.self.invariant.calm.ready.few_mutexes) c.requires.fresh
 
 pub hand_over-requires-clause-mutex : goal.hand_over-requires-clause-mutex

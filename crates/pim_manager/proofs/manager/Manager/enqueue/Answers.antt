@@ -35,7 +35,7 @@ enqueued :
 enqueued c =
     let S : State = c.args.self.now in
     walked c.self.inside.tables _ _ S (queued S c.args.task c.args.mutex) _ _ c.self.invariant c.self.view_is
-    (steady_kept.enqueue S c.args.task c.args.mutex (steady_shown c.self.inside.tables S c.self.invariant c.self.view_is)
+    (steady_kept.enqueue S c.args.task c.args.mutex (steady_shown c.self.invariant c.self.view_is)
     c.requires.known c.requires.idle c.requires.closes_none (ap is_some c.requires.owned))
     refl
     (shown c)

@@ -11,7 +11,7 @@ granted c =
     let S : State = c.args.self.now in
     walked v c.bind.new.self c.settle_from.new.self S (with_owner S c.args.mutex (Some c.args.task)) c.args.visits.now c.settle_from.new.visits
     c.self.invariant c.self.view_is
-    (steady_kept.grant S c.args.task c.args.mutex (steady_shown v S c.self.invariant c.self.view_is) c.requires.idle)
+    (steady_kept.grant S c.args.task c.args.mutex (steady_shown c.self.invariant c.self.view_is) c.requires.idle)
     refl
     (ap (λ (w : View). w.state) c.bind.ensures.state ∙ ap (λ (U : State). with_owner U c.args.mutex (Some c.args.task)) c.self.view_is)
     (ap (λ (w : View). w.stored) c.bind.ensures.state)

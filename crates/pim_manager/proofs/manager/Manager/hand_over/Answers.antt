@@ -6,7 +6,7 @@ use Rattle.pim_base.proofs.HandOvers.{base-hand_over}
 use Rattle.pim_base.proofs.Steady.{steady_kept}
 use Rattle.pim_chain.specs.Views.{View}
 use Rattle.pim_manager.proofs.Works.{Walked, walked, steady_shown}
-use Rattle.pim_manager.proofs.Handing.{Passed, passed, passed_state, first_is, heir_idle, two_walks}
+use Rattle.pim_manager.proofs.Handing.{Passed, passed, passed_state, first_is, heir_idle, freed_idle, two_walks}
 use Rattle.pim_manager.proofs.Releases.{handed_once}
 use Rattle.pim_manager.proofs.manager.Manager.hand_over.Goals as goal
 
@@ -17,45 +17,40 @@ bind-requires c =
     (sym c.first_waiter-first.ensures ∙ c.in-Some.is) c.unbind.ensures.state c.settle_from.ensures.state c.settle_from.ensures.settled c.leave.ensures.left c.leave.ensures.unsettles in
     record { mutex = p.mutex; free = p.free; known = p.known; idle = p.idle }
 
-pub settle_from-requires-in-Some-clause-settled : goal.settle_from-requires-in-Some-clause-settled
-settle_from-requires-in-Some-clause-settled c =
+pub settle_from-requires-in-Some : goal.settle_from-requires-in-Some
+settle_from-requires-in-Some c =
     let p : Passed c.args.self.now c.settle_from.new.self c.leave.new.self c.args.mutex c.in-Some.waiter.task =
     passed c.self.inside.tables c.unbind.new.self _ _ _ _ c.in-Some.waiter c.self.invariant c.self.view_is c.requires.mutex
     (sym c.first_waiter-first.ensures ∙ c.in-Some.is) c.unbind.ensures.state c.settle_from.ensures.state c.settle_from.ensures.settled c.leave.ensures.left c.leave.ensures.unsettles in
-    c.bind.ensures.unsettles p.settled
+    let one = c.settle_from.ensures.single (freed_idle c.args.mutex c.args.owner c.unbind.ensures.state c.self.view_is c.requires.idle) in
+    record {
+      settled = c.bind.ensures.unsettles p.settled;
+      known = subst (λ (w : View). IsTask w.state c.in-Some.waiter.task) (sym c.bind.ensures.state) p.known;
+      room = omega (arith, one, c.requires.room);
+    }
 
-pub settle_from-requires-in-Some-clause-known : goal.settle_from-requires-in-Some-clause-known
-settle_from-requires-in-Some-clause-known c =
-    let p : Passed c.args.self.now c.settle_from.new.self c.leave.new.self c.args.mutex c.in-Some.waiter.task =
+-- the mutex has left its owner, and the first waiter its queue
+left :
+    (c : goal.After-settle_from-in-Some)
+    → Passed c.args.self.now c.settle_from.new.self c.leave.new.self c.args.mutex c.in-Some.waiter.task
+left c =
     passed c.self.inside.tables c.unbind.new.self _ _ _ _ c.in-Some.waiter c.self.invariant c.self.view_is c.requires.mutex
-    (sym c.first_waiter-first.ensures ∙ c.in-Some.is) c.unbind.ensures.state c.settle_from.ensures.state c.settle_from.ensures.settled c.leave.ensures.left c.leave.ensures.unsettles in
-    subst (λ (w : View). IsTask w.state c.in-Some.waiter.task) (sym c.bind.ensures.state) p.known
-
-pub settle_from-requires-in-Some-clause-room : goal.settle_from-requires-in-Some-clause-room
-settle_from-requires-in-Some-clause-room c =
-    let one : c.settle_from.new.visits.count ≡ c.args.visits.now.count + 1 =
-    c.settle_from.ensures.single
-    (heir_idle c.unbind.new.self.state c.args.owner
-    (ap (λ (w : View). wait_of w.state c.args.owner) c.unbind.ensures.state ∙ ap (λ (U : State). wait_of U c.args.owner) c.self.view_is ∙ c.requires.idle)) in
-    omega (arith, one, c.requires.room)
+    (sym c.first_waiter-first.ensures ∙ c.in-Some.is) c.unbind.ensures.state c.settle_from.ensures.state c.settle_from.ensures.settled c.leave.ensures.left c.leave.ensures.unsettles
 
 -- the mutex has gone to the first waiter
 gone :
     (c : goal.After-settle_from-in-Some)
     → Walked c.args.self.now (record c.self.inside.tables { state = c.settle_from-in-Some.new.self.state }) c.settle_from-in-Some.new.self c.args.visits.now c.settle_from-in-Some.new.visits
 gone c =
-    let p : Passed c.args.self.now c.settle_from.new.self c.leave.new.self c.args.mutex c.in-Some.waiter.task =
-    passed c.self.inside.tables c.unbind.new.self _ _ _ _ c.in-Some.waiter c.self.invariant c.self.view_is c.requires.mutex
-    (sym c.first_waiter-first.ensures ∙ c.in-Some.is) c.unbind.ensures.state c.settle_from.ensures.state c.settle_from.ensures.settled c.leave.ensures.left c.leave.ensures.unsettles in
     let S : State = c.args.self.now in
-    let first = first_is c.self.inside.tables S c.args.mutex c.first_waiter-first.result c.self.invariant c.self.view_is c.requires.mutex c.first_waiter-first.ensures in
+    let first = first_is c.self.invariant c.self.view_is c.requires.mutex c.first_waiter-first.ensures in
     two_walks c.self.inside.tables c.unbind.new.self c.settle_from.new.self c.leave.new.self c.bind.new.self c.settle_from-in-Some.new.self
     S (hand_over S c.args.mutex) c.args.mutex c.in-Some.waiter.task c.args.visits.now c.settle_from.new.visits c.settle_from-in-Some.new.visits
     c.self.invariant c.self.view_is
-    (steady_kept.hand S c.args.mutex (steady_shown c.self.inside.tables S c.self.invariant c.self.view_is))
+    (steady_kept.hand S c.args.mutex (steady_shown c.self.invariant c.self.view_is))
     (ap length (base-hand_over S c.args.mutex))
-    c.unbind.ensures.state c.settle_from.ensures.work p.stored c.bind.ensures.state
-    (passed_state S c.settle_from.new.self c.leave.new.self c.bind.new.self c.args.mutex c.in-Some.waiter p (sym first ∙ c.in-Some.is) c.bind.ensures.state)
+    c.unbind.ensures.state c.settle_from.ensures.work (left c).stored c.bind.ensures.state
+    (passed_state S c.settle_from.new.self c.leave.new.self c.bind.new.self c.args.mutex c.in-Some.waiter (left c) (sym first ∙ c.in-Some.is) c.bind.ensures.state)
     c.settle_from-in-Some.ensures.state c.settle_from-in-Some.ensures.settled c.settle_from-in-Some.ensures.ready c.settle_from-in-Some.ensures.work
 
 pub invariant_of-self : goal.invariant_of-self
@@ -63,20 +58,14 @@ invariant_of-self c = (gone c).settled
 
 pub returns-in-Some : goal.returns-in-Some
 returns-in-Some c =
-    let p : Passed c.args.self.now c.settle_from.new.self c.leave.new.self c.args.mutex c.in-Some.waiter.task =
-    passed c.self.inside.tables c.unbind.new.self _ _ _ _ c.in-Some.waiter c.self.invariant c.self.view_is c.requires.mutex
-    (sym c.first_waiter-first.ensures ∙ c.in-Some.is) c.unbind.ensures.state c.settle_from.ensures.state c.settle_from.ensures.settled c.leave.ensures.left c.leave.ensures.unsettles in
-    let one : c.settle_from.new.visits.count ≡ c.args.visits.now.count + 1 =
-    c.settle_from.ensures.single
-    (heir_idle c.unbind.new.self.state c.args.owner
-    (ap (λ (w : View). wait_of w.state c.args.owner) c.unbind.ensures.state ∙ ap (λ (U : State). wait_of U c.args.owner) c.self.view_is ∙ c.requires.idle)) in
-    let first = first_is c.self.inside.tables c.args.self.now c.args.mutex c.first_waiter-first.result c.self.invariant c.self.view_is c.requires.mutex c.first_waiter-first.ensures in
+    let one = c.settle_from.ensures.single (freed_idle c.args.mutex c.args.owner c.unbind.ensures.state c.self.view_is c.requires.idle) in
+    let first = first_is c.self.invariant c.self.view_is c.requires.mutex c.first_waiter-first.ensures in
     let two : c.settle_from-in-Some.new.visits.count ≡ c.settle_from.new.visits.count + 1 =
     c.settle_from-in-Some.ensures.single
-    (heir_idle c.bind.new.self.state c.in-Some.waiter.task (ap (λ (w : View). wait_of w.state c.in-Some.waiter.task) c.bind.ensures.state ∙ p.idle)) in
+    (heir_idle c.bind.new.self.state c.in-Some.waiter.task (ap (λ (w : View). wait_of w.state c.in-Some.waiter.task) c.bind.ensures.state ∙ (left c).idle)) in
     let is : c.settle_from-in-Some.new.self.state ≡ hand_over c.args.self.now c.args.mutex =
     c.settle_from-in-Some.ensures.state
-    ∙ passed_state c.args.self.now c.settle_from.new.self c.leave.new.self c.bind.new.self c.args.mutex c.in-Some.waiter p (sym first ∙ c.in-Some.is) c.bind.ensures.state in
+    ∙ passed_state c.args.self.now c.settle_from.new.self c.leave.new.self c.bind.new.self c.args.mutex c.in-Some.waiter (left c) (sym first ∙ c.in-Some.is) c.bind.ensures.state in
     record {
       first = first;
       state = is;
@@ -84,7 +73,7 @@ returns-in-Some c =
       most = omega (arith, one, two);
       handed =
           subst (λ (U : State). 1 ≤ handed_mutex_count c.args.self.now U) (sym is)
-          (handed_once c.args.self.now c.args.mutex c.args.owner (steady_shown c.self.inside.tables c.args.self.now c.self.invariant c.self.view_is)
+          (handed_once c.args.self.now c.args.mutex c.args.owner (steady_shown c.self.invariant c.self.view_is)
           c.requires.mutex c.requires.owned c.requires.idle);
     }
 
@@ -93,7 +82,7 @@ freed_state :
     (c : goal.In_default)
     → c.unbind.new.self.state ≡ hand_over c.args.self.now c.args.mutex
 freed_state c =
-    let first = first_is c.self.inside.tables c.args.self.now c.args.mutex c.first_waiter-first.result c.self.invariant c.self.view_is c.requires.mutex c.first_waiter-first.ensures in
+    let first = first_is c.self.invariant c.self.view_is c.requires.mutex c.first_waiter-first.ensures in
     ap (λ (w : View). w.state) c.unbind.ensures.state ∙ ap (λ (U : State). with_owner U c.args.mutex None) c.self.view_is
     ∙ ap (hand_over_to c.args.self.now c.args.mutex) (sym c.in_default.is ∙ first)
 
@@ -103,7 +92,7 @@ freed :
 freed c =
     let S : State = c.args.self.now in
     walked c.self.inside.tables _ _ S (hand_over S c.args.mutex) _ _ c.self.invariant c.self.view_is
-    (steady_kept.hand S c.args.mutex (steady_shown c.self.inside.tables S c.self.invariant c.self.view_is))
+    (steady_kept.hand S c.args.mutex (steady_shown c.self.invariant c.self.view_is))
     (ap length (base-hand_over S c.args.mutex))
     (freed_state c) (ap (λ (w : View). w.stored) c.unbind.ensures.state)
     c.settle_from.ensures.state c.settle_from.ensures.settled c.settle_from.ensures.ready c.settle_from.ensures.work
@@ -113,17 +102,14 @@ invariant_of-self-in_default c = (freed c).settled
 
 pub returns-in_default : goal.returns-in_default
 returns-in_default c =
-    let one : c.settle_from.new.visits.count ≡ c.args.visits.now.count + 1 =
-    c.settle_from.ensures.single
-    (heir_idle c.unbind.new.self.state c.args.owner
-    (ap (λ (w : View). wait_of w.state c.args.owner) c.unbind.ensures.state ∙ ap (λ (U : State). wait_of U c.args.owner) c.self.view_is ∙ c.requires.idle)) in
+    let one = c.settle_from.ensures.single (freed_idle c.args.mutex c.args.owner c.unbind.ensures.state c.self.view_is c.requires.idle) in
     record {
-      first = first_is c.self.inside.tables c.args.self.now c.args.mutex c.first_waiter-first.result c.self.invariant c.self.view_is c.requires.mutex c.first_waiter-first.ensures;
+      first = first_is c.self.invariant c.self.view_is c.requires.mutex c.first_waiter-first.ensures;
       state = c.settle_from.ensures.state ∙ freed_state c;
       work = (freed c).work;
       most = omega (arith, one);
       handed =
           subst (λ (U : State). 1 ≤ handed_mutex_count c.args.self.now U) (sym (c.settle_from.ensures.state ∙ freed_state c))
-          (handed_once c.args.self.now c.args.mutex c.args.owner (steady_shown c.self.inside.tables c.args.self.now c.self.invariant c.self.view_is)
+          (handed_once c.args.self.now c.args.mutex c.args.owner (steady_shown c.self.invariant c.self.view_is)
           c.requires.mutex c.requires.owned c.requires.idle);
     }

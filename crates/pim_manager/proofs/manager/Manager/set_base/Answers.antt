@@ -12,7 +12,7 @@ based :
 based c =
     let S : State = c.args.self.now in
     walked c.self.inside.tables _ _ S (with_base S c.args.task c.args.prio) _ _ c.self.invariant c.self.view_is
-    (steady_kept.set_base S c.args.task c.args.prio (steady_shown c.self.inside.tables S c.self.invariant c.self.view_is))
+    (steady_kept.set_base S c.args.task c.args.prio (steady_shown c.self.invariant c.self.view_is))
     (length-put S.base c.args.task c.args.prio)
     (ap (λ (w : View). w.state) c.put_base.ensures.state ∙ ap (λ (U : State). with_base U c.args.task c.args.prio) c.self.view_is)
     (ap (λ (w : View). w.stored) c.put_base.ensures.state)

@@ -23,7 +23,7 @@ withdrawn :
 withdrawn c =
     let S : State = c.args.self.now in
     walked c.self.inside.tables _ _ S (with_wait S c.args.task None) _ _ c.self.invariant c.self.view_is
-    (steady_kept.withdraw S c.args.task (steady_shown c.self.inside.tables S c.self.invariant c.self.view_is))
+    (steady_kept.withdraw S c.args.task (steady_shown c.self.invariant c.self.view_is))
     refl
     ((gone c).state ∙ ap (λ (U : State). with_wait U c.args.task None) c.self.view_is)
     (gone c).stored
