@@ -7,7 +7,7 @@ use Rattle.pim_base.specs.State.{task_numbers}
 use Rattle.pim_base.proofs.Places.{nth-get_or, nth_within}
 use Rattle.pim_chain.specs.Numbers.{has, members}
 use Rattle.pim_chain.specs.Views.{View, Ready, stored_in, stored_at}
-use Rattle.pim_chain.specs.Work.{Work, noted_of, original, has_changed, differs_in, IsNoted, KeepsTelling, Worked, Tells}
+use Rattle.pim_chain.specs.Work.{Work, noted_of, original, has_changed, differs_in, IsNoted, KeepsTelling, VisitedOnce, Tells}
 use Rattle.pim_chain.proofs.Members.{filter_members}
 use Rattle.pim_chain.proofs.Walking.{differing_none, differing_over}
 
@@ -39,9 +39,9 @@ keeps-noted n f g a b x noted others some = (noted.keeps some, λ t _ _. go t (c
 
 -- ---- one visit, which counts
 -- which leaves the priorities
-pub worked-same : (n : ℕ) (f : ℕ → ℕ) (a b : Work) → b ≡ record a { count = a.count + 1 } → Worked n f a f b
+pub worked-same : (n : ℕ) (f : ℕ → ℕ) (a b : Work) → b ≡ record a { count = a.count + 1 } → VisitedOnce n f a f b
 worked-same n f a b is =
-    subst (Worked n f a f) (sym is) (record { counted = refl; noted = λ some. (some, λ t low high. refl) })
+    subst (VisitedOnce n f a f) (sym is) (record { counted = refl; noted = λ some. (some, λ t low high. refl) })
 
 -- which changes the priority of x, and notes that
 pub worked-noted :
@@ -50,7 +50,7 @@ pub worked-noted :
     → had ≡ f x
     → IsNoted b x had d
     → ((u : ℕ) → (u ≡ x → ⊥) → g u ≡ f u)
-    → Worked n f a g d
+    → VisitedOnce n f a g d
 worked-noted n f g a b d x had is same noted others =
     let here : IsNoted (record a { count = a.count + 1 }) x (f x) d =
     subst (λ w. IsNoted w x (f x) d) is (subst (λ p. IsNoted b x p d) same noted) in

@@ -54,6 +54,6 @@ abbrev pub differs_in : List ℕ → List ℕ → ℕ → Bool
 differs_in had stored t = option_map_or (λ p. not (stored_in had t == p)) (nth stored t) false
 
 -- one visit was counted, and where notes are kept they still tell what each known task had
-pub record Worked (n : ℕ) (f : ℕ → ℕ) (a : Work) (g : ℕ → ℕ) (b : Work) : Type 0 where
+pub record VisitedOnce (n : ℕ) (f : ℕ → ℕ) (a : Work) (g : ℕ → ℕ) (b : Work) : Type 0 where
   pub counted : b.count ≡ a.count + 1
   pub noted : KeepsTelling n f a g b

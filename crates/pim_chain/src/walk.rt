@@ -9,7 +9,7 @@ ghost use Rattle.pim_base.specs.Queues.{queue_of};
 ghost use Rattle.pim_chain.specs.Views.{Ready, stored_at, queue_at, first_prio};
 ghost use Rattle.pim_chain.specs.Owned.{worth};
 ghost use Rattle.pim_chain.specs.Settled.{SettledBut, Visited, next_of, changed};
-ghost use Rattle.pim_chain.specs.Work.{Tells, Worked};
+ghost use Rattle.pim_chain.specs.Work.{Tells, VisitedOnce};
 
 use crate::numbered::higher;
 use crate::tables::Tables;
@@ -89,7 +89,7 @@ impl Tables {
         requires room { visits.old.count < 2 ^ 32 - 1 }
         ensures visited { Visited self.old self.new task result }
         ensures next { result ≡ next_of self.old self.new task }
-        ensures work { Worked (length self.old.state.base) (stored_at self.old) visits.old (stored_at self.new) visits.new }
+        ensures work { VisitedOnce (length self.old.state.base) (stored_at self.old) visits.old (stored_at self.new) visits.new }
         ensures ready { Ready self.new }
     {
         // [2]
