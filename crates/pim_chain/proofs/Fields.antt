@@ -6,7 +6,7 @@ use Rattle.std.specs.List.{list_any, find, AllByRecursion}
 use Rattle.std.proofs.lemmas.Bool.{false_from_ne_true, eqb-true, eq-eqb, or_cases, or_left, or_right}
 use Rattle.std.proofs.lemmas.Option.{none-some, same_Some}
 use Rattle.pim_base.specs.Lists.{nth, put, insert_by}
-use Rattle.pim_base.specs.State.{IsTask, IsMutex, wait_of, with_owner, with_wait, with_base}
+use Rattle.pim_base.specs.State.{IsTask, IsMutex, wait_of, with_owner, with_base}
 use Rattle.pim_base.specs.Queues.{precedes}
 use Rattle.pim_base.specs.declared.steps.Wait.{Wait}
 use Rattle.pim_base.specs.declared.steps.Waiter.{Waiter}
@@ -26,9 +26,7 @@ pub owner_written :
     → owners ≡ put v.state.owner k o
     → k ≡ m
     → with_state v (record v.state { owner = owners }) ≡ with_state u (with_owner u.state m o)
-owner_written {v} {m = m} o same is at =
-    ap (λ os. with_state v (record v.state { owner = os })) (is ∙ ap (λ n. put v.state.owner n o) at)
-    ∙ ap (λ (x : View). with_state x (with_owner x.state m o)) same
+owner_written o same is at = cc
 
 pub base_written :
     {v u : View} {t k : ℕ} {bases : List ℕ} (p : ℕ)
@@ -36,22 +34,7 @@ pub base_written :
     → bases ≡ put v.state.base k p
     → k ≡ t
     → with_state v (record v.state { base = bases }) ≡ with_state u (with_base u.state t p)
-base_written {v} {t = t} p same is at =
-    ap (λ bs. with_state v (record v.state { base = bs })) (is ∙ ap (λ n. put v.state.base n p) at)
-    ∙ ap (λ (x : View). with_state x (with_base x.state t p)) same
-
--- a wait and a queue
-wait_written :
-    {t k : ℕ} {waits : List (Option Wait)} {queues after : List QueueView} (v : View) (o : Option Wait)
-    → waits ≡ put v.state.wait k o
-    → k ≡ t
-    → queues ≡ after
-    → record v { state = record v.state { wait = waits }; stored = v.stored; queues = queues }
-    ≡ record v { state = with_wait v.state t o; queues = after }
-wait_written {t} {queues = queues} v o is at is_queues =
-    ap (λ ws. record v { state = record v.state { wait = ws }; stored = v.stored; queues = queues })
-    (is ∙ ap (λ n. put v.state.wait n o) at)
-    ∙ ap (λ qs. record v { state = with_wait v.state t o; queues = qs }) is_queues
+base_written p same is at = cc
 
 pub is_joined :
     {v u : View} {t k prio : ℕ} {waits : List (Option Wait)} {queues : List QueueView} (w : Wait)
@@ -61,10 +44,7 @@ pub is_joined :
     → queues ≡ put_queue v.queues w.mutex (insert_by precedes (queue_at v w.mutex) (record { task = t; prio = prio; ticket = w.ticket }))
     → prio ≡ stored_at v t
     → record v { state = record v.state { wait = waits }; stored = v.stored; queues = queues } ≡ joined u t w
-is_joined {v} {t = t} w same is at is_queues is_prio =
-    wait_written v (Some w) is at (is_queues ∙ ap (λ p. put_queue v.queues w.mutex
-    (insert_by precedes (queue_at v w.mutex) (record { task = t; prio = p; ticket = w.ticket }))) is_prio)
-    ∙ ap (λ x. joined x t w) same
+is_joined w same is at is_queues is_prio = cc
 
 pub is_left :
     {v u : View} {t k : ℕ} {waits : List (Option Wait)} {queues : List QueueView} (m : ℕ)
@@ -73,7 +53,7 @@ pub is_left :
     → k ≡ t
     → queues ≡ put_queue v.queues m (without t (queue_at v m))
     → record v { state = record v.state { wait = waits }; stored = v.stored; queues = queues } ≡ left u t m
-is_left {v} {t = t} m same is at is_queues = wait_written v None is at is_queues ∙ ap (λ x. left x t m) same
+is_left m same is at is_queues = cc
 
 pub is_restored :
     {v u : View} {t k : ℕ} {o : Option Wait} {stored : List ℕ} {queues : List QueueView} (p : ℕ)
@@ -83,11 +63,7 @@ pub is_restored :
     → k ≡ t
     → queues ≡ moved v.queues o t p
     → record v { state = v.state; stored = stored; queues = queues } ≡ restored u t p
-is_restored {v} {u} {t} {queues = queues} p same wait is at is_queues =
-    ap (λ ss. record v { state = v.state; stored = ss; queues = queues }) (is ∙ ap (λ n. put v.stored n p) at)
-    ∙ ap (λ qs. record v { state = v.state; stored = put v.stored t p; queues = qs })
-    (is_queues ∙ ap (λ o. moved v.queues o t p) (wait ∙ ap (λ (x : View). wait_of x.state t) (sym same)))
-    ∙ ap (λ x. restored x t p) same
+is_restored p same wait is at is_queues = cc
 
 -- ---- what held of the tables before, of what they are then
 pub ready_after : {v u w x : View} → v ≡ u → w ≡ x → (Ready u → Ready x) → Ready v → Ready w
