@@ -29,6 +29,12 @@ waiting_known S lists t w e = go (nth S.wait t) refl e
     go None at h = cc
     go (Some x) at h = let within = nth_within S.wait t x at in (within.0, subst (λ n. t ≤ n) lists.waits within.1)
 
+pub waiter_is : (w : Waiter) (t p k : ℕ) → w.task ≡ t → w.prio ≡ p → w.ticket ≡ k → w ≡ record { task = t; prio = p; ticket = k }
+waiter_is w t p k task prio ticket =
+    ap (λ n. record w { task = n }) task
+    ∙ ap (λ n. record w { task = t; prio = n }) prio
+    ∙ ap (λ n. record { task = t; prio = p; ticket = n }) ticket
+
 -- ---- the greatest at a mutex stands first
 shown_le :
     (wait : ℕ → Option Wait) (stored : ℕ → ℕ) (m u b : ℕ) (ws : List Waiter)
