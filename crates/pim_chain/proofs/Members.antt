@@ -2,7 +2,7 @@
 use Rattle.std.proofs.Common.{◌≡◌, ℕ, zero, suc, ◌+◌, ◌*◌, ◌-◌, ◌/◌, ◌%◌, ◌<◌, ◌≤◌, ◌==◌, ◌&&◌, Bool, true, false, not, cond, ◌⊎◌, inl, inr, refl, sym, ◌∙◌, ap, subst, arith, List, [], ◌∷◌, filter, slice_index}
 use Rattle.std.specs.Int.{bit_at}
 use Rattle.std.specs.List.{range_with_len}
-use Rattle.std.proofs.lemmas.Bool.{cases_eq, cases_lt, eq-eqb, ne_eqb}
+use Rattle.std.proofs.lemmas.Bool.{and_right, cases_eq, cases_lt, eq-eqb, ne_eqb}
 use Rattle.std.proofs.lemmas.Nat.Bits.{bit_at-zero}
 use Rattle.pim_base.specs.Lists.{numbers}
 use Rattle.pim_chain.specs.Numbers.{bit_of, has, members, NoneBelow}
@@ -167,11 +167,7 @@ pub none_still :
     → NoneBelow words index
     → ((k : ℕ) → has after k ≡ (not (k == x) && has words k))
     → NoneBelow after index
-none_still words after index x none removed k high = removed k ∙ ap (λ b. not (k == x) && b) (none k high) ∙ never (not (k == x))
-  where
-    never : (b : Bool) → (b && false) ≡ false
-    never true = refl
-    never false = refl
+none_still words after index x none removed k high = removed k ∙ and_right _ _ (none k high)
 
 -- ---- which numbers a set has
 -- no words, no numbers

@@ -1,7 +1,7 @@
 -- What the work of walks tells of a change of the stored priorities.
 use Rattle.std.proofs.Common.{◌≡◌, ℕ, ◌+◌, ◌-◌, ◌<◌, ◌≤◌, ◌==◌, ◌&&◌, Bool, true, false, not, ◌⊎◌, inl, inr, refl, sym, ◌∙◌, ap, subst, arith, List, filter, length, Option, Some, None, unwrap_or, if◌then◌else◌}
 use Rattle.std.specs.Option.{option_map_or}
-use Rattle.std.proofs.lemmas.Bool.{cases_eq, eq-eqb}
+use Rattle.std.proofs.lemmas.Bool.{and_right, cases_eq, eq-eqb}
 use Rattle.pim_base.specs.Lists.{nth}
 use Rattle.pim_base.specs.State.{task_numbers}
 use Rattle.pim_base.proofs.Places.{nth-get_or, nth_within}
@@ -118,10 +118,6 @@ changed_noted v u w had words same ready noted =
             both true = refl
             both false = refl
         go false is =
-            neither (differs_in had v.stored t)
+            and_right _ _ refl
             ∙ sym (ap (λ o. not (unwrap_or o (stored_at v t) == stored_at v t)) (noted t ∙ ap (λ b. if b then Some (stored_in had t) else None) is)
             ∙ ap not (eq-eqb (stored_at v t) (stored_at v t) refl))
-          where
-            neither : (b : Bool) → (b && false) ≡ false
-            neither true = refl
-            neither false = refl

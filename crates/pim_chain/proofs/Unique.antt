@@ -1,38 +1,14 @@
 -- There is one queue alone, and the definitions' queue is it.
-use Rattle.std.proofs.Common.{◌≡◌, ℕ, ◌<◌, true, false, ◌⊎◌, inl, inr, refl, sym, ◌∙◌, ap, subst, arith, Option, List, [], ◌∷◌}
+use Rattle.std.proofs.Common.{◌≡◌, ℕ, true, false, ◌⊎◌, inl, inr, refl, sym, ◌∙◌, ap, subst, Option, List, [], ◌∷◌}
 use Rattle.std.specs.List.{list_any, AllByRecursion}
 use Rattle.std.proofs.lemmas.Bool.{both_ways, eqb-true, eq-eqb, or_cases, or_left, or_right}
-use Rattle.std.proofs.lemmas.Option.{same_Some}
 use Rattle.pim_base.specs.declared.steps.Wait.{Wait}
 use Rattle.pim_base.specs.declared.steps.Waiter.{Waiter}
 use Rattle.pim_base.specs.Queues.{precedes}
 use Rattle.pim_queue.specs.Waiters.{is_of, IsOrdered}
-use Rattle.pim_queue.proofs.Order.{found, Found, all_both, told_before, Before}
+use Rattle.pim_queue.proofs.Order.{found, Found, all_both, before_not}
 use Rattle.pim_chain.specs.Views.{Shows}
-use Rattle.pim_chain.proofs.Waiting.{others_behind}
-
--- two waiters of one task show the same
-same_waiter :
-    (wait : ℕ → Option Wait) (stored : ℕ → ℕ) (m : ℕ) (a b : Waiter)
-    → Shows wait stored m a
-    → Shows wait stored m b
-    → a.task ≡ b.task
-    → a ≡ b
-same_waiter wait stored m a b p q e =
-    let ticket : a.ticket ≡ b.ticket = ap (λ (w : Wait). w.ticket) (same_Some _ _ (sym p.waits ∙ ap wait e ∙ q.waits)) in
-    let prio : a.prio ≡ b.prio = p.prio ∙ ap stored e ∙ sym q.prio in
-    ap (λ t. record { task = t; prio = a.prio; ticket = a.ticket }) e
-    ∙ ap (λ n. record { task = b.task; prio = n; ticket = a.ticket }) prio
-    ∙ ap (λ n. record { task = b.task; prio = b.prio; ticket = n }) ticket
-
-not_both : (a b : Waiter) → precedes a b ≡ true → precedes b a ≡ true → ⊥
-not_both a b h k = go (told_before a b h) (told_before b a k)
-  where
-    go : Before a b → Before b a → ⊥
-    go (inl x) (inl y) = omega arith
-    go (inl x) (inr y) = let e : b.prio ≡ a.prio = y.0 in omega arith
-    go (inr x) (inl y) = let e : a.prio ≡ b.prio = x.0 in omega arith
-    go (inr x) (inr y) = let s : a.ticket < b.ticket = x.1 in let t : b.ticket < a.ticket = y.1 in omega (arith, s, t)
+use Rattle.pim_chain.proofs.Waiting.{same_waiter, others_behind}
 
 -- the waiter is in the list where one of its task is
 head_or_behind :
@@ -92,7 +68,7 @@ same_queue wait stored m (x ∷ xs) (y ∷ ys) ox sx oy sy there back =
     heads : (x ≡ y) ⊎ (precedes y x ≡ true) → (y ≡ x) ⊎ (precedes x y ≡ true) → x ≡ y
     heads (inl e) _ = e
     heads (inr h) (inl e) = sym e
-    heads (inr h) (inr k) = absurd (not_both x y k h)
+    heads (inr h) (inr k) = absurd (both_ways _ (before_not x y k) h)
 
     tail : (vs : List Waiter) (v : Waiter) (t : ℕ) → (v.task ≡ t → ⊥) → list_any (is_of t) (v ∷ vs) ≡ true → list_any (is_of t) vs ≡ true
     tail vs v t ne h = go (or_cases _ _ h)

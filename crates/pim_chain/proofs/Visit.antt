@@ -17,7 +17,7 @@ use Rattle.pim_queue.proofs.Order.{Found, found}
 use Rattle.pim_chain.specs.Views.{View, stored_in, stored_at, queue_at, first_prio, Shows, IsQueue, Ready}
 use Rattle.pim_chain.specs.Settled.{SettledBut, moved, restored, Visited}
 use Rattle.pim_chain.proofs.Local.{Mends, mended_onward, mended_stop, waits_for_from, heir_at}
-use Rattle.pim_chain.proofs.Waiting.{queue_kept, queue_left, queue_joined, top_front}
+use Rattle.pim_chain.proofs.Waiting.{waiter_is, queue_kept, queue_left, queue_joined, top_front}
 use Rattle.pim_chain.proofs.Changes.{queues_put, room_kept, not_waiting, waits_once}
 
 -- ---- another stored priority
@@ -124,12 +124,6 @@ ready_restored v x p known ready = go (wait_of v.state x) refl
     go None at = restored_free v x p at ready
     go (Some w) at = restored_waiting v x p w known at ready
 
-same_waiter : (w : Waiter) (t p k : ℕ) → w.task ≡ t → w.prio ≡ p → w.ticket ≡ k → w ≡ record { task = t; prio = p; ticket = k }
-same_waiter w t p k task prio ticket =
-    ap (λ n. record w { task = n }) task
-    ∙ ap (λ n. record w { task = t; prio = n }) prio
-    ∙ ap (λ n. record { task = t; prio = p; ticket = n }) ticket
-
 -- the task stands in the queue of the mutex that it waits for, with its stored priority and its ticket
 pub stands :
     (v : View) (x : ℕ) (w : Wait)
@@ -143,7 +137,7 @@ stands v x w ready at =
     (q.complete x (waits_for_from (wait_of v.state) x w at)) q.sound in
     let task : it.one.task ≡ x = eqb-true it.one.task x it.passes in
     it.is
-    ∙ ap Some (same_waiter it.one x (stored_at v x) w.ticket task (it.holds.prio ∙ ap (stored_at v) task)
+    ∙ ap Some (waiter_is it.one x (stored_at v x) w.ticket task (it.holds.prio ∙ ap (stored_at v) task)
     (ap (λ (y : Wait). y.ticket) (same_Some _ _ (sym it.holds.waits ∙ ap (wait_of v.state) task ∙ at))))
 
 -- ---- what a visit leaves

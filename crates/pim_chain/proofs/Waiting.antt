@@ -18,7 +18,7 @@ use Rattle.pim_base.proofs.Greatest.{greatest_of, greatest_of-le, le-greatest_of
 use Rattle.pim_base.proofs.Places.{nth_within}
 use Rattle.pim_base.proofs.Stored.{own_priority-le-local_priority, stored-le-local_priority, local_priority-le, holds_from, from_holds}
 use Rattle.pim_queue.specs.Waiters.{is_of, without, IsOrdered}
-use Rattle.pim_queue.proofs.Order.{found, all_both, all_each, before_prio, told_before, Before, all_without, ordered_without, any_without, all_place, ordered_place, any_place_new, any_place}
+use Rattle.pim_queue.proofs.Order.{found, all_both, all_each, before_prio, before_itself, all_without, ordered_without, any_without, all_place, ordered_place, any_place_new, any_place}
 use Rattle.pim_chain.specs.Views.{first_prio, waits_for, Shows, IsQueue, WaitsFit}
 use Rattle.pim_chain.proofs.Local.{top, through, heir_at, waits_for_from}
 
@@ -28,6 +28,12 @@ waiting_known S lists t w e = go (nth S.wait t) refl e
     go : (o : Option (Option Wait)) → nth S.wait t ≡ o → unwrap_or o None ≡ Some w → IsTask S t
     go None at h = cc
     go (Some x) at h = let within = nth_within S.wait t x at in (within.0, subst (λ n. t ≤ n) lists.waits within.1)
+
+pub waiter_is : (w : Waiter) (t p k : ℕ) → w.task ≡ t → w.prio ≡ p → w.ticket ≡ k → w ≡ record { task = t; prio = p; ticket = k }
+waiter_is w t p k task prio ticket =
+    ap (λ n. record w { task = n }) task
+    ∙ ap (λ n. record w { task = t; prio = n }) prio
+    ∙ ap (λ n. record { task = t; prio = p; ticket = n }) ticket
 
 -- ---- the greatest at a mutex stands first
 shown_le :
@@ -106,13 +112,16 @@ queue_kept wait wait' old new x m ws waits others away away' q = record {
     go t h (inl is) = absurd (away' (subst (λ u. waits_for wait' m u ≡ true) is h))
     go t h (inr ne) = ap (λ o. option_map_or (λ (w : Wait). eqb w.mutex m) o false) (sym (waits t ne)) ∙ h
 
--- a queue without a task: two of one task would be before each other
-not_before_itself : (a b : Waiter) → precedes a b ≡ true → a.prio ≡ b.prio → a.ticket ≡ b.ticket → ⊥
-not_before_itself a b h e f = go (told_before a b h)
-  where
-    go : Before a b → ⊥
-    go (inl l) = omega arith
-    go (inr k) = let lt : a.ticket < b.ticket = k.1 in omega arith
+-- two waiters of one task show the same
+pub same_waiter :
+    (wait : ℕ → Option Wait) (stored : ℕ → ℕ) (m : ℕ) (a b : Waiter)
+    → Shows wait stored m a
+    → Shows wait stored m b
+    → a.task ≡ b.task
+    → a ≡ b
+same_waiter wait stored m a b p q e =
+    waiter_is a b.task b.prio b.ticket e (p.prio ∙ ap stored e ∙ sym q.prio)
+    (ap (λ (w : Wait). w.ticket) (same_Some _ _ (sym p.waits ∙ ap wait e ∙ q.waits)))
 
 -- those behind are of other tasks
 pub others_behind :
@@ -123,9 +132,7 @@ pub others_behind :
     → AllByRecursion (λ u. v.task ≡ u.task → ⊥) vs
 others_behind wait stored m v vs behind shown shows =
     all_both (λ u. precedes v u ≡ true) (Shows wait stored m) (λ u. v.task ≡ u.task → ⊥) (λ u later k same.
-    not_before_itself v u later
-    (shown.prio ∙ ap stored same ∙ sym k.prio)
-    (ap (λ (w : Wait). w.ticket) (same_Some _ _ (sym shown.waits ∙ ap wait same ∙ k.waits)))) vs behind shows
+    both_ways _ (before_itself u) (subst (λ x. precedes x u ≡ true) (same_waiter wait stored m v u shown k same) later)) vs behind shows
 
 pub gone :
     (wait : ℕ → Option Wait) (stored : ℕ → ℕ) (m x : ℕ) (ws : List Waiter)

@@ -159,18 +159,11 @@ module _ (v w z : View) (x k c : ℕ) (next : Option ℕ) (ready : Ready v) (kno
   count_if_same : stored_at z c ≡ stored_at w c → changed v z ≡ changed v w
   count_if_same same =
       count_same (length v.state.base) (λ t. not (eqb (stored_at v t) (stored_at z t)))
-      (λ t. not (eqb (stored_at v t) (stored_at w t))) each
+      (λ t. not (eqb (stored_at v t) (stored_at w t))) (λ t _ _. each t (cases_eq t c))
     where
-      each :
-          (t : ℕ)
-          → 1 ≤ t
-          → t ≤ length v.state.base
-          → not (eqb (stored_at v t) (stored_at z t)) ≡ not (eqb (stored_at v t) (stored_at w t))
-      each t _ _ = go (cases_eq t c)
-        where
-          go : (t ≡ c) ⊎ (t ≡ c → ⊥) → not (eqb (stored_at v t) (stored_at z t)) ≡ not (eqb (stored_at v t) (stored_at w t))
-          go (inl e) = ap (λ p. not (eqb (stored_at v t) p)) (subst (λ u. stored_at z u ≡ stored_at w u) (sym e) same)
-          go (inr ne) = sym (differs_kept t ne)
+      each : (t : ℕ) → (t ≡ c) ⊎ (t ≡ c → ⊥) → not (eqb (stored_at v t) (stored_at z t)) ≡ not (eqb (stored_at v t) (stored_at w t))
+      each t (inl e) = ap (λ p. not (eqb (stored_at v t) p)) (subst (λ u. stored_at z u ≡ stored_at w u) (sym e) same)
+      each t (inr ne) = sym (differs_kept t ne)
 
   count_if_other : (stored_at z c ≡ stored_at w c → ⊥) → changed v z ≡ changed v w + 1
   count_if_other other =
