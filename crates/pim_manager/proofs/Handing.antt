@@ -158,12 +158,12 @@ passed v r u x S m w before shown known first freed same settled leaves unsettle
 
 -- and once the waiter owns the mutex, it is handed over
 pub passed_state :
-    (S : State) (u x y : View) (m : ℕ) (w : Waiter)
+    {S : State} {u x y : View} {m : ℕ} {w : Waiter}
     → Passed S u x m w.task
     → first_of S m ≡ Some w
     → y ≡ with_state x (with_owner x.state m (Some w.task))
     → y.state ≡ hand_over S m
-passed_state S u x y m w p first is =
+passed_state {S} {u} {x} {y} {m} {w} p first is =
     ap (λ (v : View). v.state) is
     ∙ ap (λ U. with_owner U m (Some w.task)) p.state
     ∙ ap (λ os. record S { owner = os; wait = put S.wait w.task None }) (put-put S.owner m None (Some w.task))

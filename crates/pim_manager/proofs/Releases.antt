@@ -169,12 +169,14 @@ count_one (suc n) p x low high h = go (count_one n p x low) (eq-or-lt_of_le high
 
 -- a hand-over by its owner hands over one mutex at least
 pub handed_once :
-    (S : State) (m a : ℕ)
+    (S T : State) (m a : ℕ)
+    → T ≡ hand_over S m
     → IsSteady S
     → IsMutex S m
     → owner_of S m ≡ Some a
     → wait_of S a ≡ None
-    → 1 ≤ handed_mutex_count S (hand_over S m)
-handed_once S m a steady known owns idle =
-    count_one (length S.protocol) (λ k. not (same_owner (owner_of S k) (owner_of (hand_over S m) k))) m known.0 known.1
-    (lost_differs (owner_of S m) (owner_of (hand_over S m) m) a owns (lost S m a steady.tickets idle))
+    → 1 ≤ handed_mutex_count S T
+handed_once S T m a is steady known owns idle =
+    subst (λ U. 1 ≤ handed_mutex_count S U) (sym is)
+    (count_one (length S.protocol) (λ k. not (same_owner (owner_of S k) (owner_of (hand_over S m) k))) m known.0 known.1
+    (lost_differs (owner_of S m) (owner_of (hand_over S m) m) a owns (lost S m a steady.tickets idle)))

@@ -1,6 +1,5 @@
-use Rattle.std.proofs.Common.{◌≡◌, ◌≤◌, ◌+◌, None, sym, subst, ◌∙◌, ap, arith, length}
+use Rattle.std.proofs.Common.{◌≡◌, ◌+◌, None, sym, subst, ◌∙◌, ap, arith, length}
 use Rattle.pim_base.specs.State.{State, IsTask, wait_of, with_owner}
-use Rattle.pim_base.specs.Counts.{handed_mutex_count}
 use Rattle.pim_base.specs.Steps.{hand_over, hand_over_to}
 use Rattle.pim_base.proofs.HandOvers.{base-hand_over}
 use Rattle.pim_base.proofs.Steady.{steady_kept}
@@ -38,19 +37,23 @@ left c =
     (sym c.first_waiter-first.ensures ∙ c.in-Some.is) c.unbind.ensures.state c.settle_from.ensures.state c.settle_from.ensures.settled c.leave.ensures.left c.leave.ensures.unsettles
 
 -- the mutex has gone to the first waiter
+handed : (c : goal.After-settle_from-in-Some) → c.bind.new.self.state ≡ hand_over c.args.self.now c.args.mutex
+handed c =
+    passed_state (left c)
+    (sym (first_is c.self.invariant c.self.view_is c.requires.mutex c.first_waiter-first.ensures) ∙ c.in-Some.is) c.bind.ensures.state
+
 gone :
     (c : goal.After-settle_from-in-Some)
     → Walked c.args.self.now (record c.self.inside.tables { state = c.settle_from-in-Some.new.self.state }) c.settle_from-in-Some.new.self c.args.visits.now c.settle_from-in-Some.new.visits
 gone c =
     let S : State = c.args.self.now in
-    let first = first_is c.self.invariant c.self.view_is c.requires.mutex c.first_waiter-first.ensures in
     two_walks c.self.inside.tables c.unbind.new.self c.settle_from.new.self c.leave.new.self c.bind.new.self c.settle_from-in-Some.new.self
     S (hand_over S c.args.mutex) c.args.mutex c.in-Some.waiter.task c.args.visits.now c.settle_from.new.visits c.settle_from-in-Some.new.visits
     c.self.invariant c.self.view_is
     (steady_kept.hand S c.args.mutex (steady_shown c.self.invariant c.self.view_is))
     (ap length (base-hand_over S c.args.mutex))
     c.unbind.ensures.state c.settle_from.ensures.work (left c).stored c.bind.ensures.state
-    (passed_state S c.settle_from.new.self c.leave.new.self c.bind.new.self c.args.mutex c.in-Some.waiter (left c) (sym first ∙ c.in-Some.is) c.bind.ensures.state)
+    (handed c)
     c.settle_from-in-Some.ensures.state c.settle_from-in-Some.ensures.settled c.settle_from-in-Some.ensures.ready c.settle_from-in-Some.ensures.work
 
 pub invariant_of-self : goal.invariant_of-self
@@ -59,22 +62,18 @@ invariant_of-self c = (gone c).settled
 pub returns-in-Some : goal.returns-in-Some
 returns-in-Some c =
     let one = c.settle_from.ensures.single (freed_idle c.args.mutex c.args.owner c.unbind.ensures.state c.self.view_is c.requires.idle) in
-    let first = first_is c.self.invariant c.self.view_is c.requires.mutex c.first_waiter-first.ensures in
     let two : c.settle_from-in-Some.new.visits.count ≡ c.settle_from.new.visits.count + 1 =
     c.settle_from-in-Some.ensures.single
     (heir_idle c.bind.new.self.state c.in-Some.waiter.task (ap (λ (w : View). wait_of w.state c.in-Some.waiter.task) c.bind.ensures.state ∙ (left c).idle)) in
-    let is : c.settle_from-in-Some.new.self.state ≡ hand_over c.args.self.now c.args.mutex =
-    c.settle_from-in-Some.ensures.state
-    ∙ passed_state c.args.self.now c.settle_from.new.self c.leave.new.self c.bind.new.self c.args.mutex c.in-Some.waiter (left c) (sym first ∙ c.in-Some.is) c.bind.ensures.state in
+    let is : c.settle_from-in-Some.new.self.state ≡ hand_over c.args.self.now c.args.mutex = c.settle_from-in-Some.ensures.state ∙ handed c in
     record {
-      first = first;
+      first = first_is c.self.invariant c.self.view_is c.requires.mutex c.first_waiter-first.ensures;
       state = is;
       work = (gone c).work;
       most = omega (arith, one, two);
       handed =
-          subst (λ (U : State). 1 ≤ handed_mutex_count c.args.self.now U) (sym is)
-          (handed_once c.args.self.now c.args.mutex c.args.owner (steady_shown c.self.invariant c.self.view_is)
-          c.requires.mutex c.requires.owned c.requires.idle);
+          handed_once c.args.self.now _ c.args.mutex c.args.owner is (steady_shown c.self.invariant c.self.view_is)
+          c.requires.mutex c.requires.owned c.requires.idle;
     }
 
 -- nobody waited, and the mutex is free
@@ -109,7 +108,6 @@ returns-in_default c =
       work = (freed c).work;
       most = omega (arith, one);
       handed =
-          subst (λ (U : State). 1 ≤ handed_mutex_count c.args.self.now U) (sym (c.settle_from.ensures.state ∙ freed_state c))
-          (handed_once c.args.self.now c.args.mutex c.args.owner (steady_shown c.self.invariant c.self.view_is)
-          c.requires.mutex c.requires.owned c.requires.idle);
+          handed_once c.args.self.now _ c.args.mutex c.args.owner (c.settle_from.ensures.state ∙ freed_state c)
+          (steady_shown c.self.invariant c.self.view_is) c.requires.mutex c.requires.owned c.requires.idle;
     }
