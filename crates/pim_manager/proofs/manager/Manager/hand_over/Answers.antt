@@ -46,12 +46,9 @@ gone :
     (c : goal.After-settle_from-in-Some)
     → Walked c.args.self.now (record c.self.inside.tables { state = c.settle_from-in-Some.new.self.state }) c.settle_from-in-Some.new.self c.args.visits.now c.settle_from-in-Some.new.visits
 gone c =
-    let S : State = c.args.self.now in
-    two_walks c.self.inside.tables c.unbind.new.self c.settle_from.new.self c.leave.new.self c.bind.new.self c.settle_from-in-Some.new.self
-    S (hand_over S c.args.mutex) c.args.mutex c.in-Some.waiter.task c.args.visits.now c.settle_from.new.visits c.settle_from-in-Some.new.visits
-    c.self.invariant c.self.view_is
-    (steady_kept.hand S c.args.mutex (steady_shown c.self.invariant c.self.view_is))
-    (ap length (base-hand_over S c.args.mutex))
+    two_walks _ _ c.settle_from.new.self _ _ _ _ _ c.args.mutex c.in-Some.waiter.task _ _ _ c.self.invariant c.self.view_is
+    (steady_kept.hand c.args.self.now c.args.mutex (steady_shown c.self.invariant c.self.view_is))
+    (ap length (base-hand_over c.args.self.now c.args.mutex))
     c.unbind.ensures.state c.settle_from.ensures.work (left c).stored c.bind.ensures.state
     (handed c)
     c.settle_from-in-Some.ensures.state c.settle_from-in-Some.ensures.settled c.settle_from-in-Some.ensures.ready c.settle_from-in-Some.ensures.work
