@@ -114,7 +114,7 @@ pub record Passed (S : State) (u x : View) (m t : ℕ) : Type 0 where
   pub free : owner_of x.state m ≡ None
 
 pub passed :
-    (v r u x : View) (S : State) (m : ℕ) (w : Waiter)
+    {v : View} (r u : View) {S : State} (x : View) (m : ℕ) {w : Waiter}
     → IsSettled v
     → v.state ≡ S
     → IsMutex S m
@@ -125,7 +125,7 @@ pub passed :
     → ((y : Wait) → wait_of u.state w.task ≡ Some y → x ≡ left u w.task y.mutex)
     → Unsettles u x (blocker u.state w.task)
     → Passed S u x m w.task
-passed v r u x S m w before shown known first freed same settled leaves unsettles = record {
+passed {v} r u {S} x m {w} before shown known first freed same settled leaves unsettles = record {
   state = is;
   stored = gone.stored;
   settled = subst (SettledBut x.state (stored_at x)) blocked (unsettles settled);

@@ -3,7 +3,7 @@ use Rattle.pim_base.specs.State.{State, owned}
 use Rattle.pim_base.specs.declared.limits.TheConstants.{MAX_MUTEXES}
 use Rattle.pim_base.specs.declared.steps.Reply.{Reply}
 use Rattle.pim_manager.proofs.Works.{steady_shown}
-use Rattle.pim_manager.proofs.Releases.{Released, releasing_none, releasing_next, released_all, first_owned}
+use Rattle.pim_manager.proofs.Releases.{releasing_none, releasing_next, released_all, first_owned}
 use Rattle.pim_manager.proofs.manager.Manager.answer_release_all.Goals as goal
 
 pub loop-mutex-init : goal.loop-mutex-init
@@ -16,11 +16,11 @@ loop-mutex-init c =
 
 pub hand_over-requires-clause-mutex : goal.hand_over-requires-clause-mutex
 hand_over-requires-clause-mutex c =
-    (first_owned c.loop-mutex.self c.in-Some.mutex c.args.actor c.next.new.self (sym c.loop-mutex.invariant.owns ∙ c.in-Some.ensures.steps)).mutex
+    (first_owned c.loop-mutex.self _ c.args.actor _ (sym c.loop-mutex.invariant.owns ∙ c.in-Some.ensures.steps)).mutex
 
 pub hand_over-requires-clause-owned : goal.hand_over-requires-clause-owned
 hand_over-requires-clause-owned c =
-    (first_owned c.loop-mutex.self c.in-Some.mutex c.args.actor c.next.new.self (sym c.loop-mutex.invariant.owns ∙ c.in-Some.ensures.steps)).owner
+    (first_owned c.loop-mutex.self _ c.args.actor _ (sym c.loop-mutex.invariant.owns ∙ c.in-Some.ensures.steps)).owner
 
 pub overflow_add-released : goal.overflow_add-released
 overflow_add-released c =
@@ -31,13 +31,9 @@ overflow_add-released c =
 
 pub loop-mutex-preserved : goal.loop-mutex-preserved
 loop-mutex-preserved c =
-    releasing_next c.args.self.now c.loop-mutex.self c.hand_over.new.self c.args.actor c.in-Some.mutex c.loop-mutex.released
-    c.loop-mutex.mutex-iterator c.next.new.self c.args.visits.now c.loop-mutex.visits c.hand_over.new.visits
-    c.loop-mutex.invariant c.in-Some.ensures.steps c.hand_over.ensures.state c.hand_over.ensures.work c.hand_over.ensures.most
+    releasing_next _ _ _ _ _ _ _ _ _ _ _ c.loop-mutex.invariant c.in-Some.ensures.steps c.hand_over.ensures.state c.hand_over.ensures.work c.hand_over.ensures.most
 
 pub returns : goal.returns
 returns c =
-    let all : Released c.args.self.now c.loop-mutex.self c.args.actor c.loop-mutex.released c.loop-mutex.visits =
-    released_all c.args.self.now c.loop-mutex.self c.args.actor c.loop-mutex.released c.loop-mutex.mutex-iterator
-    c.args.visits.now c.loop-mutex.visits c.loop-mutex.invariant c.in-None.ensures.steps.0 in
+    let all = released_all _ _ _ _ _ _ _ c.loop-mutex.invariant c.in-None.ensures.steps.0 in
     record { reply = ap (λ n. Reply.Released n) all.counted; state = all.state; work = c.loop-mutex.invariant.work; most = all.most }

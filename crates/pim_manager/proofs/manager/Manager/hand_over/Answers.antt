@@ -12,14 +12,14 @@ use Rattle.pim_manager.proofs.manager.Manager.hand_over.Goals as goal
 pub bind-requires : goal.bind-requires
 bind-requires c =
     let p : Passed c.args.self.now c.settle_from.new.self c.leave.new.self c.args.mutex c.in-Some.waiter.task =
-    passed c.self.inside.tables c.unbind.new.self _ _ _ _ c.in-Some.waiter c.self.invariant c.self.view_is c.requires.mutex
+    passed _ _ _ _ c.self.invariant c.self.view_is c.requires.mutex
     (sym c.first_waiter-first.ensures ∙ c.in-Some.is) c.unbind.ensures.state c.settle_from.ensures.state c.settle_from.ensures.settled c.leave.ensures.left c.leave.ensures.unsettles in
     record { mutex = p.mutex; free = p.free; known = p.known; idle = p.idle }
 
 pub settle_from-requires-in-Some : goal.settle_from-requires-in-Some
 settle_from-requires-in-Some c =
     let p : Passed c.args.self.now c.settle_from.new.self c.leave.new.self c.args.mutex c.in-Some.waiter.task =
-    passed c.self.inside.tables c.unbind.new.self _ _ _ _ c.in-Some.waiter c.self.invariant c.self.view_is c.requires.mutex
+    passed _ _ _ _ c.self.invariant c.self.view_is c.requires.mutex
     (sym c.first_waiter-first.ensures ∙ c.in-Some.is) c.unbind.ensures.state c.settle_from.ensures.state c.settle_from.ensures.settled c.leave.ensures.left c.leave.ensures.unsettles in
     let one = c.settle_from.ensures.single (freed_idle c.args.mutex c.args.owner c.unbind.ensures.state c.self.view_is c.requires.idle) in
     record {
@@ -33,7 +33,7 @@ left :
     (c : goal.After-settle_from-in-Some)
     → Passed c.args.self.now c.settle_from.new.self c.leave.new.self c.args.mutex c.in-Some.waiter.task
 left c =
-    passed c.self.inside.tables c.unbind.new.self _ _ _ _ c.in-Some.waiter c.self.invariant c.self.view_is c.requires.mutex
+    passed _ _ _ _ c.self.invariant c.self.view_is c.requires.mutex
     (sym c.first_waiter-first.ensures ∙ c.in-Some.is) c.unbind.ensures.state c.settle_from.ensures.state c.settle_from.ensures.settled c.leave.ensures.left c.leave.ensures.unsettles
 
 -- the mutex has gone to the first waiter
@@ -46,12 +46,9 @@ gone :
     (c : goal.After-settle_from-in-Some)
     → Walked c.args.self.now (record c.self.inside.tables { state = c.settle_from-in-Some.new.self.state }) c.settle_from-in-Some.new.self c.args.visits.now c.settle_from-in-Some.new.visits
 gone c =
-    let S : State = c.args.self.now in
-    two_walks c.self.inside.tables c.unbind.new.self c.settle_from.new.self c.leave.new.self c.bind.new.self c.settle_from-in-Some.new.self
-    S (hand_over S c.args.mutex) c.args.mutex c.in-Some.waiter.task c.args.visits.now c.settle_from.new.visits c.settle_from-in-Some.new.visits
-    c.self.invariant c.self.view_is
-    (steady_kept.hand S c.args.mutex (steady_shown c.self.invariant c.self.view_is))
-    (ap length (base-hand_over S c.args.mutex))
+    two_walks _ _ c.settle_from.new.self _ _ _ _ _ c.args.mutex c.in-Some.waiter.task _ _ _ c.self.invariant c.self.view_is
+    (steady_kept.hand c.args.self.now c.args.mutex (steady_shown c.self.invariant c.self.view_is))
+    (ap length (base-hand_over c.args.self.now c.args.mutex))
     c.unbind.ensures.state c.settle_from.ensures.work (left c).stored c.bind.ensures.state
     (handed c)
     c.settle_from-in-Some.ensures.state c.settle_from-in-Some.ensures.settled c.settle_from-in-Some.ensures.ready c.settle_from-in-Some.ensures.work
