@@ -1,0 +1,9 @@
+-- What a log is.
+use Rattle.std.specs.Prelude.{List}
+use Rattle.pim_base.specs.State.{State}
+use Rattle.pim_base.specs.declared.steps.Entry.{Entry}
+
+-- the state at the start, and what was asked and answered since
+pub record History : Type 0 where
+  pub start : State
+  pub entries : List Entry

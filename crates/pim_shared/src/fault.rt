@@ -1,0 +1,35 @@
+//! Why a call of the locked manager was refused.
+
+ghost use Rattle.std.specs.Prelude.{◌≡◌};
+ghost use Rattle.pim_shared.specs.declared.fault.SharedFault.TheVariants.{Memory};
+
+use std::alloc::AllocError;
+use thiserror::Error;
+
+/// Why a call was refused, or what came of it isn't a run of the scripts.
+#[derive(Clone, Copy, Debug, PartialEq, Eq, Error)]
+pub enum SharedFault {
+    /// The log holds as many entries as it has room for. Manager and log are unchanged, and closed from then on.
+    #[error("full")]
+    Full,
+    /// Out of memory, or a thread couldn't be started. Nothing is changed; a call closes what it is made on.
+    #[error("memory")]
+    Memory,
+    /// An earlier call met `Full` or `Memory`; for a look: the manager was taken out again. Nothing is changed.
+    #[error("closed")]
+    Closed,
+    /// The log begins elsewhere, or isn't an interleaving of the scripts.
+    #[error("torn")]
+    Torn,
+    /// There is no place for so many lookers, or the looker is of another manager.
+    #[error("no place")]
+    NoPlace,
+}
+
+impl From<AllocError> for SharedFault {
+    ghost from_gives = { λ _ fault. fault ≡ Memory };
+
+    fn from(_error: AllocError) -> SharedFault {
+        SharedFault::Memory
+    }
+}
