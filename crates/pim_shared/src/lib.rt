@@ -2,7 +2,9 @@
 #![tactic(auto)]
 
 mod fault;
+mod gate;
 mod log;
 
 pub use fault::SharedFault;
+pub use gate::{Gate, Settled};
 pub use log::Log;
