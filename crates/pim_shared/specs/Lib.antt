@@ -1,1 +1,6 @@
 pub mod Logs
+pub mod Versions
+pub mod Rules
+pub mod Lookers
+pub mod Publishers
+pub mod Books
