@@ -1,10 +1,11 @@
 //! A manager behind one lock.
 
-ghost use Rattle.std.specs.Prelude.{◌≡◌, ◌≢◌, [], ◌⊎◌, IfOk, IfErr};
+ghost use Rattle.std.specs.Prelude.{◌≡◌, ◌≢◌, ◌<◌, [], ◌⊎◌, IfOk, IfErr, IsErrOf};
 ghost use mathlib.Core.List.{IsPrefix};
 ghost use Rattle.std.specs.List.{All};
 ghost use Rattle.std.specs.Vec.{vec_len};
 ghost use Rattle.pim_base.specs.Runs.{IsRun};
+ghost use Rattle.pim_shared.specs.declared.shared.TheConstants.{MAX_LOOKERS};
 ghost use Rattle.pim_shared.specs.Books.{IsCallFault};
 ghost use Rattle.pim_shared.specs.Logs.{History};
 ghost use Rattle.pim_shared.specs.Lookers.{EndsWithNew};
@@ -48,6 +49,7 @@ impl Shared {
     ) -> Result<(Shared, Vec<Looker>), SharedFault>
         ensures count { IfOk result (λ made. vec_len made.1 ≡ lookers) }
         ensures lookers { IfOk result (λ made. All (λ (looker : History). looker ≡ record { start = manager; entries = [] }) made.1.items) }
+        ensures most { MAX_LOOKERS < lookers → IsErrOf result SharedFault.NoPlace }
         ensures refused { IfErr result (λ fault. (fault ≡ SharedFault.Memory) ⊎ (fault ≡ SharedFault.NoPlace)) }
     {
         if lookers > MAX_LOOKERS {
