@@ -10,12 +10,11 @@ use Rattle.pim_base.specs.Steps.{reply_of, after}
 use Rattle.pim_base.specs.Runs.{IsRun}
 use Rattle.pim_base.specs.declared.steps.Step.{Step}
 use Rattle.pim_base.specs.declared.steps.Entry.{Entry}
-use Rattle.pim_base.specs.declared.steps.Reply.{Reply}
 use Rattle.pim_shared.specs.declared.version.Version.{Version}
 use Rattle.pim_shared.specs.declared.rule.Known.{Known}
 use Rattle.pim_shared.specs.Versions.{IsVersionOf, entry_of, next_version, last_of}
 use Rattle.pim_shared.specs.Rules.{Keeps, IsTrueOf, publishes, MayPublish, IsPublished}
-use Rattle.pim_shared.specs.Books.{BookState, IsBook, with_entry}
+use Rattle.pim_shared.specs.Books.{BookState, IsBook}
 use Rattle.pim_shared.specs.Publishers.{Published, published_by, IsUpToDate, with_pending, all_published}
 use Rattle.pim_shared.proofs.Prefixes.{prefix_self, prefix_trans, prefix_whole}
 use Rattle.pim_shared.proofs.Entering.{true_set}
@@ -102,28 +101,40 @@ published_next k l v w pending pending' up one short is =
       same ∙ sym does,
     )
 
--- the book after a call
-pub book_more :
-    (b c : BookState) (capacity capacity' : ℕ) (p q r : Published) (step : Step) (reply : Reply)
-    → IsBook b capacity p
+-- what is published once one step more is
+abbrev pub one_more : State → List Entry → State → Step → Published
+one_more start es S step = record { start = start; entries = es ++ entry_of S step ∷ []; state = after S step; pending = [] }
+
+pub one_published :
+    (p q r : Published) (start : State) (es : List Entry) (S : State) (step : Step)
+    → p ≡ record { start = start; entries = es; state = S; pending = [] }
     → q ≡ with_pending p step
     → r ≡ all_published q
+    → r ≡ one_more start es S step
+one_published p q r start es S step published appended is = is ∙ ap all_published (appended ∙ ap (λ z. with_pending z step) published)
+
+pub last_published : (r : Published) (start : State) (es : List Entry) (S : State) (step : Step) → r ≡ one_more start es S step → last_of r.entries ≡ Some (entry_of S step)
+last_published r start es S step is = ap (λ z. last_of z.entries) is ∙ last_of-append es (entry_of S step)
+
+-- the book after a call
+pub book_more :
+    (b : BookState) (capacity capacity' : ℕ) (p r : Published) (step : Step) (entries : List Entry)
+    → IsBook b capacity p
+    → r ≡ one_more b.start b.entries b.manager step
     → length b.entries < b.room
-    → reply ≡ reply_of b.manager step
-    → c ≡ with_entry b step reply
+    → entries ≡ b.entries ++ entry_of b.manager step ∷ []
     → capacity' ≡ capacity
-    → IsBook c capacity' r
-book_more b c capacity capacity' p q r step reply book appended published less is_reply is same =
+    → IsBook (record b { manager = r.state; entries = entries }) capacity' r
+book_more b capacity capacity' p r step entries book is less grown same =
     let e : Entry = entry_of b.manager step in
-    let new : BookState = record b { manager = after b.manager step; entries = b.entries ++ e ∷ [] } in
-    let is_new : c ≡ new = is ∙ ap (λ z. with_entry b step z) is_reply in
-    let P : BookState → Type 0 = λ z. IsBook z capacity' r in
-    subst P (sym is_new) (record {
+    let Q : List Entry → Type 0 = λ es. IsBook (record b { manager = r.state; entries = es }) capacity' r in
+    let P : Published → Type 0 = λ z. IsBook (record b { manager = z.state; entries = b.entries ++ e ∷ [] }) capacity' z in
+    subst Q (sym grown) (subst P (sym is) (record {
       run = run_more b.start b.entries b.manager step book.run;
       within_room = omega (arith, length-append b.entries (e ∷ []));
       reserved = omega (arith, book.reserved);
-      published = published ∙ ap all_published (appended ∙ ap (λ z. with_pending z step) book.published);
-    })
+      published = refl;
+    }))
 
 -- what holds of an `Ok`
 pub ok_part : {T E : Type 0} (r : Result T E) (P : Type 0) (Q : E → Type 0) → is_err r ≡ false → MatchResult r (λ _. P) Q → P

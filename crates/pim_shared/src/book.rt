@@ -26,10 +26,10 @@ use std::sync::Wait;
 /// cycle of waits stands, each queue is in order, and each priority in force is the effective one.
 pub struct Book {
     start: Manager,
-    manager: Manager,
     entries: Vec<Entry>,
     room: usize,
     closed: bool,
+    /// The manager now is that of the published version, so that a step is made twice and not three times.
     publisher: Publisher,
 }
 
@@ -39,28 +39,25 @@ impl Model for Book {
 
     ghost Value = { BookState };
 
-    ghost view = { λ b. record { start = b.start; manager = b.manager; entries = b.entries.items; room = b.room; closed = b.closed } };
+    ghost view = { λ b. record { start = b.start; manager = b.publisher.state; entries = b.entries.items; room = b.room; closed = b.closed } };
 
-    ghost invariant = { λ b. IsBook (record { start = b.start; manager = b.manager; entries = b.entries.items; room = b.room; closed = b.closed }) (vec_capacity b.entries) b.publisher };
+    ghost invariant = { λ b. IsBook (record { start = b.start; manager = b.publisher.state; entries = b.entries.items; room = b.room; closed = b.closed }) (vec_capacity b.entries) b.publisher };
 }
 
 impl Book {
     /// Returns an open book of a manager at its start, with room for so many entries.
     pub(crate) fn new(
         start: Manager,
-        manager: Manager,
         entries: Vec<Entry>,
         room: usize,
         publisher: Publisher,
     ) -> Book
-        requires start { start ≡ manager }
         requires room { (entries.items ≡ []) × (room ≤ vec_capacity entries) }
-        requires publisher { publisher ≡ unpublished manager }
-        ensures { result ≡ record { start = manager; manager = manager; entries = []; room = room; closed = false } }
+        requires publisher { publisher ≡ unpublished start }
+        ensures { result ≡ record { start = start; manager = start; entries = []; room = room; closed = false } }
     {
         Book {
             start,
-            manager,
             entries,
             room,
             closed: false,
@@ -91,10 +88,12 @@ impl Book {
             self.closed = true;
             return Err(SharedFault::Memory);
         }
-        let reply = &self.manager.step(*step).reply;
-        self.entries.push_reserved(entry(*step, *reply));
         self.publisher.publish(rt);
-        Ok(*reply)
+        let Some(last) = &self.publisher.last() else {
+            unreachable!()
+        };
+        self.entries.push_reserved(entry(last.step, last.reply));
+        Ok(last.reply)
     }
 
     /// Returns the manager as it is now: after a run of the model from the start, with the logged entries. Its getters show
@@ -106,8 +105,9 @@ impl Book {
         ensures no_cycle { ¬ HasCycle self.now.manager }
     {
         // Its contract tells the proof that the state is steady.
-        let _steady = self.manager.tasks();
-        &self.manager
+        let manager = self.publisher.manager();
+        let _steady = manager.tasks();
+        manager
     }
 
     /// Returns the entries since the start, at most as many as there is room for.
@@ -130,10 +130,9 @@ impl Book {
     pub fn settled(&self, task: TaskNo, mutex: MutexNo) -> Option<Settled>
         ensures { result ≡ settled_of self.now.manager task mutex }
     {
-        // Its contract tells the proof that the state is steady, so that its lists fit together.
-        let _steady = self.manager.tasks();
-        let waits = self.manager.waits_for(task).flatten().is_some();
-        let owner = self.manager.owner(mutex).flatten();
+        let manager = self.manager();
+        let waits = manager.waits_for(task).flatten().is_some();
+        let owner = manager.owner(mutex).flatten();
         if waits {
             None
         } else if owner == Some(task) {
@@ -151,13 +150,12 @@ impl Book {
     {
         let Book {
             start,
-            manager,
             entries,
             room: _,
             closed: _,
             publisher,
         } = self;
-        publisher.end(rt);
+        let manager = publisher.end(rt);
         (manager, Log::new(start, entries))
     }
 }

@@ -6,12 +6,13 @@ ghost use Rattle.left_right.specs.Sides.{view as known};
 ghost use Rattle.pim_base.specs.declared.steps.Step.{Step};
 ghost use Rattle.pim_shared.specs.Publishers.{IsUpToDate, published_by, unpublished, with_pending, all_published};
 ghost use Rattle.pim_shared.specs.Rules.{MayPublish, IsPublished, IsNew, unseen};
+ghost use Rattle.pim_shared.specs.Versions.{last_of};
 
 use crate::looker::Looker;
 use crate::rule::{Begins, Publishes, TellsStart, VersionWriter};
 use crate::version::Version;
 use core::mem::replace_with;
-use pim_base::Step;
+use pim_base::{Entry, Step};
 use pim_manager::Manager;
 use std::alloc::{AllocError, Global};
 use std::marker::Model;
@@ -98,10 +99,28 @@ impl Publisher {
         replace_with(&mut self.writer, rt, published);
     }
 
-    /// Ends the publishing. It waits for lookers that still read; from then on they find no version.
-    pub(crate) fn end<R: Wait>(self, rt: &R) {
+    /// Returns the manager after the published list.
+    pub(crate) fn manager(&self) -> &Manager
+        ensures { result.now ≡ self.now.state }
+    {
+        &self.writer.published().manager
+    }
+
+    /// Returns the last entry of the published list, `None` if that is empty.
+    pub(crate) fn last(&self) -> Option<Entry>
+        ensures { result ≡ last_of self.now.entries }
+    {
+        self.writer.published().last
+    }
+
+    /// Ends the publishing, and returns the manager. It waits for lookers that still read; from then on they find no
+    /// version.
+    pub(crate) fn end<R: Wait>(self, rt: &R) -> Manager
+        ensures { result ≡ self.state }
+    {
         let Publisher { writer } = self;
-        ManuallyDrop::into_inner(writer).take(rt);
+        let version = ManuallyDrop::into_inner(writer).take(rt);
+        Box::into_inner(version).manager
     }
 }
 

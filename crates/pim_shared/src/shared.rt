@@ -56,12 +56,12 @@ impl Shared {
             return Err(SharedFault::NoPlace);
         }
         let start = manager.try_clone(alloc)?;
-        let (first, second) = (manager.try_clone(alloc)?, manager.try_clone(alloc)?);
+        let second = manager.try_clone(alloc)?;
         let entries = Vec::with_capacity(alloc, room)?;
-        let mut publisher = Publisher::new(rt, alloc, first, second, lookers)?;
+        let mut publisher = Publisher::new(rt, alloc, manager, second, lookers)?;
         match lookers_of(&mut publisher, alloc, lookers) {
             Ok(lookers) => {
-                let book = Book::new(start, manager, entries, room, publisher);
+                let book = Book::new(start, entries, room, publisher);
                 let shared = Shared {
                     book: Mutex::new(book),
                     changed: Condvar::new(),
