@@ -12,6 +12,7 @@ mod finding;
 mod looking;
 mod settling;
 mod threads;
+mod watching;
 
 const FIRST: MutexNo = MutexNo(1);
 
