@@ -1,10 +1,9 @@
 //! The writer of the versions, which publishes one entry at a time.
 
-ghost use Rattle.std.specs.Prelude.{◌≡◌, ◌+◌, ◌^◌, ◌<◌, [], ◌∷◌, drop, length, Some, IfOk, MatchResult};
+ghost use Rattle.std.specs.Prelude.{◌≡◌, ◌+◌, ◌^◌, ◌<◌, [], ◌∷◌, length, Some, IfOk, MatchResult};
 ghost use Rattle.std.specs.Mem.{manually_drop_value};
-ghost use Rattle.left_right.specs.Sides.{view as known};
 ghost use Rattle.pim_base.specs.declared.steps.Step.{Step};
-ghost use Rattle.pim_shared.specs.Publishers.{IsNew, IsUpToDate, MayPublish, HasPublished, state_of, published_by, unpublished, with_pending, all_published};
+ghost use Rattle.pim_shared.specs.Publishers.{IsNew, MayPublish, HasPublished, state_of, unpublished, with_pending, all_published};
 ghost use Rattle.pim_shared.specs.Rules.{unseen};
 
 use crate::looker::Looker;
