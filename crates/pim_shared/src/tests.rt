@@ -7,6 +7,7 @@ use std::alloc::Global;
 use std::process::Abort;
 use std::sync::Wait;
 
+mod books;
 mod calls;
 mod finding;
 mod looking;
