@@ -4,7 +4,9 @@
 mod fault;
 mod gate;
 mod log;
+mod workers;
 
 pub use fault::SharedFault;
 pub use gate::{Gate, Settled};
 pub use log::Log;
+pub use workers::{run_scripts, worker};
