@@ -1,0 +1,66 @@
+-- What `==` tells of the lists of a state: all are equal exactly where the states are.
+use Rattle.std.proofs.Common.{◌≡◌, ◌↔◌, ◌==◌, ◌&&◌, ℕ, Bool, Option, Some, None, IsTrue, refl, ap, ap₂, eqb-true, eq-eqb, sym, ◌∙◌}
+use Rattle.std.specs.Bool.{Decides}
+use Rattle.std.specs.Option.{option_eq}
+use Rattle.std.proofs.lemmas.Bool.Decides.{Decides-and}
+use lib.Pointwise.{pointwise, pointwise_decides}
+use Rattle.pim_base.specs.State.{State}
+use Rattle.pim_base.specs.declared.steps.Protocol.{Protocol}
+use Rattle.pim_base.specs.declared.steps.Protocol.TheVariants.{None as NONE, Inherit, Protect}
+use Rattle.pim_base.specs.declared.steps.Wait.{Wait}
+use Rattle.pim_base.specs.contracts.numbers.PrioPartialEq.TheImpl as prio
+use Rattle.pim_base.specs.contracts.numbers.TaskNoPartialEq.TheImpl as task
+use Rattle.pim_base.specs.contracts.steps.ProtocolPartialEq.TheImpl as protocol
+use Rattle.pim_base.specs.contracts.steps.WaitPartialEq.TheImpl as wait
+
+numbers_decide : (x y : ℕ) → Decides (x == y) (x ≡ y)
+numbers_decide x y = (eqb-true x y, eq-eqb x y)
+
+protocols_decide : (x y : Protocol) → Decides (protocol.eq-value.it x y) (x ≡ y)
+protocols_decide NONE NONE = (λ _. refl, λ _. refl)
+protocols_decide NONE Inherit = (λ t. cc, λ e. cc)
+protocols_decide NONE (Protect c) = (λ t. cc, λ e. cc)
+protocols_decide Inherit NONE = (λ t. cc, λ e. cc)
+protocols_decide Inherit Inherit = (λ _. refl, λ _. refl)
+protocols_decide Inherit (Protect c) = (λ t. cc, λ e. cc)
+protocols_decide (Protect b) NONE = (λ t. cc, λ e. cc)
+protocols_decide (Protect b) Inherit = (λ t. cc, λ e. cc)
+protocols_decide (Protect b) (Protect c) = (λ t. ap Protect (eqb-true b c t), λ e. eq-eqb b c cc)
+
+waits_decide : (x y : Wait) → Decides (wait.eq-value.it x y) (x ≡ y)
+waits_decide x y =
+    let both = Decides-and (x.mutex == y.mutex) (x.ticket == y.ticket) (numbers_decide x.mutex y.mutex) (numbers_decide x.ticket y.ticket) in (
+      λ t. let fields = both.0 t in ap₂ (λ (m k : ℕ). let w : Wait = record { mutex = m; ticket = k } in w) fields.0 fields.1,
+      λ e. both.1 (ap (λ (w : Wait). w.mutex) e, ap (λ (w : Wait). w.ticket) e),
+    )
+
+options_decide : {X : Type 0} (E : X → X → Bool) → ((x y : X) → Decides (E x y) (x ≡ y)) → (x y : Option X) → Decides (option_eq E x y) (x ≡ y)
+options_decide E decides None None = (λ _. refl, λ _. refl)
+options_decide E decides None (Some y) = (λ t. cc, λ e. cc)
+options_decide E decides (Some x) None = (λ t. cc, λ e. cc)
+options_decide E decides (Some x) (Some y) = (λ t. ap Some ((decides x y).0 t), λ e. (decides x y).1 cc)
+
+-- whether bases, protocols, owners, waits and next ticket are the same
+abbrev pub same_fields : State → State → Bool
+same_fields S T =
+    pointwise prio.eq-value.it S.base T.base
+    && pointwise protocol.eq-value.it S.protocol T.protocol
+    && pointwise (option_eq task.eq-value.it) S.owner T.owner
+    && pointwise (option_eq wait.eq-value.it) S.wait T.wait
+    && (S.next == T.next)
+
+same_fields_are : (S T : State) → Decides (same_fields S T) (((((S.base ≡ T.base) × (S.protocol ≡ T.protocol)) × (S.owner ≡ T.owner)) × (S.wait ≡ T.wait)) × (S.next ≡ T.next))
+same_fields_are S T =
+    let bases = pointwise_decides numbers_decide S.base T.base in
+    let protocols = pointwise_decides protocols_decide S.protocol T.protocol in
+    let owners = pointwise_decides (options_decide task.eq-value.it numbers_decide) S.owner T.owner in
+    let waits = pointwise_decides (options_decide wait.eq-value.it waits_decide) S.wait T.wait in
+    Decides-and _ _ (Decides-and _ _ (Decides-and _ _ (Decides-and _ _ bases protocols) owners) waits) (numbers_decide S.next T.next)
+
+pub same_fields-Decides : (S T : State) (r : Bool) → r ≡ same_fields S T → IsTrue r ↔ S ≡ T
+same_fields-Decides S T r is = (
+  λ t. let f = (same_fields_are S T).0 (sym is ∙ t) in
+      λ i. record { base = f.0.0.0.0 i; protocol = f.0.0.0.1 i; owner = f.0.0.1 i; wait = f.0.1 i; next = f.1 i },
+  λ e. is ∙ (same_fields_are S T).1
+      ((((ap (λ (s : State). s.base) e, ap (λ (s : State). s.protocol) e), ap (λ (s : State). s.owner) e), ap (λ (s : State). s.wait) e), ap (λ (s : State). s.next) e),
+)
