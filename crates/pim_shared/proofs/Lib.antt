@@ -1,3 +1,3 @@
 pub mod SameOps
 pub mod Asked
-pub mod Wholes
+pub mod Made

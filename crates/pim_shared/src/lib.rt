@@ -5,6 +5,8 @@ mod fault;
 mod gate;
 mod gathering;
 mod log;
+#[cfg(test)]
+mod tests;
 mod workers;
 
 pub use fault::SharedFault;
