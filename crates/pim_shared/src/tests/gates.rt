@@ -2,7 +2,7 @@
 
 use super::{by, scripts_of};
 use crate::{Gate, Settled, SharedFault, run_scripts, worker};
-use Op::{Lock, ReleaseAll, SetBase, Try, Unlock};
+use Op::{Cancel, Lock, ReleaseAll, SetBase, Try, Unlock};
 use pim_base::{MAX_WORKERS, MutexNo, Op, Reply, Step, TaskNo};
 use std::alloc::{AllocError, Global};
 use std::process::Abort;
@@ -71,12 +71,13 @@ impl Recorder {
 
 impl Gate for Recorder {
     fn call<R: Wait>(&self, rt: &R, step: Step) -> Result<Reply, SharedFault> {
-        self.keep(rt, Call::Step(step))?;
-        if matches!(step.op, Lock(_) | Try(_)) {
-            Ok(Reply::Queued)
-        } else {
-            Ok(Reply::Freed)
-        }
+        let Step { actor, op } = step;
+        let reply = match op {
+            Lock(_) | Try(_) => Reply::Queued,
+            Unlock(_) | ReleaseAll | Cancel(_) | SetBase(..) => Reply::Freed,
+        };
+        self.keep(rt, Call::Step(Step { actor, op }))?;
+        Ok(reply)
     }
 
     fn settle<R: Wait>(
