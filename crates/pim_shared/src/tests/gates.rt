@@ -1,17 +1,14 @@
 //! What workers call, over gates that stand in the place of a manager.
 
-use super::{by, scripts_of};
+use super::{FIRST, by, scripts_of};
 use crate::{Gate, Settled, SharedFault, run_scripts, worker};
 use Op::{Cancel, Lock, ReleaseAll, SetBase, Try, Unlock};
 use pim_base::{MAX_WORKERS, MutexNo, Op, Reply, Step, TaskNo};
-use std::alloc::{AllocError, Global};
+use std::alloc::Global;
 use std::process::Abort;
 use std::sync::atomic::{AtomicU64, Ordering};
 use std::sync::{Mutex, Wait};
-use std::test::Fail;
 use std::thread;
-
-const FIRST: MutexNo = MutexNo(1);
 
 const SECOND: MutexNo = MutexNo(2);
 
@@ -32,13 +29,13 @@ struct Recorder {
 }
 
 impl Recorder {
-    fn new(alloc: Global, room: usize, settled: Settled) -> Result<Recorder, AllocError> {
-        let calls = Mutex::new(Vec::with_capacity(alloc, room)?);
-        Ok(Recorder {
-            calls,
+    fn new(rt: &impl Abort, alloc: Global, room: usize, settled: Settled) -> Recorder {
+        let calls = Vec::with_capacity(alloc, room).expect(rt, "memory");
+        Recorder {
+            calls: Mutex::new(calls),
             room,
             settled,
-        })
+        }
     }
 
     fn keep<R: Wait>(&self, rt: &R, call: Call) -> Result<(), SharedFault> {
@@ -146,9 +143,9 @@ impl Gate for Rendezvous {
 }
 
 #[test]
-fn a_worker_settles_after_a_queued_lock(rt: HostRuntime) -> Result<(), Fail> {
+fn a_worker_settles_after_a_queued_lock(rt: HostRuntime) {
     for settled in [Settled::Owns, Settled::Withdrawn] {
-        let gate = Recorder::new(rt.alloc(), 9, settled)?;
+        let gate = Recorder::new(&rt, rt.alloc(), 9, settled);
         let lines = [Lock(FIRST), Unlock(FIRST)];
         assert_eq!(rt; worker(&gate, &rt, TaskNo(3), &lines), Ok(()));
         let calls = [
@@ -159,12 +156,11 @@ fn a_worker_settles_after_a_queued_lock(rt: HostRuntime) -> Result<(), Fail> {
         ];
         assert!(rt; gate.has_kept(&calls));
     }
-    Ok(())
 }
 
 #[test]
-fn a_worker_settles_after_no_other_line(rt: HostRuntime) -> Result<(), Fail> {
-    let gate = Recorder::new(rt.alloc(), 9, Settled::Owns)?;
+fn a_worker_settles_after_no_other_line(rt: HostRuntime) {
+    let gate = Recorder::new(&rt, rt.alloc(), 9, Settled::Owns);
     let lines = [Try(FIRST), SetBase(TaskNo(3), 7), Lock(SECOND)];
     assert_eq!(rt; worker(&gate, &rt, TaskNo(3), &lines), Ok(()));
     let calls = [
@@ -175,11 +171,10 @@ fn a_worker_settles_after_no_other_line(rt: HostRuntime) -> Result<(), Fail> {
         Call::Step(by(3, ReleaseAll)),
     ];
     assert!(rt; gate.has_kept(&calls));
-    Ok(())
 }
 
 #[test]
-fn a_fault_ends_the_worker(rt: HostRuntime) -> Result<(), Fail> {
+fn a_fault_ends_the_worker(rt: HostRuntime) {
     let lines = [Lock(FIRST), Unlock(FIRST)];
     let calls = [
         Call::Step(by(3, Lock(FIRST))),
@@ -187,45 +182,43 @@ fn a_fault_ends_the_worker(rt: HostRuntime) -> Result<(), Fail> {
         Call::Step(by(3, Unlock(FIRST))),
     ];
     for room in 0..4 {
-        let gate = Recorder::new(rt.alloc(), room, Settled::Owns)?;
+        let gate = Recorder::new(&rt, rt.alloc(), room, Settled::Owns);
         assert_eq!(rt;
             worker(&gate, &rt, TaskNo(3), &lines),
             Err(SharedFault::Full)
         );
         assert!(rt; gate.has_kept(&calls[..room]), "{room}");
     }
-    Ok(())
 }
 
 #[test]
-fn each_task_makes_its_script(rt: HostRuntime) -> Result<(), Fail> {
-    let gate = Recorder::new(rt.alloc(), 20, Settled::Owns)?;
+fn each_task_makes_its_script(rt: HostRuntime) {
+    let gate = Recorder::new(&rt, rt.alloc(), 20, Settled::Owns);
     let scripts = scripts_of(
+        &rt,
         rt.alloc(),
         &[&[Lock(FIRST), Unlock(FIRST)], &[], &[Try(SECOND)]],
-    )?;
+    );
     assert!(rt; scripts.len() <= MAX_WORKERS);
     assert_eq!(rt; run_scripts(&rt, rt.alloc(), &gate, &scripts), Ok(()));
     assert!(rt; gate.has_asked(&rt, 1, &[Lock(FIRST), Unlock(FIRST), ReleaseAll]));
     assert!(rt; gate.has_asked(&rt, 2, &[ReleaseAll]));
     assert!(rt; gate.has_asked(&rt, 3, &[Try(SECOND), ReleaseAll]));
     assert_eq!(rt; gate.calls.lock(&rt).len(), 7);
-    Ok(())
 }
 
 #[test]
-fn no_scripts_make_no_call(rt: HostRuntime) -> Result<(), Fail> {
-    let gate = Recorder::new(rt.alloc(), 1, Settled::Owns)?;
+fn no_scripts_make_no_call(rt: HostRuntime) {
+    let gate = Recorder::new(&rt, rt.alloc(), 1, Settled::Owns);
     assert_eq!(rt; run_scripts(&rt, rt.alloc(), &gate, &[]), Ok(()));
     assert!(rt; gate.has_kept(&[]));
-    Ok(())
 }
 
 #[test]
-fn sixteen_workers_make_their_scripts(rt: HostRuntime) -> Result<(), Fail> {
-    let gate = Recorder::new(rt.alloc(), 33, Settled::Owns)?;
+fn sixteen_workers_make_their_scripts(rt: HostRuntime) {
+    let gate = Recorder::new(&rt, rt.alloc(), 33, Settled::Owns);
     let line: &[Op] = &[Unlock(FIRST)];
-    let scripts = scripts_of(rt.alloc(), &[line; MAX_WORKERS])?;
+    let scripts = scripts_of(&rt, rt.alloc(), &[line; MAX_WORKERS]);
     assert!(rt; scripts.len() <= MAX_WORKERS);
     assert_eq!(rt; run_scripts(&rt, rt.alloc(), &gate, &scripts), Ok(()));
     for task in 1..=16 {
@@ -235,25 +228,23 @@ fn sixteen_workers_make_their_scripts(rt: HostRuntime) -> Result<(), Fail> {
         );
     }
     assert_eq!(rt; gate.calls.lock(&rt).len(), 32);
-    Ok(())
 }
 
 #[test]
-fn scripts_run_at_once(rt: HostRuntime) -> Result<(), Fail> {
+fn scripts_run_at_once(rt: HostRuntime) {
     let gate = Rendezvous {
         calls: AtomicU64::new(0),
     };
-    let scripts = scripts_of(rt.alloc(), &[&[], &[]])?;
+    let scripts = scripts_of(&rt, rt.alloc(), &[&[], &[]]);
     assert!(rt; scripts.len() <= MAX_WORKERS);
     assert_eq!(rt; run_scripts(&rt, rt.alloc(), &gate, &scripts), Ok(()));
-    Ok(())
 }
 
 #[test]
-fn the_fault_of_the_least_task_that_is_not_closed(rt: HostRuntime) -> Result<(), Fail> {
+fn the_fault_of_the_least_task_that_is_not_closed(rt: HostRuntime) {
     let (closed, full) = (Some(SharedFault::Closed), Some(SharedFault::Full));
     let memory = Some(SharedFault::Memory);
-    let scripts = scripts_of(rt.alloc(), &[&[], &[], &[]])?;
+    let scripts = scripts_of(&rt, rt.alloc(), &[&[], &[], &[]]);
     assert!(rt; scripts.len() <= MAX_WORKERS);
     for (faults, answer) in [
         ([None, None, None], Ok(())),
@@ -266,5 +257,4 @@ fn the_fault_of_the_least_task_that_is_not_closed(rt: HostRuntime) -> Result<(),
         let gate = Refusing { faults };
         assert_eq!(rt; run_scripts(&rt, rt.alloc(), &gate, &scripts), answer);
     }
-    Ok(())
 }

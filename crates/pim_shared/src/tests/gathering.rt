@@ -1,96 +1,110 @@
 //! Which logs are those of given scripts. The start has task 1 at 10 and task 2 at 20.
 
-use super::{by, made, scripts_of};
+use super::{FIRST, by, made, scripts_of};
 use crate::{Log, SharedFault, gather};
 use Op::{Lock, ReleaseAll, Unlock};
 use pim_base::{Entry, MutexNo, Op, Protocol, Reply};
 use std::alloc::Global;
-use std::test::Fail;
-
-const FIRST: MutexNo = MutexNo(1);
+use std::process::Abort;
 
 const SECOND: MutexNo = MutexNo(2);
 
 /// A log of these steps, each with the number of its task. What was replied doesn't matter.
-fn log_of(alloc: Global, steps: &[(u16, Op)]) -> Result<Log, Fail> {
-    let start = made(alloc, &[10, 20], &[Protocol::None, Protocol::None])?;
+fn log_of(rt: &impl Abort, alloc: Global, steps: &[(u16, Op)]) -> Log {
+    let start = made(rt, alloc, &[10, 20], &[Protocol::None, Protocol::None]);
     let mut entries = Vec::new(alloc);
     for (actor, op) in steps {
         let step = by(*actor, *op);
         let reply = Reply::Granted;
-        entries.push(Entry { step, reply })?;
+        entries.push(Entry { step, reply }).expect(rt, "memory");
     }
-    Ok(Log::new(start, entries))
+    Log::new(start, entries)
 }
 
 /// Whether the log of these steps is that of the scripts. If so, it is the log that was given.
-fn gathers(alloc: Global, steps: &[(u16, Op)], scripts: &[&[Op]]) -> Result<bool, Fail> {
-    let log = log_of(alloc, steps)?;
-    let same = log_of(alloc, steps)?;
-    let scripts = scripts_of(alloc, scripts)?;
+fn gathers(rt: &impl Abort, alloc: Global, steps: &[(u16, Op)], scripts: &[&[Op]]) -> bool {
+    let log = log_of(rt, alloc, steps);
+    let same = log_of(rt, alloc, steps);
+    let scripts = scripts_of(rt, alloc, scripts);
     match gather(log, same.start(), &scripts) {
         Ok(gathered) => {
             let unchanged = gathered.start().has_state_of(same.start());
-            Ok(unchanged && gathered.entries() == same.entries())
+            unchanged && gathered.entries() == same.entries()
         }
-        Err(SharedFault::Torn) => Ok(false),
-        Err(_) => Err("another fault than Torn")?,
+        Err(fault) => {
+            assert_eq!(rt; fault, SharedFault::Torn);
+            false
+        }
     }
 }
 
 #[test]
-fn each_line_and_one_release(rt: HostRuntime) -> Result<(), Fail> {
+fn each_line_and_one_release(rt: HostRuntime) {
     let steps = [(1, Lock(FIRST)), (1, ReleaseAll)];
-    assert!(rt; gathers(rt.alloc(), &steps, &[&[Lock(FIRST)]])?);
-    assert!(rt; !gathers(rt.alloc(), &steps, &[&[Lock(FIRST), Unlock(FIRST)]])?);
-    assert!(rt; !gathers(rt.alloc(), &steps, &[&[Lock(FIRST), ReleaseAll]])?);
-    assert!(rt; !gathers(rt.alloc(), &steps, &[&[]])?);
-    Ok(())
+    assert!(rt; gathers(&rt, rt.alloc(), &steps, &[&[Lock(FIRST)]]));
+    assert!(rt; !gathers(&rt, rt.alloc(), &steps, &[&[Lock(FIRST), Unlock(FIRST)]]));
+    assert!(rt; !gathers(&rt, rt.alloc(), &steps, &[&[Lock(FIRST), ReleaseAll]]));
+    assert!(rt; !gathers(&rt, rt.alloc(), &steps, &[&[]]));
 }
 
 #[test]
-fn a_log_that_begins_elsewhere(rt: HostRuntime) -> Result<(), Fail> {
-    let scripts = scripts_of(rt.alloc(), &[&[Lock(FIRST)]])?;
-    let log = log_of(rt.alloc(), &[(1, Lock(FIRST)), (1, ReleaseAll)])?;
-    let other = made(rt.alloc(), &[10, 21], &[Protocol::None, Protocol::None])?;
+fn a_log_that_begins_elsewhere(rt: HostRuntime) {
+    let scripts = scripts_of(&rt, rt.alloc(), &[&[Lock(FIRST)]]);
+    let log = log_of(&rt, rt.alloc(), &[(1, Lock(FIRST)), (1, ReleaseAll)]);
+    let other = made(
+        &rt,
+        rt.alloc(),
+        &[10, 21],
+        &[Protocol::None, Protocol::None],
+    );
     let gathered = gather(log, &other, &scripts);
     assert!(rt; matches!(gathered, Err(SharedFault::Torn)));
-    Ok(())
 }
 
 #[test]
-fn a_step_too_many(rt: HostRuntime) -> Result<(), Fail> {
+fn a_step_too_many(rt: HostRuntime) {
     let unlocked = [(1, Lock(FIRST)), (1, Unlock(FIRST)), (1, ReleaseAll)];
-    assert!(rt; !gathers(rt.alloc(), &unlocked, &[&[Lock(FIRST)]])?);
+    assert!(rt; !gathers(&rt, rt.alloc(), &unlocked, &[&[Lock(FIRST)]]));
     let released_twice = [(1, Lock(FIRST)), (1, ReleaseAll), (1, ReleaseAll)];
-    assert!(rt; !gathers(rt.alloc(), &released_twice, &[&[Lock(FIRST)]])?);
-    assert!(rt; gathers(rt.alloc(), &released_twice, &[&[Lock(FIRST), ReleaseAll]])?);
-    Ok(())
+    assert!(rt; !gathers(&rt, rt.alloc(), &released_twice, &[&[Lock(FIRST)]]));
+    assert!(rt;
+        gathers(
+            &rt,
+            rt.alloc(),
+            &released_twice,
+            &[&[Lock(FIRST), ReleaseAll]]
+        )
+    );
 }
 
 #[test]
-fn a_release_that_is_missing(rt: HostRuntime) -> Result<(), Fail> {
+fn a_release_that_is_missing(rt: HostRuntime) {
     let script: &[&[Op]] = &[&[Lock(FIRST)]];
-    assert!(rt; !gathers(rt.alloc(), &[(1, Lock(FIRST))], script)?);
-    assert!(rt; !gathers(rt.alloc(), &[(1, ReleaseAll)], script)?);
-    assert!(rt; !gathers(rt.alloc(), &[], script)?);
-    Ok(())
+    assert!(rt; !gathers(&rt, rt.alloc(), &[(1, Lock(FIRST))], script));
+    assert!(rt; !gathers(&rt, rt.alloc(), &[(1, ReleaseAll)], script));
+    assert!(rt; !gathers(&rt, rt.alloc(), &[], script));
 }
 
 #[test]
-fn an_entry_of_a_task_without_a_script(rt: HostRuntime) -> Result<(), Fail> {
+fn an_entry_of_a_task_without_a_script(rt: HostRuntime) {
     for other in [0, 2, u16::MAX] {
         let steps = [(1, ReleaseAll), (other, ReleaseAll)];
-        assert!(rt; !gathers(rt.alloc(), &steps, &[&[]])?, "{other}");
+        assert!(rt; !gathers(&rt, rt.alloc(), &steps, &[&[]]), "{other}");
     }
-    assert!(rt; gathers(rt.alloc(), &[(1, ReleaseAll), (2, ReleaseAll)], &[&[], &[]])?);
-    assert!(rt; gathers(rt.alloc(), &[], &[])?);
-    assert!(rt; !gathers(rt.alloc(), &[(1, ReleaseAll)], &[])?);
-    Ok(())
+    assert!(rt;
+        gathers(
+            &rt,
+            rt.alloc(),
+            &[(1, ReleaseAll), (2, ReleaseAll)],
+            &[&[], &[]]
+        )
+    );
+    assert!(rt; gathers(&rt, rt.alloc(), &[], &[]));
+    assert!(rt; !gathers(&rt, rt.alloc(), &[(1, ReleaseAll)], &[]));
 }
 
 #[test]
-fn each_task_in_its_own_order(rt: HostRuntime) -> Result<(), Fail> {
+fn each_task_in_its_own_order(rt: HostRuntime) {
     let scripts: &[&[Op]] = &[&[Lock(FIRST), Lock(SECOND)], &[Lock(SECOND)]];
     let between = [
         (2, Lock(SECOND)),
@@ -99,7 +113,7 @@ fn each_task_in_its_own_order(rt: HostRuntime) -> Result<(), Fail> {
         (1, Lock(SECOND)),
         (1, ReleaseAll),
     ];
-    assert!(rt; gathers(rt.alloc(), &between, scripts)?);
+    assert!(rt; gathers(&rt, rt.alloc(), &between, scripts));
     let one_by_one = [
         (1, Lock(FIRST)),
         (1, Lock(SECOND)),
@@ -107,7 +121,7 @@ fn each_task_in_its_own_order(rt: HostRuntime) -> Result<(), Fail> {
         (2, Lock(SECOND)),
         (2, ReleaseAll),
     ];
-    assert!(rt; gathers(rt.alloc(), &one_by_one, scripts)?);
+    assert!(rt; gathers(&rt, rt.alloc(), &one_by_one, scripts));
     let other_order = [
         (1, Lock(SECOND)),
         (1, Lock(FIRST)),
@@ -115,12 +129,11 @@ fn each_task_in_its_own_order(rt: HostRuntime) -> Result<(), Fail> {
         (2, Lock(SECOND)),
         (2, ReleaseAll),
     ];
-    assert!(rt; !gathers(rt.alloc(), &other_order, scripts)?);
-    Ok(())
+    assert!(rt; !gathers(&rt, rt.alloc(), &other_order, scripts));
 }
 
 #[test]
-fn equal_scripts_of_two_tasks(rt: HostRuntime) -> Result<(), Fail> {
+fn equal_scripts_of_two_tasks(rt: HostRuntime) {
     let scripts: &[&[Op]] = &[&[Lock(FIRST)], &[Lock(FIRST)]];
     let both = [
         (1, Lock(FIRST)),
@@ -128,13 +141,12 @@ fn equal_scripts_of_two_tasks(rt: HostRuntime) -> Result<(), Fail> {
         (1, ReleaseAll),
         (2, ReleaseAll),
     ];
-    assert!(rt; gathers(rt.alloc(), &both, scripts)?);
+    assert!(rt; gathers(&rt, rt.alloc(), &both, scripts));
     let one_alone = [
         (1, Lock(FIRST)),
         (1, Lock(FIRST)),
         (1, ReleaseAll),
         (1, ReleaseAll),
     ];
-    assert!(rt; !gathers(rt.alloc(), &one_alone, scripts)?);
-    Ok(())
+    assert!(rt; !gathers(&rt, rt.alloc(), &one_alone, scripts));
 }
