@@ -5,7 +5,7 @@ use Rattle.std.specs.Option.{option_eq}
 use Rattle.pim_base.specs.declared.steps.Op.{Op}
 use Rattle.pim_base.specs.contracts.steps.OpPartialEq.TheImpl as op
 
-ops_decide : (x y : Op) → Decides (op.eq-value.it x y) (x ≡ y)
+pub ops_decide : (x y : Op) → Decides (op.eq-value.it x y) (x ≡ y)
 ops_decide x y = search rules
 
 not_is_false : (b r : Bool) → r ≡ not b → (r ≡ false) ↔ (b ≡ true)
