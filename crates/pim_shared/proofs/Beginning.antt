@@ -6,12 +6,12 @@ use lib.ListN.{get_elem?}
 use Rattle.crossbeam_utils.specs.Register.{Admits, TurnsAt, Forks, Merges}
 use Rattle.atomic_table.proofs.Lists.{at_set, at_snoc}
 use Rattle.pim_base.specs.State.{State}
-use Rattle.pim_base.specs.declared.steps.Step.{Step}
 use Rattle.pim_base.specs.declared.steps.Entry.{Entry}
 use Rattle.pim_shared.specs.declared.version.Version.{Version}
 use Rattle.pim_shared.specs.declared.rule.Known.{Known}
 use Rattle.pim_shared.specs.Versions.{IsVersionOf, first_version, next_version}
-use Rattle.pim_shared.specs.Rules.{Keeps, IsTrueOf, IsNew, unseen, newcomer, told, begins}
+use Rattle.pim_shared.specs.Publishers.{WriterState, IsNew}
+use Rattle.pim_shared.specs.Rules.{Keeps, IsTrueOf, unseen, newcomer, told, begins}
 use Rattle.pim_shared.proofs.Entering.{true_set}
 
 newcomer_true : (start : State) (published : List Entry) → IsTrueOf start published newcomer
@@ -50,12 +50,13 @@ no_entries [] e = refl
 no_entries (f ∷ es) e = absurd (omega arith)
 
 pub begins_turns :
-    (seat : ℕ) (k : Known) (v w : Version) (pending : List Step)
-    → IsNew v pending
-    → w ≡ fold next_version v pending
-    → TurnsAt (λ v all. Keeps v all) seat k v w begins
-begins_turns seat k v w pending new is all keeps at =
-    let same : w ≡ v = is ∙ ap (λ l. fold next_version v l) new.none in
+    (seat : ℕ) (w : WriterState) (next : Version)
+    → IsNew w
+    → next ≡ fold next_version w.version w.pending
+    → TurnsAt (λ v all. Keeps v all) seat w.known w.version next begins
+begins_turns seat w next new is all keeps at =
+    let v : Version = w.version in
+    let same : next ≡ v = is ∙ ap (λ l. fold next_version v l) new.none in
     let empty : keeps.published ≡ [] = no_entries keeps.published (sym keeps.version.steps ∙ ap (λ z. z.steps) new.first) in
     let Q : List Entry → Type 0 = λ es. IsVersionOf keeps.start es v in
     let start_is : v.manager ≡ keeps.start = (subst Q empty keeps.version).run in

@@ -1,3 +1,6 @@
+pub mod SameOps
+pub mod Asked
+pub mod Made
 pub mod Prefixes
 pub mod SameEntries
 pub mod Entering

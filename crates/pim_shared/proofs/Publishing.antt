@@ -13,9 +13,9 @@ use Rattle.pim_base.specs.declared.steps.Entry.{Entry}
 use Rattle.pim_shared.specs.declared.version.Version.{Version}
 use Rattle.pim_shared.specs.declared.rule.Known.{Known}
 use Rattle.pim_shared.specs.Versions.{IsVersionOf, entry_of, next_version, last_of}
-use Rattle.pim_shared.specs.Rules.{Keeps, IsTrueOf, publishes, MayPublish, IsPublished}
+use Rattle.pim_shared.specs.Rules.{Keeps, IsTrueOf, publishes}
 use Rattle.pim_shared.specs.Books.{BookState, IsBook}
-use Rattle.pim_shared.specs.Publishers.{Published, published_by, IsUpToDate, with_pending, all_published}
+use Rattle.pim_shared.specs.Publishers.{WriterState, Published, IsUpToDate, MayPublish, HasPublished, published_by, with_pending, all_published}
 use Rattle.pim_shared.proofs.Prefixes.{prefix_self, prefix_trans, prefix_whole}
 use Rattle.pim_shared.proofs.Entering.{true_set}
 
@@ -69,37 +69,37 @@ publishes_next seat k v step whole short all keeps at =
     )
 
 pub publishes_turns :
-    (seat : ℕ) (k : Known) (v w : Version) (pending : List Step)
-    → MayPublish v pending k
-    → w ≡ fold next_version v pending
-    → TurnsAt (λ v all. Keeps v all) seat k v w publishes
-publishes_turns seat k v w pending may is =
-    let P : Version → Type 0 = λ z. TurnsAt (λ v all. Keeps v all) seat k v z publishes in
-    let next : w ≡ next_version v may.step = is ∙ ap (λ l. fold next_version v l) may.one in
-    subst P (sym next) (publishes_next seat k v may.step may.whole may.short)
+    (seat : ℕ) (w : WriterState) (next : Version)
+    → MayPublish w
+    → next ≡ fold next_version w.version w.pending
+    → TurnsAt (λ v all. Keeps v all) seat w.known w.version next publishes
+publishes_turns seat w next may is =
+    let P : Version → Type 0 = λ z. TurnsAt (λ v all. Keeps v all) seat w.known w.version z publishes in
+    let one : next ≡ next_version w.version may.step = is ∙ ap (λ l. fold next_version w.version l) may.one in
+    subst P (sym one) (publishes_next seat w.known w.version may.step may.whole may.short)
 
 -- what the publisher has then
 pub published_next :
-    (k l : Known) (v w : Version) (pending pending' : List Step)
-    → IsUpToDate k v
-    → (step : Step) × (pending ≡ step ∷ [])
-    → length k.seen + 1 < 2 ^ 64
-    → IsPublished v pending k w pending' l
-    → IsUpToDate l w × (published_by l w pending' ≡ all_published (published_by k v pending))
-published_next k l v w pending pending' up one short is =
+    (w x : WriterState)
+    → IsUpToDate w
+    → (step : Step) × (w.pending ≡ step ∷ [])
+    → length w.known.seen + 1 < 2 ^ 64
+    → HasPublished w x
+    → IsUpToDate x × (published_by x ≡ all_published (published_by w))
+published_next w x up one short has =
     let step : Step = one.0 in
-    let e : Entry = entry_of v.manager step in
-    let m : Known = record { start = k.start; seen = k.seen ++ e ∷ [] } in
-    let next : w ≡ next_version v step = is.version ∙ ap (λ l. fold next_version v l) one.1 in
-    let known : l ≡ m = is.known ∙ ap (λ z. record { start = k.start; seen = k.seen ++ option_to_list z.last }) next in
-    let P : Known → Type 0 = λ z. IsUpToDate z w in
-    let Q : Version → Type 0 = λ z. IsUpToDate m z in
-    let nothing : pending' ≡ [] = is.none in
-    let same : published_by l w pending' ≡ published_by m (next_version v step) [] = cc in
-    let does : all_published (published_by k v pending) ≡ all_published (published_by k v (step ∷ [])) = ap (λ l. all_published (published_by k v l)) one.1 in (
-      subst P (sym known) (subst Q (sym next) (record { start = up.start; version = version_more _ k.seen v step up.version short })),
-      same ∙ sym does,
-    )
+    let next : Version = next_version w.version step in
+    let known : Known = record { start = w.known.start; seen = w.known.seen ++ entry_of w.version.manager step ∷ [] } in
+    let y : WriterState = record { version = next; pending = []; known = known } in
+    let version : x.version ≡ next = has.version ∙ ap (λ l. fold next_version w.version l) one.1 in
+    let knows : x.known ≡ known = has.known ∙ ap (λ (v : Version). record { start = w.known.start; seen = w.known.seen ++ option_to_list v.last }) version in
+    let is : x ≡ y =
+    ap (λ (v : Version). record { version = v; pending = x.pending; known = x.known }) version
+    ∙ ap (λ (l : List Step). record { version = next; pending = l; known = x.known }) has.none
+    ∙ ap (λ (k : Known). record { version = next; pending = []; known = k }) knows in
+    let P : WriterState → Type 0 = λ z. IsUpToDate z in
+    let does : all_published (published_by w) ≡ published_by y = ap (λ l. all_published (record (published_by w) { pending = l })) one.1 in
+    (subst P (sym is) (record { start = up.start; version = version_more _ w.known.seen w.version step up.version short }), ap published_by is ∙ sym does)
 
 -- what is published once one step more is
 abbrev pub one_more : State → List Entry → State → Step → Published

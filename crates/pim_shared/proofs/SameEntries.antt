@@ -13,6 +13,7 @@ use Rattle.pim_base.specs.contracts.steps.EntryPartialEq.TheImpl as entry_eq
 use Rattle.pim_base.specs.contracts.steps.OpPartialEq.TheImpl as op_eq
 use Rattle.pim_base.specs.contracts.steps.RefusalPartialEq.TheImpl as refusal_eq
 use Rattle.pim_base.specs.contracts.steps.ReplyPartialEq.TheImpl as reply_eq
+use Rattle.pim_shared.proofs.SameOps.{ops_decide}
 use Rattle.pim_base.specs.contracts.steps.StepPartialEq.TheImpl as step_eq
 
 refusal_same : (r q : Refusal) → (refusal_eq.eq-value).it r q ≡ true → r ≡ q
@@ -22,7 +23,7 @@ reply_same : (r q : Reply) → (reply_eq.eq-value).it r q ≡ true → r ≡ q
 reply_same r q h = search (rules, refusal_same)
 
 op_same : (o p : Op) → (op_eq.eq-value).it o p ≡ true → o ≡ p
-op_same o p h = search rules
+op_same o p h = (ops_decide o p).0 h
 
 step_same : (s t : Step) → (step_eq.eq-value).it s t ≡ true → s ≡ t
 step_same s t h = search (rules, op_same)

@@ -1,5 +1,6 @@
 -- What a looker has seen, and what it answers.
 use Rattle.std.specs.Prelude.{◌≡◌, ℕ, List, [], ◌∷◌, ◌++◌, length, Option, unwrap_or}
+use Rattle.std.specs.List.{All}
 use mathlib.Core.List.{IsPrefix}
 use Rattle.pim_base.specs.State.{State, start}
 use Rattle.pim_base.specs.Priorities.{effective_priority}
@@ -44,6 +45,18 @@ pub record HasSeenMore (k l : Known) (steps : ℕ) : Type 0 where
   pub start : l.start ≡ k.start
   pub more : IsPrefix k.seen l.seen
   pub counted : steps ≡ length l.seen
+
+-- that, and what it shows of the task
+abbrev pub HasLooked : ℕ → Known → Known → ℕ × Option Seen → Type 0
+HasLooked t k l found = HasSeenMore k l found.0 × Shows (history_of l) t found.1
+
+-- that, and the last of the entries
+abbrev pub HasFoundLast : Known → Known → ℕ × Option Entry → Type 0
+HasFoundLast k l found = HasSeenMore k l found.0 × EndsIn (history_of l) found.1
+
+-- each of the lookers has this start and has seen nothing
+abbrev pub HaveSeenNothing : State → List History → Type 0
+HaveSeenNothing S lookers = All (λ (h : History). h ≡ record { start = S; entries = [] }) lookers
 
 -- the list seen now is longer than the one before, begins with it and ends with this entry, whose reply is the model's there
 pub record EndsWithNew (old new : History) (entry : Entry) : Type 0 where

@@ -35,13 +35,16 @@ pub struct Book {
 
 impl Model for Book {
     ghost use Rattle.std.specs.Vec.{vec_capacity};
-    ghost use Rattle.pim_shared.specs.Books.{BookState, IsBook};
+    ghost use Rattle.pim_shared.specs.Books.{BookState, IsBook, book_of};
 
     ghost Value = { BookState };
 
-    ghost view = { λ b. record { start = b.start; manager = b.publisher.state; entries = b.entries.items; room = b.room; closed = b.closed } };
+    ghost view = { λ b. book_of b.start b.publisher.state b.entries.items b.room b.closed };
 
-    ghost invariant = { λ b. IsBook (record { start = b.start; manager = b.publisher.state; entries = b.entries.items; room = b.room; closed = b.closed }) (vec_capacity b.entries) b.publisher };
+    ghost invariant = { λ b. IsBook
+        (book_of b.start b.publisher.state b.entries.items b.room b.closed)
+        (vec_capacity b.entries)
+        b.publisher };
 }
 
 impl Book {

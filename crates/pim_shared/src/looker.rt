@@ -3,8 +3,7 @@
 ghost use Rattle.std.specs.Prelude.{◌≡◌, [], IsTrue, IfOk, IfErr, MatchOption};
 ghost use mathlib.Core.List.{IsPrefix};
 ghost use Rattle.left_right.specs.Sides.{view as known};
-ghost use Rattle.pim_shared.specs.Logs.{History};
-ghost use Rattle.pim_shared.specs.Lookers.{history_of, seen_of, Shows, EndsIn, HasSeenMore, EndsWithNew};
+ghost use Rattle.pim_shared.specs.Lookers.{history_of, seen_of, Shows, HasLooked, HasFoundLast, EndsWithNew};
 ghost use Rattle.pim_shared.specs.Rules.{KnowsStart};
 
 use crate::fault::SharedFault;
@@ -59,7 +58,7 @@ impl Looker {
     /// Returns the effective priority of the task, the reason, and after how many entries: all by the definitions, after
     /// the list that was published last. None for an unknown task.
     ///
-    /// It waits for nobody and takes no memory. Its cost is that of `Manager::reason`.
+    /// It waits for nobody, takes no lock and no memory. It costs a few atomic steps and what `Manager::reason` costs.
     ///
     /// # Errors
     ///
@@ -100,7 +99,7 @@ impl Looker {
 /// Returns how many entries the published version has, and what it tells of the task; None if there is none any more.
 fn look_once(reader: VersionReader, task: TaskNo) -> (VersionReader, Option<(u64, Option<Seen>)>)
     requires { KnowsStart (known reader.place) }
-    ensures { MatchOption result.1 (known result.0.place ≡ known reader.place) (λ found. HasSeenMore (known reader.place) (known result.0.place) found.0 × Shows (history_of (known result.0.place)) task found.1) }
+    ensures { MatchOption result.1 (known result.0.place ≡ known reader.place) (HasLooked task (known reader.place) (known result.0.place)) }
 {
     match reader.enter_as::<Enters>() {
         Ok(reading) => {
@@ -115,7 +114,7 @@ fn look_once(reader: VersionReader, task: TaskNo) -> (VersionReader, Option<(u64
 /// Returns how many entries the published version has, and the last of them; None if there is none any more.
 fn last_once(reader: VersionReader, _nothing: ()) -> (VersionReader, Option<(u64, Option<Entry>)>)
     requires { KnowsStart (known reader.place) }
-    ensures { MatchOption result.1 (known result.0.place ≡ known reader.place) (λ found. HasSeenMore (known reader.place) (known result.0.place) found.0 × EndsIn (history_of (known result.0.place)) found.1) }
+    ensures { MatchOption result.1 (known result.0.place ≡ known reader.place) (HasFoundLast (known reader.place) (known result.0.place)) }
 {
     match reader.enter_as::<Enters>() {
         Ok(reading) => {

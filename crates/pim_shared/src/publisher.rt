@@ -1,11 +1,10 @@
 //! The writer of the versions, which publishes one entry at a time.
 
-ghost use Rattle.std.specs.Prelude.{◌≡◌, ◌+◌, ◌^◌, ◌<◌, [], ◌∷◌, drop, length, Some, IfOk, MatchResult};
+ghost use Rattle.std.specs.Prelude.{◌≡◌, ◌+◌, ◌^◌, ◌<◌, [], ◌∷◌, length, Some, IfOk, MatchResult};
 ghost use Rattle.std.specs.Mem.{manually_drop_value};
-ghost use Rattle.left_right.specs.Sides.{view as known};
 ghost use Rattle.pim_base.specs.declared.steps.Step.{Step};
-ghost use Rattle.pim_shared.specs.Publishers.{IsUpToDate, published_by, unpublished, with_pending, all_published};
-ghost use Rattle.pim_shared.specs.Rules.{MayPublish, IsPublished, IsNew, unseen};
+ghost use Rattle.pim_shared.specs.Publishers.{IsNew, MayPublish, HasPublished, state_of, unpublished, with_pending, all_published};
+ghost use Rattle.pim_shared.specs.Rules.{unseen};
 ghost use Rattle.pim_shared.specs.Versions.{last_of};
 
 use crate::looker::Looker;
@@ -27,16 +26,14 @@ pub struct Publisher {
 }
 
 impl Model for Publisher {
-    ghost use Rattle.std.specs.Prelude.{drop};
     ghost use Rattle.std.specs.Mem.{manually_drop_value};
-    ghost use Rattle.left_right.specs.Sides.{view as known};
-    ghost use Rattle.pim_shared.specs.Publishers.{Published, published_by, IsUpToDate};
+    ghost use Rattle.pim_shared.specs.Publishers.{Published, IsUpToDate, published_by, state_of};
 
     ghost Value = { Published };
 
-    ghost view = { λ p. published_by (known (manually_drop_value p.writer).desk.place) (manually_drop_value p.writer).desk.shown.value (drop (manually_drop_value p.writer).behind (manually_drop_value p.writer).log.items) };
+    ghost view = { λ p. published_by (state_of (manually_drop_value p.writer)) };
 
-    ghost invariant = { λ p. IsUpToDate (known (manually_drop_value p.writer).desk.place) (manually_drop_value p.writer).desk.shown.value };
+    ghost invariant = { λ p. IsUpToDate (state_of (manually_drop_value p.writer)) };
 }
 
 impl Publisher {
@@ -137,8 +134,8 @@ fn published<R: Wait>(
     writer: ManuallyDrop<VersionWriter>,
     rt: &R,
 ) -> (ManuallyDrop<VersionWriter>, ())
-    requires { MayPublish (manually_drop_value writer).desk.shown.value (drop (manually_drop_value writer).behind (manually_drop_value writer).log.items) (known (manually_drop_value writer).desk.place) }
-    ensures { IsPublished (manually_drop_value writer).desk.shown.value (drop (manually_drop_value writer).behind (manually_drop_value writer).log.items) (known (manually_drop_value writer).desk.place) (manually_drop_value result.0).desk.shown.value (drop (manually_drop_value result.0).behind (manually_drop_value result.0).log.items) (known (manually_drop_value result.0).desk.place) }
+    requires { MayPublish (state_of (manually_drop_value writer)) }
+    ensures { HasPublished (state_of (manually_drop_value writer)) (state_of (manually_drop_value result.0)) }
 {
     let (writer, _always) = ManuallyDrop::into_inner(writer).publish_as::<Publishes, R>(rt);
     (kept(writer), ())
@@ -146,10 +143,8 @@ fn published<R: Wait>(
 
 /// Lets a new writer know the start, by publishing nothing.
 fn begun<R: Wait>(writer: VersionWriter, rt: &R) -> VersionWriter
-    requires { IsNew writer.desk.shown.value (drop writer.behind writer.log.items) }
-    ensures same { result.desk.shown.value ≡ writer.desk.shown.value }
-    ensures none { drop result.behind result.log.items ≡ [] }
-    ensures known { known result.desk.place ≡ unseen (Some writer.desk.shown.value.manager) }
+    requires { IsNew (state_of writer) }
+    ensures { state_of result ≡ record (state_of writer) { known = unseen (Some (state_of writer).version.manager) } }
 {
     let (writer, _always) = writer.publish_as::<Begins, R>(rt);
     writer

@@ -1,14 +1,12 @@
 //! A manager behind one lock.
 
-ghost use Rattle.std.specs.Prelude.{◌≡◌, ◌≢◌, ◌<◌, [], ◌⊎◌, IfOk, IfErr, IsErrOf};
+ghost use Rattle.std.specs.Prelude.{◌≡◌, ◌<◌, ◌⊎◌, IfOk, IfErr, IsErrOf};
 ghost use mathlib.Core.List.{IsPrefix};
-ghost use Rattle.std.specs.List.{All};
 ghost use Rattle.std.specs.Vec.{vec_len};
 ghost use Rattle.pim_base.specs.Runs.{IsRun};
-ghost use Rattle.pim_shared.specs.declared.shared.TheConstants.{MAX_LOOKERS};
 ghost use Rattle.pim_shared.specs.Books.{IsCallFault};
-ghost use Rattle.pim_shared.specs.Logs.{History};
-ghost use Rattle.pim_shared.specs.Lookers.{EndsWithNew};
+ghost use Rattle.pim_shared.specs.Lookers.{HaveSeenNothing, EndsWithNew};
+ghost use Rattle.pim_shared.specs.declared.shared.TheConstants.{MAX_LOOKERS};
 
 use crate::book::Book;
 use crate::fault::SharedFault;
@@ -48,7 +46,7 @@ impl Shared {
         lookers: u16,
     ) -> Result<(Shared, Vec<Looker>), SharedFault>
         ensures count { IfOk result (λ made. vec_len made.1 ≡ lookers) }
-        ensures lookers { IfOk result (λ made. All (λ (looker : History). looker ≡ record { start = manager; entries = [] }) made.1.items) }
+        ensures lookers { IfOk result (λ made. HaveSeenNothing manager made.1.items) }
         ensures most { MAX_LOOKERS < lookers → IsErrOf result SharedFault.NoPlace }
         ensures refused { IfErr result (λ fault. (fault ≡ SharedFault.Memory) ⊎ (fault ≡ SharedFault.NoPlace)) }
     {
@@ -106,8 +104,10 @@ impl Shared {
     ) -> Result<Reply, SharedFault>
         ensures start { looker.new.start ≡ looker.old.start }
         ensures grown { IsPrefix looker.old.entries looker.new.entries }
-        ensures seen { IfOk result (λ reply. EndsWithNew looker.old looker.new (record { step = step; reply = reply })) }
-        ensures refused { IfErr result (λ fault. (fault ≡ SharedFault.NoPlace) ⊎ (IsCallFault fault × (looker.new ≡ looker.old))) }
+        ensures seen { IfOk result (λ reply.
+            EndsWithNew looker.old looker.new (record { step = step; reply = reply })) }
+        ensures refused { IfErr result (λ fault.
+            (fault ≡ SharedFault.NoPlace) ⊎ (IsCallFault fault × (looker.new ≡ looker.old))) }
     {
         let step = &step;
         let mut book = self.book.lock(rt);
@@ -160,7 +160,7 @@ fn lookers_of(
 ) -> Result<Vec<Looker>, SharedFault>
     ensures same { publisher.new ≡ publisher.old }
     ensures count { IfOk result (λ lookers. vec_len lookers ≡ count) }
-    ensures lookers { IfOk result (λ lookers. All (λ (looker : History). looker ≡ record { start = publisher.old.start; entries = [] }) lookers.items) }
+    ensures lookers { IfOk result (λ lookers. HaveSeenNothing publisher.old.start lookers.items) }
     ensures refused { IfErr result (λ fault. (fault ≡ SharedFault.Memory) ⊎ (fault ≡ SharedFault.NoPlace)) }
 {
     let mut lookers = Vec::with_capacity(alloc, usize::from(count))?;

@@ -7,11 +7,16 @@ use std::alloc::Global;
 use std::process::Abort;
 use std::sync::Wait;
 
+mod books;
 mod calls;
 mod finding;
+mod gates;
+mod gathering;
 mod looking;
 mod settling;
 mod threads;
+mod watching;
+mod working;
 
 const FIRST: MutexNo = MutexNo(1);
 
@@ -60,4 +65,14 @@ fn shared<R: Wait + Abort>(
 ) -> (Shared, Vec<Looker>) {
     let manager = made(rt, alloc, &[10, 20], protocols);
     Shared::new(rt, alloc, manager, room, lookers).expect(rt, "memory and places")
+}
+
+/// The scripts with these lines, task 1's first.
+fn scripts_of(rt: &impl Abort, alloc: Global, scripts: &[&[Op]]) -> Vec<Vec<Op>> {
+    let mut all = Vec::new(alloc);
+    for lines in scripts {
+        let script = lines.to_vec(alloc).expect(rt, "memory");
+        all.push(script).expect(rt, "memory");
+    }
+    all
 }
