@@ -30,8 +30,17 @@ true_more start published all k each here j l e =
     ⊎_elim (λ (t : get_elem? all j ≡ some l). each j l t) (λ (t : k ≡ l). subst P t here) (at_snoc all k l j e)
 
 -- the rule still holds where what each one knows is true
-keeps_with : {v : Version} {all : List Known} (all' : List Known) (keeps : Keeps v all) → ((j : ℕ) (l : Known) → get_elem? all' j ≡ some l → IsTrueOf keeps.start keeps.published l) → Keeps v all'
-keeps_with all' keeps known = record { start = keeps.start; published = keeps.published; version = keeps.version; short = keeps.short; known = known }
+keeps_with :
+    {v : Version} {all : List Known} (all' : List Known) (keeps : Keeps v all)
+    → ((j : ℕ) (l : Known) → get_elem? all' j ≡ some l → IsTrueOf keeps.start keeps.published l)
+    → Keeps v all'
+keeps_with all' keeps known = record {
+  start = keeps.start;
+  published = keeps.published;
+  version = keeps.version;
+  short = keeps.short;
+  known = known;
+}
 
 pub admits : Admits (λ v all. Keeps v all) newcomer
 admits v all keeps = keeps_with (all ++ newcomer ∷ []) keeps (true_more keeps.start keeps.published all newcomer keeps.known (newcomer_true keeps.start keeps.published))

@@ -96,7 +96,10 @@ last_of-some (f ∷ []) e h = ([], cc (h))
 last_of-some (f ∷ g ∷ es) e h = let r = last_of-some (g ∷ es) e h in (f ∷ r.0, ap (λ l. f ∷ l) r.1)
 
 -- the reply of the last entry is the model's after those before
-run_last : (S : State) (before : List Entry) (e : Entry) (end : State) → IsRun S (before ++ e ∷ []) end → (T : State) × IsRun S before T × (e.reply ≡ reply_of T e.step)
+run_last :
+    (S : State) (before : List Entry) (e : Entry) (end : State)
+    → IsRun S (before ++ e ∷ []) end
+    → (T : State) × IsRun S before T × (e.reply ≡ reply_of T e.step)
 run_last S [] e end run = (S, refl, run.0)
 run_last S (f ∷ before) e end run = let r = run_last (after S f.step) before e end run.1 in (r.0, (run.0, r.1), r.2)
 

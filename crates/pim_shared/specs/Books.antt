@@ -23,7 +23,13 @@ pub record BookState : Type 0 where
 
 -- a book of these
 abbrev pub book_of : State → State → List Entry → ℕ → Bool → BookState
-book_of start manager entries room closed = record { start = start; manager = manager; entries = entries; room = room; closed = closed }
+book_of start manager entries room closed = record {
+  start = start;
+  manager = manager;
+  entries = entries;
+  room = room;
+  closed = closed;
+}
 
 -- the entries are a run from the start to the state now, there are at most `room` of them, and they are the published list
 pub record IsBook (b : BookState) (capacity : ℕ) (p : Published) : Type 0 where

@@ -48,4 +48,7 @@ publishes k v w l = l ≡ record { start = k.start; seen = k.seen ++ option_to_l
 
 -- enter: the list seen begins with the one seen before, and the version is that of the list
 abbrev pub enters : Known → Version → Version → Known → Type 0
-enters k v w l = (l.start ≡ k.start) × IsPrefix k.seen l.seen × ((start : State) → k.start ≡ Some start → IsVersionOf start l.seen v)
+enters k v w l =
+    (l.start ≡ k.start)
+    × IsPrefix k.seen l.seen
+    × ((start : State) → k.start ≡ Some start → IsVersionOf start l.seen v)

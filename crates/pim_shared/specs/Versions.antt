@@ -23,7 +23,11 @@ first_version S = record { manager = S; steps = 0; last = None }
 
 -- the version after one step more
 abbrev pub next_version : Version → Step → Version
-next_version v step = record { manager = after v.manager step; steps = min (v.steps + 1) (2 ^ 64 - 1); last = Some (entry_of v.manager step) }
+next_version v step = record {
+  manager = after v.manager step;
+  steps = min (v.steps + 1) (2 ^ 64 - 1);
+  last = Some (entry_of v.manager step);
+}
 
 -- the version is the state after these entries from the start, their number and the last of them
 pub record IsVersionOf (start : State) (entries : List Entry) (v : Version) : Type 0 where

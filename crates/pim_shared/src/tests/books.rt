@@ -4,8 +4,9 @@ use super::*;
 use crate::Settled;
 use crate::book::Book;
 use crate::publisher::Publisher;
+use crate::version::entry;
 use Op::{Lock, Unlock};
-use pim_base::{Entry, Reply};
+use pim_base::Reply;
 
 /// An open book of two tasks with the bases 10 and 20 and one mutex.
 fn book<R: Wait + Abort>(rt: &R, alloc: Global, room: usize) -> Book {
@@ -22,11 +23,7 @@ fn a_book_shows_the_manager_as_it_is_now(rt: HostRuntime) {
     assert_eq!(rt; book.entries().len(), 0);
     assert_eq!(rt; book.call(&rt, base(2, 70)), Ok(Reply::Set));
     assert_eq!(rt; book.manager().base(TaskNo(2)), Some(prio(&rt, 70)));
-    let entry = Entry {
-        step: base(2, 70),
-        reply: Reply::Set,
-    };
-    assert!(rt; book.entries() == [entry].as_slice());
+    assert!(rt; book.entries() == [entry(base(2, 70), Reply::Set)].as_slice());
     assert!(rt; !book.is_closed());
     let (_, _log) = book.end(&rt);
 }

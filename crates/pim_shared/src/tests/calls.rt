@@ -1,8 +1,9 @@
 //! What calls answer and log.
 
 use super::*;
+use crate::version::entry;
 use Op::{Lock, ReleaseAll, Try, Unlock};
-use pim_base::{Entry, Refusal, Reply};
+use pim_base::{Refusal, Reply};
 
 #[test]
 fn a_full_log_closes(rt: HostRuntime) {
@@ -17,14 +18,8 @@ fn a_full_log_closes(rt: HostRuntime) {
     );
     let (manager, log) = shared.finish(&rt);
     let entries = [
-        Entry {
-            step: by(1, Lock(FIRST)),
-            reply: Reply::Granted,
-        },
-        Entry {
-            step: by(1, Unlock(FIRST)),
-            reply: Reply::Freed,
-        },
+        entry(by(1, Lock(FIRST)), Reply::Granted),
+        entry(by(1, Unlock(FIRST)), Reply::Freed),
     ];
     assert!(rt; log.entries() == entries.as_slice());
     assert_eq!(rt; manager.owner(FIRST), Some(None));
@@ -43,19 +38,13 @@ fn a_log_without_room_is_full_at_once(rt: HostRuntime) {
 #[test]
 fn a_refused_step_is_an_entry_like_any_other(rt: HostRuntime) {
     let (shared, _) = shared(&rt, rt.alloc(), &[Protocol::None], 3, 0);
-    let refused = Reply::Refused(Refusal::NotOwner);
-    assert_eq!(rt; shared.call(&rt, by(2, Unlock(FIRST))), Ok(refused));
+    let answer = shared.call(&rt, by(2, Unlock(FIRST)));
+    assert_eq!(rt; answer, Ok(Reply::Refused(Refusal::NotOwner)));
     assert_eq!(rt; shared.call(&rt, by(1, ReleaseAll)), Ok(Reply::Released(0)));
     let (_, log) = shared.finish(&rt);
     let entries = [
-        Entry {
-            step: by(2, Unlock(FIRST)),
-            reply: refused,
-        },
-        Entry {
-            step: by(1, ReleaseAll),
-            reply: Reply::Released(0),
-        },
+        entry(by(2, Unlock(FIRST)), Reply::Refused(Refusal::NotOwner)),
+        entry(by(1, ReleaseAll), Reply::Released(0)),
     ];
     assert!(rt; log.entries() == entries.as_slice());
 }

@@ -43,7 +43,10 @@ impl Recorder {
         if calls.len() >= self.room {
             return Err(SharedFault::Full);
         }
-        calls.push(call).map_err(|_| SharedFault::Memory)
+        if calls.push(call).is_err() {
+            return Err(SharedFault::Memory);
+        }
+        Ok(())
     }
 
     /// Returns whether these calls were kept, in this order.

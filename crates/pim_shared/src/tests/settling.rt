@@ -71,14 +71,15 @@ fn settled_by<R: Wait + Abort + std::thread::Threads + Sync>(
 
 #[test]
 fn each_call_that_ends_a_wait_wakes_the_waiter(rt: HostRuntime) {
-    for (room, step, settled) in [
-        (3, by(1, Unlock(FIRST)), Ok(Settled::Owns)),
-        (3, by(1, ReleaseAll), Ok(Settled::Owns)),
-        (3, by(1, Cancel(TaskNo(2))), Ok(Settled::Withdrawn)),
-        (2, by(1, Try(FIRST)), Err(SharedFault::Closed)),
-    ] {
-        for _round in 0..20 {
-            assert_eq!(rt; settled_by(&rt, rt.alloc(), room, step), settled);
-        }
+    let alloc = rt.alloc();
+    for _round in 0..20 {
+        let unlocked = settled_by(&rt, alloc, 3, by(1, Unlock(FIRST)));
+        assert_eq!(rt; unlocked, Ok(Settled::Owns));
+        let released = settled_by(&rt, alloc, 3, by(1, ReleaseAll));
+        assert_eq!(rt; released, Ok(Settled::Owns));
+        let cancelled = settled_by(&rt, alloc, 3, by(1, Cancel(TaskNo(2))));
+        assert_eq!(rt; cancelled, Ok(Settled::Withdrawn));
+        let full = settled_by(&rt, alloc, 2, by(1, Try(FIRST)));
+        assert_eq!(rt; full, Err(SharedFault::Closed));
     }
 }

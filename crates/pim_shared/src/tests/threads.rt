@@ -1,6 +1,7 @@
 //! Threads that call one shared manager at once.
 
 use super::*;
+use crate::version::entry;
 use Op::{Try, Unlock};
 use pim_base::Entry;
 use std::alloc::AllocError;
@@ -22,11 +23,11 @@ fn try_and_unlock<R: Wait>(
         } else {
             Unlock(FIRST)
         };
-        let step = by(task, op);
-        let reply = shared.call(rt, step)?;
-        entries
-            .push(Entry { step, reply })
-            .map_err(|_| SharedFault::Memory)?;
+        let step = &by(task, op);
+        let reply = shared.call(rt, *step)?;
+        if entries.push(entry(*step, reply)).is_err() {
+            return Err(SharedFault::Memory);
+        }
     }
     Ok(entries)
 }
@@ -36,7 +37,7 @@ fn entries_of(alloc: Global, entries: &[Entry], task: u16) -> Result<Vec<Entry>,
     let mut own = Vec::with_capacity(alloc, entries.len())?;
     for entry in entries {
         if entry.step.actor == TaskNo(task) {
-            own.push(*entry).map_err(|_| AllocError)?;
+            own.push(*entry)?;
         }
     }
     Ok(own)

@@ -3,7 +3,7 @@
 use super::*;
 use Op::{Lock, ReleaseAll, SetBase, Unlock};
 use pim_base::Entry;
-use std::thread;
+use std::thread::{self, Threads, join};
 
 const CALLERS: u16 = 4;
 
@@ -38,7 +38,9 @@ fn watch(alloc: Global, looker: &mut Looker) -> Result<Vec<Look>, SharedFault> {
     for turn in 0..LOOKS {
         let task = TaskNo(turn % CALLERS + 1);
         if let Some(seen) = looker.look(task)? {
-            looks.push((task, seen)).map_err(|_| SharedFault::Memory)?;
+            if looks.push((task, seen)).is_err() {
+                return Err(SharedFault::Memory);
+            }
         }
     }
     Ok(looks)
@@ -67,6 +69,37 @@ fn are_shown(start: Manager, entries: &[Entry], looks: &[Look]) -> bool {
     true
 }
 
+/// Watches with each looker in a thread of its own.
+fn watch_all<R: Threads + Wait + Sync>(
+    rt: &R,
+    alloc: Global,
+    lookers: &mut Vec<Looker>,
+) -> Result<Vec<Result<Vec<Look>, SharedFault>>, SharedFault> {
+    let mut watched = Vec::with_capacity(alloc, lookers.len())?;
+    for _looker in lookers.iter() {
+        if watched.push(Err(SharedFault::Memory)).is_err() {
+            return Err(SharedFault::Memory);
+        }
+    }
+    thread::scope(thread::scope_env(), rt, |scope| {
+        for (looker, looks) in lookers.iter_mut().zip(&mut watched) {
+            let _started = scope.spawn(move || *looks = watch(alloc, looker));
+        }
+    });
+    Ok(watched)
+}
+
+/// Makes the calls of each task in a thread of its own.
+fn call_all<R: Threads + Wait + Sync>(rt: &R, shared: &Shared) -> [Result<(), SharedFault>; 4] {
+    let mut called = [Err(SharedFault::Memory); 4];
+    thread::scope(thread::scope_env(), rt, |scope| {
+        for (task, answer) in (1..).zip(&mut called) {
+            let _started = scope.spawn(move || *answer = call_by_turns(rt, shared, task));
+        }
+    });
+    called
+}
+
 #[test]
 fn eight_lookers_see_what_the_log_replays_to(rt: HostRuntime) {
     let protocols = [Protocol::Inherit, Protocol::Inherit];
@@ -74,25 +107,15 @@ fn eight_lookers_see_what_the_log_replays_to(rt: HostRuntime) {
     let room = usize::from(CALLERS * CALLS);
     let made = Shared::new(&rt, rt.alloc(), manager, room, crate::MAX_LOOKERS);
     let (shared, mut lookers) = made.expect(&rt, "memory and places");
-    let mut watched = Vec::new(rt.alloc());
-    for _looker in &lookers {
-        watched.push(Err(SharedFault::Memory)).expect(&rt, "memory");
-    }
-    let mut called = [Err(SharedFault::Memory); 4];
-    let (calling, alloc) = (&shared, rt.alloc());
-    let handle = &rt;
-    thread::scope(thread::scope_env(), handle, |scope| {
-        for (looker, looks) in lookers.iter_mut().zip(&mut watched) {
-            let _started = scope.spawn(move || *looks = watch(alloc, looker));
-        }
-        for (task, answer) in (1..).zip(&mut called) {
-            let _started = scope.spawn(move || *answer = call_by_turns(handle, calling, task));
-        }
-    });
+    let (watched, called) = join(
+        &rt,
+        || watch_all(&rt, rt.alloc(), &mut lookers),
+        || call_all(&rt, &shared),
+    );
     let (_, log) = shared.finish(&rt);
     assert!(rt; called == [Ok(()); 4]);
     assert_eq!(rt; log.entries().len(), room);
-    for looks in watched {
+    for looks in watched.expect(&rt, "memory") {
         let looks = looks.expect(&rt, "400 looks");
         assert_eq!(rt; looks.len(), usize::from(LOOKS));
         let start = log.start().try_clone(rt.alloc()).expect(&rt, "memory");

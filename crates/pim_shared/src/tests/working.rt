@@ -65,8 +65,7 @@ fn workers_beside_a_looker(rt: HostRuntime) {
     );
     assert_eq!(rt; answer, Ok(()));
     assert!(rt; rises);
-    let seen = looker.look(TaskNo(2)).expect(&rt, "not ended");
-    assert_eq!(rt; seen.map(|seen| seen.steps), Some(10));
+    assert_eq!(rt; looker.look(TaskNo(2)), at_base(&rt, 10, 20));
     shared.finish(&rt);
 }
 

@@ -5,7 +5,10 @@ use Rattle.pim_base.specs.State.{State}
 use Rattle.pim_shared.specs.declared.fault.SharedFault.{SharedFault}
 use Rattle.pim_shared.proofs.shared.Shared.new.Goals as goal
 
-memory_or : {T : Type 0} (r : Result T SharedFault) → IsErrAnd r (λ fault. fault ≡ SharedFault.Memory) → IfErr r (λ fault. (fault ≡ SharedFault.Memory) ⊎ (fault ≡ SharedFault.NoPlace))
+memory_or :
+    {T : Type 0} (r : Result T SharedFault)
+    → IsErrAnd r (λ fault. fault ≡ SharedFault.Memory)
+    → IfErr r (λ fault. (fault ≡ SharedFault.Memory) ⊎ (fault ≡ SharedFault.NoPlace))
 memory_or (Ok x) h = tt
 memory_or (Err f) h = inl h
 
