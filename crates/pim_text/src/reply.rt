@@ -1,5 +1,5 @@
 //! The reply that was recorded for a step.
-ghost use Rattle.std.specs.Prelude.{◌≡◌, ◌∷◌, [], MatchOption};
+ghost use Rattle.std.specs.Prelude.{◌≡◌, ◌∷◌, [], Decides, MatchOption};
 ghost use Rattle.pim_base.specs.Spelling.{SPACE, IsRecorded, IsReply, recorded_words, reply_words, refusal_word};
 ghost use Rattle.pim_text.specs.Reading.{pieces, words, ReadsAs};
 
@@ -70,8 +70,9 @@ fn reply_with(word: &[u8], argument: &[u8]) -> Option<Reply>
 fn refusal_of(name: &[u8]) -> Option<Refusal>
     ensures { MatchOption result ((r : Refusal) → name.now ≡ refusal_word r → ⊥) (λ r. name.now ≡ refusal_word r) }
 {
-    Refusal::ALL
-        .iter()
-        .copied()
-        .find(|refusal| is(name, refusal.name()))
+    Refusal::ALL.iter().copied().find(
+        |refusal: &Refusal| -> bool
+            ensures { Decides result (name.entry.now ≡ refusal_word refusal.now) }
+        { is(name, refusal.name()) },
+    )
 }
