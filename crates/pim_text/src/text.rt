@@ -65,7 +65,7 @@ impl Text {
         }
     }
 
-    /// Returns whether a text of this kind may have the line below those of this text, as far as the kind goes.
+    /// Returns whether the kind lets the line stand below those of this text.
     pub(crate) fn allows(&self, line: &Line, kind: TextKind) -> bool
         ensures { MatchBool result (Allows kind (trace_of self.now) line.now) (Allows kind (trace_of self.now) line.now → ⊥) }
     {
@@ -77,7 +77,7 @@ impl Text {
         }
     }
 
-    /// Takes one more step line, if there is room for it within the limit.
+    /// Takes one more step line, and returns whether there is room for it within the limit.
     fn add_step(&mut self, line: &StepLine) -> Result<bool, AllocError>
         ensures added { IfOk result (λ added. MatchBool added
             (MayFollow (trace_of self.old) (Line.Step line.now) × (trace_of self.new ≡ with_line (trace_of self.old) (Line.Step line.now)))
