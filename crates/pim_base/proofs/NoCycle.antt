@@ -1,5 +1,6 @@
 -- No step makes a cycle of waits.
-use Rattle.std.proofs.Common.{◌≡◌, ℕ, zero, suc, false, ◌⊎◌, inl, inr, List, [], ◌∷◌, length, Option, Some, None, refl, sym, ◌∙◌, ap, arith, option_and_then, unwrap_or, set, slice_get, true≢false}
+use Rattle.std.proofs.lemmas.Grind.{common_steps}
+use Rattle.std.proofs.Common.{◌≡◌, ℕ, zero, suc, false, ◌⊎◌, inl, inr, List, [], ◌∷◌, length, Option, Some, None, refl, sym, ◌∙◌, ap, arith, option_and_then, unwrap_or, set, slice_get, true≢false, rules}
 use Rattle.std.proofs.lemmas.Bool.Decides.{eqb_tells}
 use Rattle.pim_base.specs.Lists.{nth, put}
 use Rattle.pim_base.specs.State.{State, IsTask, owner_of, wait_of, with_owner, with_wait, with_base, queued}
@@ -122,10 +123,7 @@ idle_sound S t ok = record {
     ]
 
 pub base_sound : (S : State) (t p : ℕ) → IsSound S → IsSound (with_base S t p)
-base_sound S t p ok = record {
-  lists = record { waits = ok.lists.waits ∙ sym (length-put S.base t p); owners = ok.lists.owners };
-  no_cycle = no_cycle_still S (with_base S t p) (length-put S.base t p) (λ x. inl refl) ok.no_cycle;
-}
+base_sound S t p ok = search rules
 
 pub queued_sound : (S : State) (t m : ℕ) → IsTask S t → wait_of S t ≡ None → closes_cycle S t m ≡ false → IsSound S → IsSound (queued S t m)
 queued_sound S t m task idle open' ok = record {
@@ -144,13 +142,7 @@ hand_sound S m ok = go (first_of S m)
         (idle_sound S w.task ok)
 
 pub sound_kept : IsKeptBySteps IsSound
-sound_kept = record {
-  grant = λ S a m ok idle. owner_sound S m (Some a) (λ t e. let same : a ≡ t = cc in ap (wait_of S) (sym same) ∙ idle) ok;
-  enqueue = λ S a m ok task idle open' owned. queued_sound S a m task idle open' ok;
-  hand = λ S m ok. hand_sound S m ok;
-  withdraw = λ S t ok. idle_sound S t ok;
-  set_base = λ S t p ok. base_sound S t p ok;
-}
+sound_kept = grind (arith, common_steps, owner_sound, queued_sound, hand_sound, idle_sound)
 
 pub no_cycle_law : NoCycleLaw
 no_cycle_law S step ok = kept_by_step IsSound sound_kept S step ok
