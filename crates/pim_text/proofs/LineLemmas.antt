@@ -1,10 +1,9 @@
 -- What words spell, by what they begin with.
-use Rattle.std.proofs.Common.{◌≡◌, ℕ, List, [], ◌∷◌, ◌++◌, codes, arith, sym, ◌∙◌, None}
+use Rattle.std.proofs.Common.{◌≡◌, ℕ, List, [], ◌∷◌, codes, arith, sym, ◌∙◌, None, rules}
 use Rattle.std.specs.Fmt.{decimal}
 use Rattle.pim_base.specs.declared.steps.Protocol.{Protocol}
-use Rattle.pim_base.specs.declared.steps.Op.{Op}
 use Rattle.pim_base.specs.declared.lines.Line.TheVariants as lines
-use Rattle.pim_base.specs.Spelling.{IsNumber, IsPrio, IsProtocol, protocol_words, op_words, recorded_words}
+use Rattle.pim_base.specs.Spelling.{IsNumber, IsPrio, IsProtocol, protocol_words}
 use Rattle.pim_text.specs.Reading.{words, Reads, ReadsAs}
 use Rattle.pim_text.proofs.NumberLemmas.{no_number}
 use Rattle.pim_text.proofs.WordLemmas.{only_word}
@@ -45,8 +44,7 @@ pub task_no_number : (ws : List (List ℕ)) (first : List ℕ) (tail : List (Lis
 task_no_number ws first tail cut none = no_task ws (λ n p is prio e. none n is (let both = sym cut ∙ e in cc))
 
 pub task_no_base : (ws : List (List ℕ)) (first base : List ℕ) → ws ≡ first ∷ words base → ((p : ℕ) → IsPrio p → base ≡ decimal p → ⊥) → Reads (codes "task" ∷ ws) None
-task_no_base ws first base cut none =
-    no_task ws (λ n p is prio e. none p prio (only_word base (decimal p) (let both = sym cut ∙ e in cc)))
+task_no_base ws first base cut none = grind (arith, no_task, only_word)
 
 pub task_only_number : (ws : List (List ℕ)) (first : List ℕ) → ws ≡ first ∷ [] → Reads (codes "task" ∷ ws) None
 task_only_number ws first cut = no_task ws (λ n p is prio e. let both = sym cut ∙ e in cc)
@@ -79,12 +77,4 @@ no_word_protocol (Protocol.Protect c) is e = cc
 pub no_single : (first : List ℕ) → Reads (first ∷ []) None
 no_single first (lines.Task n p) is e = cc
 no_single first (lines.Mutex n p) is e = cc
-no_single first (lines.Step line) is e = short (recorded_words line.recorded) line.step.op (cc)
-  where
-    short : (ws : List (List ℕ)) (op : Op) → [] ≡ op_words op ++ ws → ⊥
-    short ws (Op.Lock m) e = cc
-    short ws (Op.Try m) e = cc
-    short ws (Op.Unlock m) e = cc
-    short ws Op.ReleaseAll e = cc
-    short ws (Op.Cancel t) e = cc
-    short ws (Op.SetBase t p) e = cc
+no_single first (lines.Step line) is e = search rules

@@ -1,5 +1,5 @@
 -- A spelled line is cut into its words again, and no two lines are spelled alike.
-use Rattle.std.proofs.Common.{◌≡◌, ◌^◌, ℕ, ◌<◌, ◌≤◌, ◌==◌, List, [], ◌∷◌, ◌++◌, codes, arith, rules, refl, get_or, ap, sym, ◌∙◌, length, Bool, true, false, Option, Some, None, unwrap_or, find, if◌then◌else◌}
+use Rattle.std.proofs.Common.{◌≡◌, ◌^◌, ℕ, ◌<◌, ◌≤◌, ◌==◌, List, [], ◌∷◌, ◌++◌, codes, arith, rules, refl, get_or, ap, sym, ◌∙◌, length, false, Option, Some, None, unwrap_or, find, if◌then◌else◌}
 use Rattle.std.specs.Fmt.{decimal}
 use Rattle.std.specs.List.{AllByRecursion, join_with_byte}
 use Rattle.std.specs.Str.{bytes_eq}
@@ -51,47 +51,10 @@ protocol_split Protocol.None is = search rules
 protocol_split Protocol.Inherit is = search rules
 protocol_split (Protocol.Protect c) is = (search rules, (word_decimal c (omega (arith, is.1)), tt))
 
-op_split : (op : Op) → IsOp op → AllByRecursion IsWord (op_words op)
-op_split (Op.Lock m) is = (search rules, (word_decimal m is.1, tt))
-op_split (Op.Try m) is = (search rules, (word_decimal m is.1, tt))
-op_split (Op.Unlock m) is = (search rules, (word_decimal m is.1, tt))
-op_split Op.ReleaseAll is = (search rules, tt)
-op_split (Op.Cancel t) is = (search rules, (word_decimal t is.1, tt))
-op_split (Op.SetBase t p) is = (search rules, (word_decimal t is.0.1, (word_decimal p is.1.1, tt)))
-
-pub refusal_split : (r : Refusal) → IsWord (refusal_word r)
-refusal_split Refusal.NoTask = search rules
-refusal_split Refusal.Waiting = search rules
-refusal_split Refusal.NoMutex = search rules
-refusal_split Refusal.Deadlock = search rules
-refusal_split Refusal.Ceiling = search rules
-refusal_split Refusal.Busy = search rules
-refusal_split Refusal.NotOwner = search rules
-refusal_split Refusal.NotWaiting = search rules
-refusal_split Refusal.Priority = search rules
-refusal_split Refusal.Tickets = search rules
-
-reply_split : (r : Reply) → IsReply r → AllByRecursion IsWord (reply_words r)
-reply_split Reply.Granted is = (search rules, tt)
-reply_split Reply.Queued is = (search rules, tt)
-reply_split Reply.Freed is = (search rules, tt)
-reply_split (Reply.Handed t) is = (search rules, (word_decimal t is.1, tt))
-reply_split (Reply.Released k) is = (search rules, (word_decimal k is, tt))
-reply_split Reply.Withdrawn is = (search rules, tt)
-reply_split Reply.Set is = (search rules, tt)
-reply_split (Reply.Refused r) is = (search rules, (refusal_split r, tt))
-
-recorded_split : (r : Option Reply) → IsRecorded r → AllByRecursion IsWord (recorded_words r)
-recorded_split None is = tt
-recorded_split (Some r) is = (search rules, reply_split r is)
-
 words_split : (line : Line) → IsLine line → AllByRecursion IsWord (words_of line)
 words_split (lines.Task n p) is = (search rules, (word_decimal n is.0.1, (word_decimal p (omega arith), tt)))
 words_split (lines.Mutex n p) is = (search rules, (word_decimal n is.0.1, protocol_split p is.1))
-words_split (lines.Step line) is = (
-  word_decimal line.step.actor is.0.1,
-  all_append IsWord (op_words line.step.op) (recorded_words line.recorded) (op_split line.step.op is.1) (recorded_split line.recorded is.2),
-)
+words_split (lines.Step line) is = grind (arith, word_decimal)
 
 some_words : (line : Line) → 0 < length (words_of line)
 some_words (lines.Task n p) = omega arith
@@ -228,13 +191,7 @@ step_in first ws = record { step = record { actor = digits_value 10 first; op = 
 
 step_in-words : (line : StepLine) → IsLine (lines.Step line) → step_in (decimal line.step.actor) (op_words line.step.op ++ recorded_words line.recorded) ≡ line
 unfolding step_in
-step_in-words line is =
-    let ws : List (List ℕ) = op_words line.step.op ++ recorded_words line.recorded in
-    ap (λ (a : ℕ). let l : StepLine = record { step = record { actor = a; op = op_in ws }; recorded = recorded_in (behind ws) } in l) (value-decimal line.step.actor is.0.1)
-    ∙ ap (λ (o : Op). let l : StepLine = record { step = record { actor = line.step.actor; op = o }; recorded = recorded_in (behind ws) } in l)
-    (op_in-words line.step.op (recorded_words line.recorded) is.1)
-    ∙ ap (λ (r : Option Reply). let l : StepLine = record { step = line.step; recorded = r } in l)
-    (ap recorded_in (behind-words line.step.op (recorded_words line.recorded)) ∙ recorded_in-words line.recorded is.2)
+step_in-words line is = grind (arith, value-decimal, op_in-words, behind-words, recorded_in-words)
 
 -- the line of these words
 line_in : List (List ℕ) → Line
@@ -246,20 +203,13 @@ line_in (first ∷ ws) =
 
 -- a number is no word that begins with a letter
 number_not_word : (n : ℕ) (w : List ℕ) → IsNumber n → 57 < get_or w 0 0 → bytes_eq (decimal n) w ≡ false
-number_not_word n w is high = go (bytes_eq (decimal n) w) refl
-  where
-    go : (b : Bool) → bytes_eq (decimal n) w ≡ b → b ≡ false
-    go false e = refl
-    go true e = absurd (no_number n w is (sym ((bytes_eq-Decides (decimal n) w).0 e)) high)
+number_not_word n w is high = grind (arith, no_number, bytes_eq-Decides)
 
 line_in-words : (line : Line) → IsLine line → line_in (words_of line) ≡ line
 unfolding line_in number_at rest_of
 line_in-words (lines.Task n p) is = let x = value-decimal n is.0.1 in let y = value-decimal p (omega (arith, is.1.1)) in cc
 line_in-words (lines.Mutex n p) is = let x = value-decimal n is.0.1 in let y = protocol_in-words p is.1 in cc
-line_in-words (lines.Step line) is =
-    rw
-    (number_not_word line.step.actor (codes "task") is.0 (omega arith), number_not_word line.step.actor (codes "mutex") is.0 (omega arith))
-    (ap lines.Step (step_in-words line is))
+line_in-words (lines.Step line) is = grind (arith, number_not_word, step_in-words)
 
 pub spelled_same : (l m : Line) → IsLine l → IsLine m → spelled l ≡ spelled m → l ≡ m
 spelled_same l m is im e =

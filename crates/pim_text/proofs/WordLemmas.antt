@@ -1,5 +1,5 @@
 -- Words cut off the front of a line, and what single words spell.
-use Rattle.std.proofs.Common.{◌≡◌, ◌<◌, ◌≤◌, ◌^◌, ℕ, zero, suc, List, [], ◌∷◌, codes, arith, sym, ◌∙◌, ap, Option, Some, None, MatchOption, false, Bor, eqb, length}
+use Rattle.std.proofs.Common.{◌≡◌, ◌<◌, ◌≤◌, ◌^◌, ℕ, List, [], ◌∷◌, codes, arith, sym, ◌∙◌, ap, Option, Some, None, MatchOption, false, Bor, eqb, length}
 use Rattle.std.specs.Fmt.{decimal}
 use Rattle.std.specs.List.{join_with_byte}
 use Rattle.std.specs.Option.{SomeIff}
@@ -76,8 +76,4 @@ pub count_read :
     → MatchOption r ((n : ℕ) → IsNumber n → word ≡ decimal n → ⊥) (λ n. IsNumber n × (word ≡ decimal n))
     → MatchOption r ((n : ℕ) → n < 2 ^ 16 → word ≡ decimal n → ⊥) (λ n. (n < 2 ^ 16) × (word ≡ decimal n))
 count_read word (Some n) other h = (h.0.1, h.1)
-count_read word None other h = none
-  where
-    none : (n : ℕ) → n < 2 ^ 16 → word ≡ decimal n → ⊥
-    none zero small e = other (e ∙ decimal_digit 0 (omega arith))
-    none (suc n) small e = h (suc n) (omega arith, small) e
+count_read word None other h = grind (arith, decimal_digit)
