@@ -107,15 +107,13 @@ reaches_from_returns hop again n t u acyclic differs stays closes (v, j, le, e) 
 
 -- a task on its own chain, after the first place
 cycle_from_returns : (hop : ℕ → Option ℕ) (n t k : ℕ) → suc k ≤ n → hops hop (suc k) t ≡ Some t → contains (drop 1 (chain hop n t)) t ≡ true
-cycle_from_returns hop zero t k le e = absurd (omega arith)
-cycle_from_returns hop (suc n) t k le e = grind (arith, contains_from_reaches)
+cycle_from_returns hop n t k le e = grind (arith, contains_from_reaches)
 
 pub returns_from_cycle :
     (hop : ℕ → Option ℕ) (n t : ℕ)
     → contains (drop 1 (chain hop n t)) t ≡ true
     → (k : ℕ) × (suc k ≤ n) × (hops hop (suc k) t ≡ Some t)
-returns_from_cycle hop zero t h = cc
-returns_from_cycle hop (suc n) t h = grind (arith, reaches_from_contains)
+returns_from_cycle hop n t h = grind (arith, reaches_from_contains)
 
 pub none_returns : (S : State) → ¬ HasCycle S → NoneReturns (blocker S) (length S.base)
 none_returns S acyclic t k le e = acyclic (t, cycle_from_returns (blocker S) (length S.base) t k le e)

@@ -1,7 +1,7 @@
 -- What each step keeps: it is enough to look at the changes of one fact.
 use Rattle.std.proofs.Common.{◌≡◌, ℕ, Bool, true, false, not, ◌&&◌, List, [], ◌∷◌, Some, None, arith, fold, rules}
 use Rattle.std.proofs.lemmas.Bool.Decides.{nat_tests}
-use Rattle.pim_base.specs.State.{State, IsTask, wait_of, owned, with_owner, with_wait, with_base, queued}
+use Rattle.pim_base.specs.State.{State, IsTask, wait_of, with_owner, with_wait, with_base, queued}
 use Rattle.pim_base.specs.Chains.{closes_cycle}
 use Rattle.pim_base.specs.Checks.{unknown_task, is_waiting, is_owned, checks, withdraws_itself}
 use Rattle.pim_base.specs.Steps.{hand_over, served, after_reply, after}
@@ -44,12 +44,7 @@ served_kept :
     → P S
     → AllFail (checks S a op)
     → P (after_reply S a op (served S a op))
-served_kept P S a (Op.Lock m) kept task h ok f = search rules
-served_kept P S a (Op.Try m) kept task h ok f = kept.grant S a m ok (idle_from_tests S a h)
-served_kept P S a (Op.Unlock m) kept task h ok f = search rules
-served_kept P S a Op.ReleaseAll kept task h ok f = hands_kept P kept (owned S a) S ok
-served_kept P S a (Op.Cancel t) kept task h ok f = kept.withdraw S t ok
-served_kept P S a (Op.SetBase t p) kept task h ok f = kept.set_base S t p ok
+served_kept P S a op kept task h ok f = grind (arith, idle_from_tests, hands_kept)
 
 pub known_from_tests : (S : State) (a : ℕ) → unknown_task S a ≡ false → IsTask S a
 known_from_tests S a h = grind (arith, nat_tests)

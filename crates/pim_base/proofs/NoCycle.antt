@@ -73,8 +73,7 @@ unwrap_or-set_same (x ∷ xs) (suc i) o = unwrap_or-set_same xs i o
 pub unwrap_or-put_same :
     {X : Type 0} (xs : List (Option X)) (n : ℕ) (o : Option X)
     → (unwrap_or (nth (put xs n o) n) None ≡ o) ⊎ (unwrap_or (nth (put xs n o) n) None ≡ None)
-unwrap_or-put_same xs zero o = inr refl
-unwrap_or-put_same xs (suc i) o = unwrap_or-set_same xs i o
+unwrap_or-put_same xs n o = grind (arith, unwrap_or-set_same)
 
 pub idle_now : (S : State) (t : ℕ) → wait_of (with_wait S t None) t ≡ None
 idle_now S t = elim (unwrap_or-put_same S.wait t None) [ inl h ↦ h | inr h ↦ h ]

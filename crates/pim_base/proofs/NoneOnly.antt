@@ -1,6 +1,5 @@
 -- Where all mutexes are PRIO_NONE, every task has its base priority.
-use Rattle.std.proofs.Common.{◌≡◌, ℕ, zero, suc, ◌≤◌, ◌⊎◌, inl, inr, Bool, true, false, eqb, List, [], ◌∷◌, length, map, Option, Some, None, refl, sym, ◌∙◌, ap, arith, unwrap_or, le_antisymm, rules}
-use Rattle.std.specs.Option.{option_map_or}
+use Rattle.std.proofs.Common.{◌≡◌, ℕ, zero, ◌≤◌, ◌⊎◌, inl, inr, Bool, true, false, eqb, List, [], ◌∷◌, length, map, Option, Some, None, refl, sym, ◌∙◌, ap, arith, unwrap_or, le_antisymm, rules}
 use Rattle.std.proofs.lemmas.Bool.{eqb-true, eq-eqb}
 use Rattle.pim_base.specs.Lists.{nth, contains, greatest}
 use Rattle.pim_base.specs.State.{State, base_of}
@@ -15,8 +14,7 @@ no_heir : (S : State) → IsNoneOnly S → (u : ℕ) → heir S u ≡ None
 no_heir S none u = search rules
 
 alone : (S : State) → IsNoneOnly S → (n u : ℕ) → chain (heir S) n u ≡ u ∷ []
-alone S none zero u = refl
-alone S none (suc n) u = ap (λ o. u ∷ option_map_or (chain (heir S) n) o []) (no_heir S none u)
+alone S none n u = search rules
 
 greatest-map_zero : (f : ℕ → ℕ) (xs : List ℕ) → ((x : ℕ) → f x ≡ 0) → greatest (map f xs) ≡ 0
 greatest-map_zero f [] zeros = refl

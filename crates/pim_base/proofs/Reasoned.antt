@@ -1,5 +1,5 @@
 -- The reason of a priority gives that priority.
-use Rattle.std.proofs.Common.{◌≡◌, ◌≢◌, ◌⊎◌, inl, inr, ℕ, zero, suc, ◌+◌, ◌<◌, ◌≤◌, max, Bool, true, false, cond, ◌||◌, List, [], ◌∷◌, map, filter, find, length, Option, Some, None, refl, sym, ◌∙◌, ap, subst, arith, eqb, option_and_then, eq-or-lt_of_le, le_antisymm, All, AllPairs}
+use Rattle.std.proofs.Common.{◌≡◌, ◌≢◌, ◌⊎◌, inl, inr, ℕ, zero, suc, ◌+◌, ◌<◌, ◌≤◌, max, Bool, true, false, cond, ◌||◌, List, [], ◌∷◌, map, filter, find, length, Option, Some, None, refl, sym, ◌∙◌, ap, subst, arith, eqb, option_and_then, eq-or-lt_of_le, le_antisymm, All, AllPairs, rules}
 use Rattle.std.specs.List.{slice_index_or}
 use Rattle.std.specs.Option.{option_map_or, option_map}
 use Rattle.std.proofs.lemmas.List.Folds.{Any-from_list_any, list_any_at}
@@ -82,9 +82,7 @@ none_passes p q a (suc n) k e low high also = elim (eq-or-lt_of_le low) [
         absurd (none-some a (sym e ∙ found))
 
 inherit_from_heir : (p : Protocol) (o : Option ℕ) (t : ℕ) → heir_in p o ≡ Some t → is_inherit p ≡ true
-inherit_from_heir Protocol.Inherit o t h = refl
-inherit_from_heir Protocol.None o t h = cc
-inherit_from_heir (Protocol.Protect c) o t h = cc
+inherit_from_heir p o t h = search rules
 
 -- the first of a queue with a waiter at t's priority waits at it for t
 first_lends :

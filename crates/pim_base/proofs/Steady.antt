@@ -128,8 +128,7 @@ none-replicate (suc n) (suc i) = none-replicate n i
 
 -- no task waits at the start
 idle_at_start : (bases : List ℕ) (protocols : List Protocol) (next t : ℕ) → wait_of (start bases protocols next) t ≡ None
-idle_at_start bases protocols next zero = refl
-idle_at_start bases protocols next (suc i) = none-replicate (length bases) i
+idle_at_start bases protocols next t = grind (arith, none-replicate)
 
 pub start_law : StartLaw
 start_law bases protocols next = record {

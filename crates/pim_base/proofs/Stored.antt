@@ -1,6 +1,5 @@
 -- Priorities that agree with their neighbours are the effective ones.
-use Rattle.std.proofs.Common.{◌≡◌, ℕ, zero, suc, ◌+◌, ◌≤◌, max, true, length, map, filter, Option, Some, None, refl, ◌∙◌, ap, arith, le_trans, le_antisymm, rules}
-use Rattle.std.proofs.lemmas.Bool.{eqb-true, eq-eqb}
+use Rattle.std.proofs.Common.{◌≡◌, ℕ, zero, suc, ◌+◌, ◌≤◌, max, true, length, map, filter, Option, Some, refl, ◌∙◌, ap, arith, le_trans, le_antisymm, rules}
 use Rattle.pim_base.specs.Lists.{contains, holds}
 use Rattle.pim_base.specs.State.{State, IsTask, task_numbers}
 use Rattle.pim_base.specs.Chains.{blocker, heir, heir_in, inherit_chain}
@@ -12,9 +11,7 @@ use Rattle.pim_base.proofs.Closing.{none_returns, only_known_hop}
 use Rattle.pim_base.proofs.Greatest.{greatest_of, greatest-cons, le-greatest_of, greatest_of-le}
 
 pub heir_in-owner : (p : Protocol) (o : Option ℕ) (y : ℕ) → heir_in p o ≡ Some y → o ≡ Some y
-heir_in-owner Protocol.Inherit o y h = h
-heir_in-owner Protocol.None o y h = cc
-heir_in-owner (Protocol.Protect c) o y h = cc
+heir_in-owner p o y h = search rules
 
 pub heir-blocker : (S : State) (x y : ℕ) → heir S x ≡ Some y → blocker S x ≡ Some y
 heir-blocker S x y e = search rules
@@ -39,12 +36,10 @@ last_hop hop (suc k) x y e =
     (l.0, hops_front hop k x f.0 f.1 ∙ l.1, l.2)
 
 pub holds_from : (o : Option ℕ) (t : ℕ) → o ≡ Some t → holds o t ≡ true
-holds_from None t e = cc
-holds_from (Some u) t e = let same : u ≡ t = cc in eq-eqb u t same
+holds_from o t e = search rules
 
 pub from_holds : (o : Option ℕ) (t : ℕ) → holds o t ≡ true → o ≡ Some t
-from_holds None t e = cc
-from_holds (Some u) t e = ap Some (eqb-true u t e)
+from_holds o t e = search rules
 
 -- a task's own priority counts where its chain leads
 pub own_priority-le-effective_priority :

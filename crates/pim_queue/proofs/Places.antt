@@ -1,4 +1,5 @@
 -- The place of a waiter in its queue.
+use Rattle.std.proofs.lemmas.Grind.{common_steps}
 use Rattle.std.proofs.Common.{◌≡◌, ℕ, zero, suc, ◌<◌, ◌≤◌, Bool, true, false, not, ◌⊎◌, inl, inr, refl, sym, ◌∙◌, ap, subst, arith, Some, List, [], ◌∷◌, ◌++◌, length, get_or, if◌then◌else◌, ◌+◌, ◌-◌, cond, set, take, rules}
 use Rattle.std.specs.List.{AllByRecursion, find, insert, remove, between, copy_within, position_or_len}
 use Rattle.std.specs.List.Sorted.{IsPartitionedBy, IsPartitionPoint}
@@ -15,9 +16,7 @@ use Rattle.pim_queue.specs.Waiters.{is_of, without, IsOrdered}
 use Rattle.pim_queue.proofs.Order.{found_holds, before_trans, before_itself, before_not, ordered_take, ordered_drop}
 
 all_at : {X : Type 0} (P : X → Type 0) → (xs : List X) → AllByRecursion P xs → (k : ℕ) (d : X) → k < length xs → P (get_or xs k d)
-all_at P [] h k d low = absurd (omega arith)
-all_at P (x ∷ xs) h zero d low = h.0
-all_at P (x ∷ xs) h (suc k) d low = all_at P xs h.1 k d (omega arith)
+all_at P xs h k d low = grind (arith, common_steps)
 
 ordered_at :
     (ws : List Waiter)
@@ -177,5 +176,4 @@ pub ruleset moved = (moved_forward, moved_back, stayed)
 
 -- one more at the end, taken out again
 pub added : (w : Waiter) (ws : List Waiter) → remove (ws ++ w ∷ []) (length ws) ≡ ws
-added w [] = refl
-added w (v ∷ vs) = ap (λ us. v ∷ us) (added w vs)
+added w ws = grind (arith, common_steps)

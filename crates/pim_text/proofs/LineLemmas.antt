@@ -16,9 +16,7 @@ pub no_protocol :
     → (rest ≡ codes "inherit" → ⊥)
     → ((c : ℕ) → IsPrio c → words rest ≡ codes "protect" ∷ decimal c ∷ [] → ⊥)
     → ReadsAs IsProtocol protocol_words (words rest) None
-no_protocol rest none inherit protect Protocol.None is e = none (only_word rest (codes "none") e)
-no_protocol rest none inherit protect Protocol.Inherit is e = inherit (only_word rest (codes "inherit") e)
-no_protocol rest none inherit protect (Protocol.Protect c) is e = protect c is e
+no_protocol rest none inherit protect h is e = grind (arith, only_word)
 
 -- one word is no PROTECT protocol
 pub no_ceiling : (ws : List (List ℕ)) (w : List ℕ) → ws ≡ w ∷ [] → (c : ℕ) → IsPrio c → ws ≡ codes "protect" ∷ decimal c ∷ [] → ⊥
@@ -67,14 +65,10 @@ mutex_no_protocol ws first tail cut none = no_mutex ws (λ n p is fits e. none p
 
 -- no protocol has no word
 pub no_word_protocol : ReadsAs IsProtocol protocol_words [] None
-no_word_protocol Protocol.None is e = cc
-no_word_protocol Protocol.Inherit is e = cc
-no_word_protocol (Protocol.Protect c) is e = cc
+no_word_protocol h is e = search rules
 
 -- ---- step lines
 
 -- no line is one word
 pub no_single : (first : List ℕ) → Reads (first ∷ []) None
-no_single first (lines.Task n p) is e = cc
-no_single first (lines.Mutex n p) is e = cc
-no_single first (lines.Step line) is e = search rules
+no_single first h is e = search rules

@@ -1,5 +1,5 @@
 -- Words that spell numbers.
-use Rattle.std.proofs.Common.{◌≡◌, ◌≢◌, ◌∙◌, ℕ, ◌<◌, ◌≤◌, ◌^◌, List, [], ◌∷◌, length, get_or, arith, sym, ap, subst, Result, Ok, Err, Some, None, MatchOption, MatchResult}
+use Rattle.std.proofs.Common.{◌≡◌, ◌≢◌, ◌∙◌, ℕ, ◌<◌, ◌≤◌, ◌^◌, List, [], ◌∷◌, length, get_or, arith, sym, ap, Result, Ok, Err, Some, None, MatchOption, MatchResult, rules}
 use Rattle.std.specs.Result.{result_ok}
 use Rattle.std.specs.Fmt.{decimal}
 use Rattle.std.specs.Str.{IsUtf8}
@@ -36,12 +36,10 @@ number_parsed {E = E} word (Ok n) long first parses =
 
 -- of a result behind `ok`
 pub at_some : {T E : Type 0} (r : Result T E) (P : T → Type 0) (Q : E → Type 0) (x : T) → Some x ≡ result_ok r → MatchResult r P Q → P x
-at_some (Ok y) P Q x e h = let same : y ≡ x = cc in subst P same h
-at_some (Err y) P Q x e h = cc
+at_some r P Q x e h = search rules
 
 pub at_none : {T E : Type 0} (r : Result T E) (P : T → Type 0) (Q : Type 0) (R : E → Type 0) → None ≡ result_ok r → MatchResult r P (λ e. Q × R e) → Q
-at_none (Ok y) P Q R e h = cc
-at_none (Err y) P Q R e h = h.0
+at_none r P Q R e h = search rules
 
 pub no_number : (n : ℕ) (word : List ℕ) → IsNumber n → word ≡ decimal n → 57 < get_or word 0 0 → ⊥
 no_number n word is e high = let first = first_of_number n word is e in omega arith

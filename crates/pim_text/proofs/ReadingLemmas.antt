@@ -1,4 +1,5 @@
 -- The lines of the bytes, one after another, and the first that can't stand.
+use Rattle.std.proofs.lemmas.Grind.{common_steps}
 use Rattle.std.proofs.Common.{◌≡◌, ℕ, ◌+◌, ◌-◌, ◌<◌, ◌≤◌, List, [], ◌∷◌, ◌++◌, arith, refl, ap, sym, ◌∙◌, subst, length, length-append, append_assoc, take, Bool, true, false, Option, Some, None, IfSome, Bor, eqb, inr, unwrap_or, rules}
 use Rattle.std.specs.Bool.{MatchBool}
 use Rattle.std.specs.List.{slice_split, join_with_byte}
@@ -48,8 +49,7 @@ pub rest_shorter :
     → 0 < length bytes
     → IfSome o (λ rest. length rest.now < length bytes)
     → length (unwrap_or o d).now < length bytes
-rest_shorter bytes None d none some short = omega (arith, ap length none)
-rest_shorter bytes (Some r) d none some short = short
+rest_shorter bytes o d none some short = search rules
 
 -- ---- the first bad line
 
@@ -61,8 +61,7 @@ pub record Halfway (kind : TextKind) (all rest : List (List ℕ)) (t : Trace) (c
   pub many : length done ≡ count
 
 take_done : (done rest : List (List ℕ)) → take (length done) (done ++ rest) ≡ done
-take_done [] rest = refl
-take_done (l ∷ done) rest = ap (λ ls. l ∷ ls) (take_done done rest)
+take_done done rest = grind (arith, common_steps)
 
 -- the line behind a valid text that no valid text goes on with
 pub bad_next :

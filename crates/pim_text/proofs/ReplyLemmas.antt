@@ -2,7 +2,6 @@
 use Rattle.std.proofs.Common.{◌≡◌, ◌<◌, ◌^◌, ℕ, List, [], ◌∷◌, codes, None, arith}
 use Rattle.std.specs.Fmt.{decimal}
 use Rattle.pim_base.specs.declared.steps.Refusal.{Refusal}
-use Rattle.pim_base.specs.declared.steps.Reply.{Reply}
 use Rattle.pim_base.specs.Spelling.{IsNumber, IsReply, reply_words, refusal_word}
 use Rattle.pim_text.specs.Reading.{words, ReadsAs}
 use Rattle.pim_text.proofs.WordLemmas.{some_word, only_word}
@@ -18,14 +17,7 @@ no_argument :
     → ((k : ℕ) → k < 2 ^ 16 → w ≡ codes "released" → argument ≡ decimal k → ⊥)
     → ((r : Refusal) → w ≡ codes "refused" → argument ≡ refusal_word r → ⊥)
     → ReadsAs IsReply reply_words (w ∷ rest) None
-no_argument w argument rest cut some handed released refused Reply.Granted is e = some (cc)
-no_argument w argument rest cut some handed released refused Reply.Queued is e = some (cc)
-no_argument w argument rest cut some handed released refused Reply.Freed is e = some (cc)
-no_argument w argument rest cut some handed released refused (Reply.Handed t) is e = grind (arith, only_word)
-no_argument w argument rest cut some handed released refused (Reply.Released k) is e = grind (arith, only_word)
-no_argument w argument rest cut some handed released refused Reply.Withdrawn is e = some (cc)
-no_argument w argument rest cut some handed released refused Reply.Set is e = some (cc)
-no_argument w argument rest cut some handed released refused (Reply.Refused r) is e = grind (arith, only_word)
+no_argument w argument rest cut some handed released refused h is e = grind (arith, only_word)
 
 pub no_handed : (w argument : List ℕ) → w ≡ codes "handed" → ((n : ℕ) → IsNumber n → argument ≡ decimal n → ⊥) → ReadsAs IsReply reply_words (w ∷ words argument) None
 no_handed w argument is none = grind (arith, no_argument)

@@ -85,9 +85,7 @@ with_mutex ts ps p n e = grind (arith, mutex_lines-append_one, append_assoc)
 
 -- a line that may follow does
 pub declared-with_line : (t : Trace) (m : Line) → MayFollow t m → declared (with_line t m) ≡ declared t ++ m ∷ []
-declared-with_line t (lines.Task n p) may = rw (may.2, may.3) (with_task t.bases p n may.1)
-declared-with_line t (lines.Mutex n p) may = rw may.2 (with_mutex (task_lines 1 t.bases) t.protocols p n may.1)
-declared-with_line t (lines.Step s) may = grind (arith, common_steps)
+declared-with_line t m may = grind (arith, with_task, with_mutex, common_steps)
 
 -- ---- how many lines a text has
 

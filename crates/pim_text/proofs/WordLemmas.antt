@@ -1,21 +1,15 @@
 -- Words cut off the front of a line, and what single words spell.
-use Rattle.std.proofs.Common.{◌≡◌, ◌<◌, ◌≤◌, ◌^◌, ℕ, List, [], ◌∷◌, codes, arith, sym, ◌∙◌, ap, Option, Some, None, MatchOption, false, Bor, eqb, length}
+use Rattle.std.proofs.Common.{◌≡◌, ◌<◌, ◌≤◌, ◌^◌, ℕ, List, [], ◌∷◌, codes, arith, sym, ◌∙◌, ap, Option, Some, None, MatchOption, Bor, eqb, length}
 use Rattle.std.specs.Fmt.{decimal}
 use Rattle.std.specs.List.{join_with_byte}
 use Rattle.std.specs.Option.{SomeIff}
-use Rattle.std.specs.Str.{bytes_eq}
 use Rattle.std.specs.Str.Parse.{digits_value}
 use Rattle.std.proofs.lemmas.Fmt.{decimal_digit}
-use Rattle.std.proofs.lemmas.Slice.Eq.{bytes_eq-Decides}
 use Rattle.std.proofs.lemmas.List.Splits.{join_with_byte-slice_split, slice_split_none, length-slice_split}
 use Rattle.std.proofs.lemmas.List.Elements.{All-from_recursion}
 use Rattle.pim_base.specs.Spelling.{SPACE, IsNumber, IsPrio}
 use Rattle.pim_text.specs.Reading.{words, pieces}
 use Rattle.pim_text.proofs.SpellingLemmas.{IsWord, word_decimal, value-decimal}
-
--- bytes are not two different words
-pub not_both : (w a b : List ℕ) → bytes_eq a b ≡ false → w ≡ a → w ≡ b → ⊥
-not_both w a b differ e f = let same = (bytes_eq-Decides a b).1 (sym e ∙ f) in cc
 
 -- ---- the first word, and the others
 
@@ -75,5 +69,4 @@ pub count_read :
     → (word ≡ codes "0" → ⊥)
     → MatchOption r ((n : ℕ) → IsNumber n → word ≡ decimal n → ⊥) (λ n. IsNumber n × (word ≡ decimal n))
     → MatchOption r ((n : ℕ) → n < 2 ^ 16 → word ≡ decimal n → ⊥) (λ n. (n < 2 ^ 16) × (word ≡ decimal n))
-count_read word (Some n) other h = (h.0.1, h.1)
-count_read word None other h = grind (arith, decimal_digit)
+count_read word r other h = grind (arith, decimal_digit)
