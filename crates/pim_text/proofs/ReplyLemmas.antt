@@ -19,10 +19,10 @@ no_argument :
     → ReadsAs IsReply reply_words (w ∷ rest) None
 no_argument w argument rest cut some handed released refused h is e = grind (arith, only_word)
 
-pub no_handed : (w argument : List ℕ) → w ≡ codes "handed" → ((n : ℕ) → IsNumber n → argument ≡ decimal n → ⊥) → ReadsAs IsReply reply_words (w ∷ words argument) None
+pub no_handed : (w argument : List ℕ) → w ≡ codes "handed" → ReadsAs IsNumber decimal argument None → ReadsAs IsReply reply_words (w ∷ words argument) None
 no_handed w argument is none = grind (arith, no_argument)
 
-pub no_released : (w argument : List ℕ) → w ≡ codes "released" → ((n : ℕ) → n < 2 ^ 16 → argument ≡ decimal n → ⊥) → ReadsAs IsReply reply_words (w ∷ words argument) None
+pub no_released : (w argument : List ℕ) → w ≡ codes "released" → ReadsAs (λ n. n < 2 ^ 16) decimal argument None → ReadsAs IsReply reply_words (w ∷ words argument) None
 no_released w argument is none = grind (arith, no_argument)
 
 pub no_refused : (w argument : List ℕ) → w ≡ codes "refused" → ((r : Refusal) → argument ≡ refusal_word r → ⊥) → ReadsAs IsReply reply_words (w ∷ words argument) None

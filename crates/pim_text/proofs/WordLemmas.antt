@@ -1,5 +1,5 @@
 -- Words cut off the front of a line, and what single words spell.
-use Rattle.std.proofs.Common.{◌≡◌, ◌<◌, ◌≤◌, ◌^◌, ℕ, List, [], ◌∷◌, codes, arith, sym, ◌∙◌, ap, Option, Some, None, MatchOption, Bor, eqb, length}
+use Rattle.std.proofs.Common.{◌≡◌, ◌<◌, ◌≤◌, ◌^◌, ℕ, List, [], ◌∷◌, codes, arith, sym, ◌∙◌, ap, Option, Some, None, Bor, eqb, length}
 use Rattle.std.specs.Fmt.{decimal}
 use Rattle.std.specs.List.{join_with_byte}
 use Rattle.std.specs.Option.{SomeIff}
@@ -8,7 +8,7 @@ use Rattle.std.proofs.lemmas.Fmt.{decimal_digit}
 use Rattle.std.proofs.lemmas.List.Splits.{join_with_byte-slice_split, slice_split_none, length-slice_split}
 use Rattle.std.proofs.lemmas.List.Elements.{All-from_recursion}
 use Rattle.pim_base.specs.Spelling.{SPACE, IsNumber, IsPrio}
-use Rattle.pim_text.specs.Reading.{words, pieces}
+use Rattle.pim_text.specs.Reading.{words, pieces, ReadsAs}
 use Rattle.pim_text.proofs.SpellingLemmas.{IsWord, word_decimal, value-decimal}
 
 -- ---- the first word, and the others
@@ -52,7 +52,7 @@ pub prio_read :
     (word : List ℕ) (n : ℕ) (r : Option ℕ)
     → IsNumber n × (word ≡ decimal n)
     → SomeIff r ((1 ≤ n) × (n ≤ 99)) n
-    → MatchOption r ((p : ℕ) → IsPrio p → word ≡ decimal p → ⊥) (λ p. IsPrio p × (word ≡ decimal p))
+    → ReadsAs IsPrio decimal word r
 prio_read word n (Some p) read h = ((omega (arith, h.1, read.0.0), omega (arith, h.0.1, h.1)), read.1 ∙ ap decimal (sym h.1))
 prio_read word n None read h =
     λ p is e.
@@ -67,6 +67,6 @@ zero_read word e = (omega arith, e ∙ sym (decimal_digit 0 (omega arith)))
 pub count_read :
     (word : List ℕ) (r : Option ℕ)
     → (word ≡ codes "0" → ⊥)
-    → MatchOption r ((n : ℕ) → IsNumber n → word ≡ decimal n → ⊥) (λ n. IsNumber n × (word ≡ decimal n))
-    → MatchOption r ((n : ℕ) → n < 2 ^ 16 → word ≡ decimal n → ⊥) (λ n. (n < 2 ^ 16) × (word ≡ decimal n))
+    → ReadsAs IsNumber decimal word r
+    → ReadsAs (λ n. n < 2 ^ 16) decimal word r
 count_read word r other h = grind (arith, decimal_digit)
