@@ -12,7 +12,7 @@ use Rattle.pim_base.specs.Checks.{is_owned}
 use Rattle.pim_base.specs.Steps.{hand_over, reply_of, after}
 use Rattle.pim_base.specs.Runs.{IsRun}
 use Rattle.pim_base.specs.Steady.{HasOwnTickets, WaitsAreForOwned, IsSteady}
-use Rattle.pim_base.specs.RunLaws.{SameStepLaw, SameRunLaw, SteadyStepLaw, SteadyRunLaw, StartLaw}
+use Rattle.pim_base.specs.RunLaws.{SameRunLaw, SteadyStepLaw, SteadyRunLaw, StartLaw}
 use Rattle.pim_base.specs.declared.steps.Entry.{Entry}
 use Rattle.pim_base.specs.declared.steps.Protocol.{Protocol}
 use Rattle.pim_base.specs.declared.steps.Wait.{Wait}
@@ -151,9 +151,6 @@ start_law bases protocols next = record {
 
     idle : (t : ℕ) → wait_of S t ≡ None
     idle = idle_at_start bases protocols next
-
-pub same_step_law : SameStepLaw
-same_step_law S T step e = (ap (λ U. reply_of U step) e, ap (λ U. after U step) e)
 
 pub same_run_law : SameRunLaw
 same_run_law S end other [] [] run again steps = (refl, run ∙ sym again)
