@@ -1,13 +1,12 @@
 -- Where all mutexes are PRIO_NONE, every task has its base priority.
 use Rattle.std.proofs.Common.{◌≡◌, ℕ, ◌≤◌, ◌⊎◌, inl, inr, Bool, true, false, eqb, List, [], ◌∷◌, length, map, Option, Some, None, refl, sym, ◌∙◌, ap, arith, unwrap_or, le_antisymm, rules}
-use Rattle.std.proofs.lemmas.Bool.{eqb-true, eq-eqb}
+use Rattle.std.proofs.lemmas.Bool.{eqb-true, eq-eqb, or_cases, or_left}
 use Rattle.pim_base.specs.Lists.{nth, contains, greatest}
 use Rattle.pim_base.specs.State.{State, base_of}
 use Rattle.pim_base.specs.Chains.{chain, heir, inherit_chain}
 use Rattle.pim_base.specs.Priorities.{own_priority, effective_priority}
 use Rattle.pim_base.specs.Laws.{IsNoneOnly, NoneLaw}
 use Rattle.pim_base.proofs.Greatest.{greatest-cons, le-greatest_of, greatest_of-le}
-use Rattle.pim_base.proofs.Hops.{or_cases, or_left}
 use Rattle.pim_base.proofs.Places.{nth_within}
 
 no_heir : (S : State) → IsNoneOnly S → (u : ℕ) → heir S u ≡ None
