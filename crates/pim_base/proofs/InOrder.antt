@@ -40,7 +40,7 @@ abbrev IsIn : Waiter → List Waiter → Type 0
 IsIn w [] = ⊥
 IsIn w (v ∷ vs) = (v ≡ w) ⊎ IsIn w vs
 
-pub all_each : {X : Type 0} (P R : X → Type 0) → ((x : X) → P x → R x) → (xs : List X) → AllByRecursion P xs → AllByRecursion R xs
+all_each : (P R : Waiter → Type 0) → ((x : Waiter) → P x → R x) → (xs : List Waiter) → AllByRecursion P xs → AllByRecursion R xs
 all_each P R f [] h = tt
 all_each P R f (x ∷ xs) h = (f x h.0, all_each P R f xs h.1)
 

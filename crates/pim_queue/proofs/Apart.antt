@@ -8,8 +8,7 @@ use Rattle.pim_base.specs.Lists.{insert_by}
 use Rattle.pim_base.specs.Queues.{precedes}
 use Rattle.pim_queue.specs.QueueView.{AreQueued}
 use Rattle.pim_queue.specs.Waiters.{is_of, has_ticket, without, ticket_of, repositioned, Differs, IsApart}
-use Rattle.pim_base.proofs.InOrder.{all_each}
-use Rattle.pim_queue.proofs.Order.{all_both, all_without, all_place, ordered_without, ordered_place}
+use Rattle.pim_queue.proofs.Order.{all_each, all_both, all_without, all_place, ordered_without, ordered_place}
 use Rattle.pim_queue.proofs.Places.{insert_by_is}
 
 -- ---- lengths

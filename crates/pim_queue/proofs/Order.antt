@@ -7,7 +7,6 @@ use Rattle.pim_base.specs.declared.steps.Waiter.{Waiter}
 use Rattle.pim_base.specs.Lists.{insert_by}
 use Rattle.pim_base.specs.Queues.{precedes}
 use Rattle.pim_queue.specs.Waiters.{is_of, without, IsOrdered}
-use Rattle.pim_base.proofs.InOrder.{all_each}
 
 -- ---- facts of each element of a list
 pub all_both :
@@ -19,6 +18,9 @@ pub all_both :
     → AllByRecursion R xs
 all_both P Q R f [] h k = tt
 all_both P Q R f (x ∷ xs) h k = (f x h.0 k.0, all_both P Q R f xs h.1 k.1)
+
+pub all_each : {X : Type 0} (P R : X → Type 0) → ((x : X) → P x → R x) → (xs : List X) → AllByRecursion P xs → AllByRecursion R xs
+all_each P R f xs h = all_both P P R (λ x p _. f x p) xs h h
 
 -- the first that passes, with what holds of it
 pub record Found {X : Type 0} (p : X → Bool) (P : X → Type 0) (xs : List X) : Type 0 where
