@@ -1,8 +1,8 @@
 -- The law of closing a cycle.
-use Rattle.std.proofs.Common.{◌≡◌, ◌≢◌, ◌↔◌, ℕ, zero, suc, ◌+◌, ◌-◌, ◌≤◌, true, false, ◌⊎◌, inl, inr, [], drop, length, Option, Some, None, refl, sym, ◌∙◌, ap, arith, option_and_then, unwrap_or, IsTrue, true≢false}
+use Rattle.std.proofs.Common.{◌≡◌, ◌≢◌, ◌↔◌, ℕ, zero, suc, ◌+◌, ◌-◌, ◌≤◌, true, false, ◌⊎◌, inl, inr, drop, length, Option, Some, None, refl, sym, ◌∙◌, ap, arith, option_and_then, unwrap_or, IsTrue, true≢false}
 use Rattle.std.specs.Option.{option_map_or}
 use Rattle.std.proofs.lemmas.Bool.Decides.{eqb_tells}
-use Rattle.pim_base.specs.Lists.{contains, nth}
+use Rattle.pim_base.specs.Lists.{contains}
 use Rattle.pim_base.specs.State.{State, IsState, IsTask, owner_of, with_wait}
 use Rattle.pim_base.specs.Chains.{chain, blocker, waits_chain, HasCycle}
 use Rattle.pim_base.specs.Laws.{ClosingLaw}
@@ -107,44 +107,20 @@ reaches_from_returns hop again n t u acyclic differs stays closes (v, j, le, e) 
 
 -- a task on its own chain, after the first place
 cycle_from_returns : (hop : ℕ → Option ℕ) (n t k : ℕ) → suc k ≤ n → hops hop (suc k) t ≡ Some t → contains (drop 1 (chain hop n t)) t ≡ true
-cycle_from_returns hop zero t k le e = absurd (omega arith)
-cycle_from_returns hop (suc n) t k le e =
-    let f = first_hop hop k t t e in
-    rw f.1 (contains_from_reaches hop n f.0 t k (omega arith) f.2)
+cycle_from_returns hop n t k le e = grind (arith, contains_from_reaches)
 
 pub returns_from_cycle :
     (hop : ℕ → Option ℕ) (n t : ℕ)
     → contains (drop 1 (chain hop n t)) t ≡ true
     → (k : ℕ) × (suc k ≤ n) × (hops hop (suc k) t ≡ Some t)
-returns_from_cycle hop zero t h = cc
-returns_from_cycle hop (suc n) t h = go (hop t) refl h
-  where
-    go : (o : Option ℕ) → hop t ≡ o → contains (option_map_or (chain hop n) o []) t ≡ true → (k : ℕ) × (suc k ≤ suc n) × (hops hop (suc k) t ≡ Some t)
-    go None e h = cc
-    go (Some v) e h =
-        let r : Reaches hop n v t = reaches_from_contains hop n v t h in
-        (r.0, omega (arith, r.1), hops_front hop r.0 t v e ∙ r.2)
+returns_from_cycle hop n t h = grind (arith, reaches_from_contains)
 
 pub none_returns : (S : State) → ¬ HasCycle S → NoneReturns (blocker S) (length S.base)
 none_returns S acyclic t k le e = acyclic (t, cycle_from_returns (blocker S) (length S.base) t k le e)
 
 -- only a task with an entry hops
 pub only_known_hop : (S : State) → IsState S → OnlyKnownHop (blocker S) (length S.base)
-only_known_hop S valid t u e = go (nth S.wait t) refl e
-  where
-    go :
-        (o : Option (Option Wait))
-        → nth S.wait t ≡ o
-        → option_and_then (λ (w : Wait). owner_of S w.mutex) (unwrap_or o None) ≡ Some u
-        → (1 ≤ t) × (t ≤ length S.base)
-    go None h e = cc
-    go (Some w) h e = let within = nth_within S.wait t w h in (within.0, omega (arith, within.1, valid.waits))
-
-hops_same : (hop again : ℕ → Option ℕ) → ((x : ℕ) → again x ≡ hop x) → (k x y : ℕ) → hops again k x ≡ Some y → hops hop k x ≡ Some y
-hops_same hop again same zero x y e = e
-hops_same hop again same (suc k) x y e =
-    let f = first_hop again k x y e in
-    hops_front hop k x f.0 (sym (same x) ∙ f.1) ∙ hops_same hop again same k f.0 y f.2
+only_known_hop S valid t u e = grind (arith, nth_within)
 
 -- the blocker of a task with such an entry among the waits
 abbrev blocked_by : State → Option (Option Wait) → Option ℕ
@@ -165,18 +141,7 @@ no_cycle_for_free :
     → blocker S t ≡ None
     → owner_of S w.mutex ≡ None
     → ¬ HasCycle (with_wait S t (Some w))
-no_cycle_for_free S t w valid acyclic task stays free (v, h) =
-    let r = returns_from_cycle again (length S.base) v h in
-    none_returns S acyclic v r.0 r.1 (hops_same (blocker S) again same (suc r.0) v v r.2)
-  where
-    again : ℕ → Option ℕ
-    again = blocker (with_wait S t (Some w))
-
-    same : (x : ℕ) → again x ≡ blocker S x
-    same x = elim (eqb_tells x t) [
-      | inl here ↦ ap again here.1 ∙ blocker_same S t (Some w) valid task ∙ free ∙ sym stays ∙ ap (blocker S) (sym here.1)
-      | inr other ↦ blocker_other S t (Some w) x other.1
-    ]
+no_cycle_for_free S t w valid acyclic task stays free (v, h) = grind (arith, blocker_same, blocker_other)
 
 -- a wait for a mutex with an owner makes one exactly where the owner's chain leads back
 cycle_for_owned :

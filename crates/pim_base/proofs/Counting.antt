@@ -1,5 +1,5 @@
 -- How many numbers pass a test, and which.
-use Rattle.std.proofs.Common.{◌≡◌, ℕ, zero, suc, ◌+◌, Bool, true, false, cond, [], ◌∷◌, length, refl, ap, sym, ◌∙◌, arith, filter, not, ◌==◌}
+use Rattle.std.proofs.Common.{◌≡◌, ℕ, zero, suc, ◌+◌, Bool, cond, [], ◌∷◌, length, refl, ap, sym, ◌∙◌, arith, filter, not, ◌==◌, rules}
 use Rattle.std.proofs.lemmas.List.{length-append}
 use Rattle.pim_base.specs.Lists.{numbers}
 use Rattle.pim_base.specs.Counts.{count}
@@ -8,8 +8,7 @@ use Rattle.pim_base.specs.RunLaws.{ChangedCountLaw}
 use Rattle.pim_base.proofs.Greatest.{filter_numbers-next}
 
 length-cond : (b : Bool) (n : ℕ) → length (cond b (n ∷ []) []) ≡ cond b 1 0
-length-cond true n = refl
-length-cond false n = refl
+length-cond b n = search rules
 
 pub count-length : (n : ℕ) (test : ℕ → Bool) → count n test ≡ length (filter test (numbers n))
 unfolding count

@@ -1,7 +1,7 @@
 -- What an effective priority is the greatest of.
-use Rattle.std.proofs.Common.{◌≡◌, inl, inr, ℕ, zero, suc, ◌≤◌, Bool, true, [], ◌∷◌, map, length, Option, Some, None, refl, ◌∙◌, ap, subst, arith, option_and_then, unwrap_or, le_antisymm}
+use Rattle.std.proofs.Common.{◌≡◌, inl, inr, ℕ, zero, suc, ◌≤◌, Bool, true, [], ◌∷◌, map, length, Option, Some, None, refl, ◌∙◌, ap, subst, arith, option_and_then, le_antisymm}
 use Rattle.std.proofs.lemmas.Option.{same_Some}
-use Rattle.pim_base.specs.Lists.{nth, contains, holds, greatest}
+use Rattle.pim_base.specs.Lists.{contains, holds, greatest}
 use Rattle.pim_base.specs.State.{State, IsState, base_of, owner_of, wait_of, owned, IsMutex}
 use Rattle.pim_base.specs.Chains.{heir, inherit_chain}
 use Rattle.pim_base.specs.Priorities.{ceiling_of, own_priority, effective_priority}
@@ -43,11 +43,7 @@ rising_law S u t ok task_u task_t on =
 
 -- a mutex that has an owner is known
 pub known_from_owner : (S : State) (m t : ℕ) → IsState S → owner_of S m ≡ Some t → IsMutex S m
-known_from_owner S m t valid owner = go (nth S.owner m) refl owner
-  where
-    go : (o : Option (Option ℕ)) → nth S.owner m ≡ o → unwrap_or o None ≡ Some t → IsMutex S m
-    go None e h = cc
-    go (Some x) e h = let within = nth_within S.owner m x e in (within.0, omega (arith, within.1, valid.owners))
+known_from_owner S m t valid owner = grind (arith, nth_within)
 
 -- who owns a mutex owns one of those with a number
 owned_not_empty : (S : State) (t m : ℕ) → IsState S → owner_of S m ≡ Some t → owned S t ≡ [] → ⊥

@@ -1,5 +1,5 @@
 -- Mutexes handed over one after another, in ascending order.
-use Rattle.std.proofs.Common.{◌≡◌, ◌≢◌, ◌⊎◌, inl, inr, ℕ, zero, suc, ◌+◌, ◌<◌, ◌≤◌, arith, sym, Bool, true, false, [], ◌∷◌, ◌++◌, filter, length, length-append, Option, Some, None, refl, ◌∙◌, ap, fold, unwrap_or, eq-or-lt_of_le}
+use Rattle.std.proofs.Common.{◌≡◌, ◌≢◌, ◌⊎◌, inl, inr, ℕ, zero, suc, ◌+◌, ◌<◌, ◌≤◌, arith, sym, Bool, true, false, [], ◌∷◌, ◌++◌, filter, length, length-append, Option, Some, None, refl, ◌∙◌, ap, fold, unwrap_or, eq-or-lt_of_le, rules}
 use Rattle.std.proofs.lemmas.Bool.{cases_eq}
 use Rattle.std.proofs.lemmas.List.Sums.{fold-append}
 use Rattle.pim_base.specs.Lists.{holds, numbers}
@@ -30,25 +30,13 @@ filter_numbers-until p n (suc m) le none = elim (eq-or-lt_of_le le) [
 -- ---- one hand-over
 
 pub owner_of-hand_over_other : (S : State) (m k : ℕ) → m ≢ k → owner_of (hand_over S m) k ≡ owner_of S k
-owner_of-hand_over_other S m k other = go (first_of S m)
-  where
-    go : (o : Option Waiter) → owner_of (hand_over_to S m o) k ≡ owner_of S k
-    go None = ap (λ x. unwrap_or x None) (nth-put_other S.owner m k None other)
-    go (Some w) = ap (λ x. unwrap_or x None) (nth-put_other S.owner m k (Some w.task) other)
+owner_of-hand_over_other S m k other = grind (arith, nth-put_other)
 
 pub protocol-hand_over : (S : State) (m : ℕ) → (hand_over S m).protocol ≡ S.protocol
-protocol-hand_over S m = go (first_of S m)
-  where
-    go : (o : Option Waiter) → (hand_over_to S m o).protocol ≡ S.protocol
-    go None = refl
-    go (Some w) = refl
+protocol-hand_over S m = search rules
 
 pub base-hand_over : (S : State) (m : ℕ) → (hand_over S m).base ≡ S.base
-base-hand_over S m = go (first_of S m)
-  where
-    go : (o : Option Waiter) → (hand_over_to S m o).base ≡ S.base
-    go None = refl
-    go (Some w) = refl
+base-hand_over S m = search rules
 
 -- who doesn't wait doesn't wait then either
 pub idle-hand_over : (S : State) (m t : ℕ) → wait_of S t ≡ None → wait_of (hand_over S m) t ≡ None
@@ -74,16 +62,6 @@ pub record IsReleasedTo (S T : State) (a n k : ℕ) : Type 0 where
   pub tasks : length T.base ≡ length S.base
   pub later : (m : ℕ) → n < m → owner_of T m ≡ owner_of S m
 
-pub released_none : (S : State) (a : ℕ) → IsReleasedTo S S a 0 0
-released_none S a = record {
-  state = refl;
-  count = refl;
-  few = omega arith;
-  mutexes = refl;
-  tasks = refl;
-  later = λ m above. refl;
-}
-
 -- none of the next numbers, up to m, is owned by the actor
 pub released_past :
     (S T : State) (a n m k : ℕ)
@@ -91,19 +69,7 @@ pub released_past :
     → ((j : ℕ) → n < j → j ≤ m → holds (owner_of T j) a ≡ false)
     → IsReleasedTo S T a n k
     → IsReleasedTo S T a m k
-released_past S T a n m k le none before = record {
-  state = before.state ∙ ap (fold hand_over S) (sym same);
-  count = before.count ∙ ap length (sym same);
-  few = omega (arith, before.few, le);
-  mutexes = before.mutexes;
-  tasks = before.tasks;
-  later = λ j above. before.later j (omega (arith, le, above));
-}
-  where
-    same : filter (λ j. holds (owner_of S j) a) (numbers m) ≡ filter (λ j. holds (owner_of S j) a) (numbers n)
-    same =
-        filter_numbers-until (λ j. holds (owner_of S j) a) n m le
-        (λ j low high. ap (λ o. holds o a) (sym (before.later j low)) ∙ none j low high)
+released_past S T a n m k le none before = grind (arith, filter_numbers-until)
 
 -- the actor owns the next one, which is handed over
 pub released_more :

@@ -1,8 +1,7 @@
 -- A queue has its waiters, each before all later ones.
-use Rattle.std.proofs.Common.{◌≡◌, ◌≢◌, ◌⊎◌, inl, inr, ℕ, zero, suc, ◌<◌, ◌≤◌, Bool, true, false, cond, ◌&&◌, List, [], ◌∷◌, length, Option, Some, None, refl, sym, ◌∙◌, ap, subst, arith, eqb, ltb, option_and_then, eq-or-lt_of_le, Contains, AllPairs, if◌then◌else◌}
+use Rattle.std.proofs.Common.{◌≡◌, ◌≢◌, ◌⊎◌, inl, inr, ℕ, zero, suc, ◌<◌, ◌≤◌, Bool, true, false, cond, List, [], ◌∷◌, length, Option, Some, None, refl, sym, ◌∙◌, subst, arith, Contains, AllPairs, rules}
 use Rattle.std.specs.List.{AllByRecursion}
-use Rattle.std.proofs.lemmas.Bool.{cases_lt, ltb-true, lt-ltb, eqb-true, eq-eqb, or_cases, or_left, or_right, and_parts, and_from, both_ways}
-use Rattle.std.proofs.lemmas.Option.{none-some, same_Some}
+use Rattle.std.proofs.lemmas.Bool.{both_ways}
 use Rattle.std.proofs.lemmas.List.Elements.{All-from_recursion}
 use Rattle.pim_base.specs.Lists.{insert_by}
 use Rattle.pim_base.specs.State.{State, wait_of}
@@ -19,44 +18,17 @@ abbrev Comes : Waiter → Waiter → Type 0
 Comes a b = (b.prio < a.prio) ⊎ ((a.prio ≡ b.prio) × (a.ticket < b.ticket))
 
 told : (a b : Waiter) → Precedes a b → Comes a b
-told a b h = go (or_cases _ _ h)
-  where
-    go : (ltb b.prio a.prio ≡ true) ⊎ ((eqb a.prio b.prio && ltb a.ticket b.ticket) ≡ true) → Comes a b
-    go (inl l) = inl (ltb-true _ _ l)
-    go (inr e) = let parts = and_parts _ _ e in inr (eqb-true _ _ parts.0, ltb-true _ _ parts.1)
-
-precedes_from : (a b : Waiter) → Comes a b → Precedes a b
-precedes_from a b (inl l) = or_left _ _ (lt-ltb _ _ l)
-precedes_from a b (inr e) = or_right _ _ (and_from _ _ (eq-eqb _ _ e.0) (lt-ltb _ _ e.1))
+told a b h = search rules
 
 precedes_trans : (a b c : Waiter) → Precedes a b → Precedes b c → Precedes a c
-precedes_trans a b c h k = precedes_from a c (go (told a b h) (told b c k))
-  where
-    go : Comes a b → Comes b c → Comes a c
-    go (inl l) (inl m) = inl (omega arith)
-    go (inl l) (inr e) = let same : b.prio ≡ c.prio = e.0 in inl (omega arith)
-    go (inr e) (inl m) = let same : a.prio ≡ b.prio = e.0 in inl (omega arith)
-    go (inr e) (inr f) = inr (e.0 ∙ f.0, omega (arith, e.1, f.1))
+precedes_trans a b c h k = search rules
 
 pub precedes_prio : (a b : Waiter) → Precedes a b → b.prio ≤ a.prio
-precedes_prio a b h = go (told a b h)
-  where
-    go : Comes a b → b.prio ≤ a.prio
-    go (inl l) = omega arith
-    go (inr e) = let same : a.prio ≡ b.prio = e.0 in omega arith
+precedes_prio a b h = search rules
 
 -- of two waiters with different tickets one precedes the other
 precedes_or : (a b : Waiter) → a.ticket ≢ b.ticket → Precedes a b ⊎ Precedes b a
-precedes_or a b apart = elim (cases_lt b.prio a.prio) [
-  | inl l ↦ inl (precedes_from a b (inl l))
-  | inr le ↦ elim (eq-or-lt_of_le le) [
-    | inl same ↦ elim (cases_lt a.ticket b.ticket) [
-      | inl l ↦ inl (precedes_from a b (inr (same, l)))
-      | inr l ↦ inr (precedes_from b a (inr (sym same, omega (arith, l, apart))))
-    ]
-    | inr l ↦ inr (precedes_from b a (inl l))
-  ]
-]
+precedes_or a b apart = search rules
 
 -- each precedes all later ones
 abbrev IsOrdered : List Waiter → Type 0
@@ -122,31 +94,7 @@ pub record WaitsFor (S : State) (m t : ℕ) (w : Waiter) : Type 0 where
   pub ticket : w.ticket ≡ wait.ticket
 
 pub waits_for : (S : State) (m t : ℕ) (w : Waiter) → waiter_of S m t ≡ Some w → WaitsFor S m t w
-waits_for S m t w e = go (wait_of S t) refl e
-  where
-    made : Wait → Waiter
-    made x = record { task = t; prio = effective_priority S t; ticket = x.ticket }
-
-    of : (x : Wait) (b : Bool) → eqb x.mutex m ≡ b → wait_of S t ≡ Some x → (if b then Some (made x) else None) ≡ Some w → WaitsFor S m t w
-    of x false here h e = cc
-    of x true here h e =
-        let same : made x ≡ w = same_Some _ _ e in
-        record {
-          wait = x;
-          waits = h;
-          mutex = eqb-true x.mutex m here;
-          task = sym (ap (λ (v : Waiter). v.task) same);
-          prio = sym (ap (λ (v : Waiter). v.prio) same);
-          ticket = sym (ap (λ (v : Waiter). v.ticket) same);
-        }
-
-    go :
-        (o : Option Wait)
-        → wait_of S t ≡ o
-        → option_and_then (λ (x : Wait). if eqb x.mutex m then Some (made x) else None) o ≡ Some w
-        → WaitsFor S m t w
-    go None h e = cc
-    go (Some x) h e = of x (eqb x.mutex m) refl h e
+waits_for S m t w e = search rules
 
 -- and the other way round
 pub waiter_of-waits :
@@ -154,12 +102,7 @@ pub waiter_of-waits :
     → wait_of S t ≡ Some w
     → w.mutex ≡ m
     → waiter_of S m t ≡ Some (record { task = t; prio = effective_priority S t; ticket = w.ticket })
-waiter_of-waits S m t w e here =
-    ap (option_and_then (λ (x : Wait). if eqb x.mutex m then Some (made x) else None)) e
-    ∙ ap (λ b. if b then Some (made w) else None) (eq-eqb w.mutex m here)
-  where
-    made : Wait → Waiter
-    made x = record { task = t; prio = effective_priority S t; ticket = x.ticket }
+waiter_of-waits S m t w e here = search rules
 
 -- a waiter for m, from among the first n tasks
 abbrev IsOf : State → ℕ → ℕ → Waiter → Type 0
@@ -193,14 +136,7 @@ first_none :
     → waiter_of S m (suc n) ≡ None
     → HasFirst S m n q
     → HasFirst S m (suc n) q
-first_none S m n q e rest = record {
-  only = wider S m n q rest.only;
-  all = λ t w low high h. elim (eq-or-lt_of_le high) [
-    | inl same ↦ absurd (none-some w (sym e ∙ ap (waiter_of S m) (sym same) ∙ h))
-    | inr less ↦ rest.all t w low (omega (arith, less)) h
-  ];
-  ordered = rest.ordered;
-}
+first_none S m n q e rest = grind (arith, wider)
 
 first_some :
     (S : State) (m n : ℕ) (q : List Waiter) (w : Waiter)
@@ -208,19 +144,7 @@ first_some :
     → waiter_of S m (suc n) ≡ Some w
     → HasFirst S m n q
     → HasFirst S m (suc n) (insert_by precedes q w)
-first_some S m n q w own e rest = record {
-  only =
-      let it = waits_for S m (suc n) w e in
-      all-insert_by (IsOf S m (suc n)) q w (wider S m n q rest.only)
-      ((omega (arith, it.task), omega (arith, it.task)), ap (waiter_of S m) it.task ∙ e);
-  all = λ t v low high h. is_in-insert_by q v w (elim (eq-or-lt_of_le high) [
-    | inl same ↦ inl (same_Some w v (sym e ∙ ap (waiter_of S m) (sym same) ∙ h))
-    | inr less ↦ inr (rest.all t v low (omega (arith, less)) h)
-  ]);
-  ordered =
-      ordered-insert_by q w rest.ordered
-      (all_each (IsOf S m n) (λ v. w.ticket ≢ v.ticket) (new_ticket S m n w own e) q rest.only);
-}
+first_some S m n q w own e rest = grind (arith, all-insert_by, is_in-insert_by, ordered-insert_by, all_each, new_ticket)
 
 has_first : (S : State) (m : ℕ) → HasOwnTickets S → (n : ℕ) → HasFirst S m n (queue_upto (waiter_of S m) n)
 has_first S m own zero = record { only = tt; all = λ t w low high e. absurd (omega arith); ordered = tt }

@@ -1,12 +1,8 @@
 -- A log of one task beside scripts that it is an interleaving of, and that it is not. Nothing cites these theorems:
 -- they are checked with the crate, and show that the definition says what is meant.
-use Rattle.std.proofs.Common.{◌≡◌, ℕ, zero, suc, ◌≤◌, List, [], ◌∷◌, ◌++◌, Some, refl, ap, arith}
-use Rattle.std.proofs.lemmas.List.Elements.{All-from_recursion}
-use Rattle.std.proofs.lemmas.Option.{same_Some}
-use Rattle.pim_base.specs.Lists.{nth}
+use Rattle.std.proofs.Common.{◌≡◌, ◌≤◌, List, [], ◌∷◌, refl, arith, rules}
 use Rattle.pim_base.specs.Runs.{IsInterleaving, asked_by}
 use Rattle.pim_base.specs.declared.steps.Entry.{Entry}
-use Rattle.pim_base.specs.declared.steps.Op.{Op}
 use Rattle.pim_base.specs.declared.steps.Op.TheVariants.{Lock, Unlock, ReleaseAll}
 use Rattle.pim_base.specs.declared.steps.Reply.{Reply}
 
@@ -18,17 +14,7 @@ locked_and_released =
     ∷ []
 
 one_script : IsInterleaving locked_and_released ((Lock 1 ∷ []) ∷ [])
-one_script = record {
-  each = each;
-  no_other =
-      All-from_recursion (λ (e : Entry). (1 ≤ e.step.actor) × (e.step.actor ≤ 1)) locked_and_released
-      ((omega arith, omega arith), ((omega arith, omega arith), tt));
-}
-  where
-    each : (t : ℕ) (script : List Op) → nth ((Lock 1 ∷ []) ∷ []) t ≡ Some script → asked_by t locked_and_released ≡ script ++ ReleaseAll ∷ []
-    each zero script e = cc
-    each (suc zero) script e = ap (λ s. s ++ ReleaseAll ∷ []) (same_Some (Lock 1 ∷ []) script e)
-    each (suc (suc i)) script e = cc
+one_script = search rules
 
 -- a line of the script is missing
 missing_line : ¬ IsInterleaving locked_and_released ((Lock 1 ∷ Unlock 1 ∷ []) ∷ [])

@@ -1,5 +1,6 @@
 -- No step makes a cycle of waits.
-use Rattle.std.proofs.Common.{◌≡◌, ℕ, zero, suc, false, ◌⊎◌, inl, inr, List, [], ◌∷◌, length, Option, Some, None, refl, sym, ◌∙◌, ap, arith, option_and_then, unwrap_or, set, slice_get, true≢false}
+use Rattle.std.proofs.lemmas.Grind.{common_steps}
+use Rattle.std.proofs.Common.{◌≡◌, ℕ, zero, suc, false, ◌⊎◌, inl, inr, List, [], ◌∷◌, length, Option, Some, None, refl, sym, ◌∙◌, ap, arith, option_and_then, unwrap_or, set, slice_get, true≢false, rules}
 use Rattle.std.proofs.lemmas.Bool.Decides.{eqb_tells}
 use Rattle.pim_base.specs.Lists.{nth, put}
 use Rattle.pim_base.specs.State.{State, IsTask, owner_of, wait_of, with_owner, with_wait, with_base, queued}
@@ -72,8 +73,7 @@ unwrap_or-set_same (x ∷ xs) (suc i) o = unwrap_or-set_same xs i o
 pub unwrap_or-put_same :
     {X : Type 0} (xs : List (Option X)) (n : ℕ) (o : Option X)
     → (unwrap_or (nth (put xs n o) n) None ≡ o) ⊎ (unwrap_or (nth (put xs n o) n) None ≡ None)
-unwrap_or-put_same xs zero o = inr refl
-unwrap_or-put_same xs (suc i) o = unwrap_or-set_same xs i o
+unwrap_or-put_same xs n o = grind (arith, unwrap_or-set_same)
 
 pub idle_now : (S : State) (t : ℕ) → wait_of (with_wait S t None) t ≡ None
 idle_now S t = elim (unwrap_or-put_same S.wait t None) [ inl h ↦ h | inr h ↦ h ]
@@ -122,10 +122,7 @@ idle_sound S t ok = record {
     ]
 
 pub base_sound : (S : State) (t p : ℕ) → IsSound S → IsSound (with_base S t p)
-base_sound S t p ok = record {
-  lists = record { waits = ok.lists.waits ∙ sym (length-put S.base t p); owners = ok.lists.owners };
-  no_cycle = no_cycle_still S (with_base S t p) (length-put S.base t p) (λ x. inl refl) ok.no_cycle;
-}
+base_sound S t p ok = search rules
 
 pub queued_sound : (S : State) (t m : ℕ) → IsTask S t → wait_of S t ≡ None → closes_cycle S t m ≡ false → IsSound S → IsSound (queued S t m)
 queued_sound S t m task idle open' ok = record {
@@ -144,13 +141,7 @@ hand_sound S m ok = go (first_of S m)
         (idle_sound S w.task ok)
 
 pub sound_kept : IsKeptBySteps IsSound
-sound_kept = record {
-  grant = λ S a m ok idle. owner_sound S m (Some a) (λ t e. let same : a ≡ t = cc in ap (wait_of S) (sym same) ∙ idle) ok;
-  enqueue = λ S a m ok task idle open' owned. queued_sound S a m task idle open' ok;
-  hand = λ S m ok. hand_sound S m ok;
-  withdraw = λ S t ok. idle_sound S t ok;
-  set_base = λ S t p ok. base_sound S t p ok;
-}
+sound_kept = grind (arith, common_steps, owner_sound, queued_sound, hand_sound, idle_sound)
 
 pub no_cycle_law : NoCycleLaw
 no_cycle_law S step ok = kept_by_step IsSound sound_kept S step ok

@@ -1,36 +1,26 @@
 -- Where all mutexes are PRIO_NONE, every task has its base priority.
-use Rattle.std.proofs.Common.{◌≡◌, ℕ, zero, suc, ◌≤◌, ◌⊎◌, inl, inr, Bool, true, false, eqb, List, [], ◌∷◌, length, map, Option, Some, None, refl, sym, ◌∙◌, ap, arith, option_and_then, unwrap_or, le_antisymm}
-use Rattle.std.specs.Option.{option_map_or}
-use Rattle.std.proofs.lemmas.Bool.{eqb-true, eq-eqb}
+use Rattle.std.proofs.Common.{◌≡◌, ℕ, ◌≤◌, ◌⊎◌, inl, inr, Bool, true, false, eqb, List, [], ◌∷◌, length, map, Option, Some, None, refl, sym, ◌∙◌, ap, arith, unwrap_or, le_antisymm, rules}
+use Rattle.std.proofs.lemmas.Bool.{eqb-true, eq-eqb, or_cases, or_left}
 use Rattle.pim_base.specs.Lists.{nth, contains, greatest}
-use Rattle.pim_base.specs.State.{State, base_of, owner_of, wait_of, owned}
-use Rattle.pim_base.specs.Chains.{chain, heir, heir_in, heir_of, inherit_chain}
-use Rattle.pim_base.specs.Priorities.{ceiling, ceiling_of, own_priority, effective_priority}
+use Rattle.pim_base.specs.State.{State, base_of}
+use Rattle.pim_base.specs.Chains.{chain, heir, inherit_chain}
+use Rattle.pim_base.specs.Priorities.{own_priority, effective_priority}
 use Rattle.pim_base.specs.Laws.{IsNoneOnly, NoneLaw}
-use Rattle.pim_base.specs.declared.steps.Wait.{Wait}
 use Rattle.pim_base.proofs.Greatest.{greatest-cons, le-greatest_of, greatest_of-le}
-use Rattle.pim_base.proofs.Hops.{or_cases, or_left}
 use Rattle.pim_base.proofs.Places.{nth_within}
 
 no_heir : (S : State) → IsNoneOnly S → (u : ℕ) → heir S u ≡ None
-no_heir S none u = go (wait_of S u)
-  where
-    go : (w : Option Wait) → option_and_then (λ (w : Wait). heir_of S w.mutex) w ≡ None
-    go None = refl
-    go (Some w) = ap (λ p. heir_in p (owner_of S w.mutex)) (none w.mutex)
+no_heir S none u = search rules
 
 alone : (S : State) → IsNoneOnly S → (n u : ℕ) → chain (heir S) n u ≡ u ∷ []
-alone S none zero u = refl
-alone S none (suc n) u = ap (λ o. u ∷ option_map_or (chain (heir S) n) o []) (no_heir S none u)
+alone S none n u = search rules
 
 greatest-map_zero : (f : ℕ → ℕ) (xs : List ℕ) → ((x : ℕ) → f x ≡ 0) → greatest (map f xs) ≡ 0
 greatest-map_zero f [] zeros = refl
 greatest-map_zero f (x ∷ xs) zeros = omega (arith, greatest-cons (f x) (map f xs), zeros x, greatest-map_zero f xs zeros)
 
 own_priority-none : (S : State) → IsNoneOnly S → (t : ℕ) → own_priority S t ≡ base_of S t
-own_priority-none S none t =
-    let ceilings = greatest-map_zero (ceiling_of S) (owned S t) (λ m. ap (λ p. unwrap_or (ceiling p) 0) (none m)) in
-    omega (arith, greatest-cons (base_of S t) (map (ceiling_of S) (owned S t)), ceilings)
+own_priority-none S none t = grind (arith, greatest-map_zero, greatest-cons)
 
 pub none_law : NoneLaw
 none_law S t none = le_antisymm high (low (nth S.base t) refl)

@@ -1,17 +1,17 @@
 -- The reason of a priority gives that priority.
-use Rattle.std.proofs.Common.{◌≡◌, ◌≢◌, ◌⊎◌, inl, inr, ℕ, zero, suc, ◌+◌, ◌<◌, ◌≤◌, max, Bool, true, false, cond, ◌||◌, List, [], ◌∷◌, map, filter, find, length, Option, Some, None, refl, sym, ◌∙◌, ap, subst, arith, eqb, unwrap_or, option_and_then, eq-or-lt_of_le, le_antisymm, All, AllPairs, if◌then◌else◌}
+use Rattle.std.proofs.Common.{◌≡◌, ◌≢◌, ◌⊎◌, inl, inr, ℕ, zero, suc, ◌+◌, ◌<◌, ◌≤◌, max, Bool, true, false, cond, ◌||◌, List, [], ◌∷◌, map, filter, find, length, Option, Some, None, refl, sym, ◌∙◌, ap, subst, arith, eqb, option_and_then, eq-or-lt_of_le, le_antisymm, All, AllPairs, rules}
 use Rattle.std.specs.List.{slice_index_or}
 use Rattle.std.specs.Option.{option_map_or, option_map}
 use Rattle.std.proofs.lemmas.List.Folds.{Any-from_list_any, list_any_at}
 use Rattle.std.specs.List.{range_with_len, list_any}
-use Rattle.std.proofs.lemmas.Bool.{cases_lt, both_ways, eqb-true, eq-eqb, and_parts, and_from}
+use Rattle.std.proofs.lemmas.Bool.{cases_lt, both_ways, eqb-true, eq-eqb, and_from}
 use Rattle.std.proofs.lemmas.Option.{none-some, same_Some}
-use Rattle.pim_base.specs.Lists.{holds, first_item, numbers}
+use Rattle.pim_base.specs.Lists.{holds, first_item}
 use Rattle.pim_base.specs.State.{State, IsTask, IsMutex, base_of, owner_of, protocol_of, wait_of, owned}
 use Rattle.pim_base.specs.Chains.{heir, heir_in, heir_of}
-use Rattle.pim_base.specs.Priorities.{ceiling, ceiling_of, effective_priority}
+use Rattle.pim_base.specs.Priorities.{ceiling_of, effective_priority}
 use Rattle.pim_base.specs.Queues.{Precedes, waiter_of, queue_of}
-use Rattle.pim_base.specs.Reasons.{is_inherit, lends, waiter_reason, owning_reason}
+use Rattle.pim_base.specs.Reasons.{is_inherit, lends}
 use Rattle.pim_base.specs.Steady.{IsSteady}
 use Rattle.pim_base.specs.Laws.{IsQueueOfWaiters, Gives, ReasonLaw}
 use Rattle.pim_base.specs.declared.steps.Protocol.{Protocol}
@@ -81,20 +81,8 @@ none_passes p q a (suc n) k e low high also = elim (eq-or-lt_of_le low) [
         let found : find p (filter q (range_with_len a (suc n))) ≡ Some a = rw (passes, holds') refl in
         absurd (none-some a (sym e ∙ found))
 
--- a ceiling that isn't 0 is that of a PROTECT mutex
-ceiling_from : (o : Option ℕ) (c : ℕ) → unwrap_or o 0 ≡ c → 1 ≤ c → o ≡ Some c
-ceiling_from None c e low = absurd (omega arith)
-ceiling_from (Some x) c e low = ap Some e
-
-heir_in-inherit : (p : Protocol) (o : Option ℕ) → is_inherit p ≡ true → heir_in p o ≡ o
-heir_in-inherit Protocol.Inherit o h = refl
-heir_in-inherit Protocol.None o h = cc
-heir_in-inherit (Protocol.Protect c) o h = cc
-
 inherit_from_heir : (p : Protocol) (o : Option ℕ) (t : ℕ) → heir_in p o ≡ Some t → is_inherit p ≡ true
-inherit_from_heir Protocol.Inherit o t h = refl
-inherit_from_heir Protocol.None o t h = cc
-inherit_from_heir (Protocol.Protect c) o t h = cc
+inherit_from_heir p o t h = search rules
 
 -- the first of a queue with a waiter at t's priority waits at it for t
 first_lends :
@@ -255,34 +243,4 @@ one_is_found S t ok task other no_ceiling no_lender = elim (ceiling_or_lends S t
     e = effective_priority S t
 
 pub reason_law : ReasonLaw
-reason_law S t ok task = top (eqb e (base_of S t)) refl
-  where
-    e : ℕ
-    e = effective_priority S t
-
-    waiter :
-        (o : Option ℕ)
-        → find (lends S e) (owned S t) ≡ o
-        → e ≢ base_of S t
-        → find (at_ceiling S e) (owned S t) ≡ None
-        → Gives S t (waiter_reason S o)
-    waiter None no_lender other no_ceiling = absurd (one_is_found S t ok task other no_ceiling no_lender)
-    waiter (Some m) found other no_ceiling =
-        let passes = found_passes (lends S e) (owns S t) (numbers (length S.protocol)) m found in
-        let parts = and_parts (is_inherit (protocol_of S m)) (list_any (λ (w : Waiter). eqb w.prio e) (queue_of S m)) passes.0 in
-        first_lends S t m ok task
-        (heir_in-inherit (protocol_of S m) (owner_of S m) parts.0 ∙ from_holds (owner_of S m) t passes.1)
-        (queue_of S m) refl parts.1
-
-    ceiling_first : (o : Option ℕ) → find (at_ceiling S e) (owned S t) ≡ o → e ≢ base_of S t → Gives S t (owning_reason S t o)
-    ceiling_first None no_ceiling other = waiter (find (lends S e) (owned S t)) refl other no_ceiling
-    ceiling_first (Some m) found other =
-        let passes = found_passes (at_ceiling S e) (owns S t) (numbers (length S.protocol)) m found in
-        let positive : 1 ≤ e = omega (arith, other, greatest_of_three S t ok task) in
-        (from_holds (owner_of S m) t passes.1, ceiling_from (ceiling (protocol_of S m)) e (eqb-true (ceiling_of S m) e passes.0) positive)
-
-    top : (b : Bool) → eqb e (base_of S t) ≡ b → Gives S t (if b then Reason.Base else owning_reason S t (find (at_ceiling S e) (owned S t)))
-    top true same = eqb-true e (base_of S t) same
-    top false apart =
-        ceiling_first (find (at_ceiling S e) (owned S t)) refl
-        (λ same. both_ways (eqb e (base_of S t)) apart (eq-eqb e (base_of S t) same))
+reason_law S t ok task = grind (arith, one_is_found, found_passes, first_lends, greatest_of_three)

@@ -1,11 +1,12 @@
 -- Runs whose replies, priorities and reasons were worked out by hand, computed by the definitions alone. Nothing
 -- cites these theorems: they are checked with the crate, and show that the definitions say what is meant.
-use Rattle.std.specs.Prelude.{◌≡◌, ℕ, ◌^◌, ◌-◌, List, [], ◌∷◌, ◌++◌, Option, Some, None, refl, ◌==◌, if◌then◌else◌}
+use Rattle.std.specs.Prelude.{◌≡◌, ℕ, List, [], ◌∷◌, ◌++◌, Option, Some, None, refl, ◌==◌, if◌then◌else◌}
 use Rattle.std.specs.List.{filter_map}
 use Rattle.pim_base.specs.State.{State, start, task_numbers}
 use Rattle.pim_base.specs.Priorities.{effective_priority}
 use Rattle.pim_base.specs.Steps.{reply_of, after}
 use Rattle.pim_base.specs.Reasons.{reason_of}
+use Rattle.pim_base.specs.declared.limits.TheConstants.{LAST_TICKET}
 use Rattle.pim_base.specs.declared.steps.Protocol.{Protocol}
 use Rattle.pim_base.specs.declared.steps.Op.{Op}
 use Rattle.pim_base.specs.declared.steps.Op.TheVariants.{Lock, Unlock, Try, Cancel, SetBase, ReleaseAll}
@@ -186,7 +187,7 @@ ceiling_is_a_reason_before_a_waiter :
 ceiling_is_a_reason_before_a_waiter = refl
 
 last_ticket :
-    report (start (10 ∷ 20 ∷ 30 ∷ []) (inherit ∷ []) (2 ^ 64 - 2)) ((1, Lock 1) ∷ (2, Lock 1) ∷ (3, Lock 1) ∷ (3, Try 1) ∷ [])
+    report (start (10 ∷ 20 ∷ 30 ∷ []) (inherit ∷ []) LAST_TICKET) ((1, Lock 1) ∷ (2, Lock 1) ∷ (3, Lock 1) ∷ (3, Try 1) ∷ [])
     ≡ says Granted ∷ says Queued ∷ at 1 20 (Waiter 2 1) ∷ says (Refused Refusal.Tickets) ∷ says (Refused Refusal.Busy) ∷ []
 last_ticket = refl
 

@@ -1,18 +1,18 @@
 -- What no step breaks: tickets of their own, and no free mutex with waiters.
-use Rattle.std.proofs.Common.{◌≡◌, ◌⊎◌, inl, inr, ℕ, zero, suc, ◌+◌, ◌<◌, true, List, [], ◌∷◌, length, map, replicate, Option, Some, None, is_some, IsSome, refl, sym, ◌∙◌, ap, subst, arith, unwrap_or, option_and_then, Contains, slice_get}
+use Rattle.std.proofs.Common.{◌≡◌, ◌⊎◌, inl, inr, ℕ, zero, suc, true, List, [], ◌∷◌, length, map, replicate, Option, Some, None, is_some, IsSome, refl, sym, ◌∙◌, ap, subst, arith, unwrap_or, option_and_then, Contains, slice_get}
 use Rattle.std.proofs.lemmas.List.{length-replicate}
 use Rattle.std.proofs.lemmas.Bool.Decides.{eqb_tells}
-use Rattle.std.proofs.lemmas.Option.{none-some, same_Some}
+use Rattle.std.proofs.lemmas.Option.{none-some}
 use Rattle.pim_base.specs.Lists.{nth, put, first_item}
-use Rattle.pim_base.specs.State.{State, IsTask, start, owner_of, wait_of, with_owner, with_wait, with_base, queued}
+use Rattle.pim_base.specs.State.{State, IsTask, start, owner_of, wait_of, with_owner, with_wait, queued}
 use Rattle.pim_base.specs.Chains.{blocker}
 use Rattle.pim_base.specs.Priorities.{effective_priority}
 use Rattle.pim_base.specs.Queues.{first_of, queue_of}
 use Rattle.pim_base.specs.Checks.{is_owned}
-use Rattle.pim_base.specs.Steps.{hand_over, hand_over_to, reply_of, after}
+use Rattle.pim_base.specs.Steps.{hand_over, reply_of, after}
 use Rattle.pim_base.specs.Runs.{IsRun}
 use Rattle.pim_base.specs.Steady.{HasOwnTickets, WaitsAreForOwned, IsSteady}
-use Rattle.pim_base.specs.RunLaws.{SameStepLaw, SameRunLaw, SteadyStepLaw, SteadyRunLaw, StartLaw}
+use Rattle.pim_base.specs.RunLaws.{SameRunLaw, SteadyStepLaw, SteadyRunLaw, StartLaw}
 use Rattle.pim_base.specs.declared.steps.Entry.{Entry}
 use Rattle.pim_base.specs.declared.steps.Protocol.{Protocol}
 use Rattle.pim_base.specs.declared.steps.Wait.{Wait}
@@ -41,58 +41,11 @@ wait_of-put S t x o w e = elim (eqb_tells t x) [
 wait_of-ended : (S : State) (t x : ℕ) (w : Wait) → wait_of (with_wait S t None) x ≡ Some w → wait_of S x ≡ Some w
 wait_of-ended S t x w e = elim (wait_of-put S t x None w e) [ inl h ↦ absurd (none-some w h.1) | inr old ↦ old ]
 
--- each wait of T is one of S, and no ticket is taken back
-record HasFewerWaits (S T : State) : Type 0 where
-  waits : (x : ℕ) (w : Wait) → wait_of T x ≡ Some w → wait_of S x ≡ Some w
-  next : T.next ≡ S.next
-
-tickets_of_fewer : (S T : State) → HasFewerWaits S T → HasOwnTickets S → HasOwnTickets T
-tickets_of_fewer S T fewer ok = record {
-  given = λ t w e. omega (arith, ok.given t w (fewer.waits t w e), fewer.next);
-  own = λ t u v w a b same. ok.own t u v w (fewer.waits t v a) (fewer.waits u w b) same;
-}
-
-fewer-hand_over : (S : State) (m : ℕ) → HasFewerWaits S (hand_over S m)
-fewer-hand_over S m = go (first_of S m)
-  where
-    go : (o : Option Waiter) → HasFewerWaits S (hand_over_to S m o)
-    go None = record { waits = λ x w e. e; next = refl }
-    go (Some v) = record { waits = λ x w e. wait_of-ended S v.task x w e; next = refl }
-
 tickets-queued : (S : State) (a m : ℕ) → HasOwnTickets S → HasOwnTickets (queued S a m)
-tickets-queued S a m ok = record { given = λ t w e. given t w (wait_of-put S a t (Some new) w e); own = own }
-  where
-    new : Wait
-    new = record { mutex = m; ticket = S.next }
-
-    given : (t : ℕ) (w : Wait) → ((a ≡ t) × (Some new ≡ Some w)) ⊎ (wait_of S t ≡ Some w) → w.ticket < S.next + 1
-    given t w (inl h) = let it : S.next ≡ w.ticket = ap (λ (v : Wait). v.ticket) (same_Some new w h.1) in omega (arith, it)
-    given t w (inr old) = omega (arith, ok.given t w old)
-
-    apart : (t u : ℕ) (v w : Wait) → (Some new ≡ Some v) → wait_of S u ≡ Some w → v.ticket ≡ w.ticket → t ≡ u
-    apart t u v w e old same =
-        let it : S.next ≡ v.ticket = ap (λ (v : Wait). v.ticket) (same_Some new v e) in absurd (omega (arith, it, same, ok.given u w old))
-
-    own : (t u : ℕ) (v w : Wait) → wait_of (queued S a m) t ≡ Some v → wait_of (queued S a m) u ≡ Some w → v.ticket ≡ w.ticket → t ≡ u
-    own t u v w e f same = elim (wait_of-put S a t (Some new) v e) [
-      | inl h ↦ elim (wait_of-put S a u (Some new) w f) [
-        | inl k ↦ sym h.0 ∙ k.0
-        | inr old ↦ apart t u v w h.1 old same
-      ]
-      | inr before ↦ elim (wait_of-put S a u (Some new) w f) [
-        | inl k ↦ sym (apart u t w v k.1 before (sym same))
-        | inr old ↦ ok.own t u v w before old same
-      ]
-    ]
+tickets-queued S a m ok = grind (arith, wait_of-put)
 
 tickets_kept : IsKeptBySteps HasOwnTickets
-tickets_kept = record {
-  grant = λ S a m ok idle. tickets_of_fewer S (with_owner S m (Some a)) (record { waits = λ x w e. e; next = refl }) ok;
-  enqueue = λ S a m ok task idle open' owned. tickets-queued S a m ok;
-  hand = λ S m ok. tickets_of_fewer S (hand_over S m) (fewer-hand_over S m) ok;
-  withdraw = λ S t ok. tickets_of_fewer S (with_wait S t None) (record { waits = λ x w e. wait_of-ended S t x w e; next = refl }) ok;
-  set_base = λ S t p ok. tickets_of_fewer S (with_base S t p) (record { waits = λ x w e. e; next = refl }) ok;
-}
+tickets_kept = grind (arith, tickets-queued, wait_of-ended)
 
 -- an owned mutex that gets an owner is owned, and so are the others
 owned-with_owner : (S : State) (m a x : ℕ) → IsSome (owner_of S x) → IsSome (owner_of (with_owner S m (Some a)) x)
@@ -109,10 +62,7 @@ owned-with_owner S m a x h = elim (eqb_tells m x) [
         ap (λ k. is_some (owner_of (with_owner S k (Some a)) x)) same ∙ ap (λ o. is_some (unwrap_or o None)) put
 
 owned-queued : (S : State) (a m : ℕ) → is_owned S m ≡ true → WaitsAreForOwned S → WaitsAreForOwned (queued S a m)
-owned-queued S a m owned ok t w e = elim (wait_of-put S a t (Some (record { mutex = m; ticket = S.next })) w e) [
-  | inl h ↦ ap (λ (v : Wait). is_some (owner_of S v.mutex)) (sym (same_Some (record { mutex = m; ticket = S.next }) w h.1)) ∙ owned
-  | inr old ↦ ok t w old
-]
+owned-queued S a m owned ok t w e = grind (arith, wait_of-put)
 
 -- a task that waits for m is in its queue
 first_not_none : (S : State) (m t : ℕ) (w : Wait) → IsSteady S → wait_of S t ≡ Some w → w.mutex ≡ m → first_of S m ≡ None → ⊥
@@ -133,14 +83,7 @@ first_not_none S m t w ok e here none = go (queue_of S m) none there
     go (v ∷ q) h c = cc
 
 owned-hand_over : (S : State) (m : ℕ) → IsSteady S → WaitsAreForOwned (hand_over S m)
-owned-hand_over S m ok = go (first_of S m) refl
-  where
-    go : (o : Option Waiter) → first_of S m ≡ o → WaitsAreForOwned (hand_over_to S m o)
-    go None none t w e = elim (eqb_tells m w.mutex) [
-      | inl same ↦ absurd (first_not_none S m t w ok e (sym same.1) none)
-      | inr other ↦ ap (λ v. is_some (unwrap_or v None)) (nth-put_other S.owner m w.mutex None other.1) ∙ ok.owned t w e
-    ]
-    go (Some v) some t w e = owned-with_owner S m v.task w.mutex (ok.owned t w (wait_of-ended S v.task t w e))
+owned-hand_over S m ok = grind (arith, first_not_none, nth-put_other, owned-with_owner, wait_of-ended)
 
 pub steady_kept : IsKeptBySteps IsSteady
 steady_kept = record {
@@ -185,8 +128,7 @@ none-replicate (suc n) (suc i) = none-replicate n i
 
 -- no task waits at the start
 idle_at_start : (bases : List ℕ) (protocols : List Protocol) (next t : ℕ) → wait_of (start bases protocols next) t ≡ None
-idle_at_start bases protocols next zero = refl
-idle_at_start bases protocols next (suc i) = none-replicate (length bases) i
+idle_at_start bases protocols next t = grind (arith, none-replicate)
 
 pub start_law : StartLaw
 start_law bases protocols next = record {
@@ -209,9 +151,6 @@ start_law bases protocols next = record {
 
     idle : (t : ℕ) → wait_of S t ≡ None
     idle = idle_at_start bases protocols next
-
-pub same_step_law : SameStepLaw
-same_step_law S T step e = (ap (λ U. reply_of U step) e, ap (λ U. after U step) e)
 
 pub same_run_law : SameRunLaw
 same_run_law S end other [] [] run again steps = (refl, run ∙ sym again)

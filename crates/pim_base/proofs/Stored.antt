@@ -1,32 +1,20 @@
 -- Priorities that agree with their neighbours are the effective ones.
-use Rattle.std.proofs.Common.{◌≡◌, ℕ, zero, suc, ◌+◌, ◌≤◌, max, true, length, map, filter, Option, Some, None, refl, ◌∙◌, ap, arith, option_and_then, le_trans, le_antisymm}
-use Rattle.std.proofs.lemmas.Bool.{eqb-true, eq-eqb}
+use Rattle.std.proofs.Common.{◌≡◌, ℕ, zero, suc, ◌+◌, ◌≤◌, max, true, length, map, filter, Option, Some, refl, ◌∙◌, ap, arith, le_trans, le_antisymm, rules}
 use Rattle.pim_base.specs.Lists.{contains, holds}
-use Rattle.pim_base.specs.State.{State, IsTask, task_numbers, wait_of, owner_of, protocol_of}
-use Rattle.pim_base.specs.Chains.{blocker, heir, heir_in, heir_of, inherit_chain}
+use Rattle.pim_base.specs.State.{State, IsTask, task_numbers}
+use Rattle.pim_base.specs.Chains.{blocker, heir, heir_in, inherit_chain}
 use Rattle.pim_base.specs.Priorities.{own_priority, effective_priority, local_priority}
 use Rattle.pim_base.specs.Laws.{IsSound, StoredLaw}
 use Rattle.pim_base.specs.declared.steps.Protocol.{Protocol}
-use Rattle.pim_base.specs.declared.steps.Wait.{Wait}
-use Rattle.pim_base.proofs.Hops.{hops, Reaches, first_hop, hops_front, hops-add, NoneReturns, OnlyKnownHop, reaches_from_contains, contains_from_reaches, known_on_chain, chain_is_short}
+use Rattle.pim_base.proofs.Hops.{hops, first_hop, hops_front, hops-add, NoneReturns, OnlyKnownHop, reaches_from_contains, contains_from_reaches, known_on_chain, chain_is_short}
 use Rattle.pim_base.proofs.Closing.{none_returns, only_known_hop}
 use Rattle.pim_base.proofs.Greatest.{greatest_of, greatest-cons, le-greatest_of, greatest_of-le}
 
 pub heir_in-owner : (p : Protocol) (o : Option ℕ) (y : ℕ) → heir_in p o ≡ Some y → o ≡ Some y
-heir_in-owner Protocol.Inherit o y h = h
-heir_in-owner Protocol.None o y h = cc
-heir_in-owner (Protocol.Protect c) o y h = cc
+heir_in-owner p o y h = search rules
 
 pub heir-blocker : (S : State) (x y : ℕ) → heir S x ≡ Some y → blocker S x ≡ Some y
-heir-blocker S x y e = go (wait_of S x) refl e
-  where
-    go :
-        (v : Option Wait)
-        → wait_of S x ≡ v
-        → option_and_then (λ (w : Wait). heir_of S w.mutex) v ≡ Some y
-        → blocker S x ≡ Some y
-    go None h e = cc
-    go (Some w) h e = ap (option_and_then (λ (w : Wait). owner_of S w.mutex)) h ∙ heir_in-owner (protocol_of S w.mutex) (owner_of S w.mutex) y e
+heir-blocker S x y e = search rules
 
 heir_hops : (S : State) (k x y : ℕ) → hops (heir S) k x ≡ Some y → hops (blocker S) k x ≡ Some y
 heir_hops S zero x y e = e
@@ -48,12 +36,10 @@ last_hop hop (suc k) x y e =
     (l.0, hops_front hop k x f.0 f.1 ∙ l.1, l.2)
 
 pub holds_from : (o : Option ℕ) (t : ℕ) → o ≡ Some t → holds o t ≡ true
-holds_from None t e = cc
-holds_from (Some u) t e = let same : u ≡ t = cc in eq-eqb u t same
+holds_from o t e = search rules
 
 pub from_holds : (o : Option ℕ) (t : ℕ) → holds o t ≡ true → o ≡ Some t
-from_holds None t e = cc
-from_holds (Some u) t e = ap Some (eqb-true u t e)
+from_holds o t e = search rules
 
 -- a task's own priority counts where its chain leads
 pub own_priority-le-effective_priority :
@@ -71,11 +57,7 @@ pub effective_priority-le :
     (S : State) (t b : ℕ)
     → ((u k : ℕ) → IsTask S u → k ≤ length S.base → hops (heir S) k u ≡ Some t → own_priority S u ≤ b)
     → effective_priority S t ≤ b
-effective_priority-le S t b h =
-    greatest_of-le (own_priority S) (λ v. contains (inherit_chain S v) t) (length S.base) b
-    (λ u low high on.
-    let r : Reaches (heir S) (length S.base) u t = reaches_from_contains (heir S) (length S.base) u t on in
-    h u r.0 (low, high) r.1 r.2)
+effective_priority-le S t b h = grind (arith, greatest_of-le, reaches_from_contains)
 
 pub local_is :
     (S : State) (stored : ℕ → ℕ) (t : ℕ)
@@ -116,10 +98,7 @@ pub rises :
     → IsTask S t
     → hops (heir S) k u ≡ Some t
     → stored u ≤ stored t
-rises S stored ok agree zero u t task_u task_t e = let same : stored u ≡ stored t = ap stored (some_parts e) in omega arith
-  where
-    some_parts : {x y : ℕ} → Some x ≡ Some y → x ≡ y
-    some_parts e = cc
+rises S stored ok agree zero u t task_u task_t e = search rules
 rises S stored ok agree (suc k) u t task_u task_t e =
     let f = first_hop (heir S) k u t e in
     let task_v : IsTask S f.0 =

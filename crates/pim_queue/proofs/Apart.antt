@@ -132,13 +132,7 @@ queued_joined :
     → length ws < room
     → AllByRecursion (Differs w) ws
     → AreQueued room (insert_by precedes ws w)
-queued_joined room w ws queued fits new =
-    let longer : length (insert_by precedes ws w) ≡ suc (length ws) = length-insert_by w ws in
-    record {
-      ordered = ordered_place w ws queued.ordered (tickets_apart w ws new);
-      apart = apart_place w ws queued.apart new;
-      fits = omega arith;
-    }
+queued_joined room w ws queued fits new = grind (arith, length-insert_by, ordered_place, tickets_apart, apart_place)
 
 pub queued_placed :
     (room : ℕ) (w : Waiter) (ws : List Waiter)
@@ -150,10 +144,7 @@ pub queued_placed :
 queued_placed room w ws queued fits task ticket = queued_joined room w ws queued fits (differs_from w ws task ticket)
 
 pub queued_without : (room task : ℕ) (ws : List Waiter) → AreQueued room ws → AreQueued room (without task ws)
-queued_without room task ws queued =
-    let shorter : length (without task ws) ≤ length ws = length-without task ws in
-    let fits : length ws ≤ room = queued.fits in
-    record { ordered = ordered_without task ws queued.ordered; apart = apart_without task ws queued.apart; fits = omega arith }
+queued_without room task ws queued = grind (arith, length-without, ordered_without, apart_without)
 
 pub queued_repositioned :
     (room task prio : ℕ) (ws : List Waiter)
@@ -161,10 +152,7 @@ pub queued_repositioned :
     → list_any (is_of task) ws ≡ true
     → AreQueued room (repositioned task prio ws)
 queued_repositioned room task prio ws queued here =
-    let fewer : suc (length (without task ws)) ≡ length ws = length-without_one task ws here in
-    let fits : length ws ≤ room = queued.fits in
-    queued_joined room (record { task = task; prio = prio; ticket = ticket_of task ws }) (without task ws) (queued_without room task ws queued)
-    (omega arith) (others_differ task prio ws queued.apart here)
+    search (length-without_one, queued_joined, queued_without, others_differ)
 
 -- the one that is found is of the task
 found_is_of : (task : ℕ) (ws : List Waiter) (w : Waiter) → find (is_of task) ws ≡ Some w → w.task ≡ task
@@ -188,11 +176,4 @@ pub is_repositioned :
     → v ≡ record w { prio = prio }
     → to ≡ position_or_len (precedes v) (remove ws from)
     → insert (remove ws from) to v ≡ repositioned task prio ws
-is_repositioned task prio w v ws from to was out now place =
-    let its_task : w.task ≡ task = found_is_of task ws w was in
-    let its_ticket : w.ticket ≡ ticket_of task ws = sym (ap (λ o. option_map_or (λ (u : Waiter). u.ticket) o 0) was) in
-    let same : v ≡ record { task = task; prio = prio; ticket = ticket_of task ws } = cc in
-    ap (λ i. insert (remove ws from) i v) place
-    ∙ sym (insert_by_is v (remove ws from))
-    ∙ ap (λ us. insert_by precedes us v) (sym out)
-    ∙ ap (insert_by precedes (without task ws)) same
+is_repositioned task prio w v ws from to was out now place = grind (arith, found_is_of, insert_by_is)

@@ -1,6 +1,7 @@
-use Rattle.std.proofs.Common.{◌≡◌, ℕ, zero, suc, ◌<◌, ◌≤◌, Bool, true, false, cond, ◌&&◌, ◌||◌, ◌⊎◌, inl, inr, refl, sym, ◌∙◌, ap, subst, arith, Some, None, List, [], ◌∷◌, take, drop, eqb, ltb}
+use Rattle.std.proofs.lemmas.Grind.{common_steps}
+use Rattle.std.proofs.Common.{◌≡◌, ℕ, zero, suc, ◌<◌, ◌≤◌, Bool, true, false, cond, ◌||◌, ◌⊎◌, inl, inr, refl, sym, ◌∙◌, ap, subst, Some, None, List, [], ◌∷◌, take, drop, rules, arith}
 use Rattle.std.specs.List.{list_any, find, AllByRecursion}
-use Rattle.std.proofs.lemmas.Bool.{both_ways, cases_order, ltb-true, lt-ltb, eqb-true, eq-eqb, or_cases, or_left, or_right, and_parts, and_from, cond_both}
+use Rattle.std.proofs.lemmas.Bool.{both_ways, eqb-true, or_cases, or_left, or_right, cond_both}
 use Rattle.std.proofs.lemmas.Option.{none-some, same_Some}
 use Rattle.pim_base.specs.declared.steps.Waiter.{Waiter}
 use Rattle.pim_base.specs.Lists.{insert_by}
@@ -69,77 +70,27 @@ found_holds p P xs x h all =
 
 -- ---- the order
 pub before_prio : (a b : Waiter) → precedes a b ≡ true → b.prio ≤ a.prio
-before_prio a b h = go (or_cases _ _ h)
-  where
-    go : (ltb b.prio a.prio ≡ true) ⊎ ((eqb a.prio b.prio && ltb a.ticket b.ticket) ≡ true) → b.prio ≤ a.prio
-    go (inl l) = let lt : b.prio < a.prio = ltb-true _ _ l in omega arith
-    go (inr e) = let same : a.prio ≡ b.prio = eqb-true _ _ (and_parts _ _ e).0 in omega arith
+before_prio a b h = search rules
 
 -- the same, as a choice of facts
 abbrev pub Before : Waiter → Waiter → Type 0
 Before a b = (b.prio < a.prio) ⊎ ((a.prio ≡ b.prio) × (a.ticket < b.ticket))
 
-pub told_before : (a b : Waiter) → precedes a b ≡ true → Before a b
-told_before a b h = go (or_cases _ _ h)
-  where
-    go : (ltb b.prio a.prio ≡ true) ⊎ ((eqb a.prio b.prio && ltb a.ticket b.ticket) ≡ true) → Before a b
-    go (inl l) = inl (ltb-true _ _ l)
-    go (inr e) = let parts = and_parts _ _ e in inr (eqb-true _ _ parts.0, ltb-true _ _ parts.1)
-
-pub before_from : (a b : Waiter) → Before a b → precedes a b ≡ true
-before_from a b (inl l) = or_left _ _ (lt-ltb _ _ l)
-before_from a b (inr e) = or_right _ _ (and_from _ _ (eq-eqb _ _ e.0) (lt-ltb _ _ e.1))
-
 pub before_trans : (a b c : Waiter) → precedes a b ≡ true → precedes b c ≡ true → precedes a c ≡ true
-before_trans a b c h k = before_from a c (go (told_before a b h) (told_before b c k))
-  where
-    go : Before a b → Before b c → Before a c
-    go (inl l) (inl m) = inl (omega arith)
-    go (inl l) (inr e) = let same : b.prio ≡ c.prio = e.0 in inl (omega arith)
-    go (inr e) (inl m) = let same : a.prio ≡ b.prio = e.0 in inl (omega arith)
-    go (inr e) (inr f) = inr (e.0 ∙ f.0, omega arith)
+before_trans a b c h k = search rules
 
 pub before_not : (a b : Waiter) → precedes a b ≡ true → precedes b a ≡ false
-before_not a b h = go (precedes b a) refl
-  where
-    never : Before a b → Before b a → ⊥
-    never (inl l) (inl m) = omega arith
-    never (inl l) (inr e) = let same : b.prio ≡ a.prio = e.0 in omega arith
-    never (inr e) (inl m) = let same : a.prio ≡ b.prio = e.0 in omega arith
-    never (inr e) (inr f) = let less : a.ticket < b.ticket = e.1 in let more : b.ticket < a.ticket = f.1 in omega arith
-
-    go : (c : Bool) → precedes b a ≡ c → c ≡ false
-    go false k = refl
-    go true k = absurd (never (told_before a b h) (told_before b a k))
+before_not a b h = search rules
 
 pub before_itself : (w : Waiter) → precedes w w ≡ false
-before_itself w = go (precedes w w) refl
-  where
-    go : (b : Bool) → precedes w w ≡ b → b ≡ false
-    go false h = refl
-    go true h = absurd (both_ways _ (before_not w w h) h)
+before_itself w = search rules
 
 pub before_else : (a b : Waiter) → (b.ticket ≡ a.ticket → ⊥) → precedes a b ≡ false → precedes b a ≡ true
-before_else a b apart h = before_from b a (go (cases_order a.prio b.prio) (cases_order a.ticket b.ticket))
-  where
-    never : Before a b → ⊥
-    never k = both_ways _ h (before_from a b k)
-
-    go :
-        (a.prio ≡ b.prio) ⊎ ((a.prio < b.prio) ⊎ (b.prio < a.prio))
-        → (a.ticket ≡ b.ticket) ⊎ ((a.ticket < b.ticket) ⊎ (b.ticket < a.ticket))
-        → Before b a
-    go (inr (inl l)) _ = inl l
-    go (inr (inr g)) _ = absurd (never (inl g))
-    go (inl e) (inl f) = absurd (apart (sym f))
-    go (inl e) (inr (inl l)) = absurd (never (inr (e, l)))
-    go (inl e) (inr (inr g)) = inr (sym e, g)
+before_else a b apart h = search rules
 
 -- ---- a part of an ordered list
 all_take : {X : Type 0} (P : X → Type 0) (n : ℕ) (xs : List X) → AllByRecursion P xs → AllByRecursion P (take n xs)
-all_take P zero xs h = tt
-all_take P (suc n) [] h = tt
-all_take P (suc n) (x ∷ xs) h = (h.0, all_take P n xs h.1)
+all_take P n xs h = grind (arith, common_steps)
 
 pub ordered_take : (n : ℕ) (ws : List Waiter) → IsOrdered ws → IsOrdered (take n ws)
 ordered_take zero ws h = tt

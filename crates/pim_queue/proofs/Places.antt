@@ -1,8 +1,9 @@
 -- The place of a waiter in its queue.
-use Rattle.std.proofs.Common.{◌≡◌, ℕ, zero, suc, ◌<◌, ◌≤◌, Bool, true, false, not, ◌⊎◌, inl, inr, refl, sym, ◌∙◌, ap, subst, arith, Some, List, [], ◌∷◌, ◌++◌, length, get_or, if◌then◌else◌, eq-or-lt_of_le, ◌+◌, ◌-◌, add-one, cond, set, take, drop, rules}
+use Rattle.std.proofs.lemmas.Grind.{common_steps}
+use Rattle.std.proofs.Common.{◌≡◌, ℕ, zero, suc, ◌<◌, ◌≤◌, Bool, true, false, not, ◌⊎◌, inl, inr, refl, sym, ◌∙◌, ap, subst, arith, Some, List, [], ◌∷◌, ◌++◌, length, get_or, if◌then◌else◌, ◌+◌, ◌-◌, cond, set, take, rules}
 use Rattle.std.specs.List.{AllByRecursion, find, insert, remove, between, copy_within, position_or_len}
 use Rattle.std.specs.List.Sorted.{IsPartitionedBy, IsPartitionPoint}
-use Rattle.std.proofs.lemmas.Bool.{both_ways, cases_eq, not-true, not-false, cond-true, cond-false, eq-eqb, ne_eqb}
+use Rattle.std.proofs.lemmas.Bool.{cases_eq, not-true, not-false, cond-true, cond-false}
 use Rattle.std.proofs.lemmas.List.{same_lists, places, length-set, get_or-set_other, length-take, length-take-le}
 use Rattle.std.proofs.lemmas.List.Folds.{prefix_len-append}
 use Rattle.std.proofs.lemmas.List.Sums.{prefix_len-le-length, position_or_len_is}
@@ -15,9 +16,7 @@ use Rattle.pim_queue.specs.Waiters.{is_of, without, IsOrdered}
 use Rattle.pim_queue.proofs.Order.{found_holds, before_trans, before_itself, before_not, ordered_take, ordered_drop}
 
 all_at : {X : Type 0} (P : X → Type 0) → (xs : List X) → AllByRecursion P xs → (k : ℕ) (d : X) → k < length xs → P (get_or xs k d)
-all_at P [] h k d low = absurd (omega arith)
-all_at P (x ∷ xs) h zero d low = h.0
-all_at P (x ∷ xs) h (suc k) d low = all_at P xs h.1 k d (omega arith)
+all_at P xs h k d low = grind (arith, common_steps)
 
 ordered_at :
     (ws : List Waiter)
@@ -33,13 +32,7 @@ ordered_at (w ∷ ws) h (suc i) (suc j) d less low = ordered_at ws h.1 i j d (om
 
 -- those that a waiter doesn't come before stand in front
 pub partitioned : (w : Waiter) (ws : List Waiter) → IsOrdered ws → IsPartitionedBy (λ v. not (precedes w v)) ws
-partitioned w ws ordered i j d le low behind = go (eq-or-lt_of_le le) (precedes w (get_or ws i d)) refl
-  where
-    go : (i ≡ j) ⊎ (i < j) → (b : Bool) → precedes w (get_or ws i d) ≡ b → not b ≡ true
-    go _ false h = refl
-    go (inl is) true h = absurd (both_ways _ (not-true _ behind) (ap (λ k. precedes w (get_or ws k d)) (sym is) ∙ h))
-    go (inr less) true h =
-        absurd (both_ways _ (not-true _ behind) (before_trans w (get_or ws i d) (get_or ws j d) h (ordered_at ws ordered i j d less low)))
+partitioned w ws ordered i j d le low behind = grind (arith, before_trans, ordered_at)
 
 -- its place is in front of the first that it comes before
 pub insert_by_is : (w : Waiter) (ws : List Waiter) → insert_by precedes ws w ≡ insert ws (position_or_len (precedes w) ws) w
@@ -130,22 +123,14 @@ pub place_before :
     → position_or_len p (take from ws) < from
     → from < length ws
     → position_or_len p (remove ws from) ≡ position_or_len p (take from ws)
-place_before p ws from less low =
-    prefix_len-append (λ x. not (p x)) (take from ws) (drop (suc from) ws)
-    ∙ cond-false _ _ _ (ne_eqb (position_or_len p (take from ws)) (length (take from ws)) (omega (arith, length-take {A = Waiter})))
+place_before p ws from less low = grind (arith, prefix_len-append, length-take)
 
 pub place_behind :
     (p : Waiter → Bool) (ws : List Waiter) (from : ℕ)
     → from ≤ position_or_len p (take from ws)
     → from < length ws
     → position_or_len p (remove ws from) ≡ from + position_or_len p (between (from + 1) (length ws) ws)
-place_behind p ws from all low =
-    let most : position_or_len p (take from ws) ≤ length (take from ws) = prefix_len-le-length (λ x. not (p x)) (take from ws) in
-    let short : length (take from ws) ≡ from = length-take-le from ws (omega arith) in
-    prefix_len-append (λ x. not (p x)) (take from ws) (drop (suc from) ws)
-    ∙ cond-true _ _ _ (eq-eqb (position_or_len p (take from ws)) (length (take from ws)) (omega arith))
-    ∙ ap (λ n. n + position_or_len p (drop (suc from) ws)) short
-    ∙ ap (λ us. from + position_or_len p us) (sym (rw add-one (between_to_end ws (suc from) (length ws) (omega arith))))
+place_behind p ws from all low = grind (arith, prefix_len-le-length, length-take-le, prefix_len-append, between_to_end)
 
 pub ruleset among_others = (ordered_take, ordered_drop, place_before, place_behind)
 
@@ -191,5 +176,4 @@ pub ruleset moved = (moved_forward, moved_back, stayed)
 
 -- one more at the end, taken out again
 pub added : (w : Waiter) (ws : List Waiter) → remove (ws ++ w ∷ []) (length ws) ≡ ws
-added w [] = refl
-added w (v ∷ vs) = ap (λ us. v ∷ us) (added w vs)
+added w ws = grind (arith, common_steps)

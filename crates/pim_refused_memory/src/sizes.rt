@@ -18,7 +18,7 @@ struct Size {
     count: u16,
     /// The base of the last task, or 0 where there is no task.
     last_base: u16,
-    /// Where task 1 owns a mutex for which all others wait: the first waiter and the last one, or 0 where nobody waits.
+    /// Where task 1 owns a mutex for which all others wait: the first waiter and the last one, or 0 where no task waits.
     first: u16,
     last: u16,
 }
@@ -64,7 +64,7 @@ fn inherit(alloc: Global, mutexes: Size) -> Result<Vec<Protocol>, Fail> {
     Ok(vec![in alloc; Protocol::Inherit; mutexes.count as usize]?)
 }
 
-// all mutexes are free and nobody waits
+// all mutexes are free and no task waits
 fn expect_fresh(rt: &impl Abort, manager: &Manager, tasks: Size, mutexes: Size, next: u64) {
     assert_eq!(rt; manager.tasks(), tasks.count);
     assert_eq!(rt; manager.mutexes(), mutexes.count);

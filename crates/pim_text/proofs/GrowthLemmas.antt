@@ -1,4 +1,5 @@
 -- A text with one line more, or one less.
+use Rattle.std.proofs.lemmas.Grind.{common_steps}
 use Rattle.std.proofs.Common.{◌≡◌, ℕ, ◌+◌, ◌<◌, ◌⊎◌, inl, inr, List, [], ◌∷◌, ◌++◌, arith, refl, ap, sym, ◌∙◌, subst, length, map, append_assoc, Result, Ok, Err, IfOk, Bool, true, false, None}
 use Rattle.std.specs.Bool.{MatchBool}
 use Rattle.std.specs.List.{AllByRecursion}
@@ -29,10 +30,7 @@ snoc x [] = record { front = []; last = x; whole = refl }
 snoc x (y ∷ ys) = let rest = snoc y ys in record { front = x ∷ rest.front; last = rest.last; whole = ap (λ zs. x ∷ zs) rest.whole }
 
 same_snoc : {A : Type 0} (xs ys : List A) (x y : A) → xs ++ x ∷ [] ≡ ys ++ y ∷ [] → (xs ≡ ys) × (x ≡ y)
-same_snoc [] [] x y e = (refl, cc)
-same_snoc [] (b ∷ ys) x y e = absurd (omega (arith, ap length e, length_push ys y))
-same_snoc (a ∷ xs) [] x y e = absurd (omega (arith, ap length e, length_push xs x))
-same_snoc (a ∷ xs) (b ∷ ys) x y e = let rest = same_snoc xs ys x y (cc) in let first : a ≡ b = cc in (let tails = rest.0 in cc, rest.1)
+same_snoc xs ys x y e = grind (arith, common_steps)
 
 -- the trace is another one with a line that may follow there
 record Grown (u : Trace) : Type 0 where
@@ -69,30 +67,16 @@ all_front P [] x h = (tt, h.0)
 all_front P (y ∷ ys) x h = let rest = all_front P ys x h.1 in ((h.0, rest.0), rest.1)
 
 within : (t : Trace) (m : Line) → IsWithinLimits t → MayFollow t m → AllByRecursion IsLine (declared (with_line t m)) → IsWithinLimits (with_line t m)
-within t (lines.Task n p) is may each =
-    record { tasks = omega (arith, may.0, length_push t.bases p); mutexes = is.mutexes; steps = is.steps; each = each }
-within t (lines.Mutex n p) is may each =
-    record { tasks = is.tasks; mutexes = omega (arith, may.0, length_push t.protocols p); steps = is.steps; each = each }
-within t (lines.Step s) is may each =
-    record { tasks = is.tasks; mutexes = is.mutexes; steps = omega (arith, may, length_push t.steps s); each = each }
+within t m is may each = grind (arith, common_steps)
 
 -- a valid text with one more line that may follow is valid
 grows : (ls : List (List ℕ)) (t : Trace) (m : Line) → Spells ls t → IsLine m → MayFollow t m → Spells (ls ++ spelled m ∷ []) (with_line t m)
-grows ls t m spells is may =
-    let more = declared-with_line t m may in
-    let each : AllByRecursion IsLine (declared (with_line t m)) = subst (AllByRecursion IsLine) (sym more) (all_append IsLine (declared t) (m ∷ []) spells.0.each (is, tt)) in (
-      within t m spells.0 may each,
-      ap (λ xs. xs ++ spelled m ∷ []) spells.1
-          ∙ ap (λ xs. version_line ∷ xs) (sym (map-append spelled (declared t) (m ∷ [])) ∙ ap (map spelled) (sym more)),
-    )
+grows ls t m spells is may = grind (arith, declared-with_line, all_append, within, map-append)
 
 -- ---- the rules of a kind, line by line
 
 obeys_more : (kind : TextKind) (t : Trace) (m : Line) → MayFollow t m → Allows kind t m → Obeys kind t → Obeys kind (with_line t m)
-obeys_more kinds.Trace t m may allowed h = tt
-obeys_more kinds.Script t (lines.Task n p) may allowed h = rw may.3 tt
-obeys_more kinds.Script t (lines.Mutex n p) may allowed h = h
-obeys_more kinds.Script t (lines.Step s) may allowed h = all_append (StandsInScript (length t.bases)) t.steps (s ∷ []) h (allowed, tt)
+obeys_more kind t m may allowed h = grind (arith, common_steps)
 
 obeys_parts : (kind : TextKind) (t : Trace) (m : Line) → MayFollow t m → Obeys kind (with_line t m) → Obeys kind t × Allows kind t m
 obeys_parts kinds.Trace t m may h = (tt, tt)
@@ -102,12 +86,7 @@ obeys_parts kinds.Script t (lines.Step s) may h = all_front (StandsInScript (len
 
 -- without its last line a trace is within the limits
 within_before : (t : Trace) (m : Line) → IsWithinLimits (with_line t m) → AllByRecursion IsLine (declared t) → IsWithinLimits t
-within_before t (lines.Task n p) is each =
-    record { tasks = omega (arith, is.tasks, length_push t.bases p); mutexes = is.mutexes; steps = is.steps; each = each }
-within_before t (lines.Mutex n p) is each =
-    record { tasks = is.tasks; mutexes = omega (arith, is.mutexes, length_push t.protocols p); steps = is.steps; each = each }
-within_before t (lines.Step s) is each =
-    record { tasks = is.tasks; mutexes = is.mutexes; steps = omega (arith, is.steps, length_push t.steps s); each = each }
+within_before t m is each = grind (arith, common_steps)
 
 -- the lines of a text but the last, where that isn't the only one, and the last
 record Shrunk (kind : TextKind) (ls : List (List ℕ)) (bytes : List ℕ) : Type 0 where
@@ -170,14 +149,6 @@ stops kind ls t bytes spells none valid =
     shrunk.last
 
 -- ---- what the reading of a line adds
-
--- the text of the first line alone
-pub first_alone : (kind : TextKind) → SpellsAs kind (version_line ∷ []) empty
-first_alone kind = ((record { tasks = omega arith; mutexes = omega arith; steps = omega arith; each = tt }, refl), go kind)
-  where
-    go : (kind : TextKind) → Obeys kind empty
-    go kinds.Trace = tt
-    go kinds.Script = tt
 
 pub adds_line :
     {E : Type 0} (kind : TextKind) (t u : Trace) (bytes : List ℕ) (m : Line) (r : Result Bool E)

@@ -1,10 +1,9 @@
 -- What words spell, by what they begin with.
-use Rattle.std.proofs.Common.{◌≡◌, ℕ, List, [], ◌∷◌, ◌++◌, codes, arith, sym, ◌∙◌, None}
+use Rattle.std.proofs.Common.{◌≡◌, ℕ, List, [], ◌∷◌, codes, arith, sym, ◌∙◌, None, rules}
 use Rattle.std.specs.Fmt.{decimal}
 use Rattle.pim_base.specs.declared.steps.Protocol.{Protocol}
-use Rattle.pim_base.specs.declared.steps.Op.{Op}
 use Rattle.pim_base.specs.declared.lines.Line.TheVariants as lines
-use Rattle.pim_base.specs.Spelling.{IsNumber, IsPrio, IsProtocol, protocol_words, op_words, recorded_words}
+use Rattle.pim_base.specs.Spelling.{IsNumber, IsPrio, IsProtocol, protocol_words}
 use Rattle.pim_text.specs.Reading.{words, Reads, ReadsAs}
 use Rattle.pim_text.proofs.NumberLemmas.{no_number}
 use Rattle.pim_text.proofs.WordLemmas.{only_word}
@@ -17,15 +16,13 @@ pub no_protocol :
     → (rest ≡ codes "inherit" → ⊥)
     → ((c : ℕ) → IsPrio c → words rest ≡ codes "protect" ∷ decimal c ∷ [] → ⊥)
     → ReadsAs IsProtocol protocol_words (words rest) None
-no_protocol rest none inherit protect Protocol.None is e = none (only_word rest (codes "none") e)
-no_protocol rest none inherit protect Protocol.Inherit is e = inherit (only_word rest (codes "inherit") e)
-no_protocol rest none inherit protect (Protocol.Protect c) is e = protect c is e
+no_protocol rest none inherit protect h is e = grind (arith, only_word)
 
 -- one word is no PROTECT protocol
 pub no_ceiling : (ws : List (List ℕ)) (w : List ℕ) → ws ≡ w ∷ [] → (c : ℕ) → IsPrio c → ws ≡ codes "protect" ∷ decimal c ∷ [] → ⊥
 no_ceiling ws w one c is e = let both = sym one ∙ e in cc
 
-pub bad_ceiling : (ws : List (List ℕ)) (w ceiling : List ℕ) → ws ≡ w ∷ words ceiling → ((p : ℕ) → IsPrio p → ceiling ≡ decimal p → ⊥) → (c : ℕ) → IsPrio c → ws ≡ codes "protect" ∷ decimal c ∷ [] → ⊥
+pub bad_ceiling : (ws : List (List ℕ)) (w ceiling : List ℕ) → ws ≡ w ∷ words ceiling → ReadsAs IsPrio decimal ceiling None → (c : ℕ) → IsPrio c → ws ≡ codes "protect" ∷ decimal c ∷ [] → ⊥
 bad_ceiling ws w ceiling cut none c is e = none c is (only_word ceiling (decimal c) (let both = sym cut ∙ e in cc))
 
 pub not_protect : (ws : List (List ℕ)) (w : List ℕ) (tail : List (List ℕ)) → ws ≡ w ∷ tail → (w ≡ codes "protect" → ⊥) → (c : ℕ) → IsPrio c → ws ≡ codes "protect" ∷ decimal c ∷ [] → ⊥
@@ -41,12 +38,11 @@ no_task ws none (lines.Task n p) is e = none n p is.0 is.1 (cc)
 no_task ws none (lines.Mutex n p) is e = cc
 no_task ws none (lines.Step line) is e = no_number line.step.actor (codes "task") is.0 (cc) (omega arith)
 
-pub task_no_number : (ws : List (List ℕ)) (first : List ℕ) (tail : List (List ℕ)) → ws ≡ first ∷ tail → ((n : ℕ) → IsNumber n → first ≡ decimal n → ⊥) → Reads (codes "task" ∷ ws) None
+pub task_no_number : (ws : List (List ℕ)) (first : List ℕ) (tail : List (List ℕ)) → ws ≡ first ∷ tail → ReadsAs IsNumber decimal first None → Reads (codes "task" ∷ ws) None
 task_no_number ws first tail cut none = no_task ws (λ n p is prio e. none n is (let both = sym cut ∙ e in cc))
 
-pub task_no_base : (ws : List (List ℕ)) (first base : List ℕ) → ws ≡ first ∷ words base → ((p : ℕ) → IsPrio p → base ≡ decimal p → ⊥) → Reads (codes "task" ∷ ws) None
-task_no_base ws first base cut none =
-    no_task ws (λ n p is prio e. none p prio (only_word base (decimal p) (let both = sym cut ∙ e in cc)))
+pub task_no_base : (ws : List (List ℕ)) (first base : List ℕ) → ws ≡ first ∷ words base → ReadsAs IsPrio decimal base None → Reads (codes "task" ∷ ws) None
+task_no_base ws first base cut none = grind (arith, no_task, only_word)
 
 pub task_only_number : (ws : List (List ℕ)) (first : List ℕ) → ws ≡ first ∷ [] → Reads (codes "task" ∷ ws) None
 task_only_number ws first cut = no_task ws (λ n p is prio e. let both = sym cut ∙ e in cc)
@@ -61,7 +57,7 @@ no_mutex ws none (lines.Task n p) is e = cc
 no_mutex ws none (lines.Mutex n p) is e = none n p is.0 is.1 (cc)
 no_mutex ws none (lines.Step line) is e = no_number line.step.actor (codes "mutex") is.0 (cc) (omega arith)
 
-pub mutex_no_number : (ws : List (List ℕ)) (first : List ℕ) (tail : List (List ℕ)) → ws ≡ first ∷ tail → ((n : ℕ) → IsNumber n → first ≡ decimal n → ⊥) → Reads (codes "mutex" ∷ ws) None
+pub mutex_no_number : (ws : List (List ℕ)) (first : List ℕ) (tail : List (List ℕ)) → ws ≡ first ∷ tail → ReadsAs IsNumber decimal first None → Reads (codes "mutex" ∷ ws) None
 mutex_no_number ws first tail cut none = no_mutex ws (λ n p is fits e. none n is (let both = sym cut ∙ e in cc))
 
 pub mutex_no_protocol : (ws : List (List ℕ)) (first : List ℕ) (tail : List (List ℕ)) → ws ≡ first ∷ tail → ReadsAs IsProtocol protocol_words tail None → Reads (codes "mutex" ∷ ws) None
@@ -69,22 +65,10 @@ mutex_no_protocol ws first tail cut none = no_mutex ws (λ n p is fits e. none p
 
 -- no protocol has no word
 pub no_word_protocol : ReadsAs IsProtocol protocol_words [] None
-no_word_protocol Protocol.None is e = cc
-no_word_protocol Protocol.Inherit is e = cc
-no_word_protocol (Protocol.Protect c) is e = cc
+no_word_protocol h is e = search rules
 
 -- ---- step lines
 
 -- no line is one word
 pub no_single : (first : List ℕ) → Reads (first ∷ []) None
-no_single first (lines.Task n p) is e = cc
-no_single first (lines.Mutex n p) is e = cc
-no_single first (lines.Step line) is e = short (recorded_words line.recorded) line.step.op (cc)
-  where
-    short : (ws : List (List ℕ)) (op : Op) → [] ≡ op_words op ++ ws → ⊥
-    short ws (Op.Lock m) e = cc
-    short ws (Op.Try m) e = cc
-    short ws (Op.Unlock m) e = cc
-    short ws Op.ReleaseAll e = cc
-    short ws (Op.Cancel t) e = cc
-    short ws (Op.SetBase t p) e = cc
+no_single first h is e = search rules

@@ -1,5 +1,6 @@
 -- The lines of the bytes, one after another, and the first that can't stand.
-use Rattle.std.proofs.Common.{◌≡◌, ℕ, ◌+◌, ◌-◌, ◌<◌, ◌≤◌, List, [], ◌∷◌, ◌++◌, arith, refl, ap, sym, ◌∙◌, subst, length, length-append, append_assoc, take, Bool, true, false, Option, Some, None, IfSome, Bor, eqb, inr, unwrap_or}
+use Rattle.std.proofs.lemmas.Grind.{common_steps}
+use Rattle.std.proofs.Common.{◌≡◌, ℕ, ◌+◌, ◌-◌, ◌<◌, ◌≤◌, List, [], ◌∷◌, ◌++◌, arith, refl, ap, sym, ◌∙◌, subst, length, length-append, append_assoc, take, Bool, true, false, Option, Some, None, IfSome, Bor, eqb, inr, unwrap_or, rules}
 use Rattle.std.specs.Bool.{MatchBool}
 use Rattle.std.specs.List.{slice_split, join_with_byte}
 use Rattle.std.proofs.lemmas.List.Splits.{length-slice_split, join_with_byte-slice_split}
@@ -10,7 +11,6 @@ use Rattle.pim_text.specs.Reading.{pieces}
 use Rattle.pim_text.specs.declared.kind.TextKind.{TextKind}
 use Rattle.pim_text.specs.Kinds.{SpellsAs, IsOf}
 use Rattle.pim_text.proofs.TraceLemmas.{length_valid}
-use Rattle.pim_text.proofs.GrowthLemmas.{first_alone}
 
 abbrev parts : List ℕ → List (List ℕ)
 parts bytes = slice_split (λ b. eqb b NEWLINE) bytes
@@ -49,8 +49,7 @@ pub rest_shorter :
     → 0 < length bytes
     → IfSome o (λ rest. length rest.now < length bytes)
     → length (unwrap_or o d).now < length bytes
-rest_shorter bytes None d none some short = omega (arith, ap length none)
-rest_shorter bytes (Some r) d none some short = short
+rest_shorter bytes o d none some short = search rules
 
 -- ---- the first bad line
 
@@ -62,8 +61,7 @@ pub record Halfway (kind : TextKind) (all rest : List (List ℕ)) (t : Trace) (c
   pub many : length done ≡ count
 
 take_done : (done rest : List (List ℕ)) → take (length done) (done ++ rest) ≡ done
-take_done [] rest = refl
-take_done (l ∷ done) rest = ap (λ ls. l ∷ ls) (take_done done rest)
+take_done done rest = grind (arith, common_steps)
 
 -- the line behind a valid text that no valid text goes on with
 pub bad_next :
@@ -106,9 +104,4 @@ count_small {kind} {all} {rest} {t} {count} half = omega (arith, half.many, leng
 
 -- the first line is the version
 pub begins : (kind : TextKind) (all : List (List ℕ)) (first : List ℕ) (rest : List (List ℕ)) (t : Trace) → all ≡ first ∷ rest → first ≡ version_line → t ≡ record { bases = []; protocols = []; steps = [] } → Halfway kind all rest t 1
-begins kind all first rest t e version new = record {
-  done = version_line ∷ [];
-  whole = e ∙ ap (λ (l : List ℕ). l ∷ rest) version;
-  spells = subst (λ (u : Trace). SpellsAs kind (version_line ∷ []) u) (sym new) (first_alone kind);
-  many = refl;
-}
+begins kind all first rest t e version new = search rules

@@ -1,5 +1,6 @@
 -- A spelled line is cut into its words again, and no two lines are spelled alike.
-use Rattle.std.proofs.Common.{◌≡◌, ◌^◌, ℕ, ◌<◌, ◌≤◌, ◌==◌, List, [], ◌∷◌, ◌++◌, codes, arith, rules, refl, get_or, ap, sym, ◌∙◌, length, Bool, true, false, Option, Some, None, unwrap_or, find, if◌then◌else◌}
+use Rattle.std.proofs.lemmas.Grind.{common_steps}
+use Rattle.std.proofs.Common.{◌≡◌, ◌^◌, ℕ, ◌<◌, ◌≤◌, ◌==◌, List, [], ◌∷◌, ◌++◌, codes, arith, rules, refl, get_or, ap, sym, ◌∙◌, length, false, Option, Some, None, unwrap_or, find, if◌then◌else◌}
 use Rattle.std.specs.Fmt.{decimal}
 use Rattle.std.specs.List.{AllByRecursion, join_with_byte}
 use Rattle.std.specs.Str.{bytes_eq}
@@ -43,60 +44,16 @@ word_decimal n small =
     ne_eqb (get_or (decimal n) i 0) SPACE (λ e. let space : get_or (decimal n) i 0 ≡ 32 = e in omega arith)))
 
 pub all_append : {A : Type 0} (P : A → Type 0) (xs ys : List A) → AllByRecursion P xs → AllByRecursion P ys → AllByRecursion P (xs ++ ys)
-all_append P [] ys h k = k
-all_append P (x ∷ xs) ys h k = (h.0, all_append P xs ys h.1 k)
+all_append P xs ys h k = grind (arith, common_steps)
 
 protocol_split : (p : Protocol) → IsProtocol p → AllByRecursion IsWord (protocol_words p)
-protocol_split Protocol.None is = search rules
-protocol_split Protocol.Inherit is = search rules
-protocol_split (Protocol.Protect c) is = (search rules, (word_decimal c (omega (arith, is.1)), tt))
-
-op_split : (op : Op) → IsOp op → AllByRecursion IsWord (op_words op)
-op_split (Op.Lock m) is = (search rules, (word_decimal m is.1, tt))
-op_split (Op.Try m) is = (search rules, (word_decimal m is.1, tt))
-op_split (Op.Unlock m) is = (search rules, (word_decimal m is.1, tt))
-op_split Op.ReleaseAll is = (search rules, tt)
-op_split (Op.Cancel t) is = (search rules, (word_decimal t is.1, tt))
-op_split (Op.SetBase t p) is = (search rules, (word_decimal t is.0.1, (word_decimal p is.1.1, tt)))
-
-pub refusal_split : (r : Refusal) → IsWord (refusal_word r)
-refusal_split Refusal.NoTask = search rules
-refusal_split Refusal.Waiting = search rules
-refusal_split Refusal.NoMutex = search rules
-refusal_split Refusal.Deadlock = search rules
-refusal_split Refusal.Ceiling = search rules
-refusal_split Refusal.Busy = search rules
-refusal_split Refusal.NotOwner = search rules
-refusal_split Refusal.NotWaiting = search rules
-refusal_split Refusal.Priority = search rules
-refusal_split Refusal.Tickets = search rules
-
-reply_split : (r : Reply) → IsReply r → AllByRecursion IsWord (reply_words r)
-reply_split Reply.Granted is = (search rules, tt)
-reply_split Reply.Queued is = (search rules, tt)
-reply_split Reply.Freed is = (search rules, tt)
-reply_split (Reply.Handed t) is = (search rules, (word_decimal t is.1, tt))
-reply_split (Reply.Released k) is = (search rules, (word_decimal k is, tt))
-reply_split Reply.Withdrawn is = (search rules, tt)
-reply_split Reply.Set is = (search rules, tt)
-reply_split (Reply.Refused r) is = (search rules, (refusal_split r, tt))
-
-recorded_split : (r : Option Reply) → IsRecorded r → AllByRecursion IsWord (recorded_words r)
-recorded_split None is = tt
-recorded_split (Some r) is = (search rules, reply_split r is)
+protocol_split p is = grind (arith, word_decimal)
 
 words_split : (line : Line) → IsLine line → AllByRecursion IsWord (words_of line)
-words_split (lines.Task n p) is = (search rules, (word_decimal n is.0.1, (word_decimal p (omega arith), tt)))
-words_split (lines.Mutex n p) is = (search rules, (word_decimal n is.0.1, protocol_split p is.1))
-words_split (lines.Step line) is = (
-  word_decimal line.step.actor is.0.1,
-  all_append IsWord (op_words line.step.op) (recorded_words line.recorded) (op_split line.step.op is.1) (recorded_split line.recorded is.2),
-)
+words_split line is = grind (arith, word_decimal, protocol_split)
 
 some_words : (line : Line) → 0 < length (words_of line)
-some_words (lines.Task n p) = omega arith
-some_words (lines.Mutex n p) = omega arith
-some_words (lines.Step line) = omega arith
+some_words line = search rules
 
 pub split_spelled : (line : Line) → IsLine line → words (spelled line) ≡ words_of line
 split_spelled line is = split_joined (words_of line) (words_split line is) (some_words line)
@@ -130,9 +87,7 @@ protocol_in (w ∷ ws) =
 
 protocol_in-words : (p : Protocol) → IsProtocol p → protocol_in (protocol_words p) ≡ p
 unfolding protocol_in number_at
-protocol_in-words Protocol.None is = refl
-protocol_in-words Protocol.Inherit is = refl
-protocol_in-words (Protocol.Protect c) is = ap Protocol.Protect (value-decimal c (omega (arith, is.1)))
+protocol_in-words p is = grind (arith, value-decimal)
 
 op_in : List (List ℕ) → Op
 op_in [] = Op.ReleaseAll
@@ -146,12 +101,7 @@ op_in (w ∷ ws) =
 
 op_in-words : (op : Op) (ws : List (List ℕ)) → IsOp op → op_in (op_words op ++ ws) ≡ op
 unfolding op_in number_at rest_of
-op_in-words (Op.Lock m) ws is = ap Op.Lock (value-decimal m is.1)
-op_in-words (Op.Try m) ws is = ap Op.Try (value-decimal m is.1)
-op_in-words (Op.Unlock m) ws is = ap Op.Unlock (value-decimal m is.1)
-op_in-words Op.ReleaseAll ws is = refl
-op_in-words (Op.Cancel t) ws is = ap Op.Cancel (value-decimal t is.1)
-op_in-words (Op.SetBase t p) ws is = let x = value-decimal t is.0.1 in let y = value-decimal p is.1.1 in cc
+op_in-words op ws is = grind (arith, value-decimal)
 
 -- the words behind those of an operation
 behind : List (List ℕ) → List (List ℕ)
@@ -163,12 +113,7 @@ behind (w ∷ ws) =
 
 behind-words : (op : Op) (ws : List (List ℕ)) → behind (op_words op ++ ws) ≡ ws
 unfolding behind rest_of
-behind-words (Op.Lock m) ws = refl
-behind-words (Op.Try m) ws = refl
-behind-words (Op.Unlock m) ws = refl
-behind-words Op.ReleaseAll ws = refl
-behind-words (Op.Cancel t) ws = refl
-behind-words (Op.SetBase t p) ws = refl
+behind-words op ws = search rules
 
 -- the refusal of this name
 refusal_in : List ℕ → Refusal
@@ -176,16 +121,7 @@ refusal_in w = unwrap_or (find (λ r. bytes_eq w (refusal_word r)) ALL) Refusal.
 
 refusal_in-word : (r : Refusal) → refusal_in (refusal_word r) ≡ r
 unfolding refusal_in
-refusal_in-word Refusal.NoTask = refl
-refusal_in-word Refusal.Waiting = refl
-refusal_in-word Refusal.NoMutex = refl
-refusal_in-word Refusal.Deadlock = refl
-refusal_in-word Refusal.Ceiling = refl
-refusal_in-word Refusal.Busy = refl
-refusal_in-word Refusal.NotOwner = refl
-refusal_in-word Refusal.NotWaiting = refl
-refusal_in-word Refusal.Priority = refl
-refusal_in-word Refusal.Tickets = refl
+refusal_in-word r = search rules
 
 word_at : List (List ℕ) → List ℕ
 word_at [] = []
@@ -205,14 +141,7 @@ reply_in (w ∷ ws) =
 
 reply_in-words : (r : Reply) → IsReply r → reply_in (reply_words r) ≡ r
 unfolding reply_in number_at word_at
-reply_in-words Reply.Granted is = refl
-reply_in-words Reply.Queued is = refl
-reply_in-words Reply.Freed is = refl
-reply_in-words (Reply.Handed t) is = ap Reply.Handed (value-decimal t is.1)
-reply_in-words (Reply.Released k) is = ap Reply.Released (value-decimal k is)
-reply_in-words Reply.Withdrawn is = refl
-reply_in-words Reply.Set is = refl
-reply_in-words (Reply.Refused r) is = ap Reply.Refused (refusal_in-word r)
+reply_in-words r is = grind (arith, value-decimal, refusal_in-word)
 
 recorded_in : List (List ℕ) → Option Reply
 recorded_in [] = None
@@ -220,21 +149,14 @@ recorded_in (equals ∷ ws) = Some (reply_in ws)
 
 recorded_in-words : (r : Option Reply) → IsRecorded r → recorded_in (recorded_words r) ≡ r
 unfolding recorded_in
-recorded_in-words None is = refl
-recorded_in-words (Some r) is = ap Some (reply_in-words r is)
+recorded_in-words r is = grind (arith, reply_in-words)
 
 step_in : List ℕ → List (List ℕ) → StepLine
 step_in first ws = record { step = record { actor = digits_value 10 first; op = op_in ws }; recorded = recorded_in (behind ws) }
 
 step_in-words : (line : StepLine) → IsLine (lines.Step line) → step_in (decimal line.step.actor) (op_words line.step.op ++ recorded_words line.recorded) ≡ line
 unfolding step_in
-step_in-words line is =
-    let ws : List (List ℕ) = op_words line.step.op ++ recorded_words line.recorded in
-    ap (λ (a : ℕ). let l : StepLine = record { step = record { actor = a; op = op_in ws }; recorded = recorded_in (behind ws) } in l) (value-decimal line.step.actor is.0.1)
-    ∙ ap (λ (o : Op). let l : StepLine = record { step = record { actor = line.step.actor; op = o }; recorded = recorded_in (behind ws) } in l)
-    (op_in-words line.step.op (recorded_words line.recorded) is.1)
-    ∙ ap (λ (r : Option Reply). let l : StepLine = record { step = line.step; recorded = r } in l)
-    (ap recorded_in (behind-words line.step.op (recorded_words line.recorded)) ∙ recorded_in-words line.recorded is.2)
+step_in-words line is = grind (arith, value-decimal, op_in-words, behind-words, recorded_in-words)
 
 -- the line of these words
 line_in : List (List ℕ) → Line
@@ -246,20 +168,11 @@ line_in (first ∷ ws) =
 
 -- a number is no word that begins with a letter
 number_not_word : (n : ℕ) (w : List ℕ) → IsNumber n → 57 < get_or w 0 0 → bytes_eq (decimal n) w ≡ false
-number_not_word n w is high = go (bytes_eq (decimal n) w) refl
-  where
-    go : (b : Bool) → bytes_eq (decimal n) w ≡ b → b ≡ false
-    go false e = refl
-    go true e = absurd (no_number n w is (sym ((bytes_eq-Decides (decimal n) w).0 e)) high)
+number_not_word n w is high = grind (arith, no_number, bytes_eq-Decides)
 
 line_in-words : (line : Line) → IsLine line → line_in (words_of line) ≡ line
 unfolding line_in number_at rest_of
-line_in-words (lines.Task n p) is = let x = value-decimal n is.0.1 in let y = value-decimal p (omega (arith, is.1.1)) in cc
-line_in-words (lines.Mutex n p) is = let x = value-decimal n is.0.1 in let y = protocol_in-words p is.1 in cc
-line_in-words (lines.Step line) is =
-    rw
-    (number_not_word line.step.actor (codes "task") is.0 (omega arith), number_not_word line.step.actor (codes "mutex") is.0 (omega arith))
-    (ap lines.Step (step_in-words line is))
+line_in-words line is = grind (arith, value-decimal, protocol_in-words, number_not_word, step_in-words)
 
 pub spelled_same : (l m : Line) → IsLine l → IsLine m → spelled l ≡ spelled m → l ≡ m
 spelled_same l m is im e =

@@ -1,7 +1,8 @@
 -- The lines of a text tell it, and how they grow with it.
+use Rattle.std.proofs.lemmas.Grind.{common_steps}
 use Rattle.std.proofs.Common.{◌≡◌, ℕ, ◌+◌, ◌≤◌, List, [], ◌∷◌, ◌++◌, arith, refl, ap, sym, ◌∙◌, length, map, append_assoc, length-append}
 use Rattle.std.specs.List.{AllByRecursion}
-use Rattle.std.proofs.lemmas.List.{length-map, map-append, append-nil}
+use Rattle.std.proofs.lemmas.List.{length-map, append-nil}
 use Rattle.pim_base.specs.declared.steps.Protocol.{Protocol}
 use Rattle.pim_base.specs.declared.lines.StepLine.{StepLine}
 use Rattle.pim_base.specs.declared.lines.Line.{Line}
@@ -44,12 +45,7 @@ collect-steps [] = refl
 collect-steps (s ∷ ss) = ap (onto (lines.Step s)) (collect-steps ss)
 
 collect-declared : (t : Trace) → collect (declared t) ≡ t
-collect-declared t =
-    collect-task_lines 1 t.bases (mutex_lines 1 t.protocols ++ map lines.Step t.steps)
-    ∙ ap (joined t.bases [] []) (collect-mutex_lines 1 t.protocols (map lines.Step t.steps) ∙ ap (joined [] t.protocols []) (collect-steps t.steps))
-    ∙ ap (λ (bs : List ℕ). let r : Trace = record { bases = bs; protocols = t.protocols ++ []; steps = t.steps ++ [] } in r) (append-nil t.bases)
-    ∙ ap (λ (ps : List Protocol). let r : Trace = record { bases = t.bases; protocols = ps; steps = t.steps ++ [] } in r) (append-nil t.protocols)
-    ∙ ap (λ (ss : List StepLine). let r : Trace = record { bases = t.bases; protocols = t.protocols; steps = ss } in r) (append-nil t.steps)
+collect-declared t = grind (arith, collect-task_lines, collect-mutex_lines, collect-steps, append-nil)
 
 -- lines that are spelled alike are the same
 map-spelled_same : (ls ms : List Line) → AllByRecursion IsLine ls → AllByRecursion IsLine ms → map spelled ls ≡ map spelled ms → ls ≡ ms
@@ -79,28 +75,17 @@ mutex_lines-append_one n (b ∷ bs) p =
     (mutex_lines-append_one (n + 1) bs p ∙ ap (λ k. mutex_lines (n + 1) bs ++ lines.Mutex k p ∷ []) (omega arith))
 
 with_task : (bs : List ℕ) (p n : ℕ) → n ≡ length bs + 1 → task_lines 1 (bs ++ p ∷ []) ++ [] ≡ (task_lines 1 bs ++ []) ++ lines.Task n p ∷ []
-with_task bs p n e =
-    append-nil _ ∙ task_lines-append_one 1 bs p ∙ ap (λ k. task_lines 1 bs ++ lines.Task k p ∷ []) (omega arith)
-    ∙ ap (λ ls. ls ++ lines.Task n p ∷ []) (sym (append-nil (task_lines 1 bs)))
+with_task bs p n e = grind (arith, append-nil, task_lines-append_one)
 
 with_mutex :
     (ts : List Line) (ps : List Protocol) (p : Protocol) (n : ℕ)
     → n ≡ length ps + 1
     → ts ++ (mutex_lines 1 (ps ++ p ∷ []) ++ []) ≡ (ts ++ (mutex_lines 1 ps ++ [])) ++ lines.Mutex n p ∷ []
-with_mutex ts ps p n e =
-    let k : mutex_lines 1 (ps ++ p ∷ []) ++ [] ≡ (mutex_lines 1 ps ++ []) ++ lines.Mutex n p ∷ [] =
-    append-nil _ ∙ mutex_lines-append_one 1 ps p ∙ ap (λ k. mutex_lines 1 ps ++ lines.Mutex k p ∷ []) (omega arith)
-    ∙ ap (λ ls. ls ++ lines.Mutex n p ∷ []) (sym (append-nil (mutex_lines 1 ps))) in
-    ap (λ ls. ts ++ ls) k ∙ sym (append_assoc ts (mutex_lines 1 ps ++ []) (lines.Mutex n p ∷ []))
+with_mutex ts ps p n e = grind (arith, mutex_lines-append_one, append_assoc)
 
 -- a line that may follow does
 pub declared-with_line : (t : Trace) (m : Line) → MayFollow t m → declared (with_line t m) ≡ declared t ++ m ∷ []
-declared-with_line t (lines.Task n p) may = rw (may.2, may.3) (with_task t.bases p n may.1)
-declared-with_line t (lines.Mutex n p) may = rw may.2 (with_mutex (task_lines 1 t.bases) t.protocols p n may.1)
-declared-with_line t (lines.Step s) may =
-    ap (λ ls. task_lines 1 t.bases ++ (mutex_lines 1 t.protocols ++ ls)) (map-append lines.Step t.steps (s ∷ []))
-    ∙ ap (λ ls. task_lines 1 t.bases ++ ls) (sym (append_assoc (mutex_lines 1 t.protocols) (map lines.Step t.steps) (lines.Step s ∷ [])))
-    ∙ sym (append_assoc (task_lines 1 t.bases) (mutex_lines 1 t.protocols ++ map lines.Step t.steps) (lines.Step s ∷ []))
+declared-with_line t m may = grind (arith, with_task, with_mutex, common_steps)
 
 -- ---- how many lines a text has
 
@@ -113,19 +98,8 @@ length-mutex_lines n [] = refl
 length-mutex_lines n (p ∷ ps) = omega (arith, length-mutex_lines (n + 1) ps)
 
 length-declared : (t : Trace) → length (declared t) ≡ length t.bases + length t.protocols + length t.steps
-length-declared t =
-    omega (
-      arith,
-      length-append (task_lines 1 t.bases) (mutex_lines 1 t.protocols ++ map lines.Step t.steps),
-      length-append (mutex_lines 1 t.protocols) (map lines.Step t.steps),
-      length-task_lines 1 t.bases,
-      length-mutex_lines 1 t.protocols,
-      length-map t.steps lines.Step,
-    )
+length-declared t = grind (arith, length-append, length-task_lines, length-mutex_lines, length-map)
 
 -- a valid text is short
 pub length_valid : (ls : List (List ℕ)) (t : Trace) → Spells ls t → length ls ≤ 1 + MAX_TASKS + MAX_MUTEXES + MAX_STEPS
-length_valid ls t spells =
-    let e = ap length spells.1 in
-    let is = spells.0 in
-    omega (arith, length-declared t, length-map (declared t) spelled, is.tasks, is.mutexes, is.steps)
+length_valid ls t spells = grind (arith, length-declared, length-map)

@@ -1,21 +1,15 @@
 -- Words cut off the front of a line, and what single words spell.
-use Rattle.std.proofs.Common.{◌≡◌, ◌<◌, ◌≤◌, ◌^◌, ℕ, zero, suc, List, [], ◌∷◌, codes, arith, sym, ◌∙◌, ap, Option, Some, None, MatchOption, false, Bor, eqb, length}
+use Rattle.std.proofs.Common.{◌≡◌, ◌<◌, ◌≤◌, ◌^◌, ℕ, List, [], ◌∷◌, codes, arith, sym, ◌∙◌, ap, Option, Some, None, Bor, eqb, length}
 use Rattle.std.specs.Fmt.{decimal}
 use Rattle.std.specs.List.{join_with_byte}
 use Rattle.std.specs.Option.{SomeIff}
-use Rattle.std.specs.Str.{bytes_eq}
 use Rattle.std.specs.Str.Parse.{digits_value}
 use Rattle.std.proofs.lemmas.Fmt.{decimal_digit}
-use Rattle.std.proofs.lemmas.Slice.Eq.{bytes_eq-Decides}
 use Rattle.std.proofs.lemmas.List.Splits.{join_with_byte-slice_split, slice_split_none, length-slice_split}
 use Rattle.std.proofs.lemmas.List.Elements.{All-from_recursion}
 use Rattle.pim_base.specs.Spelling.{SPACE, IsNumber, IsPrio}
-use Rattle.pim_text.specs.Reading.{words, pieces}
+use Rattle.pim_text.specs.Reading.{words, pieces, ReadsAs}
 use Rattle.pim_text.proofs.SpellingLemmas.{IsWord, word_decimal, value-decimal}
-
--- bytes are not two different words
-pub not_both : (w a b : List ℕ) → bytes_eq a b ≡ false → w ≡ a → w ≡ b → ⊥
-not_both w a b differ e f = let same = (bytes_eq-Decides a b).1 (sym e ∙ f) in cc
 
 -- ---- the first word, and the others
 
@@ -58,7 +52,7 @@ pub prio_read :
     (word : List ℕ) (n : ℕ) (r : Option ℕ)
     → IsNumber n × (word ≡ decimal n)
     → SomeIff r ((1 ≤ n) × (n ≤ 99)) n
-    → MatchOption r ((p : ℕ) → IsPrio p → word ≡ decimal p → ⊥) (λ p. IsPrio p × (word ≡ decimal p))
+    → ReadsAs IsPrio decimal word r
 prio_read word n (Some p) read h = ((omega (arith, h.1, read.0.0), omega (arith, h.0.1, h.1)), read.1 ∙ ap decimal (sym h.1))
 prio_read word n None read h =
     λ p is e.
@@ -73,11 +67,6 @@ zero_read word e = (omega arith, e ∙ sym (decimal_digit 0 (omega arith)))
 pub count_read :
     (word : List ℕ) (r : Option ℕ)
     → (word ≡ codes "0" → ⊥)
-    → MatchOption r ((n : ℕ) → IsNumber n → word ≡ decimal n → ⊥) (λ n. IsNumber n × (word ≡ decimal n))
-    → MatchOption r ((n : ℕ) → n < 2 ^ 16 → word ≡ decimal n → ⊥) (λ n. (n < 2 ^ 16) × (word ≡ decimal n))
-count_read word (Some n) other h = (h.0.1, h.1)
-count_read word None other h = none
-  where
-    none : (n : ℕ) → n < 2 ^ 16 → word ≡ decimal n → ⊥
-    none zero small e = other (e ∙ decimal_digit 0 (omega arith))
-    none (suc n) small e = h (suc n) (omega arith, small) e
+    → ReadsAs IsNumber decimal word r
+    → ReadsAs (λ n. n < 2 ^ 16) decimal word r
+count_read word r other h = grind (arith, decimal_digit)

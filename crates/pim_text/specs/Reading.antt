@@ -1,5 +1,6 @@
 -- What the reading of a text comes to, one line after another.
-use Rattle.std.specs.Prelude.{ℕ, ◌≡◌, ◌+◌, ◌<◌, ◌==◌, List, [], ◌∷◌, ◌++◌, length, Option, Some, None, MatchOption}
+use Rattle.std.specs.Prelude.{ℕ, ◌≡◌, ◌+◌, ◌<◌, ◌==◌, List, [], ◌∷◌, ◌++◌, length, Option, Some, None, MatchOption, Bool}
+use Rattle.std.specs.Bool.{MatchBool}
 use Rattle.std.specs.List.{slice_split}
 use Rattle.std.specs.Borrow.{Bor}
 use Rattle.pim_base.specs.Spelling.{SPACE, IsLine, words_of, spelled}
@@ -22,19 +23,17 @@ pieces separator (Some rest) = slice_split (λ b. b == separator) rest.now
 abbrev pub words : List ℕ → List (List ℕ)
 words bytes = slice_split (λ b. b == SPACE) bytes
 
--- what these words spell: nothing if they spell none of those
-abbrev pub ReadsAs : {X : Type 0} → (X → Type 0) → (X → List (List ℕ)) → List (List ℕ) → Option X → Type 0
-ReadsAs {X} Is spelling ws result = MatchOption result ((x : X) → Is x → ws ≡ spelling x → ⊥) (λ x. Is x × (ws ≡ spelling x))
+-- what a word, words or bytes spell: nothing if they spell none of those
+abbrev pub ReadsAs : {X Y : Type 0} → (X → Type 0) → (X → Y) → Y → Option X → Type 0
+ReadsAs {X} Is spelling y result = MatchOption result ((x : X) → Is x → y ≡ spelling x → ⊥) (λ x. Is x × (y ≡ spelling x))
 
 -- the line that these words spell
 abbrev pub Reads : List (List ℕ) → Option Line → Type 0
 Reads ws result = ReadsAs IsLine words_of ws result
 
--- what a line of these bytes says: nothing if no line is spelled so
+-- the line that these bytes spell
 abbrev pub ReadsBytes : List ℕ → Option Line → Type 0
-ReadsBytes bytes result = MatchOption result
-    ((line : Line) → IsLine line → bytes ≡ spelled line → ⊥)
-    (λ line. IsLine line × (bytes ≡ spelled line))
+ReadsBytes bytes result = ReadsAs IsLine spelled bytes result
 
 -- one more line at the end of a text
 abbrev pub with_line : Trace → Line → Trace
@@ -47,3 +46,7 @@ abbrev pub MayFollow : Trace → Line → Type 0
 MayFollow t (lines.Task n base) = (length t.bases < MAX_TASKS) × (n ≡ length t.bases + 1) × (t.protocols ≡ []) × (t.steps ≡ [])
 MayFollow t (lines.Mutex n protocol) = (length t.protocols < MAX_MUTEXES) × (n ≡ length t.protocols + 1) × (t.steps ≡ [])
 MayFollow t (lines.Step step) = length t.steps < MAX_STEPS
+
+-- the line was added to the text where it may follow, and else is refused
+abbrev pub IsAddedTo : Trace → Line → Trace → Bool → Type 0
+IsAddedTo t line u added = MatchBool added (MayFollow t line × (u ≡ with_line t line)) (MayFollow t line → ⊥)

@@ -8,7 +8,7 @@ use crate::reply::read_recorded;
 use crate::word::{cut, is, number_of, prio_of};
 use pim_base::{Line, MutexNo, Protocol, Step, StepLine, TaskNo};
 
-/// Returns what the bytes say, if they are a line below the first.
+/// Returns the line below the first that the bytes spell, or `None` where they spell none.
 pub(crate) fn read_line(bytes: &[u8]) -> Option<Line>
     ensures { ReadsBytes bytes.now result }
 {
@@ -16,7 +16,7 @@ pub(crate) fn read_line(bytes: &[u8]) -> Option<Line>
     read_words(first, rest?)
 }
 
-/// Returns what the words say, of which the first was cut off.
+/// Returns the line that the words spell, of which the first was cut off, or `None` where they spell none.
 fn read_words(first: &[u8], rest: &[u8]) -> Option<Line>
     ensures { Reads (first.now ∷ words rest.now) result }
 {
@@ -29,7 +29,7 @@ fn read_words(first: &[u8], rest: &[u8]) -> Option<Line>
     }
 }
 
-/// Reads `task <n> <prio>`, from the number on.
+/// Reads `task <n> <prio>`, from the number on, or returns `None`.
 fn read_task(rest: &[u8]) -> Option<Line>
     ensures { Reads (codes "task" ∷ words rest.now) result }
 {
@@ -42,7 +42,7 @@ fn read_task(rest: &[u8]) -> Option<Line>
     })
 }
 
-/// Reads `mutex <n> <protocol>`, from the number on.
+/// Reads `mutex <n> <protocol>`, from the number on, or returns `None`.
 fn read_mutex(rest: &[u8]) -> Option<Line>
     ensures { Reads (codes "mutex" ∷ words rest.now) result }
 {
@@ -55,7 +55,7 @@ fn read_mutex(rest: &[u8]) -> Option<Line>
     })
 }
 
-/// Reads `none`, `inherit` or `protect <ceiling>`.
+/// Reads `none`, `inherit` or `protect <ceiling>`, or returns `None`.
 fn read_protocol(rest: &[u8]) -> Option<Protocol>
     ensures { ReadsAs IsProtocol protocol_words (words rest.now) result }
 {
@@ -74,7 +74,7 @@ fn read_protocol(rest: &[u8]) -> Option<Protocol>
     }
 }
 
-/// Reads `<a> <operation>`, perhaps with ` = <reply>` behind it, from the operation on.
+/// Reads `<a> <operation>`, perhaps with ` = <reply>` behind it, from the operation on, or returns `None`.
 fn read_step(first: &[u8], rest: &[u8]) -> Option<Line>
     requires no_task { first.now ≢ codes "task" }
     requires no_mutex { first.now ≢ codes "mutex" }

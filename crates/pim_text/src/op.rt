@@ -6,7 +6,8 @@ ghost use Rattle.pim_text.specs.Reading.{pieces};
 use crate::word::{cut, is, number_of};
 use pim_base::{MutexNo, Op, TaskNo};
 
-/// Returns the operation that the words begin with, of which the first was cut off, and the words behind it.
+/// Returns the operation that the words begin with, of which the first was cut off, and the words behind it, or `None`
+/// where they begin with none.
 pub(crate) fn read_op<'a>(word: &[u8], tail: Option<&'a [u8]>) -> Option<(Op, Option<&'a [u8]>)>
     ensures { MatchOption result
         ((op : Op) (ws : List (List ℕ)) → IsOp op → word.now ∷ pieces SPACE tail.entry ≡ op_words op ++ ws → ⊥)
@@ -32,7 +33,7 @@ pub(crate) fn read_op<'a>(word: &[u8], tail: Option<&'a [u8]>) -> Option<(Op, Op
     }
 }
 
-/// Returns the number that the words begin with, and the words behind it.
+/// Returns the number that the words begin with, and the words behind it, or `None` where they begin with none.
 fn read_target(tail: Option<&[u8]>) -> Option<(u16, Option<&[u8]>)>
     ensures { MatchOption result
         ((n : ℕ) (ws : List (List ℕ)) → IsNumber n → pieces SPACE tail.entry ≡ decimal n ∷ ws → ⊥)

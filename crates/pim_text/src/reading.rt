@@ -19,8 +19,8 @@ use std::alloc::{AllocError, Global};
 ///
 /// # Errors
 ///
-/// `TextFault::Line(n)` exactly where line n, counted from 1, is the first invalid one; `TextFault::Memory` where
-/// memory runs out.
+/// `TextFault::Line(n)` exactly where line n, counted from 1, is the first invalid one; `TextFault::Memory` if out
+/// of memory.
 pub fn parse(alloc: Global, bytes: &[u8]) -> Result<Text, TextFault>
     ensures { MatchResult result
         (λ text. Spells (lines_of bytes.now) (trace_of text))

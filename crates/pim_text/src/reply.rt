@@ -1,12 +1,12 @@
 //! The reply that was recorded for a step.
-ghost use Rattle.std.specs.Prelude.{◌≡◌, ◌∷◌, [], MatchOption};
+ghost use Rattle.std.specs.Prelude.{◌≡◌, ◌∷◌, [], Decides, MatchOption};
 ghost use Rattle.pim_base.specs.Spelling.{SPACE, IsRecorded, IsReply, recorded_words, reply_words, refusal_word};
 ghost use Rattle.pim_text.specs.Reading.{pieces, words, ReadsAs};
 
 use crate::word::{count_of, cut, is, number_of};
 use pim_base::{Refusal, Reply, TaskNo};
 
-/// Reads `= <reply>`, or nothing: the reply that was recorded, if one was.
+/// Reads `= <reply>`, or nothing where no reply was recorded; returns `None` where it is neither.
 pub(crate) fn read_recorded(tail: Option<&[u8]>) -> Option<Option<Reply>>
     ensures { ReadsAs IsRecorded recorded_words (pieces SPACE tail.entry) result }
 {
@@ -21,7 +21,7 @@ pub(crate) fn read_recorded(tail: Option<&[u8]>) -> Option<Option<Reply>>
     Some(Some(reply))
 }
 
-/// Reads a reply.
+/// Reads a reply, or returns `None`.
 fn read_reply(rest: &[u8]) -> Option<Reply>
     ensures { ReadsAs IsReply reply_words (words rest.now) result }
 {
@@ -32,7 +32,7 @@ fn read_reply(rest: &[u8]) -> Option<Reply>
     }
 }
 
-/// Reads a reply of one word.
+/// Reads a reply of one word, or returns `None`.
 fn plain_reply(word: &[u8]) -> Option<Reply>
     ensures { ReadsAs IsReply reply_words (word.now ∷ []) result }
 {
@@ -51,7 +51,7 @@ fn plain_reply(word: &[u8]) -> Option<Reply>
     }
 }
 
-/// Reads a reply of a word and its argument.
+/// Reads a reply of a word and its argument, or returns `None`.
 fn reply_with(word: &[u8], argument: &[u8]) -> Option<Reply>
     ensures { ReadsAs IsReply reply_words (word.now ∷ words argument.now) result }
 {
@@ -66,12 +66,13 @@ fn reply_with(word: &[u8], argument: &[u8]) -> Option<Reply>
     }
 }
 
-/// Returns the refusal that has this name.
+/// Returns the refusal that has this name, or `None` where none has it.
 fn refusal_of(name: &[u8]) -> Option<Refusal>
     ensures { MatchOption result ((r : Refusal) → name.now ≡ refusal_word r → ⊥) (λ r. name.now ≡ refusal_word r) }
 {
-    Refusal::ALL
-        .iter()
-        .copied()
-        .find(|refusal| is(name, refusal.name()))
+    Refusal::ALL.iter().copied().find(
+        |refusal: &Refusal| -> bool
+            ensures { Decides result (name.entry.now ≡ refusal_word refusal.now) }
+        { is(name, refusal.name()) },
+    )
 }

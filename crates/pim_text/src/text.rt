@@ -1,7 +1,7 @@
 //! A whole text: what it declares, and its steps.
 ghost use Rattle.std.specs.Prelude.{◌≡◌, [], IfOk};
 ghost use Rattle.std.specs.Bool.{MatchBool};
-ghost use Rattle.pim_text.specs.Reading.{trace_of, with_line, MayFollow};
+ghost use Rattle.pim_text.specs.Reading.{trace_of, IsAddedTo};
 ghost use Rattle.pim_text.specs.Kinds.{Allows};
 
 use crate::kind::TextKind;
@@ -33,9 +33,7 @@ impl Text {
 
     /// Takes one more line, and returns whether it may follow those of the text.
     pub(crate) fn add(&mut self, line: &Line) -> Result<bool, AllocError>
-        ensures added { IfOk result (λ added. MatchBool added
-            (MayFollow (trace_of self.old) line.now × (trace_of self.new ≡ with_line (trace_of self.old) line.now))
-            (MayFollow (trace_of self.old) line.now → ⊥)) }
+        ensures added { IfOk result (IsAddedTo (trace_of self.old) line.now (trace_of self.new)) }
     {
         match line {
             Line::Task { number, base } => {
@@ -65,7 +63,7 @@ impl Text {
         }
     }
 
-    /// Returns whether a text of this kind may have the line below those of this text, as far as the kind goes.
+    /// Returns whether the kind lets the line stand below those of this text.
     pub(crate) fn allows(&self, line: &Line, kind: TextKind) -> bool
         ensures { MatchBool result (Allows kind (trace_of self.now) line.now) (Allows kind (trace_of self.now) line.now → ⊥) }
     {
@@ -77,11 +75,9 @@ impl Text {
         }
     }
 
-    /// Takes one more step line, if there is room for it within the limit.
+    /// Takes one more step line, and returns whether there is room for it within the limit.
     fn add_step(&mut self, line: &StepLine) -> Result<bool, AllocError>
-        ensures added { IfOk result (λ added. MatchBool added
-            (MayFollow (trace_of self.old) (Line.Step line.now) × (trace_of self.new ≡ with_line (trace_of self.old) (Line.Step line.now)))
-            (MayFollow (trace_of self.old) (Line.Step line.now) → ⊥)) }
+        ensures added { IfOk result (IsAddedTo (trace_of self.old) (Line.Step line.now) (trace_of self.new)) }
     {
         if self.lines.len() >= MAX_STEPS {
             return Ok(false);

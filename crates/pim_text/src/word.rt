@@ -1,13 +1,13 @@
 //! The words of a line, and the numbers that they spell.
-ghost use Rattle.std.specs.Prelude.{◌≡◌, ◌≢◌, ℕ, ◌∷◌, ◌==◌, ◌<◌, ◌^◌, length, MatchOption, IfSome, decimal, position};
+ghost use Rattle.std.specs.Prelude.{◌≡◌, ◌≢◌, ◌∷◌, ◌==◌, ◌<◌, ◌^◌, length, IfSome, decimal, position};
 ghost use Rattle.std.specs.Bool.{MatchBool};
 ghost use Rattle.std.specs.List.{slice_split};
 ghost use Rattle.pim_base.specs.Spelling.{IsNumber, IsPrio};
-ghost use Rattle.pim_text.specs.Reading.{pieces};
+ghost use Rattle.pim_text.specs.Reading.{pieces, ReadsAs};
 
 use pim_base::Prio;
 
-/// Returns the bytes before the first separator and, if there is one, those behind it.
+/// Returns the bytes before the first separator and those behind it; all bytes and `None` where there is none.
 #[inline]
 pub(crate) fn cut(bytes: &[u8], separator: u8) -> (&[u8], Option<&[u8]>)
     ensures parts { slice_split (λ b. b == separator) bytes.now ≡ result.0.now ∷ pieces separator result.1 }
@@ -19,7 +19,7 @@ pub(crate) fn cut(bytes: &[u8], separator: u8) -> (&[u8], Option<&[u8]>)
     }
 }
 
-/// Returns the place of the first separator.
+/// Returns the place of the first separator, or `None` where there is none.
 ///
 /// It goes by index: an iterator's `position` takes an instruction more for each byte of a line.
 #[inline]
@@ -42,20 +42,16 @@ pub(crate) fn is(word: &[u8], name: &str) -> bool
     word == name.as_bytes()
 }
 
-/// Returns the priority, 1 to 99, that the word spells, if it spells one.
+/// Returns the priority, 1 to 99, that the word spells, or `None` where it spells none.
 pub(crate) fn prio_of(word: &[u8]) -> Option<Prio>
-    ensures { MatchOption result
-        ((p : ℕ) → IsPrio p → word.now ≡ decimal p → ⊥)
-        (λ p. IsPrio p × (word.now ≡ decimal p)) }
+    ensures { ReadsAs IsPrio decimal word.now result }
 {
     Prio::new(number_of(word)?)
 }
 
-/// Returns the number, 1 to 65535, that the word spells, if it spells one.
+/// Returns the number, 1 to 65535, that the word spells, or `None` where it spells none.
 pub(crate) fn number_of(word: &[u8]) -> Option<u16>
-    ensures { MatchOption result
-        ((n : ℕ) → IsNumber n → word.now ≡ decimal n → ⊥)
-        (λ n. IsNumber n × (word.now ≡ decimal n)) }
+    ensures { ReadsAs IsNumber decimal word.now result }
 {
     match word {
         [b'1'..=b'9', ..] => std::str::from_utf8(word).ok()?.parse().ok(),
@@ -63,11 +59,9 @@ pub(crate) fn number_of(word: &[u8]) -> Option<u16>
     }
 }
 
-/// Returns the count, 0 to 65535, that the word spells, if it spells one.
+/// Returns the count, 0 to 65535, that the word spells, or `None` where it spells none.
 pub(crate) fn count_of(word: &[u8]) -> Option<u16>
-    ensures { MatchOption result
-        ((n : ℕ) → n < 2 ^ 16 → word.now ≡ decimal n → ⊥)
-        (λ n. (n < 2 ^ 16) × (word.now ≡ decimal n)) }
+    ensures { ReadsAs (λ n. n < 2 ^ 16) decimal word.now result }
 {
     if is(word, "0") {
         Some(0)

@@ -1,5 +1,0 @@
-use Rattle.pim_base.proofs.Steady.{same_step_law as law}
-use Rattle.pim_base.proofs.laws.same_step_law.Goals as goal
-
-pub returns : goal.returns
-returns c = law
