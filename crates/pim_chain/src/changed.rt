@@ -7,8 +7,7 @@ ghost use Rattle.pim_chain.specs.Numbers.{members};
 ghost use Rattle.pim_chain.specs.Work.{differs_in};
 
 use crate::number_set::{NumberSet, Numbers};
-use crate::numbered::nth;
-use pim_base::{Prio, TaskNo};
+use pim_base::{Prio, TaskNo, nth};
 use std::marker::Model;
 
 /// The tasks whose stored priority isn't the noted one, in ascending order.

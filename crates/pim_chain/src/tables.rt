@@ -15,12 +15,12 @@ ghost use Rattle.pim_chain.specs.Settled.{Calm, Unsettles, joined, left, restore
 
 use crate::changed::Changed;
 use crate::number_set::NumberSet;
-use crate::numbered::{filled, nth, put};
+use crate::numbered::{filled, put};
 use crate::owned::Owned;
 use crate::owned_sets::OwnedSets;
 use crate::queues::Queues;
 use crate::visits::Visits;
-use pim_base::{MutexNo, Prio, Protocol, TaskNo, Wait, Waiter};
+use pim_base::{MutexNo, Prio, Protocol, TaskNo, Wait, Waiter, nth};
 use pim_queue::Queue;
 use std::alloc::{AllocError, Global};
 use std::marker::Model;

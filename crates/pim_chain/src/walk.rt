@@ -11,10 +11,9 @@ ghost use Rattle.pim_chain.specs.Owned.{worth};
 ghost use Rattle.pim_chain.specs.Settled.{SettledBut, Visited, next_of, changed};
 ghost use Rattle.pim_chain.specs.Work.{Tells, VisitedOnce};
 
-use crate::numbered::higher;
 use crate::tables::Tables;
 use crate::visits::Visits;
-use pim_base::{MutexNo, Prio, TaskNo};
+use pim_base::{MutexNo, Prio, TaskNo, higher};
 
 impl Tables {
     // the priority of the first waiter for the mutex

@@ -1,13 +1,12 @@
 //! What is owned and waited for, and the changes of one fact.
 
 ghost use Rattle.std.specs.Prelude.{◌≡◌, ◌≤◌, ◌<◌, length, IfOk};
-ghost use Rattle.pim_base.specs.Lists.{nth, holds};
+ghost use Rattle.pim_base.specs.Lists.{nth, put, holds};
 ghost use Rattle.pim_base.specs.State.{start, IsTask, base_of, owner_of, wait_of, protocol_of, with_owner, with_wait, with_base, queued};
 ghost use Rattle.pim_base.specs.Priorities.{ceiling};
 ghost use Rattle.pim_base.specs.declared.limits.TheConstants.{MAX_TASKS, MAX_MUTEXES, LAST_TICKET};
 
-use crate::numbered::{nth, put};
-use pim_base::{MutexNo, Prio, Protocol, TaskNo, Wait};
+use pim_base::{MutexNo, Prio, Protocol, TaskNo, Wait, nth};
 use std::alloc::{AllocError, Global};
 use std::marker::Model;
 
@@ -57,15 +56,11 @@ impl PlainManager {
         requires mutexes { length protocols.now ≤ MAX_MUTEXES }
         ensures { IfOk result (λ plain. plain ≡ start bases.now protocols.now next) }
     {
-        let base = bases.to_vec(alloc)?;
-        let protocol = protocols.to_vec(alloc)?;
-        let owner = vec![in alloc; None; protocols.len()]?;
-        let wait = vec![in alloc; None; bases.len()]?;
         Ok(PlainManager {
-            base,
-            protocol,
-            owner,
-            wait,
+            base: bases.to_vec(alloc)?,
+            protocol: protocols.to_vec(alloc)?,
+            owner: vec![in alloc; None; protocols.len()]?,
+            wait: vec![in alloc; None; bases.len()]?,
             next,
         })
     }
@@ -175,5 +170,16 @@ impl PlainManager {
         ensures { self.new ≡ with_wait self.old task None }
     {
         put(&mut self.wait, task.get(), None);
+    }
+}
+
+/// Puts the item at this number; changes nothing where the list has no such number.
+fn put<T: Copy>(items: &mut [T], number: u16, item: T)
+    ensures { items.new ≡ put items.old number item }
+{
+    if let Some(place) = (number as usize).checked_sub(1) {
+        if place < items.len() {
+            items[place] = item;
+        }
     }
 }

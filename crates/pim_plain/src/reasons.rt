@@ -85,20 +85,15 @@ impl PlainManager {
     fn has_ceiling(&self, mutex: MutexNo, prio: Prio) -> bool
         ensures { result ≡ (ceiling_of self.now mutex == prio) }
     {
-        match self.ceiling(mutex) {
-            Some(ceiling) => ceiling == prio,
-            None => false,
-        }
+        self.ceiling(mutex) == Some(prio)
     }
 
     /// Returns whether the mutex is an INHERIT mutex for which somebody waits at this priority.
     fn lends(&self, mutex: MutexNo, prio: Prio) -> bool
         ensures { result ≡ lends self.now prio mutex }
     {
-        match self.protocol(mutex) {
-            Some(protocol) => protocol.is_inherit() && self.has_waiter_at(mutex, prio),
-            None => false,
-        }
+        let protocol = self.protocol(mutex);
+        protocol.is_some_and(|protocol| protocol.is_inherit()) && self.has_waiter_at(mutex, prio)
     }
 
     /// Returns whether somebody waits for the mutex at this priority.
