@@ -1,5 +1,5 @@
 -- One visit.
-use Rattle.std.proofs.Common.{◌≡◌, ℕ, eqb, ◌≤◌, ◌==◌, Bool, cond, if◌then◌else◌, true, false, ◌⊎◌, inl, inr, refl, sym, ◌∙◌, ap, subst, Option, Some, None, List, length, unwrap_or, option_and_then}
+use Rattle.std.proofs.Common.{◌≡◌, ℕ, eqb, ◌≤◌, ◌==◌, Bool, cond, if◌then◌else◌, true, false, ◌⊎◌, inl, inr, refl, sym, ◌∙◌, ap, subst, Option, Some, None, List, unwrap_or, option_and_then}
 use Rattle.std.specs.List.{list_any, find}
 use Rattle.std.specs.Option.{option_map_or}
 use Rattle.std.proofs.lemmas.Bool.{cases_eq, eqb-true, eq-eqb, ne_eqb}
@@ -18,7 +18,7 @@ use Rattle.pim_chain.specs.Views.{View, stored_in, stored_at, queue_at, first_pr
 use Rattle.pim_chain.specs.Settled.{SettledBut, moved, restored, Visited}
 use Rattle.pim_chain.proofs.Local.{Mends, mended_onward, mended_stop, waits_for_from, heir_at}
 use Rattle.pim_chain.proofs.Waiting.{waiter_is, queue_kept, queue_left, queue_joined, top_front}
-use Rattle.pim_chain.proofs.Changes.{queues_put, room_kept, not_waiting, waits_once}
+use Rattle.pim_chain.proofs.Changes.{ready_requeued, not_waiting, waits_once}
 
 -- ---- another stored priority
 pub stored_now : (v : View) (x p : ℕ) → Ready v → IsTask v.state x → stored_in (put v.stored x p) x ≡ p
@@ -99,20 +99,11 @@ restored_waiting :
     → wait_of v.state x ≡ Some w
     → Ready v
     → Ready (record v { state = v.state; stored = put v.stored x p; queues = moved v.queues (Some w) x p })
-restored_waiting v x p w known at ready = record {
-  sound = ready.sound;
-  few_tasks = ready.few_tasks;
-  few_mutexes = ready.few_mutexes;
-  stored_len = length-put v.stored x p ∙ ready.stored_len;
-  queues_len = length-put v.queues w.mutex _ ∙ ready.queues_len;
-  waits = ready.waits;
-  queues = queues_put v.state v.state (stored_at v) (stored_in (put v.stored x p)) v.queues w.mutex _ ready.queues_len refl
-      (queue_moved v x p w ready known at)
-      (λ k isk ne. queue_kept (wait_of v.state) (wait_of v.state) (stored_at v) (stored_in (put v.stored x p)) x k (queue_at v k)
-      (λ u _. refl) (stored_else v x p) (λ h. ne (sym (waits_once (wait_of v.state) k x w at h)))
-      (λ h. ne (sym (waits_once (wait_of v.state) k x w at h))) (ready.queues k isk));
-  room = λ k isk. room_kept v.queues w.mutex _ (length v.state.base) k isk.0 (subst (λ n. k ≤ n) (sym ready.queues_len) isk.1) (ready.room k isk);
-}
+restored_waiting v x p w known at ready =
+    ready_requeued v v.state.wait (put v.stored x p) w.mutex _ ready ready.sound ready.waits (length-put v.stored x p) (queue_moved v x p w ready known at)
+    (λ k isk ne. queue_kept (wait_of v.state) (wait_of v.state) (stored_at v) (stored_in (put v.stored x p)) x k (queue_at v k)
+    (λ u _. refl) (stored_else v x p) (λ h. ne (sym (waits_once (wait_of v.state) k x w at h)))
+    (λ h. ne (sym (waits_once (wait_of v.state) k x w at h))) (ready.queues k isk))
 
 pub ready_restored : (v : View) (x p : ℕ) → IsTask v.state x → Ready v → Ready (restored v x p)
 ready_restored v x p known ready = go (wait_of v.state x) refl
