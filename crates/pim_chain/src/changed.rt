@@ -64,8 +64,5 @@ impl<'a> Iterator for Changed<'a> {
 fn differs(had: &[u16], stored: &[Prio], task: u16) -> bool
     ensures { result ≡ differs_in had.now stored.now task }
 {
-    match nth(stored, task) {
-        Some(prio) => nth(had, task).unwrap_or(0) != prio.get(),
-        None => false,
-    }
+    nth(stored, task).is_some_and(|prio| nth(had, task).unwrap_or(0) != prio.get())
 }

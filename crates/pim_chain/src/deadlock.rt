@@ -41,9 +41,7 @@ impl Tables {
     pub fn closes_cycle(&self, task: TaskNo, mutex: MutexNo) -> bool
         ensures { result ≡ closes_cycle self.now.state task mutex }
     {
-        match self.owner(mutex) {
-            Some(owner) => self.on_chain(owner, task),
-            None => false,
-        }
+        self.owner(mutex)
+            .is_some_and(|owner| self.on_chain(owner, task))
     }
 }

@@ -9,9 +9,9 @@ ghost use Rattle.pim_base.specs.State.{IsTask, IsMutex, task_numbers, base_of, p
 ghost use Rattle.pim_base.specs.Chains.{blocker, heir_of, closes_cycle};
 ghost use Rattle.pim_base.specs.Priorities.{ceiling};
 ghost use Rattle.pim_base.specs.declared.steps.Wait.{Wait};
-ghost use Rattle.pim_chain.specs.Views.{Ready, fresh, with_state, queue_at, stored_at};
+ghost use Rattle.pim_chain.specs.Views.{Ready, fresh, with_state, queue_at, stored_at, waiter_at};
 ghost use Rattle.pim_chain.specs.Work.{has_changed};
-ghost use Rattle.pim_chain.specs.Settled.{Calm, Unsettles, joined, left, restored};
+ghost use Rattle.pim_chain.specs.Settled.{Calm, Unsettles, joined, left};
 
 use crate::changed::Changed;
 use crate::number_set::NumberSet;
@@ -37,8 +37,8 @@ pub struct Tables {
     owner: Vec<Option<TaskNo>>,
     wait: Vec<Option<Wait>>,
     owned: OwnedSets,
-    stored: Vec<Prio>,
-    queues: Queues,
+    pub(crate) stored: Vec<Prio>,
+    pub(crate) queues: Queues,
     next: u64,
 }
 
@@ -212,6 +212,15 @@ impl Tables {
         self.stored[task.get() as usize - 1]
     }
 
+    /// Returns the known task as a waiter with this ticket.
+    pub(crate) fn waiter(&self, task: TaskNo, ticket: u64) -> Waiter
+        requires { IsTask self.now.state task }
+        ensures { result ≡ waiter_at self.now task ticket }
+    {
+        let prio = self.known_stored(task);
+        Waiter { task, prio, ticket }
+    }
+
     /// Returns the tasks whose stored priority isn't the one that the visits noted, in ascending order; none where the
     /// visits keep no notes. Looks at the noted tasks alone.
     pub fn changed<'a>(&'a self, visits: &'a Visits) -> Changed<'a>
@@ -283,8 +292,8 @@ impl Tables {
         ensures unsettles { Unsettles self.old self.new (owner_of self.old.state mutex) }
         ensures ready { Ready self.new }
     {
-        let prio = self.stored[task.get() as usize - 1];
-        self.queues.insert(mutex, Waiter { task, prio, ticket });
+        let waiter = self.waiter(task, ticket);
+        self.queues.insert(mutex, waiter);
         put(&mut self.wait, task.get(), Some(Wait { mutex, ticket }));
     }
 
@@ -298,32 +307,9 @@ impl Tables {
         ensures ready { Ready self.new }
     {
         if let Some(wait) = self.waits_for(task) {
-            let prio = self.known_stored(task);
-            let waiter = Waiter {
-                task,
-                prio,
-                ticket: wait.ticket,
-            };
+            let waiter = self.waiter(task, wait.ticket);
             self.queues.remove(wait.mutex, &waiter);
             put(&mut self.wait, task.get(), None);
-        }
-    }
-
-    /// Stores the priority, and moves the task to its place in the queue that it waits in.
-    pub(crate) fn restore(&mut self, task: TaskNo, prio: Prio)
-        requires { IsTask self.old.state task }
-        ensures { self.new ≡ restored self.old task prio }
-    {
-        let wait = self.waits_for(task);
-        let before = self.known_stored(task);
-        put(&mut self.stored, task.get(), prio);
-        if let Some(wait) = wait {
-            let waiter = Waiter {
-                task,
-                prio: before,
-                ticket: wait.ticket,
-            };
-            self.queues.reposition(wait.mutex, &waiter, prio);
         }
     }
 }

@@ -8,9 +8,10 @@ ghost use Rattle.pim_base.specs.Priorities.{local_priority, effective_priority};
 ghost use Rattle.pim_base.specs.Queues.{queue_of};
 ghost use Rattle.pim_chain.specs.Views.{Ready, stored_at, queue_at, first_prio};
 ghost use Rattle.pim_chain.specs.Owned.{worth};
-ghost use Rattle.pim_chain.specs.Settled.{SettledBut, Visited, next_of, changed};
+ghost use Rattle.pim_chain.specs.Settled.{SettledBut, Visited, next_of, changed, restored};
 ghost use Rattle.pim_chain.specs.Work.{Tells, VisitedOnce};
 
+use crate::numbered::put;
 use crate::tables::Tables;
 use crate::visits::Visits;
 use pim_base::{MutexNo, Prio, TaskNo, higher};
@@ -20,20 +21,14 @@ impl Tables {
     fn first_prio(&self, mutex: MutexNo) -> Option<Prio>
         ensures { unwrap_or result 0 ≡ first_prio (queue_at self.now mutex) }
     {
-        match &self.first_waiter(mutex) {
-            Some(first) => Some(first.prio),
-            None => None,
-        }
+        self.first_waiter(mutex).map(|first| first.prio)
     }
 
     // this priority as a number, 0 where nobody waits
     pub(crate) fn first_level(&self, mutex: MutexNo) -> u16
         ensures { result ≡ first_prio (queue_at self.now mutex) }
     {
-        match self.first_prio(mutex) {
-            Some(prio) => prio.get(),
-            None => 0,
-        }
+        self.first_prio(mutex).map_or(0, |prio| prio.get())
     }
 
     // the priority that the mutex lends to its owner
@@ -79,6 +74,20 @@ impl Tables {
         }
         // [6]
         self.heir_of(mutex)
+    }
+
+    // [3] and [4]: stores the priority, and moves the task to its place in the queue that it waits in
+    fn restore(&mut self, task: TaskNo, prio: Prio)
+        requires { IsTask self.old.state task }
+        ensures { self.new ≡ restored self.old task prio }
+    {
+        // [4]
+        if let Some(wait) = self.waits_for(task) {
+            let waiter = self.waiter(task, wait.ticket);
+            self.queues.reposition(wait.mutex, &waiter, prio);
+        }
+        // [3]
+        put(&mut self.stored, task.get(), prio);
     }
 
     // one turn of the walk, [2] to [6]: restores one task's priority, and returns the task to go on with
