@@ -1,20 +1,21 @@
 //! The walk that restores the stored priorities, and stops early.
 
-ghost use Rattle.std.specs.Prelude.{◌≡◌, ◌≤◌, ◌<◌, ◌+◌, ◌-◌, ◌^◌, ◌==◌, if◌then◌else◌, None, length, unwrap_or, ℕ};
+ghost use Rattle.std.specs.Prelude.{◌≡◌, ◌≤◌, ◌<◌, ◌+◌, ◌-◌, ◌^◌, None, length, unwrap_or, ℕ};
+ghost use Rattle.std.specs.Option.{option_and_then};
 ghost use Rattle.pim_base.specs.declared.limits.TheConstants.{MAX_TASKS};
-ghost use Rattle.pim_base.specs.State.{IsTask, IsMutex};
-ghost use Rattle.pim_base.specs.Chains.{heir, heir_of};
+ghost use Rattle.pim_base.specs.State.{IsTask, IsMutex, wait_of};
+ghost use Rattle.pim_base.specs.Chains.{heir};
 ghost use Rattle.pim_base.specs.Priorities.{local_priority, effective_priority};
 ghost use Rattle.pim_base.specs.Queues.{queue_of};
 ghost use Rattle.pim_chain.specs.Views.{Ready, stored_at, queue_at, first_prio};
 ghost use Rattle.pim_chain.specs.Owned.{worth};
-ghost use Rattle.pim_chain.specs.Settled.{SettledBut, Visited, next_of, changed, restored};
+ghost use Rattle.pim_chain.specs.Settled.{SettledBut, Visited, onward_from, next_of, changed, restored};
 ghost use Rattle.pim_chain.specs.Work.{Tells, VisitedOnce};
 
 use crate::numbered::put;
 use crate::tables::Tables;
 use crate::visits::Visits;
-use pim_base::{MutexNo, Prio, TaskNo, higher};
+use pim_base::{MutexNo, Prio, TaskNo, Wait, higher};
 
 impl Tables {
     // the priority of the first waiter for the mutex
@@ -64,10 +65,11 @@ impl Tables {
         prio
     }
 
-    // where the walk goes on from the queue of a mutex, whose first waiter had this priority before: [5] and [6]
-    fn onward(&self, mutex: MutexNo, before: u16) -> Option<TaskNo>
-        ensures { result ≡ (if before == first_prio (queue_at self.now mutex) then None else heir_of self.now.state mutex) }
+    // where the walk goes on from the queue that a task waits in, whose first waiter had this priority before: [5] and [6]
+    fn onward(&self, wait: &Option<Wait>, before: u16) -> Option<TaskNo>
+        ensures { result ≡ option_and_then (onward_from before self.now) wait.now }
     {
+        let mutex = wait.as_ref()?.mutex;
         // [5]
         if self.first_level(mutex) == before {
             return None;
@@ -77,12 +79,13 @@ impl Tables {
     }
 
     // [3] and [4]: stores the priority, and moves the task to its place in the queue that it waits in
-    fn restore(&mut self, task: TaskNo, prio: Prio)
-        requires { IsTask self.old.state task }
+    fn restore(&mut self, task: TaskNo, wait: Option<Wait>, prio: Prio)
+        requires known { IsTask self.old.state task }
+        requires waits { wait ≡ wait_of self.old.state task }
         ensures { self.new ≡ restored self.old task prio }
     {
         // [4]
-        if let Some(wait) = self.waits_for(task) {
+        if let Some(wait) = wait {
             let waiter = self.waiter(task, wait.ticket);
             self.queues.reposition(wait.mutex, &waiter, prio);
         }
@@ -106,20 +109,13 @@ impl Tables {
         if prio == had {
             return None;
         }
-        // [3]
         visits.note(task, had);
-        match self.waits_for(task) {
-            None => {
-                self.restore(task, prio);
-                None
-            }
-            // [4]
-            Some(wait) => {
-                let before = self.first_level(wait.mutex);
-                self.restore(task, prio);
-                self.onward(wait.mutex, before)
-            }
-        }
+        // [3] and [4]
+        let wait = self.waits_for(task);
+        let before = wait.map_or(0, |wait| self.first_level(wait.mutex));
+        self.restore(task, wait, prio);
+        // [5] and [6]
+        self.onward(&wait, before)
     }
 
     /// Walks from a task whose local priority a change may have altered, and restores all stored priorities and queues.
