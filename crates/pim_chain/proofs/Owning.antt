@@ -53,23 +53,17 @@ owned_put n owners sets after m t o low high owned len known mine rest others ap
     go u k low_u high_u (inr ne) (inr other) = rw (others u ne, owner_kept owners m k o other) (owned.members u k low_u high_u)
 
 -- ---- as the tables have it
--- nothing is owned
-none_owned : (n k : ℕ) (sets : List NumberSet) → AreEmpty n sets → AreOwned n (replicate k None) sets
-none_owned n k sets empty = record {
-  len = empty.len;
-  members = λ t m low high. empty.none t m low high ∙ sym (ap (λ o. holds o t) (nth-replicate_none k m));
-}
-
--- the sets of new tables
+-- the sets of new tables, where nothing is owned
 pub fresh_owned :
     (b bases : List ℕ) (owners : List (Option ℕ)) (k : ℕ) (sets : List NumberSet)
     → b ≡ bases
     → owners ≡ replicate k None
     → AreEmpty (length bases) sets
     → AreOwned (length b) owners sets
-fresh_owned b bases owners k sets is_b is_o empty =
-    subst (λ xs. AreOwned (length xs) owners sets) (sym is_b)
-    (subst (λ os. AreOwned (length bases) os sets) (sym is_o) (none_owned (length bases) k sets empty))
+fresh_owned b bases owners k sets is_b is_o empty = rw (is_b, is_o) (record {
+  len = empty.len;
+  members = λ t m low high. empty.none t m low high ∙ sym (ap (λ o. holds o t) (nth-replicate_none k m));
+})
 
 module _ (v u : View) (same : v ≡ u) (ready : Ready v) (sets : List NumberSet)
     (owned : AreOwned (length v.state.base) v.state.owner sets) where
@@ -92,8 +86,7 @@ module _ (v u : View) (same : v ≡ u) (ready : Ready v) (sets : List NumberSet)
       → ((x : ℕ) → x ≢ t → words_in after x ≡ words_in sets x)
       → AreOwned (length v.state.base) owners after
   bound_sets m t owners after mutex free task is len inserted others =
-      subst (λ os. AreOwned (length v.state.base) os after) (sym is)
-      (owned_put (length v.state.base) v.state.owner sets after m t (Some t) (mutex_in m mutex).0 (mutex_in m mutex).1 owned len (task_in t task)
+      rw is (owned_put (length v.state.base) v.state.owner sets after m t (Some t) (mutex_in m mutex).0 (mutex_in m mutex).1 owned len (task_in t task)
       (inserted m ∙ ap (λ b. b || has (words_in sets t) m) (eq-eqb m m refl) ∙ sym (eq-eqb t t refl))
       (λ k ne. inserted k ∙ ap (λ b. b || has (words_in sets t) k) (ne_eqb k m ne)) others
       (λ x ne. ap (λ o. holds o x) (subst (λ (x : View). owner_of x.state m ≡ None) (sym same) free) ∙ sym (ne_eqb t x (λ e. ne (sym e)))))
@@ -110,8 +103,7 @@ module _ (v u : View) (same : v ≡ u) (ready : Ready v) (sets : List NumberSet)
       let here : owner_of v.state m ≡ Some t = subst (λ (x : View). owner_of x.state m ≡ Some t) (sym same) mine in
       let mutex : IsMutex v.state m = owned_known v.state ready.sound.lists m t (holds_from (owner_of v.state m) t here) in
       let task : IsTask v.state t = ready.waits.owners m t here in
-      subst (λ os. AreOwned (length v.state.base) os after) (sym is)
-      (owned_put (length v.state.base) v.state.owner sets after m t None mutex.0 (subst (λ n. m ≤ n) (sym ready.sound.lists.owners) mutex.1) owned len task
+      rw is (owned_put (length v.state.base) v.state.owner sets after m t None mutex.0 (subst (λ n. m ≤ n) (sym ready.sound.lists.owners) mutex.1) owned len task
       (removed m ∙ ap (λ b. not b && has (words_in sets t) m) (eq-eqb m m refl))
       (λ k ne. removed k ∙ ap (λ b. not b && has (words_in sets t) k) (ne_eqb k m ne)) others
       (λ x ne. ap (λ o. holds o x) here ∙ ne_eqb t x (λ e. ne (sym e))))

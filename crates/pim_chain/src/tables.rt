@@ -27,7 +27,7 @@ use std::marker::Model;
 
 /// The facts about tasks and mutexes, the stored priorities and the queues.
 ///
-/// Only `new` and `try_clone` take memory: they make all the room that the other calls use. A getter returns None for
+/// Only `new` and `try_clone` take memory: they make all the room that the other calls use. A getter returns `None` for
 /// an unknown number, and a test answers what the definitions say of it; the calls that change a fact, those whose
 /// name begins with `known`, and `owned`, `local`, `reason` and `settle_from` must be given known ones.
 #[derive(Drop)]
@@ -55,7 +55,7 @@ impl Model for Tables {
 }
 
 impl Tables {
-    /// Makes the tables of these tasks and mutexes: all mutexes are free, nobody waits, each stored priority is the base,
+    /// Makes the tables of these tasks and mutexes: all mutexes are free, no task waits, each stored priority is the base,
     /// and the next ticket is 1.
     ///
     /// # Errors
@@ -115,35 +115,35 @@ impl Tables {
         self.protocol.len() as u16
     }
 
-    /// Returns the base priority of the task, None for an unknown one.
+    /// Returns the base priority of the task, `None` for an unknown one.
     pub fn base(&self, task: TaskNo) -> Option<Prio>
         ensures { result ≡ nth self.now.state.base task }
     {
         nth(&self.base, task.get())
     }
 
-    /// Returns the protocol of the mutex, None for an unknown one.
+    /// Returns the protocol of the mutex, `None` for an unknown one.
     pub fn protocol(&self, mutex: MutexNo) -> Option<Protocol>
         ensures { result ≡ nth self.now.state.protocol mutex }
     {
         nth(&self.protocol, mutex.get())
     }
 
-    /// Returns the ceiling of a PROTECT mutex, None for any other one.
+    /// Returns the ceiling of a PROTECT mutex, `None` for any other one.
     pub fn ceiling(&self, mutex: MutexNo) -> Option<Prio>
         ensures { result ≡ ceiling (protocol_of self.now.state mutex) }
     {
         self.protocol(mutex)?.ceiling()
     }
 
-    /// Returns the owner of the mutex, None where it is free or unknown.
+    /// Returns the owner of the mutex, `None` where it is free or unknown.
     pub fn owner(&self, mutex: MutexNo) -> Option<TaskNo>
         ensures { result ≡ owner_of self.now.state mutex }
     {
         nth(&self.owner, mutex.get()).flatten()
     }
 
-    /// Returns the owner of an INHERIT mutex, which gets the priority of those that wait for it, None for any other one.
+    /// Returns the owner of an INHERIT mutex, which gets the priority of those that wait for it, `None` for any other one.
     pub fn heir_of(&self, mutex: MutexNo) -> Option<TaskNo>
         ensures { result ≡ heir_of self.now.state mutex }
     {
@@ -168,28 +168,28 @@ impl Tables {
         self.next
     }
 
-    /// Returns the mutex that the task waits for, with its ticket there, None where it waits for nothing or is unknown.
+    /// Returns the mutex that the task waits for, with its ticket there, `None` where it waits for nothing or is unknown.
     pub fn waits_for(&self, task: TaskNo) -> Option<Wait>
         ensures { result ≡ wait_of self.now.state task }
     {
         nth(&self.wait, task.get()).flatten()
     }
 
-    /// Returns the stored priority of the task, None for an unknown one.
+    /// Returns the stored priority of the task, `None` for an unknown one.
     pub fn stored(&self, task: TaskNo) -> Option<Prio>
         ensures { result ≡ nth self.now.stored task }
     {
         nth(&self.stored, task.get())
     }
 
-    /// Returns the queue of the mutex, None for an unknown one.
+    /// Returns the queue of the mutex, `None` for an unknown one.
     pub fn queue(&self, mutex: MutexNo) -> Option<&Queue>
         ensures { option_copied result ≡ nth self.now.queues mutex }
     {
         self.queues.get(mutex)
     }
 
-    /// Returns the first waiter for the mutex, None where nobody waits or the mutex is unknown.
+    /// Returns the first waiter for the mutex, `None` where no task waits or the mutex is unknown.
     pub fn first_waiter(&self, mutex: MutexNo) -> Option<Waiter>
         ensures { result ≡ first_item (queue_at self.now mutex) }
     {
@@ -278,7 +278,7 @@ impl Tables {
         put(&mut self.base, task.get(), prio);
     }
 
-    /// Lets the task, which must wait for nothing, wait for the mutex with this ticket, which nobody there must have. The
+    /// Lets the task, which must wait for nothing, wait for the mutex with this ticket, which no task there must have. The
     /// wait must close no cycle. The next ticket stays.
     ///
     /// Shifts the waiters behind its place in the queue.

@@ -25,7 +25,7 @@ impl Tables {
         self.first_waiter(mutex).map(|first| first.prio)
     }
 
-    // this priority as a number, 0 where nobody waits
+    // this priority as a number, 0 where no task waits
     pub(crate) fn first_level(&self, mutex: MutexNo) -> u16
         ensures { result ≡ first_prio (queue_at self.now mutex) }
     {
@@ -133,7 +133,7 @@ impl Tables {
     /// # Cost
     ///
     /// At most one visit more than there are tasks whose priority changes, and one visit alone where the task hands its
-    /// priority on to nobody. A visit looks at each mutex that its task owns. `[4]` finds both places by binary search,
+    /// priority on to no task. A visit looks at each mutex that its task owns. `[4]` finds both places by binary search,
     /// and shifts the waiters between them. The walk takes no memory, and never looks at all tasks.
     pub fn settle_from(&mut self, task: TaskNo, visits: &mut Visits)
         requires settled { SettledBut self.old.state (stored_at self.old) (Some task) }

@@ -65,35 +65,35 @@ impl PlainManager {
         })
     }
 
-    /// Returns the base of a task; None for an unknown one.
+    /// Returns the base of a task; `None` for an unknown one.
     pub fn base(&self, task: TaskNo) -> Option<Prio>
         ensures { result ≡ nth self.now.base task }
     {
         nth(&self.base, task.get())
     }
 
-    /// Returns the protocol of a mutex; None for an unknown one.
+    /// Returns the protocol of a mutex; `None` for an unknown one.
     pub fn protocol(&self, mutex: MutexNo) -> Option<Protocol>
         ensures { result ≡ nth self.now.protocol mutex }
     {
         nth(&self.protocol, mutex.get())
     }
 
-    /// Returns the ceiling of a PROTECT mutex; None for any other, and for an unknown one.
+    /// Returns the ceiling of a PROTECT mutex; `None` for any other, and for an unknown one.
     pub fn ceiling(&self, mutex: MutexNo) -> Option<Prio>
         ensures { result ≡ ceiling (protocol_of self.now mutex) }
     {
         self.protocol(mutex)?.ceiling()
     }
 
-    /// Returns the owner of a mutex; None for a free and for an unknown one.
+    /// Returns the owner of a mutex; `None` for a free and for an unknown one.
     pub fn owner_of(&self, mutex: MutexNo) -> Option<TaskNo>
         ensures { result ≡ owner_of self.now mutex }
     {
         nth(&self.owner, mutex.get()).flatten()
     }
 
-    /// Returns the mutex that a task waits for, with its ticket; None where it doesn't wait, and for an unknown one.
+    /// Returns the mutex that a task waits for, with its ticket; `None` where it doesn't wait, and for an unknown one.
     pub fn wait_of(&self, task: TaskNo) -> Option<Wait>
         ensures { result ≡ wait_of self.now task }
     {

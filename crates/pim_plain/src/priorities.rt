@@ -9,7 +9,7 @@ use crate::plain_manager::PlainManager;
 use pim_base::{MutexNo, Prio, TaskNo, higher};
 
 impl PlainManager {
-    /// Returns the effective priority of a task; None for an unknown one.
+    /// Returns the effective priority of a task; `None` for an unknown one.
     pub fn effective(&self, task: TaskNo) -> Option<Prio>
         ensures unknown { IsTrue (unknown_task self.now task) → result ≡ None }
         ensures known { IsTask self.now task → result ≡ Some (effective_priority self.now task) }

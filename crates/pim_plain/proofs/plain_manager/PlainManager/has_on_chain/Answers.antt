@@ -1,4 +1,4 @@
-use Rattle.std.proofs.Common.{◌≡◌, ◌≢◌, ◌∙◌, ◌-◌, ◌+◌, ◌<◌, arith, rules, sym, length}
+use Rattle.std.proofs.Common.{◌∙◌, arith, rules, sym}
 use Rattle.pim_base.proofs.Hops.{contains-chain_here, contains-chain_next, contains-chain_last}
 use Rattle.pim_plain.proofs.plain_manager.PlainManager.has_on_chain.Goals as goal
 
