@@ -1,9 +1,10 @@
 -- What a single change of the state leaves in order.
-use Rattle.std.proofs.Common.{◌≡◌, ℕ, eqb, ◌≤◌, max, true, false, ◌⊎◌, inl, inr, refl, sym, ◌∙◌, ap, subst, le_antisymm, Option, Some, None, List, [], length, unwrap_or, option_and_then}
+use Rattle.std.proofs.Common.{◌≡◌, ℕ, eqb, ◌≤◌, max, true, false, ◌⊎◌, inl, inr, refl, sym, ◌∙◌, ap, subst, arith, le_antisymm, Option, Some, None, List, [], length, unwrap_or, option_and_then}
 use Rattle.std.specs.Option.{option_map_or}
 use Rattle.std.proofs.lemmas.Bool.{both_ways, cases_eq, eqb-true}
 use Rattle.std.proofs.lemmas.Option.{none-some, same_Some}
-use Rattle.pim_base.specs.Lists.{holds}
+use Rattle.pim_base.specs.Lists.{holds, put}
+use Rattle.pim_base.specs.Laws.{IsSound}
 use Rattle.pim_base.specs.State.{State, IsState, IsTask, IsMutex, base_of, owner_of, wait_of, protocol_of}
 use Rattle.pim_base.specs.Chains.{heir, heir_in, heir_of, closes_cycle}
 use Rattle.pim_base.specs.Priorities.{own_priority, local_priority, ceiling_of}
@@ -21,7 +22,7 @@ use Rattle.pim_base.specs.declared.steps.Protocol.{Protocol}
 use Rattle.pim_base.specs.State.{owned}
 use Rattle.pim_queue.specs.QueueView.{QueueView, with_waiters}
 use Rattle.pim_queue.specs.Waiters.{without}
-use Rattle.pim_chain.specs.Views.{View, stored_at, queue_at, queue_in, view_in, put_queue, with_state, waits_for, IsQueue, Ready}
+use Rattle.pim_chain.specs.Views.{View, stored_in, stored_at, queue_at, queue_in, view_in, put_queue, with_state, waits_for, IsQueue, WaitsFit, Ready}
 use Rattle.pim_chain.specs.Settled.{SettledBut, left, joined}
 use Rattle.pim_chain.proofs.Local.{through, greatest_of-below}
 use Rattle.pim_chain.proofs.Waiting.{queue_kept, queue_left, queue_joined, waiting_known}
@@ -246,44 +247,46 @@ view_other queues m k ws ne =
     ap (λ o. unwrap_or o (record { waiters = []; room = 0 }))
     (nth-put_other queues m k (with_waiters (view_in queues m) ws) (λ e. ne (sym e)))
 
--- every queue has its room still
-pub room_kept :
-    (queues : List QueueView) (m : ℕ) (ws : List Waiter) (n k : ℕ)
-    → 1 ≤ k
-    → k ≤ length queues
-    → n ≤ (view_in queues k).room
-    → n ≤ (view_in (put_queue queues m ws) k).room
-room_kept queues m ws n k low high h = go (cases_eq k m)
+-- with other waits, other stored priorities and another queue of m, where each queue is in order still
+pub ready_requeued :
+    (v : View) (waits : List (Option Wait)) (stored : List ℕ) (m : ℕ) (ws : List Waiter)
+    → Ready v
+    → IsSound (record v.state { wait = waits })
+    → WaitsFit (record v.state { wait = waits })
+    → length stored ≡ length v.stored
+    → IsQueue (wait_of (record v.state { wait = waits })) (stored_in stored) m ws
+    → ((k : ℕ) → IsMutex v.state k → (k ≡ m → ⊥) → IsQueue (wait_of (record v.state { wait = waits })) (stored_in stored) k (queue_at v k))
+    → Ready (record { state = record v.state { wait = waits }; stored = stored; queues = put_queue v.queues m ws })
+ready_requeued v waits stored m ws ready sound fit len here others = record {
+  sound = sound;
+  few_tasks = ready.few_tasks;
+  few_mutexes = ready.few_mutexes;
+  stored_len = len ∙ ready.stored_len;
+  queues_len = length-put v.queues m _ ∙ ready.queues_len;
+  waits = fit;
+  queues = λ k known. queue k known (cases_eq k m);
+  room = λ k known. room k known (cases_eq k m);
+}
   where
-    go : (k ≡ m) ⊎ (k ≡ m → ⊥) → n ≤ (view_in (put_queue queues m ws) k).room
-    go (inl is) =
-        subst (λ j. n ≤ (view_in (put_queue queues m ws) j).room) (sym is)
-        (subst (λ (q : QueueView). n ≤ q.room) (sym (view_same queues m ws (subst (λ j. 1 ≤ j) is low) (subst (λ j. j ≤ length queues) is high)))
-        (subst (λ j. n ≤ (view_in queues j).room) is h))
-    go (inr ne) = subst (λ (q : QueueView). n ≤ q.room) (sym (view_other queues m k ws ne)) h
+    within : (k : ℕ) → IsMutex v.state k → k ≤ length v.queues
+    within k known = let len = ready.queues_len in omega (arith, len, known.1)
 
--- each mutex has its queue still, where that of m is the new one
-pub queues_put :
-    (S T : State) (stored stored' : ℕ → ℕ) (queues : List QueueView) (m : ℕ) (ws : List Waiter)
-    → length queues ≡ length S.protocol
-    → length T.protocol ≡ length S.protocol
-    → IsQueue (wait_of T) stored' m ws
-    → ((k : ℕ) → IsMutex S k → (k ≡ m → ⊥) → IsQueue (wait_of T) stored' k (queue_in queues k))
-    → (k : ℕ)
-    → IsMutex T k
-    → IsQueue (wait_of T) stored' k (queue_in (put_queue queues m ws) k)
-queues_put S T stored stored' queues m ws len same here others k known = go (cases_eq k m)
-  where
-    known_S : IsMutex S k
-    known_S = (known.0, subst (λ n. k ≤ n) same known.1)
+    queue :
+        (k : ℕ)
+        → IsMutex v.state k
+        → (k ≡ m) ⊎ (k ≡ m → ⊥)
+        → IsQueue (wait_of (record v.state { wait = waits })) (stored_in stored) k (queue_in (put_queue v.queues m ws) k)
+    queue k known (inr ne) = subst (λ (q : QueueView). IsQueue (wait_of (record v.state { wait = waits })) (stored_in stored) k q.waiters) (sym (view_other v.queues m k ws ne)) (others k known ne)
+    queue k known (inl is) =
+        let known_m : IsMutex v.state m = rw (sym is) known in
+        rw is (subst (λ (q : QueueView). IsQueue (wait_of (record v.state { wait = waits })) (stored_in stored) m q.waiters)
+        (sym (view_same v.queues m ws known_m.0 (within m known_m))) here)
 
-    go : (k ≡ m) ⊎ (k ≡ m → ⊥) → IsQueue (wait_of T) stored' k (queue_in (put_queue queues m ws) k)
-    go (inr ne) = subst (λ (q : QueueView). IsQueue (wait_of T) stored' k q.waiters) (sym (view_other queues m k ws ne)) (others k known_S ne)
-    go (inl is) =
-        subst (λ j. IsQueue (wait_of T) stored' j (queue_in (put_queue queues m ws) j)) (sym is)
-        (subst (λ (q : QueueView). IsQueue (wait_of T) stored' m q.waiters)
-        (sym (view_same queues m ws (subst (λ j. 1 ≤ j) is known.0)
-        (subst (λ j. j ≤ length queues) is (subst (λ n. k ≤ n) (sym len) known_S.1)))) here)
+    room : (k : ℕ) → IsMutex v.state k → (k ≡ m) ⊎ (k ≡ m → ⊥) → length v.state.base ≤ (view_in (put_queue v.queues m ws) k).room
+    room k known (inr ne) = subst (λ (q : QueueView). length v.state.base ≤ q.room) (sym (view_other v.queues m k ws ne)) (ready.room k known)
+    room k known (inl is) =
+        let known_m : IsMutex v.state m = rw (sym is) known in
+        rw is (subst (λ (q : QueueView). length v.state.base ≤ q.room) (sym (view_same v.queues m ws known_m.0 (within m known_m))) (ready.room m known_m))
 
 pub not_waiting : (wait : ℕ → Option Wait) (m t : ℕ) → wait t ≡ None → waits_for wait m t ≡ true → ⊥
 not_waiting wait m t e h = both_ways _ (ap (λ o. option_map_or (λ (w : Wait). eqb w.mutex m) o false) e) h
@@ -292,28 +295,20 @@ pub waits_once : (wait : ℕ → Option Wait) (m t : ℕ) (w : Wait) → wait t 
 waits_once wait m t w e h = eqb-true w.mutex m (sym (ap (λ o. option_map_or (λ (x : Wait). eqb x.mutex m) o false) e) ∙ h)
 
 pub ready_left : (v : View) (t : ℕ) (w : Wait) → wait_of v.state t ≡ Some w → Ready v → Ready (left v t w.mutex)
-ready_left v t w at ready = record {
-  sound = idle_sound v.state t ready.sound;
-  few_tasks = ready.few_tasks;
-  few_mutexes = ready.few_mutexes;
-  stored_len = ready.stored_len;
-  queues_len = length-put v.queues w.mutex _ ∙ ready.queues_len;
-  waits = record {
-    owners = λ k u e. ready.waits.owners k u e;
-    mutexes = λ u x e. ready.waits.mutexes u x (old u x e);
-    tickets = λ u y x e f. ready.waits.tickets u y x (old u x e) (old y x f);
-  };
-  queues =
-      queues_put v.state (with_wait v.state t None) (stored_at v) (stored_at v) v.queues w.mutex
-      (without t (queue_at v w.mutex)) ready.queues_len refl
-      (queue_left (wait_of v.state) (wait_of (with_wait v.state t None)) (stored_at v) (stored_at v) t w.mutex (queue_at v w.mutex)
-      (wait_other v.state t None) (λ u _. refl) (not_waiting (wait_of (with_wait v.state t None)) w.mutex t idle)
-      (ready.queues w.mutex (ready.waits.mutexes t w at)))
-      (λ k known ne. queue_kept (wait_of v.state) (wait_of (with_wait v.state t None)) (stored_at v) (stored_at v) t k (queue_at v k)
-      (wait_other v.state t None) (λ u _. refl) (λ h. ne (sym (waits_once (wait_of v.state) k t w at h)))
-      (not_waiting (wait_of (with_wait v.state t None)) k t idle) (ready.queues k known));
-  room = λ k known. room_kept v.queues w.mutex _ (length v.state.base) k known.0 (subst (λ n. k ≤ n) (sym ready.queues_len) known.1) (ready.room k known);
-}
+ready_left v t w at ready =
+    ready_requeued v (put v.state.wait t None) v.stored w.mutex (without t (queue_at v w.mutex)) ready (idle_sound v.state t ready.sound)
+    (record {
+      owners = ready.waits.owners;
+      mutexes = λ u x e. ready.waits.mutexes u x (old u x e);
+      tickets = λ u y x e f. ready.waits.tickets u y x (old u x e) (old y x f);
+    })
+    refl
+    (queue_left (wait_of v.state) (wait_of (with_wait v.state t None)) (stored_at v) (stored_at v) t w.mutex (queue_at v w.mutex)
+    (wait_other v.state t None) (λ u _. refl) (not_waiting (wait_of (with_wait v.state t None)) w.mutex t idle)
+    (ready.queues w.mutex (ready.waits.mutexes t w at)))
+    (λ k known ne. queue_kept (wait_of v.state) (wait_of (with_wait v.state t None)) (stored_at v) (stored_at v) t k (queue_at v k)
+    (wait_other v.state t None) (λ u _. refl) (λ h. ne (sym (waits_once (wait_of v.state) k t w at h)))
+    (not_waiting (wait_of (with_wait v.state t None)) k t idle) (ready.queues k known))
   where
     idle : wait_of (with_wait v.state t None) t ≡ None
     idle = wait_now v.state t None ready.sound.lists (waiting_known v.state ready.sound.lists t w at)
@@ -334,29 +329,24 @@ pub ready_joined :
     → ((u : ℕ) → wait_of v.state u ≡ Some w → ⊥)
     → Ready v
     → Ready (joined v t w)
-ready_joined v t w known mutex idle open' fresh ready = record {
-  sound = record {
-    lists = record { waits = length-put v.state.wait t (Some w) ∙ ready.sound.lists.waits; owners = ready.sound.lists.owners };
-    no_cycle = λ h. both_ways _ open' ((closing_law v.state t w.mutex w.ticket ready.sound.lists ready.sound.no_cycle known idle).1 h);
-  };
-  few_tasks = ready.few_tasks;
-  few_mutexes = ready.few_mutexes;
-  stored_len = ready.stored_len;
-  queues_len = length-put v.queues w.mutex _ ∙ ready.queues_len;
-  waits = record {
-    owners = λ k u e. ready.waits.owners k u e;
-    mutexes = λ u x e. mutexes u x e (cases_eq u t);
-    tickets = λ u y x e f. tickets u y x e f (cases_eq u t) (cases_eq y t);
-  };
-  queues = queues_put v.state (with_wait v.state t (Some w)) (stored_at v) (stored_at v) v.queues w.mutex _ ready.queues_len refl
-      (queue_joined (wait_of v.state) (wait_of (with_wait v.state t (Some w))) (stored_at v) (stored_at v) t w (queue_at v w.mutex)
-      (wait_other v.state t (Some w)) (λ u _. refl) (not_waiting (wait_of v.state) w.mutex t idle) now (λ u _ e. fresh u e)
-      (ready.queues w.mutex mutex))
-      (λ k isk ne. queue_kept (wait_of v.state) (wait_of (with_wait v.state t (Some w))) (stored_at v) (stored_at v) t k (queue_at v k)
-      (wait_other v.state t (Some w)) (λ u _. refl) (not_waiting (wait_of v.state) k t idle)
-      (λ h. ne (sym (waits_once (wait_of (with_wait v.state t (Some w))) k t w now h))) (ready.queues k isk));
-  room = λ k isk. room_kept v.queues w.mutex _ (length v.state.base) k isk.0 (subst (λ n. k ≤ n) (sym ready.queues_len) isk.1) (ready.room k isk);
-}
+ready_joined v t w known mutex idle open' fresh ready =
+    ready_requeued v (put v.state.wait t (Some w)) v.stored w.mutex _ ready
+    (record {
+      lists = record { waits = length-put v.state.wait t (Some w) ∙ ready.sound.lists.waits; owners = ready.sound.lists.owners };
+      no_cycle = λ h. both_ways _ open' ((closing_law v.state t w.mutex w.ticket ready.sound.lists ready.sound.no_cycle known idle).1 h);
+    })
+    (record {
+      owners = ready.waits.owners;
+      mutexes = λ u x e. mutexes u x e (cases_eq u t);
+      tickets = λ u y x e f. tickets u y x e f (cases_eq u t) (cases_eq y t);
+    })
+    refl
+    (queue_joined (wait_of v.state) (wait_of (with_wait v.state t (Some w))) (stored_at v) (stored_at v) t w (queue_at v w.mutex)
+    (wait_other v.state t (Some w)) (λ u _. refl) (not_waiting (wait_of v.state) w.mutex t idle) now (λ u _ e. fresh u e)
+    (ready.queues w.mutex mutex))
+    (λ k isk ne. queue_kept (wait_of v.state) (wait_of (with_wait v.state t (Some w))) (stored_at v) (stored_at v) t k (queue_at v k)
+    (wait_other v.state t (Some w)) (λ u _. refl) (not_waiting (wait_of v.state) k t idle)
+    (λ h. ne (sym (waits_once (wait_of (with_wait v.state t (Some w))) k t w now h))) (ready.queues k isk))
   where
     now : wait_of (with_wait v.state t (Some w)) t ≡ Some w
     now = wait_now v.state t (Some w) ready.sound.lists known

@@ -1,20 +1,19 @@
 -- The tables after a field was written, and what the calls on the queues ask for.
-use Rattle.std.proofs.Common.{◌≡◌, ℕ, ◌≤◌, ◌<◌, ◌-◌, true, false, ◌⊎◌, inl, inr, sym, ◌∙◌, ap, subst, arith, Option, Some, None, List, [], ◌∷◌, length, get_or, unwrap_or}
-use Rattle.pim_base.proofs.Places.{nth-get_or, nth_within}
+use Rattle.std.proofs.Common.{◌≡◌, ℕ, ◌≤◌, ◌<◌, true, false, ◌⊎◌, inl, inr, sym, ◌∙◌, ap, subst, arith, Option, Some, None, List, [], ◌∷◌, length, unwrap_or}
+use Rattle.pim_base.proofs.Places.{nth_within}
 use Rattle.pim_chain.proofs.Waiting.{room_for}
 use Rattle.std.specs.List.{list_any, find, AllByRecursion}
 use Rattle.std.proofs.lemmas.Bool.{false_from_ne_true, eqb-true, eq-eqb, or_cases, or_left, or_right}
 use Rattle.std.proofs.lemmas.Option.{none-some, same_Some}
-use Rattle.pim_base.specs.Lists.{nth, put, insert_by}
+use Rattle.pim_base.specs.Lists.{nth, put}
 use Rattle.pim_base.specs.State.{IsTask, IsMutex, wait_of, with_owner, with_base}
-use Rattle.pim_base.specs.Queues.{precedes}
 use Rattle.pim_base.specs.declared.steps.Wait.{Wait}
 use Rattle.pim_base.specs.declared.steps.Waiter.{Waiter}
 use Rattle.pim_queue.specs.QueueView.{QueueView}
-use Rattle.pim_queue.specs.Waiters.{is_of, has_ticket, without}
+use Rattle.pim_queue.specs.Waiters.{is_of, has_ticket}
 use Rattle.pim_queue.proofs.Order.{Found, found}
-use Rattle.pim_chain.specs.Views.{View, Ready, Shows, IsQueue, with_state, stored_at, queue_at, view_in, put_queue}
-use Rattle.pim_chain.specs.Settled.{SettledBut, joined, left, moved, restored}
+use Rattle.pim_chain.specs.Views.{View, Ready, Shows, IsQueue, with_state, stored_at, queue_at, view_in, waiter_at}
+use Rattle.pim_chain.specs.Settled.{SettledBut}
 use Rattle.pim_chain.proofs.Local.{waits_for_from}
 use Rattle.pim_chain.proofs.Changes.{not_waiting}
 use Rattle.pim_chain.proofs.Visit.{stands}
@@ -35,35 +34,6 @@ pub base_written :
     → k ≡ t
     → with_state v (record v.state { base = bases }) ≡ with_state u (with_base u.state t p)
 base_written p same is at = cc
-
-pub is_joined :
-    {v u : View} {t k prio : ℕ} {waits : List (Option Wait)} {queues : List QueueView} (w : Wait)
-    → v ≡ u
-    → waits ≡ put v.state.wait k (Some w)
-    → k ≡ t
-    → queues ≡ put_queue v.queues w.mutex (insert_by precedes (queue_at v w.mutex) (record { task = t; prio = prio; ticket = w.ticket }))
-    → prio ≡ stored_at v t
-    → record v { state = record v.state { wait = waits }; stored = v.stored; queues = queues } ≡ joined u t w
-is_joined w same is at is_queues is_prio = cc
-
-pub is_left :
-    {v u : View} {t k : ℕ} {waits : List (Option Wait)} {queues : List QueueView} (m : ℕ)
-    → v ≡ u
-    → waits ≡ put v.state.wait k None
-    → k ≡ t
-    → queues ≡ put_queue v.queues m (without t (queue_at v m))
-    → record v { state = record v.state { wait = waits }; stored = v.stored; queues = queues } ≡ left u t m
-is_left m same is at is_queues = cc
-
-pub is_restored :
-    {v u : View} {t k : ℕ} {o : Option Wait} {stored : List ℕ} {queues : List QueueView} (p : ℕ)
-    → v ≡ u
-    → o ≡ wait_of u.state t
-    → stored ≡ put v.stored k p
-    → k ≡ t
-    → queues ≡ moved v.queues o t p
-    → record v { state = v.state; stored = stored; queues = queues } ≡ restored u t p
-is_restored p same wait is at is_queues = cc
 
 -- ---- what held of the tables before, of what they are then
 pub ready_after : {v u w x : View} → v ≡ u → w ≡ x → (Ready u → Ready x) → Ready v → Ready w
@@ -89,27 +59,13 @@ join_room v u t m same known mutex idle ready =
     omega (arith, short, ready.room m isk)
 
 pub stands_in :
-    (v u : View) (t p : ℕ) (w : Wait)
+    (v u : View) (t : ℕ) (w : Wait)
     → v ≡ u
     → Some w ≡ wait_of u.state t
-    → p ≡ stored_at u t
     → Ready v
-    → find (is_of t) (queue_at v w.mutex) ≡ Some (record { task = t; prio = p; ticket = w.ticket })
-stands_in v u t p w same at is ready =
-    stands v t w ready (subst (λ (x : View). wait_of x.state t ≡ Some w) (sym same) (sym at))
-    ∙ ap (λ n. Some (record { task = t; prio = n; ticket = w.ticket })) (ap (λ x. stored_at x t) same ∙ sym is)
-
-pub stored_read :
-    {v u : View} {t k p : ℕ}
-    → v ≡ u
-    → IsTask u.state t
-    → Ready v
-    → k ≡ t
-    → p ≡ get_or v.stored (k - 1) p
-    → p ≡ stored_at v t
-stored_read {v} {t = t} {k} {p} same known ready at is =
-    let here : IsTask v.state t = subst (λ (x : View). IsTask x.state t) (sym same) known in
-    is ∙ sym (ap (λ o. unwrap_or o 0) (nth-get_or v.stored t (k - 1) p (omega (arith, here.0, at)) (omega (arith, here, at, ready.stored_len))))
+    → find (is_of t) (queue_at v w.mutex) ≡ Some (waiter_at u t w.ticket)
+stands_in v u t w same at ready =
+    stands v t w ready (subst (λ (x : View). wait_of x.state t ≡ Some w) (sym same) (sym at)) ∙ ap (λ x. Some (waiter_at x t w.ticket)) same
 
 -- who doesn't wait is in no queue
 pub not_here :

@@ -1,16 +1,10 @@
 -- A look along the chain of those whom a task waits for, hop by hop.
-use Rattle.std.proofs.Common.{◌≡◌, ◌≢◌, ℕ, zero, suc, ◌-◌, ◌<◌, false, Option, Some, None, arith, refl}
+use Rattle.std.proofs.Common.{◌≡◌, ◌≢◌, ℕ, ◌-◌, ◌<◌, false, Option, Some, None, arith, refl}
 use Rattle.std.specs.Option.{option_map_or}
-use Rattle.std.proofs.lemmas.Bool.{ne_eqb}
 use Rattle.pim_base.specs.Lists.{contains}
 use Rattle.pim_base.specs.State.{State}
 use Rattle.pim_base.specs.Chains.{chain, blocker}
-use Rattle.pim_base.proofs.Hops.{contains-chain_next}
-
--- the chain of one who waits for nobody is the task alone
-contains-chain_last : (hop : ℕ → Option ℕ) (n t u : ℕ) → u ≢ t → hop t ≡ None → contains (chain hop n t) u ≡ false
-contains-chain_last hop zero t u other e = rw (ne_eqb u t other) refl
-contains-chain_last hop (suc n) t u other e = rw (ne_eqb u t other, e) refl
+use Rattle.pim_base.proofs.Hops.{contains-chain_next, contains-chain_last}
 
 -- a look that didn't find the task here goes on at whom this one waits for
 pub contains_onward :

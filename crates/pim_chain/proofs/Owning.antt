@@ -21,20 +21,20 @@ owner_put owners m o low high = ap (λ x. unwrap_or x None) (nth-put_same owners
 owner_kept : (owners : List (Option ℕ)) (m k : ℕ) (o : Option ℕ) → k ≢ m → owner_in (put owners m o) k ≡ owner_in owners k
 owner_kept owners m k o ne = ap (λ x. unwrap_or x None) (nth-put_other owners m k o (λ e. ne (sym e)))
 
--- the free mutex has got an owner
-pub owned_bound :
-    (n : ℕ) (owners : List (Option ℕ)) (sets after : List NumberSet) (m t : ℕ)
+-- the mutex has this owner now, which changes what one task owns
+owned_put :
+    (n : ℕ) (owners : List (Option ℕ)) (sets after : List NumberSet) (m t : ℕ) (o : Option ℕ)
     → 1 ≤ m
     → m ≤ length owners
-    → owner_in owners m ≡ None
     → AreOwned n owners sets
-    → 1 ≤ t
-    → t ≤ n
     → length after ≡ length sets
-    → ((k : ℕ) → has (words_in after t) k ≡ (k == m || has (words_in sets t) k))
+    → (1 ≤ t) × (t ≤ n)
+    → has (words_in after t) m ≡ holds o t
+    → ((k : ℕ) → k ≢ m → has (words_in after t) k ≡ has (words_in sets t) k)
     → ((u : ℕ) → u ≢ t → words_in after u ≡ words_in sets u)
-    → AreOwned n (put owners m (Some t)) after
-owned_bound n owners sets after m t low high free owned low_t high_t len inserted others = record {
+    → ((u : ℕ) → u ≢ t → holds (owner_in owners m) u ≡ holds o u)
+    → AreOwned n (put owners m o) after
+owned_put n owners sets after m t o low high owned len known mine rest others apart = record {
   len = len ∙ owned.len;
   members = λ u k low_u high_u. go u k low_u high_u (cases_eq u t) (cases_eq k m);
 }
@@ -45,83 +45,25 @@ owned_bound n owners sets after m t low high free owned low_t high_t len inserte
         → u ≤ n
         → (u ≡ t) ⊎ (u ≡ t → ⊥)
         → (k ≡ m) ⊎ (k ≡ m → ⊥)
-        → has (words_in after u) k ≡ holds (owner_in (put owners m (Some t)) k) u
-    go u k low_u high_u (inl is) (inl here) =
-        subst (λ x. has (words_in after x) k ≡ holds (owner_in (put owners m (Some t)) k) x) (sym is)
-        (inserted k ∙ ap (λ b. b || has (words_in sets t) k) (eq-eqb k m here)
-        ∙ sym (ap (λ j. holds (owner_in (put owners m (Some t)) j) t) here ∙ ap (λ o. holds o t) (owner_put owners m (Some t) low high)
-        ∙ eq-eqb t t refl))
-    go u k low_u high_u (inl is) (inr ne) =
-        subst (λ x. has (words_in after x) k ≡ holds (owner_in (put owners m (Some t)) k) x) (sym is)
-        (inserted k ∙ ap (λ b. b || has (words_in sets t) k) (ne_eqb k m ne) ∙ owned.members t k low_t high_t ∙ ap (λ o. holds o t)
-        (sym (owner_kept owners m k (Some t) ne)))
-    go u k low_u high_u (inr other) (inl here) =
-        ap (λ ws. has ws k) (others u other) ∙ owned.members u k low_u high_u
-        ∙ ap (λ j. holds (owner_in owners j) u) here ∙ ap (λ o. holds o u) free
-        ∙ sym (ap (λ j. holds (owner_in (put owners m (Some t)) j) u) here ∙ ap (λ o. holds o u) (owner_put owners m (Some t) low high)
-        ∙ ne_eqb t u (λ e. other (sym e)))
-    go u k low_u high_u (inr other) (inr ne) =
-        ap (λ ws. has ws k) (others u other) ∙ owned.members u k low_u high_u ∙ ap (λ o. holds o u)
-        (sym (owner_kept owners m k (Some t) ne))
-
--- the owned mutex is free
-pub owned_unbound :
-    (n : ℕ) (owners : List (Option ℕ)) (sets after : List NumberSet) (m t : ℕ)
-    → 1 ≤ m
-    → m ≤ length owners
-    → owner_in owners m ≡ Some t
-    → AreOwned n owners sets
-    → 1 ≤ t
-    → t ≤ n
-    → length after ≡ length sets
-    → ((k : ℕ) → has (words_in after t) k ≡ (not (k == m) && has (words_in sets t) k))
-    → ((u : ℕ) → u ≢ t → words_in after u ≡ words_in sets u)
-    → AreOwned n (put owners m None) after
-owned_unbound n owners sets after m t low high mine owned low_t high_t len removed others = record {
-  len = len ∙ owned.len;
-  members = λ u k low_u high_u. go u k low_u high_u (cases_eq u t) (cases_eq k m);
-}
-  where
-    gone : (k u : ℕ) → k ≡ m → false ≡ holds (owner_in (put owners m None) k) u
-    gone k u here = sym (ap (λ j. holds (owner_in (put owners m None) j) u) here ∙ ap (λ o. holds o u) (owner_put owners m None low high))
-
-    go :
-        (u k : ℕ)
-        → 1 ≤ u
-        → u ≤ n
-        → (u ≡ t) ⊎ (u ≡ t → ⊥)
-        → (k ≡ m) ⊎ (k ≡ m → ⊥)
-        → has (words_in after u) k ≡ holds (owner_in (put owners m None) k) u
-    go u k low_u high_u (inl is) (inl here) =
-        ap (λ x. has (words_in after x) k) is ∙ removed k ∙ ap (λ b. not b && has (words_in sets t) k) (eq-eqb k m here) ∙ gone k u here
-    go u k low_u high_u (inl is) (inr ne) =
-        subst (λ x. has (words_in after x) k ≡ holds (owner_in (put owners m None) k) x) (sym is)
-        (removed k ∙ ap (λ b. not b && has (words_in sets t) k) (ne_eqb k m ne) ∙ owned.members t k low_t high_t ∙ ap (λ o. holds o t)
-        (sym (owner_kept owners m k None ne)))
-    go u k low_u high_u (inr other) (inl here) =
-        ap (λ ws. has ws k) (others u other) ∙ owned.members u k low_u high_u
-        ∙ ap (λ j. holds (owner_in owners j) u) here ∙ ap (λ o. holds o u) mine ∙ ne_eqb t u (λ e. other (sym e)) ∙ gone k u here
-    go u k low_u high_u (inr other) (inr ne) =
-        ap (λ ws. has ws k) (others u other) ∙ owned.members u k low_u high_u ∙ ap (λ o. holds o u) (sym (owner_kept owners m k None ne))
+        → has (words_in after u) k ≡ holds (owner_in (put owners m o) k) u
+    go u k low_u high_u (inl is) (inl here) = let now = owner_put owners m o low high in rw (is, here, now, mine) refl
+    go u k low_u high_u (inl is) (inr ne) = rw (is, rest k ne, owner_kept owners m k o ne) (owned.members t k known.0 known.1)
+    go u k low_u high_u (inr ne) (inl here) =
+        rw (here, others u ne, owner_put owners m o low high) (owned.members u m low_u high_u ∙ apart u ne)
+    go u k low_u high_u (inr ne) (inr other) = rw (others u ne, owner_kept owners m k o other) (owned.members u k low_u high_u)
 
 -- ---- as the tables have it
--- nothing is owned
-none_owned : (n k : ℕ) (sets : List NumberSet) → AreEmpty n sets → AreOwned n (replicate k None) sets
-none_owned n k sets empty = record {
-  len = empty.len;
-  members = λ t m low high. empty.none t m low high ∙ sym (ap (λ o. holds o t) (nth-replicate_none k m));
-}
-
--- the sets of new tables
+-- the sets of new tables, where nothing is owned
 pub fresh_owned :
     (b bases : List ℕ) (owners : List (Option ℕ)) (k : ℕ) (sets : List NumberSet)
     → b ≡ bases
     → owners ≡ replicate k None
     → AreEmpty (length bases) sets
     → AreOwned (length b) owners sets
-fresh_owned b bases owners k sets is_b is_o empty =
-    subst (λ xs. AreOwned (length xs) owners sets) (sym is_b)
-    (subst (λ os. AreOwned (length bases) os sets) (sym is_o) (none_owned (length bases) k sets empty))
+fresh_owned b bases owners k sets is_b is_o empty = rw (is_b, is_o) (record {
+  len = empty.len;
+  members = λ t m low high. empty.none t m low high ∙ sym (ap (λ o. holds o t) (nth-replicate_none k m));
+})
 
 module _ (v u : View) (same : v ≡ u) (ready : Ready v) (sets : List NumberSet)
     (owned : AreOwned (length v.state.base) v.state.owner sets) where
@@ -144,9 +86,10 @@ module _ (v u : View) (same : v ≡ u) (ready : Ready v) (sets : List NumberSet)
       → ((x : ℕ) → x ≢ t → words_in after x ≡ words_in sets x)
       → AreOwned (length v.state.base) owners after
   bound_sets m t owners after mutex free task is len inserted others =
-      subst (λ os. AreOwned (length v.state.base) os after) (sym is)
-      (owned_bound (length v.state.base) v.state.owner sets after m t (mutex_in m mutex).0 (mutex_in m mutex).1
-      (subst (λ (x : View). owner_of x.state m ≡ None) (sym same) free) owned (task_in t task).0 (task_in t task).1 len inserted others)
+      rw is (owned_put (length v.state.base) v.state.owner sets after m t (Some t) (mutex_in m mutex).0 (mutex_in m mutex).1 owned len (task_in t task)
+      (inserted m ∙ ap (λ b. b || has (words_in sets t) m) (eq-eqb m m refl) ∙ sym (eq-eqb t t refl))
+      (λ k ne. inserted k ∙ ap (λ b. b || has (words_in sets t) k) (ne_eqb k m ne)) others
+      (λ x ne. ap (λ o. holds o x) (subst (λ (x : View). owner_of x.state m ≡ None) (sym same) free) ∙ sym (ne_eqb t x (λ e. ne (sym e)))))
 
   pub unbound_sets :
       (m t : ℕ) (owners : List (Option ℕ)) (after : List NumberSet)
@@ -160,9 +103,10 @@ module _ (v u : View) (same : v ≡ u) (ready : Ready v) (sets : List NumberSet)
       let here : owner_of v.state m ≡ Some t = subst (λ (x : View). owner_of x.state m ≡ Some t) (sym same) mine in
       let mutex : IsMutex v.state m = owned_known v.state ready.sound.lists m t (holds_from (owner_of v.state m) t here) in
       let task : IsTask v.state t = ready.waits.owners m t here in
-      subst (λ os. AreOwned (length v.state.base) os after) (sym is)
-      (owned_unbound (length v.state.base) v.state.owner sets after m t mutex.0 (subst (λ n. m ≤ n) (sym ready.sound.lists.owners) mutex.1)
-      here owned task.0 task.1 len removed others)
+      rw is (owned_put (length v.state.base) v.state.owner sets after m t None mutex.0 (subst (λ n. m ≤ n) (sym ready.sound.lists.owners) mutex.1) owned len task
+      (removed m ∙ ap (λ b. not b && has (words_in sets t) m) (eq-eqb m m refl))
+      (λ k ne. removed k ∙ ap (λ b. not b && has (words_in sets t) k) (ne_eqb k m ne)) others
+      (λ x ne. ap (λ o. holds o x) here ∙ ne_eqb t x (λ e. ne (sym e))))
 
   -- the task's set says what it owns
   pub sets_tell : (t k : ℕ) → has (words_in sets t) k ≡ holds (owner_of u.state k) t

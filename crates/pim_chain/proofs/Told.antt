@@ -1,5 +1,5 @@
 -- What the work of walks tells of a change of the stored priorities.
-use Rattle.std.proofs.Common.{◌≡◌, ℕ, ◌+◌, ◌-◌, ◌<◌, ◌≤◌, ◌==◌, ◌&&◌, Bool, true, false, not, ◌⊎◌, inl, inr, refl, sym, ◌∙◌, ap, subst, arith, List, filter, length, Option, Some, None, unwrap_or, if◌then◌else◌}
+use Rattle.std.proofs.Common.{◌≡◌, ℕ, ◌+◌, ◌-◌, ◌<◌, ◌≤◌, ◌==◌, ◌&&◌, Bool, true, false, not, ◌⊎◌, inl, inr, refl, sym, ◌∙◌, ap, subst, arith, List, filter, length, Option, Some, None, IsSome, unwrap_or, if◌then◌else◌}
 use Rattle.std.specs.Option.{option_map_or}
 use Rattle.std.proofs.lemmas.Bool.{and_right, cases_eq, eq-eqb}
 use Rattle.pim_base.specs.Lists.{nth}
@@ -17,10 +17,8 @@ pub keeps-trans :
     → KeepsTelling n f a g b
     → KeepsTelling n g b h d
     → KeepsTelling n f a h d
-keeps-trans n f g h a b d one two some =
-    let first = one some in
-    let second = two first.0 in
-    (second.0, λ t low high. second.1 t low high ∙ first.1 t low high)
+keeps-trans n f g h a b d one two =
+    (two.0 ∙ one.0, λ some t low high. two.1 (one.0 ∙ some) t low high ∙ one.1 some t low high)
 
 -- a note of what a task has, which gets another priority then
 pub keeps-noted :
@@ -28,20 +26,20 @@ pub keeps-noted :
     → IsNoted a x (f x) b
     → ((u : ℕ) → (u ≡ x → ⊥) → g u ≡ f u)
     → KeepsTelling n f a g b
-keeps-noted n f g a b x noted others some = (noted.keeps some, λ t _ _. go t (cases_eq t x))
+keeps-noted n f g a b x noted others = (noted.keeps, λ some t _ _. go some t (cases_eq t x))
   where
-    go : (t : ℕ) → (t ≡ x) ⊎ (t ≡ x → ⊥) → original g b t ≡ original f a t
-    go t (inl is) =
+    go : IsSome a.notes → (t : ℕ) → (t ≡ x) ⊎ (t ≡ x → ⊥) → original g b t ≡ original f a t
+    go some t (inl is) =
         ap (original g b) is
         ∙ ap (λ o. unwrap_or o (g x)) (noted.first some)
         ∙ sym (ap (original f a) is)
-    go t (inr ne) = ap (λ o. unwrap_or o (g t)) (noted.others t ne) ∙ ap (unwrap_or (noted_of a t)) (others t ne)
+    go some t (inr ne) = ap (λ o. unwrap_or o (g t)) (noted.others t ne) ∙ ap (unwrap_or (noted_of a t)) (others t ne)
 
 -- ---- one visit, which counts
 -- which leaves the priorities
 pub worked-same : (n : ℕ) (f : ℕ → ℕ) (a b : Work) → b ≡ record a { count = a.count + 1 } → VisitedOnce n f a f b
 worked-same n f a b is =
-    subst (VisitedOnce n f a f) (sym is) (record { counted = refl; noted = λ some. (some, λ t low high. refl) })
+    subst (VisitedOnce n f a f) (sym is) (record { counted = refl; noted = (refl, λ some t low high. refl) })
 
 -- which changes the priority of x, and notes that
 pub worked-noted :
@@ -60,7 +58,7 @@ worked-noted n f g a b d x had is same noted others =
 pub tells-same : (n : ℕ) (f g : ℕ → ℕ) (a : Work) → ((t : ℕ) → 1 ≤ t → t ≤ n → g t ≡ f t) → Tells n f a g a
 tells-same n f g a same = record {
   counted = (let none = differing_none n f g same in omega (arith, none));
-  noted = λ some. (some, λ t low high. ap (unwrap_or (noted_of a t)) (same t low high));
+  noted = (refl, λ some t low high. ap (unwrap_or (noted_of a t)) (same t low high));
 }
 
 pub tells-refl : (n : ℕ) (f : ℕ → ℕ) (a : Work) → Tells n f a f a

@@ -1,5 +1,5 @@
 -- One visit.
-use Rattle.std.proofs.Common.{◌≡◌, ℕ, eqb, ◌≤◌, ◌==◌, Bool, cond, if◌then◌else◌, true, false, ◌⊎◌, inl, inr, refl, sym, ◌∙◌, ap, subst, Option, Some, None, List, length, unwrap_or, option_and_then}
+use Rattle.std.proofs.Common.{◌≡◌, ℕ, eqb, ◌≤◌, ◌==◌, Bool, cond, if◌then◌else◌, true, false, ◌⊎◌, inl, inr, refl, sym, ◌∙◌, ap, subst, Option, Some, None, List, unwrap_or, option_and_then}
 use Rattle.std.specs.List.{list_any, find}
 use Rattle.std.specs.Option.{option_map_or}
 use Rattle.std.proofs.lemmas.Bool.{cases_eq, eqb-true, eq-eqb, ne_eqb}
@@ -15,10 +15,10 @@ use Rattle.pim_base.proofs.Places.{nth-put_same, nth-put_other, length-put}
 use Rattle.pim_queue.specs.Waiters.{is_of, without, ticket_of, repositioned}
 use Rattle.pim_queue.proofs.Order.{Found, found}
 use Rattle.pim_chain.specs.Views.{View, stored_in, stored_at, queue_at, first_prio, Shows, IsQueue, Ready}
-use Rattle.pim_chain.specs.Settled.{SettledBut, moved, restored, Visited}
+use Rattle.pim_chain.specs.Settled.{SettledBut, moved, restored, Visited, next_of}
 use Rattle.pim_chain.proofs.Local.{Mends, mended_onward, mended_stop, waits_for_from, heir_at}
 use Rattle.pim_chain.proofs.Waiting.{waiter_is, queue_kept, queue_left, queue_joined, top_front}
-use Rattle.pim_chain.proofs.Changes.{queues_put, room_kept, not_waiting, waits_once}
+use Rattle.pim_chain.proofs.Changes.{ready_requeued, not_waiting, waits_once}
 
 -- ---- another stored priority
 pub stored_now : (v : View) (x p : ℕ) → Ready v → IsTask v.state x → stored_in (put v.stored x p) x ≡ p
@@ -99,20 +99,11 @@ restored_waiting :
     → wait_of v.state x ≡ Some w
     → Ready v
     → Ready (record v { state = v.state; stored = put v.stored x p; queues = moved v.queues (Some w) x p })
-restored_waiting v x p w known at ready = record {
-  sound = ready.sound;
-  few_tasks = ready.few_tasks;
-  few_mutexes = ready.few_mutexes;
-  stored_len = length-put v.stored x p ∙ ready.stored_len;
-  queues_len = length-put v.queues w.mutex _ ∙ ready.queues_len;
-  waits = ready.waits;
-  queues = queues_put v.state v.state (stored_at v) (stored_in (put v.stored x p)) v.queues w.mutex _ ready.queues_len refl
-      (queue_moved v x p w ready known at)
-      (λ k isk ne. queue_kept (wait_of v.state) (wait_of v.state) (stored_at v) (stored_in (put v.stored x p)) x k (queue_at v k)
-      (λ u _. refl) (stored_else v x p) (λ h. ne (sym (waits_once (wait_of v.state) k x w at h)))
-      (λ h. ne (sym (waits_once (wait_of v.state) k x w at h))) (ready.queues k isk));
-  room = λ k isk. room_kept v.queues w.mutex _ (length v.state.base) k isk.0 (subst (λ n. k ≤ n) (sym ready.queues_len) isk.1) (ready.room k isk);
-}
+restored_waiting v x p w known at ready =
+    ready_requeued v v.state.wait (put v.stored x p) w.mutex _ ready ready.sound ready.waits (length-put v.stored x p) (queue_moved v x p w ready known at)
+    (λ k isk ne. queue_kept (wait_of v.state) (wait_of v.state) (stored_at v) (stored_in (put v.stored x p)) x k (queue_at v k)
+    (λ u _. refl) (stored_else v x p) (λ h. ne (sym (waits_once (wait_of v.state) k x w at h)))
+    (λ h. ne (sym (waits_once (wait_of v.state) k x w at h))) (ready.queues k isk))
 
 pub ready_restored : (v : View) (x p : ℕ) → IsTask v.state x → Ready v → Ready (restored v x p)
 ready_restored v x p known ready = go (wait_of v.state x) refl
@@ -166,7 +157,7 @@ module _ (v : View) (x p : ℕ) (ready : Ready v) (known : IsTask v.state x) (se
   onward = mended_onward v.state (stored_at v) (stored_at (restored v x p)) x ready.sound known settled mends
 
   -- the task waits for nothing
-  pub visited_free : wait_of v.state x ≡ None → Visited v (restored v x p) x None
+  visited_free : wait_of v.state x ≡ None → Visited v (restored v x p) x None
   visited_free free = record {
     state = refl;
     settled = λ t task _. onward t task (λ e. none-some t (sym (ap (option_and_then (λ (w : Wait). heir_of v.state w.mutex)) free) ∙ e));
@@ -176,7 +167,7 @@ module _ (v : View) (x p : ℕ) (ready : Ready v) (known : IsTask v.state x) (se
 
   module _ (w : Wait) (at : wait_of v.state x ≡ Some w) where
     -- the front stayed
-    pub visited_stop : first_prio (queue_at v w.mutex) ≡ first_prio (queue_at (restored v x p) w.mutex) → Visited v (restored v x p) x None
+    visited_stop : first_prio (queue_at v w.mutex) ≡ first_prio (queue_at (restored v x p) w.mutex) → Visited v (restored v x p) x None
     visited_stop same = record {
       state = refl;
       settled =
@@ -194,7 +185,7 @@ module _ (v : View) (x p : ℕ) (ready : Ready v) (known : IsTask v.state x) (se
         mutex = ready.waits.mutexes x w at
 
     -- it didn't
-    pub visited_on : (p ≡ stored_at v x → ⊥) → Visited v (restored v x p) x (heir_of v.state w.mutex)
+    visited_on : (p ≡ stored_at v x → ⊥) → Visited v (restored v x p) x (heir_of v.state w.mutex)
     visited_on other =
         let hop : heir v.state x ≡ heir_of v.state w.mutex = heir_at v.state w.mutex x (waits_for_from (wait_of v.state) x w at) in
         record {
@@ -205,11 +196,11 @@ module _ (v : View) (x p : ℕ) (ready : Ready v) (known : IsTask v.state x) (se
         }
 
     -- on or not, by the front
-    pub visited_next :
+    visited_front :
         (p ≡ stored_at v x → ⊥)
         → Visited v (restored v x p) x
         (if first_prio (queue_at v w.mutex) == first_prio (queue_at (restored v x p) w.mutex) then None else heir_of v.state w.mutex)
-    visited_next other = go (first_prio (queue_at v w.mutex) == first_prio (queue_at (restored v x p) w.mutex)) refl
+    visited_front other = go (first_prio (queue_at v w.mutex) == first_prio (queue_at (restored v x p) w.mutex)) refl
       where
         go :
             (b : Bool)
@@ -217,3 +208,14 @@ module _ (v : View) (x p : ℕ) (ready : Ready v) (known : IsTask v.state x) (se
             → Visited v (restored v x p) x (if b then None else heir_of v.state w.mutex)
         go true same = visited_stop (eqb-true _ _ same)
         go false _ = visited_on other
+
+  -- whether the task waits or not
+  pub visited_next : (p ≡ stored_at v x → ⊥) → {w : View} → w ≡ restored v x p → {o : Option ℕ} → o ≡ next_of v w x → Visited v w x o
+  visited_next other is next = rw (next, is) (go (wait_of v.state x) refl)
+    where
+      onward_by : Option Wait → Option ℕ
+      onward_by = option_and_then (λ (u : Wait). if first_prio (queue_at v u.mutex) == first_prio (queue_at (restored v x p) u.mutex) then None else heir_of v.state u.mutex)
+
+      go : (q : Option Wait) → wait_of v.state x ≡ q → Visited v (restored v x p) x (onward_by q)
+      go None at = visited_free at
+      go (Some u) at = visited_front u at other

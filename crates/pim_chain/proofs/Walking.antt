@@ -231,10 +231,14 @@ pub settled_effective :
 settled_effective S stored ok settled t known = (stored_law S stored ok).0 (λ u task. settled u task (λ e. none-some u e)) t known
 
 -- ---- several walks in one step
-count_either : (n : ℕ) (p q r : ℕ → Bool) → ((u : ℕ) → q u ≡ false → r u ≡ false → p u ≡ false) → count n p ≤ count n q + count n r
+pub count_either :
+    (n : ℕ) (p q r : ℕ → Bool)
+    → ((u : ℕ) → 1 ≤ u → u ≤ n → q u ≡ false → r u ≡ false → p u ≡ false)
+    → count n p ≤ count n q + count n r
 unfolding count
 count_either zero p q r h = omega arith
-count_either (suc n) p q r h = go (p (suc n)) (q (suc n)) (r (suc n)) (h (suc n)) (count_either n p q r h)
+count_either (suc n) p q r h = go (p (suc n)) (q (suc n)) (r (suc n)) (h (suc n) (omega arith) (omega arith))
+    (count_either n p q r (λ u low high. h u low (omega (arith, high))))
   where
     go :
         (a b d : Bool)
@@ -252,7 +256,7 @@ same_from a b h = eqb-true a b (not-false _ h)
 pub differing_over : (n : ℕ) (f g h : ℕ → ℕ) → differing n f h ≤ differing n f g + differing n g h
 differing_over n f g h =
     count_either n (λ u. not (eqb (f u) (h u))) (λ u. not (eqb (f u) (g u))) (λ u. not (eqb (g u) (h u)))
-    (λ u a b. ap not (eq-eqb _ _ (same_from _ _ a ∙ same_from _ _ b)))
+    (λ u _ _ a b. ap not (eq-eqb _ _ (same_from _ _ a ∙ same_from _ _ b)))
 
 pub differing_same :
     (n : ℕ) (f f' g g' : ℕ → ℕ)

@@ -49,12 +49,13 @@ left v t m = record v {
 abbrev pub restored : View → ℕ → ℕ → View
 restored v t p = record v { stored = put v.stored t p; queues = moved v.queues (wait_of v.state t) t p }
 
--- who is to be looked at after x: the heir of the mutex that it waits for, where the front of that queue has changed
+-- who is to be looked at after one who waits there: the heir of the mutex, where its first waiter had another priority before
+abbrev pub onward_from : ℕ → View → Wait → Option ℕ
+onward_from before w u = if before == first_prio (queue_at w u.mutex) then None else heir_of w.state u.mutex
+
+-- who is to be looked at after x
 abbrev pub next_of : View → View → ℕ → Option ℕ
-next_of v w x =
-    option_and_then
-    (λ (u : Wait). if first_prio (queue_at v u.mutex) == first_prio (queue_at w u.mutex) then None else heir_of v.state u.mutex)
-    (wait_of v.state x)
+next_of v w x = option_and_then (λ (u : Wait). onward_from (first_prio (queue_at v u.mutex)) w u) (wait_of v.state x)
 
 -- what the visit of x leaves, and who is next
 pub record Visited (v w : View) (x : ℕ) (next : Option ℕ) : Type 0 where

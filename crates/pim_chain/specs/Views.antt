@@ -55,6 +55,10 @@ first_prio ws = option_map_or (λ (w : Waiter). w.prio) (first_item ws) 0
 abbrev pub waits_for : (ℕ → Option Wait) → ℕ → ℕ → Bool
 waits_for wait m t = option_map_or (λ (w : Wait). w.mutex == m) (wait t) false
 
+-- the task as a waiter with this ticket
+abbrev pub waiter_at : View → ℕ → ℕ → Waiter
+waiter_at v t k = record { task = t; prio = stored_at v t; ticket = k }
+
 -- a waiter shows what its task waits for, and the stored priority
 pub record Shows (wait : ℕ → Option Wait) (stored : ℕ → ℕ) (m : ℕ) (w : Waiter) : Type 0 where
   pub waits : wait w.task ≡ Some (record { mutex = m; ticket = w.ticket })

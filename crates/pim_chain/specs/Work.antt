@@ -1,5 +1,5 @@
 -- The work of walks: how many priorities they computed, and which stored priorities they wrote.
-use Rattle.std.specs.Prelude.{◌≡◌, ◌≢◌, ◌≤◌, ◌+◌, ◌==◌, ℕ, Bool, not, false, List, Option, Some, None, IsSome, unwrap_or, if◌then◌else◌}
+use Rattle.std.specs.Prelude.{◌≡◌, ◌≢◌, ◌≤◌, ◌+◌, ◌==◌, ℕ, Bool, not, false, List, Option, Some, None, IsSome, is_some, unwrap_or, if◌then◌else◌}
 use Rattle.std.specs.Option.{option_and_then, option_map_or}
 use Rattle.pim_base.specs.Counts.{differing}
 use Rattle.pim_base.specs.Lists.{nth}
@@ -31,7 +31,7 @@ original stored w t = unwrap_or (noted_of w t) (stored t)
 -- the first note of a task stands, and nothing else is noted
 pub record IsNoted (a : Work) (t p : ℕ) (b : Work) : Type 0 where
   pub count : b.count ≡ a.count
-  pub keeps : IsSome a.notes → IsSome b.notes
+  pub keeps : is_some b.notes ≡ is_some a.notes
   pub first : IsSome a.notes → noted_of b t ≡ Some (unwrap_or (noted_of a t) p)
   pub others : (u : ℕ) → u ≢ t → noted_of b u ≡ noted_of a u
 
@@ -39,9 +39,12 @@ pub record IsNoted (a : Work) (t p : ℕ) (b : Work) : Type 0 where
 abbrev pub has_changed : (ℕ → ℕ) → Work → ℕ → Bool
 has_changed stored w t = not (original stored w t == stored t)
 
--- where notes are kept, they tell the same of the first n tasks after their priorities went from f to g
+-- notes are kept where they were kept before, and they tell the same of the first n tasks after their priorities went from
+-- f to g
 abbrev pub KeepsTelling : ℕ → (ℕ → ℕ) → Work → (ℕ → ℕ) → Work → Type 0
-KeepsTelling n f a g b = IsSome a.notes → IsSome b.notes × ((t : ℕ) → 1 ≤ t → t ≤ n → original g b t ≡ original f a t)
+KeepsTelling n f a g b =
+    (is_some b.notes ≡ is_some a.notes)
+    × (IsSome a.notes → (t : ℕ) → 1 ≤ t → t ≤ n → original g b t ≡ original f a t)
 
 -- What the work says of a change of the first n tasks' priorities from f to g: it counted a visit at least for each that
 -- differs, and where notes are kept they still tell what each task had.

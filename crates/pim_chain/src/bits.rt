@@ -3,7 +3,7 @@
 ghost use Rattle.std.specs.Prelude.{◌≡◌, ◌≢◌, ◌<◌, ◌==◌, ℕ};
 ghost use Rattle.std.specs.Int.{bit_at};
 
-/// Whether the word has this bit.
+/// Returns whether the word has this bit.
 pub fn has_bit(word: u64, place: u32) -> bool
     requires { place < 64 }
     ensures { result ≡ (bit_at word place == 1) }

@@ -7,8 +7,7 @@ ghost use Rattle.pim_chain.specs.Numbers.{members};
 ghost use Rattle.pim_chain.specs.Work.{differs_in};
 
 use crate::number_set::{NumberSet, Numbers};
-use crate::numbered::nth;
-use pim_base::{Prio, TaskNo};
+use pim_base::{Prio, TaskNo, nth};
 use std::marker::Model;
 
 /// The tasks whose stored priority isn't the noted one, in ascending order.
@@ -65,8 +64,5 @@ impl<'a> Iterator for Changed<'a> {
 fn differs(had: &[u16], stored: &[Prio], task: u16) -> bool
     ensures { result ≡ differs_in had.now stored.now task }
 {
-    match nth(stored, task) {
-        Some(prio) => nth(had, task).unwrap_or(0) != prio.get(),
-        None => false,
-    }
+    nth(stored, task).is_some_and(|prio| nth(had, task).unwrap_or(0) != prio.get())
 }

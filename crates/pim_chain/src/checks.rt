@@ -9,42 +9,42 @@ use crate::tables::Tables;
 use pim_base::{MutexNo, TaskNo};
 
 impl Tables {
-    /// Whether no task has this number.
+    /// Returns whether no task has this number.
     pub fn is_unknown_task(&self, task: TaskNo) -> bool
         ensures { result ≡ unknown_task self.now.state task }
     {
         task.get() == 0 || self.tasks() < task.get()
     }
 
-    /// Whether no mutex has this number.
+    /// Returns whether no mutex has this number.
     pub fn is_unknown_mutex(&self, mutex: MutexNo) -> bool
         ensures { result ≡ unknown_mutex self.now.state mutex }
     {
         mutex.get() == 0 || self.mutexes() < mutex.get()
     }
 
-    /// Whether the task waits for a mutex.
+    /// Returns whether the task waits for a mutex.
     pub fn is_waiting(&self, task: TaskNo) -> bool
         ensures { result ≡ is_waiting self.now.state task }
     {
         self.waits_for(task).is_some()
     }
 
-    /// Whether the mutex has an owner.
+    /// Returns whether the mutex has an owner.
     pub fn is_owned(&self, mutex: MutexNo) -> bool
         ensures { result ≡ is_owned self.now.state mutex }
     {
         self.owner(mutex).is_some()
     }
 
-    /// Whether the task owns the mutex.
+    /// Returns whether the task owns the mutex.
     pub fn owns(&self, task: TaskNo, mutex: MutexNo) -> bool
         ensures { result ≡ holds (owner_of self.now.state mutex) task }
     {
         self.owner(mutex) == Some(task)
     }
 
-    /// Whether somebody waits for the mutex with this ticket. Looks at each waiter.
+    /// Returns whether a task waits for the mutex with this ticket. Looks at each waiter.
     pub fn has_ticket(&self, mutex: MutexNo, ticket: u64) -> bool
         ensures { IsTrue result ↔ ((t : ℕ) × (wait_of self.now.state t ≡ Some (record { mutex = mutex; ticket = ticket }))) }
     {
@@ -56,7 +56,7 @@ impl Tables {
         }
     }
 
-    /// Whether the base of the task is above the ceiling of the mutex.
+    /// Returns whether the base of the task is above the ceiling of the mutex.
     pub fn is_above_ceiling(&self, task: TaskNo, mutex: MutexNo) -> bool
         ensures { result ≡ above_ceiling self.now.state task mutex }
     {

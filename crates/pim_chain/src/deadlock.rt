@@ -15,7 +15,7 @@ impl Tables {
         self.owner(self.waits_for(task)?.mutex)
     }
 
-    /// Whether the task is `from`, or is reached from it by hops to the owner of the mutex that a task waits for.
+    /// Returns whether the task is `from`, or is reached from it by hops to the owner of the mutex that a task waits for.
     ///
     /// Makes at most as many hops as there are tasks, through mutexes of any protocol.
     #[tactic(auto, using(crate::proofs::Hopping::contains_onward))]
@@ -36,14 +36,12 @@ impl Tables {
         task == at
     }
 
-    /// Whether the wait of the task for the mutex would close a cycle: the mutex is owned, and the task is on the chain
-    /// of its owner.
+    /// Returns whether the wait of the task for the mutex would close a cycle: whether the mutex is owned, and the task is
+    /// on the chain of its owner.
     pub fn closes_cycle(&self, task: TaskNo, mutex: MutexNo) -> bool
         ensures { result ≡ closes_cycle self.now.state task mutex }
     {
-        match self.owner(mutex) {
-            Some(owner) => self.on_chain(owner, task),
-            None => false,
-        }
+        self.owner(mutex)
+            .is_some_and(|owner| self.on_chain(owner, task))
     }
 }

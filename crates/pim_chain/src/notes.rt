@@ -31,7 +31,7 @@ impl Model for Notes {
 }
 
 impl Notes {
-    /// Makes room for a note of each task. None is noted yet.
+    /// Makes room for a note of each task. No task is noted yet.
     pub fn new(alloc: Global) -> Result<Notes, AllocError>
         ensures { IfOk result (λ notes. (t : ℕ) → noted_in notes t ≡ None) }
     {

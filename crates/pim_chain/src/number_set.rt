@@ -21,7 +21,7 @@ impl NumberSet {
         NumberSet { words: [0; 5] }
     }
 
-    /// Whether the number is in the set.
+    /// Returns whether the number is in the set.
     pub fn contains(&self, number: u16) -> bool
         requires { number < 320 }
         ensures { result ≡ has self.now.words number }

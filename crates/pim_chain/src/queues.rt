@@ -59,7 +59,7 @@ impl Queues {
         Ok(Queues { queues: clones })
     }
 
-    /// Returns the queue of the mutex, None for an unknown one.
+    /// Returns the queue of the mutex, `None` for an unknown one.
     pub fn get(&self, mutex: MutexNo) -> Option<&Queue>
         ensures { option_copied result ≡ nth self.now mutex }
     {
@@ -67,7 +67,7 @@ impl Queues {
         self.queues.get(place)
     }
 
-    /// Returns the first waiter for the mutex, if anybody waits.
+    /// Returns the first waiter for the mutex, if a task waits.
     pub fn first_waiter(&self, mutex: MutexNo) -> Option<Waiter>
         ensures { result ≡ first_item (queue_in self.now mutex) }
     {

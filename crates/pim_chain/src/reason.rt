@@ -42,10 +42,8 @@ impl Tables {
     fn waiter_reason(&self, mutex: MutexNo) -> Reason
         ensures { result ≡ first_reason self.now mutex }
     {
-        match &self.first_waiter(mutex) {
-            Some(first) => Reason::Waiter(first.task, mutex),
-            None => Reason::Base,
-        }
+        let first = self.first_waiter(mutex);
+        first.map_or(Reason::Base, |first| Reason::Waiter(first.task, mutex))
     }
 
     // the least mutex of the task with this ceiling
@@ -76,10 +74,7 @@ impl Tables {
     fn ceiling_level(&self, mutex: MutexNo) -> u16
         ensures { result ≡ ceiling_of self.now.state mutex }
     {
-        match self.ceiling(mutex) {
-            Some(prio) => prio.get(),
-            None => 0,
-        }
+        self.ceiling(mutex).map_or(0, |prio| prio.get())
     }
 
     // whether it is an INHERIT mutex

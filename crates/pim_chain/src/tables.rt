@@ -9,25 +9,25 @@ ghost use Rattle.pim_base.specs.State.{IsTask, IsMutex, task_numbers, base_of, p
 ghost use Rattle.pim_base.specs.Chains.{blocker, heir_of, closes_cycle};
 ghost use Rattle.pim_base.specs.Priorities.{ceiling};
 ghost use Rattle.pim_base.specs.declared.steps.Wait.{Wait};
-ghost use Rattle.pim_chain.specs.Views.{Ready, fresh, with_state, queue_at, stored_at};
+ghost use Rattle.pim_chain.specs.Views.{Ready, fresh, with_state, queue_at, stored_at, waiter_at};
 ghost use Rattle.pim_chain.specs.Work.{has_changed};
-ghost use Rattle.pim_chain.specs.Settled.{Calm, Unsettles, joined, left, restored};
+ghost use Rattle.pim_chain.specs.Settled.{Calm, Unsettles, joined, left};
 
 use crate::changed::Changed;
 use crate::number_set::NumberSet;
-use crate::numbered::{filled, nth, put};
+use crate::numbered::{filled, put};
 use crate::owned::Owned;
 use crate::owned_sets::OwnedSets;
 use crate::queues::Queues;
 use crate::visits::Visits;
-use pim_base::{MutexNo, Prio, Protocol, TaskNo, Wait, Waiter};
+use pim_base::{MutexNo, Prio, Protocol, TaskNo, Wait, Waiter, nth};
 use pim_queue::Queue;
 use std::alloc::{AllocError, Global};
 use std::marker::Model;
 
 /// The facts about tasks and mutexes, the stored priorities and the queues.
 ///
-/// Only `new` and `try_clone` take memory: they make all the room that the other calls use. A getter returns None for
+/// Only `new` and `try_clone` take memory: they make all the room that the other calls use. A getter returns `None` for
 /// an unknown number, and a test answers what the definitions say of it; the calls that change a fact, those whose
 /// name begins with `known`, and `owned`, `local`, `reason` and `settle_from` must be given known ones.
 #[derive(Drop)]
@@ -37,8 +37,8 @@ pub struct Tables {
     owner: Vec<Option<TaskNo>>,
     wait: Vec<Option<Wait>>,
     owned: OwnedSets,
-    stored: Vec<Prio>,
-    queues: Queues,
+    pub(crate) stored: Vec<Prio>,
+    pub(crate) queues: Queues,
     next: u64,
 }
 
@@ -55,7 +55,7 @@ impl Model for Tables {
 }
 
 impl Tables {
-    /// Makes the tables of these tasks and mutexes: all mutexes are free, nobody waits, each stored priority is the base,
+    /// Makes the tables of these tasks and mutexes: all mutexes are free, no task waits, each stored priority is the base,
     /// and the next ticket is 1.
     ///
     /// # Errors
@@ -137,35 +137,35 @@ impl Tables {
         self.protocol.len() as u16
     }
 
-    /// Returns the base priority of the task, None for an unknown one.
+    /// Returns the base priority of the task, `None` for an unknown one.
     pub fn base(&self, task: TaskNo) -> Option<Prio>
         ensures { result ≡ nth self.now.state.base task }
     {
         nth(&self.base, task.get())
     }
 
-    /// Returns the protocol of the mutex, None for an unknown one.
+    /// Returns the protocol of the mutex, `None` for an unknown one.
     pub fn protocol(&self, mutex: MutexNo) -> Option<Protocol>
         ensures { result ≡ nth self.now.state.protocol mutex }
     {
         nth(&self.protocol, mutex.get())
     }
 
-    /// Returns the ceiling of a PROTECT mutex, None for any other one.
+    /// Returns the ceiling of a PROTECT mutex, `None` for any other one.
     pub fn ceiling(&self, mutex: MutexNo) -> Option<Prio>
         ensures { result ≡ ceiling (protocol_of self.now.state mutex) }
     {
         self.protocol(mutex)?.ceiling()
     }
 
-    /// Returns the owner of the mutex, None where it is free or unknown.
+    /// Returns the owner of the mutex, `None` where it is free or unknown.
     pub fn owner(&self, mutex: MutexNo) -> Option<TaskNo>
         ensures { result ≡ owner_of self.now.state mutex }
     {
         nth(&self.owner, mutex.get()).flatten()
     }
 
-    /// Returns the owner of an INHERIT mutex, which gets the priority of those that wait for it, None for any other one.
+    /// Returns the owner of an INHERIT mutex, which gets the priority of those that wait for it, `None` for any other one.
     pub fn heir_of(&self, mutex: MutexNo) -> Option<TaskNo>
         ensures { result ≡ heir_of self.now.state mutex }
     {
@@ -190,28 +190,28 @@ impl Tables {
         self.next
     }
 
-    /// Returns the mutex that the task waits for, with its ticket there, None where it waits for nothing or is unknown.
+    /// Returns the mutex that the task waits for, with its ticket there, `None` where it waits for nothing or is unknown.
     pub fn waits_for(&self, task: TaskNo) -> Option<Wait>
         ensures { result ≡ wait_of self.now.state task }
     {
         nth(&self.wait, task.get()).flatten()
     }
 
-    /// Returns the stored priority of the task, None for an unknown one.
+    /// Returns the stored priority of the task, `None` for an unknown one.
     pub fn stored(&self, task: TaskNo) -> Option<Prio>
         ensures { result ≡ nth self.now.stored task }
     {
         nth(&self.stored, task.get())
     }
 
-    /// Returns the queue of the mutex, None for an unknown one.
+    /// Returns the queue of the mutex, `None` for an unknown one.
     pub fn queue(&self, mutex: MutexNo) -> Option<&Queue>
         ensures { option_copied result ≡ nth self.now.queues mutex }
     {
         self.queues.get(mutex)
     }
 
-    /// Returns the first waiter for the mutex, None where nobody waits or the mutex is unknown.
+    /// Returns the first waiter for the mutex, `None` where no task waits or the mutex is unknown.
     pub fn first_waiter(&self, mutex: MutexNo) -> Option<Waiter>
         ensures { result ≡ first_item (queue_at self.now mutex) }
     {
@@ -232,6 +232,15 @@ impl Tables {
         ensures { result ≡ stored_at self.now task }
     {
         self.stored[task.get() as usize - 1]
+    }
+
+    /// Returns the known task as a waiter with this ticket.
+    pub(crate) fn waiter(&self, task: TaskNo, ticket: u64) -> Waiter
+        requires { IsTask self.now.state task }
+        ensures { result ≡ waiter_at self.now task ticket }
+    {
+        let prio = self.known_stored(task);
+        Waiter { task, prio, ticket }
     }
 
     /// Returns the tasks whose stored priority isn't the one that the visits noted, in ascending order; none where the
@@ -291,7 +300,7 @@ impl Tables {
         put(&mut self.base, task.get(), prio);
     }
 
-    /// Lets the task, which must wait for nothing, wait for the mutex with this ticket, which nobody there must have. The
+    /// Lets the task, which must wait for nothing, wait for the mutex with this ticket, which no task there must have. The
     /// wait must close no cycle. The next ticket stays.
     ///
     /// Shifts the waiters behind its place in the queue.
@@ -305,8 +314,8 @@ impl Tables {
         ensures unsettles { Unsettles self.old self.new (owner_of self.old.state mutex) }
         ensures ready { Ready self.new }
     {
-        let prio = self.stored[task.get() as usize - 1];
-        self.queues.insert(mutex, Waiter { task, prio, ticket });
+        let waiter = self.waiter(task, ticket);
+        self.queues.insert(mutex, waiter);
         put(&mut self.wait, task.get(), Some(Wait { mutex, ticket }));
     }
 
@@ -320,32 +329,9 @@ impl Tables {
         ensures ready { Ready self.new }
     {
         if let Some(wait) = self.waits_for(task) {
-            let prio = self.known_stored(task);
-            let waiter = Waiter {
-                task,
-                prio,
-                ticket: wait.ticket,
-            };
+            let waiter = self.waiter(task, wait.ticket);
             self.queues.remove(wait.mutex, &waiter);
             put(&mut self.wait, task.get(), None);
-        }
-    }
-
-    /// Stores the priority, and moves the task to its place in the queue that it waits in.
-    pub(crate) fn restore(&mut self, task: TaskNo, prio: Prio)
-        requires { IsTask self.old.state task }
-        ensures { self.new ≡ restored self.old task prio }
-    {
-        let wait = self.waits_for(task);
-        let before = self.known_stored(task);
-        put(&mut self.stored, task.get(), prio);
-        if let Some(wait) = wait {
-            let waiter = Waiter {
-                task,
-                prio: before,
-                ticket: wait.ticket,
-            };
-            self.queues.reposition(wait.mutex, &waiter, prio);
         }
     }
 }

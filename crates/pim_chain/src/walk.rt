@@ -1,40 +1,35 @@
 //! The walk that restores the stored priorities, and stops early.
 
-ghost use Rattle.std.specs.Prelude.{◌≡◌, ◌≤◌, ◌<◌, ◌+◌, ◌-◌, ◌^◌, ◌==◌, if◌then◌else◌, None, length, unwrap_or, ℕ};
+ghost use Rattle.std.specs.Prelude.{◌≡◌, ◌≤◌, ◌<◌, ◌+◌, ◌-◌, ◌^◌, None, length, unwrap_or, ℕ};
+ghost use Rattle.std.specs.Option.{option_and_then};
 ghost use Rattle.pim_base.specs.declared.limits.TheConstants.{MAX_TASKS};
-ghost use Rattle.pim_base.specs.State.{IsTask, IsMutex};
-ghost use Rattle.pim_base.specs.Chains.{heir, heir_of};
+ghost use Rattle.pim_base.specs.State.{IsTask, IsMutex, wait_of};
+ghost use Rattle.pim_base.specs.Chains.{heir};
 ghost use Rattle.pim_base.specs.Priorities.{local_priority, effective_priority};
 ghost use Rattle.pim_base.specs.Queues.{queue_of};
 ghost use Rattle.pim_chain.specs.Views.{Ready, stored_at, queue_at, first_prio};
 ghost use Rattle.pim_chain.specs.Owned.{worth};
-ghost use Rattle.pim_chain.specs.Settled.{SettledBut, Visited, next_of, changed};
+ghost use Rattle.pim_chain.specs.Settled.{SettledBut, Visited, onward_from, next_of, changed, restored};
 ghost use Rattle.pim_chain.specs.Work.{Tells, VisitedOnce};
 
-use crate::numbered::higher;
+use crate::numbered::put;
 use crate::tables::Tables;
 use crate::visits::Visits;
-use pim_base::{MutexNo, Prio, TaskNo};
+use pim_base::{MutexNo, Prio, TaskNo, Wait, higher};
 
 impl Tables {
     // the priority of the first waiter for the mutex
     fn first_prio(&self, mutex: MutexNo) -> Option<Prio>
         ensures { unwrap_or result 0 ≡ first_prio (queue_at self.now mutex) }
     {
-        match &self.first_waiter(mutex) {
-            Some(first) => Some(first.prio),
-            None => None,
-        }
+        self.first_waiter(mutex).map(|first| first.prio)
     }
 
-    // this priority as a number, 0 where nobody waits
+    // this priority as a number, 0 where no task waits
     pub(crate) fn first_level(&self, mutex: MutexNo) -> u16
         ensures { result ≡ first_prio (queue_at self.now mutex) }
     {
-        match self.first_prio(mutex) {
-            Some(prio) => prio.get(),
-            None => 0,
-        }
+        self.first_prio(mutex).map_or(0, |prio| prio.get())
     }
 
     // the priority that the mutex lends to its owner
@@ -70,16 +65,32 @@ impl Tables {
         prio
     }
 
-    // where the walk goes on from the queue of a mutex, whose first waiter had this priority before: [5] and [6]
-    fn onward(&self, mutex: MutexNo, before: u16) -> Option<TaskNo>
-        ensures { result ≡ (if before == first_prio (queue_at self.now mutex) then None else heir_of self.now.state mutex) }
+    // where the walk goes on from the queue that a task waits in, whose first waiter had this priority before: [5] and [6]
+    fn onward(&self, wait: &Option<Wait>, before: u16) -> Option<TaskNo>
+        ensures { result ≡ option_and_then (onward_from before self.now) wait.now }
     {
+        let mutex = wait.as_ref()?.mutex;
         // [5]
         if self.first_level(mutex) == before {
             return None;
         }
         // [6]
         self.heir_of(mutex)
+    }
+
+    // [3] and [4]: stores the priority, and moves the task to its place in the queue that it waits in
+    fn restore(&mut self, task: TaskNo, wait: Option<Wait>, prio: Prio)
+        requires known { IsTask self.old.state task }
+        requires waits { wait ≡ wait_of self.old.state task }
+        ensures { self.new ≡ restored self.old task prio }
+    {
+        // [4]
+        if let Some(wait) = wait {
+            let waiter = self.waiter(task, wait.ticket);
+            self.queues.reposition(wait.mutex, &waiter, prio);
+        }
+        // [3]
+        put(&mut self.stored, task.get(), prio);
     }
 
     // one turn of the walk, [2] to [6]: restores one task's priority, and returns the task to go on with
@@ -98,20 +109,13 @@ impl Tables {
         if prio == had {
             return None;
         }
-        // [3]
         visits.note(task, had);
-        match self.waits_for(task) {
-            None => {
-                self.restore(task, prio);
-                None
-            }
-            // [4]
-            Some(wait) => {
-                let before = self.first_level(wait.mutex);
-                self.restore(task, prio);
-                self.onward(wait.mutex, before)
-            }
-        }
+        // [3] and [4]
+        let wait = self.waits_for(task);
+        let before = wait.map_or(0, |wait| self.first_level(wait.mutex));
+        self.restore(task, wait, prio);
+        // [5] and [6]
+        self.onward(&wait, before)
     }
 
     /// Walks from a task whose local priority a change may have altered, and restores all stored priorities and queues.
@@ -129,7 +133,7 @@ impl Tables {
     /// # Cost
     ///
     /// At most one visit more than there are tasks whose priority changes, and one visit alone where the task hands its
-    /// priority on to nobody. A visit looks at each mutex that its task owns. `[4]` finds both places by binary search,
+    /// priority on to no task. A visit looks at each mutex that its task owns. `[4]` finds both places by binary search,
     /// and shifts the waiters between them. The walk takes no memory, and never looks at all tasks.
     pub fn settle_from(&mut self, task: TaskNo, visits: &mut Visits)
         requires settled { SettledBut self.old.state (stored_at self.old) (Some task) }

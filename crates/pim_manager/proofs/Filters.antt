@@ -1,20 +1,21 @@
 -- The numbers of a range that pass a test.
-use Rattle.std.proofs.Common.{◌≡◌, ◌≢◌, ◌<◌, ◌≤◌, ℕ, zero, suc, ◌+◌, Bool, true, false, cond, ◌⊎◌, inl, inr, List, [], ◌∷◌, filter, length, refl, sym, ◌∙◌, ap, subst, arith}
-use Rattle.std.proofs.lemmas.Bool.{cases_eq}
+use Rattle.std.proofs.Common.{◌≡◌, ◌≢◌, ◌<◌, ◌≤◌, ℕ, zero, suc, ◌+◌, Bool, true, false, not, cond, ◌⊎◌, inl, inr, List, [], ◌∷◌, filter, length, refl, sym, ◌∙◌, ap, subst, arith}
+use Rattle.std.proofs.lemmas.Bool.{cases_eq, both_ways, false_from_ne_true}
+use Rattle.std.proofs.lemmas.List.Filters.{length-filter_both}
+use Rattle.std.proofs.lemmas.List.FromFn.{length-range_with_len}
 use Rattle.std.specs.List.{range_with_len}
 use Rattle.pim_base.specs.Lists.{numbers}
 use Rattle.pim_base.specs.Counts.{count}
 use Rattle.pim_base.proofs.Counting.{count-length}
 use Rattle.pim_chain.proofs.Members.{filter_same}
+use Rattle.pim_chain.proofs.Walking.{count_none, count_either}
 
 -- no more pass than there are
 pub few_pass : (p : ℕ → Bool) (a n : ℕ) → length (filter p (range_with_len a n)) ≤ n
-few_pass p a zero = omega arith
-few_pass p a (suc n) = go (p a) (few_pass p (a + 1) n)
-  where
-    go : (b : Bool) → length (filter p (range_with_len (a + 1) n)) ≤ n → length (cond b (a ∷ filter p (range_with_len (a + 1) n)) (filter p (range_with_len (a + 1) n))) ≤ suc n
-    go true le = omega (arith, le)
-    go false le = omega (arith, le)
+few_pass p a n =
+    let both = length-filter_both p (λ k. not (p k)) (λ _. refl) (range_with_len a n) in
+    let all = length-range_with_len a n in
+    omega (arith, both, all)
 
 -- the first number that passes
 pub record IsFirst (p : ℕ → Bool) (a n m : ℕ) : Type 0 where
@@ -87,27 +88,20 @@ filter-none p a (suc n) k h low high = go (p a) refl h (filter-none p (a + 1) n 
     go false e h later (inr ne) = later h (omega (arith, low, ne)) (omega (arith, high))
 
 -- where the one test holds the other does too, as many pass at least
-count_over :
-    (p q : ℕ → Bool) (n : ℕ)
-    → ((k : ℕ) → 1 ≤ k → k ≤ n → p k ≡ true → q k ≡ true)
-    → count n p ≤ count n q
-unfolding count
-count_over p q zero over = omega arith
-count_over p q (suc n) over =
-    go (p (suc n)) (over (suc n) (omega arith) (omega arith)) (count_over p q n (λ k low high. over k low (omega (arith, high))))
-  where
-    go :
-        (b : Bool)
-        → (b ≡ true → q (suc n) ≡ true)
-        → count n p ≤ count n q
-        → count n p + cond {A = ℕ} b 1 0 ≤ count n q + cond {A = ℕ} (q (suc n)) 1 0
-    go true same le =
-        let one : cond {A = ℕ} (q (suc n)) 1 0 ≡ 1 = ap {B = ℕ} (λ (c : Bool). cond {A = ℕ} c 1 0) (same refl) in
-        omega (arith, one, le)
-    go false same le = omega (arith, le)
-
 pub length-le-count :
     (p q : ℕ → Bool) (n : ℕ)
     → ((k : ℕ) → 1 ≤ k → k ≤ n → p k ≡ true → q k ≡ true)
     → length (filter p (numbers n)) ≤ count n q
-length-le-count p q n over = subst (λ k. k ≤ count n q) (count-length n p) (count_over p q n over)
+length-le-count p q n over =
+    let less = count_either n p q (λ _. false) (λ k low high fails _. false_from_ne_true _ (λ passes. both_ways _ fails (over k low high passes))) in
+    let none = count_none n (λ _. false) (λ _. refl) in
+    let same = count-length n p in
+    omega (arith, less, none, same)
+
+-- where one passes, some do
+pub count_one : (n : ℕ) (p : ℕ → Bool) (x : ℕ) → 1 ≤ x → x ≤ n → p x ≡ true → 1 ≤ count n p
+count_one n p x low high h = subst (λ k. 1 ≤ k) (sym (count-length n p)) (go (filter p (numbers n)) refl)
+  where
+    go : (xs : List ℕ) → filter p (numbers n) ≡ xs → 1 ≤ length xs
+    go [] none = absurd (both_ways (p x) (filter-none p 1 n x none low (omega (arith, high))) h)
+    go (y ∷ ys) _ = omega arith

@@ -103,6 +103,20 @@ pub first_is :
 first_is {v} {S} {m} {first} before shown known is =
     is ∙ ap first_item (queue_is v m before.calm (subst (λ (U : State). IsMutex U m) (sym shown) known)) ∙ ap (λ (U : State). first_of U m) shown
 
+-- and it waits still once the mutex is free
+pub first_blocked :
+    {v : View} (r u : View) {S : State} (m : ℕ) {w : Waiter}
+    → IsSettled v
+    → v.state ≡ S
+    → IsMutex S m
+    → first_of S m ≡ Some w
+    → r ≡ with_state v (with_owner v.state m None)
+    → u.state ≡ r.state
+    → wait_of u.state w.task ≡ Some (record { mutex = m; ticket = w.ticket })
+first_blocked {v} r u m {w} before shown known first freed same =
+    ap (λ (U : State). wait_of U w.task) (same ∙ ap (λ (y : View). y.state) freed)
+    ∙ first_waits v m w before.calm.ready (subst (λ (U : State). IsMutex U m) (sym shown) known) (first_is before shown known refl ∙ first)
+
 -- The owner has lost the mutex, and its tables u are settled; then the first waiter has left the queue, and they are x.
 pub record Passed (S : State) (u x : View) (m t : ℕ) : Type 0 where
   pub state : x.state ≡ with_wait (with_owner S m None) t None
@@ -118,7 +132,7 @@ pub passed :
     → IsSettled v
     → v.state ≡ S
     → IsMutex S m
-    → first_item (queue_at v m) ≡ Some w
+    → first_of S m ≡ Some w
     → r ≡ with_state v (with_owner v.state m None)
     → u.state ≡ r.state
     → SettledBut u.state (stored_at u) None
@@ -132,7 +146,8 @@ passed {v} r u {S} x m {w} before shown known first freed same settled leaves un
   mutex = subst (λ (U : State). IsMutex U m) (sym is) known;
   known =
       subst (λ (U : State). IsTask U w.task) (ap (λ (U : State). with_wait (with_owner U m None) w.task None) shown ∙ sym is)
-      (waiting_known v.state before.steady.sound.lists w.task (record { mutex = m; ticket = w.ticket }) waited);
+      (waiting_known v.state before.steady.sound.lists w.task (record { mutex = m; ticket = w.ticket })
+      (ap (λ (U : State). wait_of U w.task) (sym (same ∙ ap (λ (y : View). y.state) freed)) ∙ waits));
   idle = ap (λ U. wait_of U w.task) is ∙ idle_now (with_owner S m None) w.task;
   free = ap (λ U. owner_of U m) is ∙ freed_owner S m;
 }
@@ -140,11 +155,8 @@ passed {v} r u {S} x m {w} before shown known first freed same settled leaves un
     is_freed : u.state ≡ with_owner S m None
     is_freed = same ∙ ap (λ (y : View). y.state) freed ∙ ap (λ (U : State). with_owner U m None) shown
 
-    waited : wait_of v.state w.task ≡ Some (record { mutex = m; ticket = w.ticket })
-    waited = first_waits v m w before.calm.ready (subst (λ (U : State). IsMutex U m) (sym shown) known) first
-
     waits : wait_of u.state w.task ≡ Some (record { mutex = m; ticket = w.ticket })
-    waits = ap (λ (U : State). wait_of U w.task) (is_freed ∙ ap (λ (U : State). with_owner U m None) (sym shown)) ∙ waited
+    waits = first_blocked r u m before shown known first freed same
 
     gone : HasLeft u x w.task
     gone = has_left u x w.task (λ none. none-some (record { mutex = m; ticket = w.ticket }) (sym none ∙ waits)) leaves

@@ -43,7 +43,7 @@ noted_changes_of_step S T a b bases work kept none =
     ∙ filter_same (has_changed (effective_priority T) b)
     (λ t. not (eqb (effective_priority S t) (effective_priority T t))) 1 (length S.base)
     (λ t low high. ap (λ p. not (eqb p (effective_priority T t)))
-    ((work.noted kept).1 t low (omega (arith, high)) ∙ ap (λ o. unwrap_or o (effective_priority S t)) (none t)))
+    (work.noted.1 kept t low (omega (arith, high)) ∙ ap (λ o. unwrap_or o (effective_priority S t)) (none t)))
 
 -- what the settled tables find differs
 pub noted_changes_shown :

@@ -20,7 +20,7 @@ use Rattle.pim_chain.specs.Work.{Work, Tells}
 use Rattle.pim_chain.proofs.Told.{tells-trans}
 use Rattle.pim_manager.specs.Settled.{Worked}
 use Rattle.pim_manager.proofs.Works.{worked_none}
-use Rattle.pim_manager.proofs.Filters.{few_pass, first_passes, filter-rest, filter-none, length-le-count}
+use Rattle.pim_manager.proofs.Filters.{few_pass, first_passes, filter-rest, filter-none, length-le-count, count_one}
 use Rattle.pim_manager.proofs.Handing.{freed_owner}
 
 -- ---- one hand-over
@@ -157,15 +157,6 @@ released_all S T a released left v w done none = record {
         (λ m low high h. lost_differs (owner_of S m) (owner_of T m) a (from_holds (owner_of S m) a h)
         (filter-none (λ k. holds (owner_of T k) a) 1 (length T.protocol) m (sym done.owns ∙ none) low
         (let same = ap length done.protocols in omega (arith, same, high))))
-
-count_one : (n : ℕ) (p : ℕ → Bool) (x : ℕ) → 1 ≤ x → x ≤ n → p x ≡ true → 1 ≤ count n p
-unfolding count
-count_one zero p x low high h = absurd (omega (arith, low, high))
-count_one (suc n) p x low high h = go (count_one n p x low) (eq-or-lt_of_le high)
-  where
-    go : (x ≤ n → p x ≡ true → 1 ≤ count n p) → (x ≡ suc n) ⊎ (x < suc n) → 1 ≤ count n p + cond {A = ℕ} (p (suc n)) 1 0
-    go rest (inr lt) = let r = rest (omega (arith, lt)) h in omega (arith, r)
-    go rest (inl is) = let at : cond {A = ℕ} (p (suc n)) 1 0 ≡ 1 = ap {B = ℕ} (λ (b : Bool). cond {A = ℕ} b 1 0) (subst (λ u. p u ≡ true) is h) in omega (arith, at)
 
 -- a hand-over by its owner hands over one mutex at least
 pub handed_once :

@@ -98,7 +98,7 @@ impl Manager {
         ensures most { visits.new.count ≤ visits.old.count + 2 }
         ensures handed { 1 ≤ handed_mutex_count self.old self.new }
     {
-        let first = self.tables.first_waiter(mutex);
+        let first = self.first_of(mutex);
         self.tables.unbind(mutex);
         self.tables.settle_from(owner, visits);
         if let Some(waiter) = &first {
@@ -107,5 +107,12 @@ impl Manager {
             self.tables.settle_from(waiter.task, visits);
         }
         first
+    }
+    /// Returns the first waiter for the mutex.
+    fn first_of(&self, mutex: MutexNo) -> Option<Waiter>
+        requires { IsMutex self.now mutex }
+        ensures { result ≡ first_of self.now mutex }
+    {
+        self.tables.first_waiter(mutex)
     }
 }

@@ -50,7 +50,7 @@ impl Model for Manager {
 
 impl Manager {
     /// Returns a manager of tasks with these base priorities and of mutexes with these protocols.
-    /// All mutexes are free, nobody waits, and the next ticket is 1.
+    /// All mutexes are free, no task waits, and the next ticket is 1.
     ///
     /// # Errors
     ///
@@ -137,21 +137,21 @@ impl Manager {
         self.tables.next_ticket()
     }
 
-    /// Returns the priority at which the task would execute, None for an unknown one.
+    /// Returns the priority at which the task would execute, `None` for an unknown one.
     pub fn effective(&self, task: TaskNo) -> Option<Prio>
         ensures { result ≡ of_task self.now task (effective_priority self.now task) }
     {
         self.tables.stored(task)
     }
 
-    /// Returns the base priority of the task, None for an unknown one.
+    /// Returns the base priority of the task, `None` for an unknown one.
     pub fn base(&self, task: TaskNo) -> Option<Prio>
         ensures { result ≡ of_task self.now task (base_of self.now task) }
     {
         self.tables.base(task)
     }
 
-    /// Returns why the task has its effective priority, None for an unknown one. It looks at the
+    /// Returns why the task has its effective priority, `None` for an unknown one. It looks at the
     /// mutexes that the task owns, twice at most.
     pub fn reason(&self, task: TaskNo) -> Option<Reason>
         ensures { result ≡ of_task self.now task (reason_of self.now task) }
@@ -163,7 +163,7 @@ impl Manager {
         }
     }
 
-    /// Returns the mutex that the task waits for, or that it waits for none; None for an unknown
+    /// Returns the mutex that the task waits for, or that it waits for none; `None` for an unknown
     /// one.
     pub fn waits_for(&self, task: TaskNo) -> Option<Option<MutexNo>>
         ensures waits { result ≡ of_task self.now task (option_map (λ (w : Wait). w.mutex) (wait_of self.now task)) }
@@ -176,7 +176,7 @@ impl Manager {
         }
     }
 
-    /// Returns the owner of the mutex, or that it is free; None for an unknown one.
+    /// Returns the owner of the mutex, or that it is free; `None` for an unknown one.
     pub fn owner(&self, mutex: MutexNo) -> Option<Option<TaskNo>>
         ensures { result ≡ of_mutex self.now mutex (owner_of self.now mutex) }
     {
@@ -187,7 +187,7 @@ impl Manager {
         }
     }
 
-    /// Returns the protocol of the mutex, None for an unknown one.
+    /// Returns the protocol of the mutex, `None` for an unknown one.
     pub fn protocol(&self, mutex: MutexNo) -> Option<Protocol>
         ensures { result ≡ of_mutex self.now mutex (protocol_of self.now mutex) }
     {
@@ -195,7 +195,7 @@ impl Manager {
     }
 
     /// Returns those who wait for the mutex, each with its effective priority and its ticket: the
-    /// higher priority first, then the smaller ticket. None for an unknown mutex.
+    /// higher priority first, then the smaller ticket. `None` for an unknown mutex.
     pub fn waiters(&self, mutex: MutexNo) -> Option<&[Waiter]>
         ensures queue { option_copied result ≡ of_mutex self.now mutex (queue_of self.now mutex) }
         ensures in_order { IfSome (option_copied result) (AllPairs Precedes) }

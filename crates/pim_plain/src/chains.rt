@@ -1,6 +1,6 @@
 //! The chains from a task: whom it waits for, and who inherits from it.
 
-ghost use Rattle.std.specs.Prelude.{◌≡◌};
+ghost use Rattle.std.specs.Prelude.{◌≡◌, ℕ, Option, length};
 ghost use Rattle.pim_base.specs.Lists.{contains};
 ghost use Rattle.pim_base.specs.Chains.{chain, blocker, heir, waits_chain, inherit_chain, closes_cycle};
 
@@ -31,7 +31,7 @@ impl PlainManager {
     pub fn on_chain(&self, from: TaskNo, task: TaskNo) -> bool
         ensures { result ≡ contains (waits_chain self.now from) task }
     {
-        self.waits_chain_within(self.tasks(), from, task)
+        self.has_on_chain(|at| self.blocker(at), from, task)
     }
 
     /// Returns whether the task is `from`, or is reached from it by hops through INHERIT mutexes alone: whether it
@@ -39,48 +39,34 @@ impl PlainManager {
     pub fn on_inherit_chain(&self, from: TaskNo, task: TaskNo) -> bool
         ensures { result ≡ contains (inherit_chain self.now from) task }
     {
-        self.inherit_chain_within(self.tasks(), from, task)
+        self.has_on_chain(|at| self.heir(at), from, task)
     }
 
     /// Returns whether the wait of the task for the mutex would close a cycle of waits.
     pub fn closes_cycle(&self, task: TaskNo, mutex: MutexNo) -> bool
         ensures { result ≡ closes_cycle self.now task mutex }
     {
-        match self.owner_of(mutex) {
-            Some(owner) => self.on_chain(owner, task),
-            None => false,
-        }
+        self.owner_of(mutex)
+            .is_some_and(|owner| self.on_chain(owner, task))
     }
 
-    /// Returns what `on_chain` does, for a chain of at most so many hops.
-    fn waits_chain_within(&self, hops: u16, from: TaskNo, task: TaskNo) -> bool
-        ensures { result ≡ contains (chain (blocker self.now) hops from) task }
+    /// Returns whether the task is `from`, or is reached from it by the hops that `hop` answers as `h` does.
+    fn has_on_chain<F: Fn(TaskNo) -> Option<TaskNo>>(
+        &self,
+        hop: F,
+        from: TaskNo,
+        task: TaskNo,
+    ) -> bool
+        requires { F.IsAlwaysCallable hop }
+        ensures { (h : ℕ → Option ℕ) → ((t : ℕ) (o : Option ℕ) → F.post hop t o → o ≡ h t) → result ≡ contains (chain h (length self.now.base) from) task }
     {
         let mut at = from;
         // No chain without a cycle is longer, and a loop has to end.
-        for _hop in 0..hops {
+        for _hop in 0..self.tasks() {
             if task == at {
                 return true;
             }
-            match self.blocker(at) {
-                Some(next) => at = next,
-                None => return false,
-            }
-        }
-        task == at
-    }
-
-    /// Returns what `on_inherit_chain` does, for a chain of at most so many hops.
-    fn inherit_chain_within(&self, hops: u16, from: TaskNo, task: TaskNo) -> bool
-        ensures { result ≡ contains (chain (heir self.now) hops from) task }
-    {
-        let mut at = from;
-        // No chain without a cycle is longer, and a loop has to end.
-        for _hop in 0..hops {
-            if task == at {
-                return true;
-            }
-            match self.heir(at) {
+            match hop(at) {
                 Some(next) => at = next,
                 None => return false,
             }

@@ -16,7 +16,6 @@
 
 mod chains;
 mod checks;
-mod numbered;
 mod plain_manager;
 mod priorities;
 mod queues;

@@ -1,13 +1,12 @@
 //! What is owned and waited for, and the changes of one fact.
 
 ghost use Rattle.std.specs.Prelude.{◌≡◌, ◌≤◌, ◌<◌, length, IfOk};
-ghost use Rattle.pim_base.specs.Lists.{nth, holds};
+ghost use Rattle.pim_base.specs.Lists.{nth, put, holds};
 ghost use Rattle.pim_base.specs.State.{start, IsTask, base_of, owner_of, wait_of, protocol_of, with_owner, with_wait, with_base, queued};
 ghost use Rattle.pim_base.specs.Priorities.{ceiling};
 ghost use Rattle.pim_base.specs.declared.limits.TheConstants.{MAX_TASKS, MAX_MUTEXES, LAST_TICKET};
 
-use crate::numbered::{nth, put};
-use pim_base::{MutexNo, Prio, Protocol, TaskNo, Wait};
+use pim_base::{MutexNo, Prio, Protocol, TaskNo, Wait, nth};
 use std::alloc::{AllocError, Global};
 use std::marker::Model;
 
@@ -57,48 +56,44 @@ impl PlainManager {
         requires mutexes { length protocols.now ≤ MAX_MUTEXES }
         ensures { IfOk result (λ plain. plain ≡ start bases.now protocols.now next) }
     {
-        let base = bases.to_vec(alloc)?;
-        let protocol = protocols.to_vec(alloc)?;
-        let owner = vec![in alloc; None; protocols.len()]?;
-        let wait = vec![in alloc; None; bases.len()]?;
         Ok(PlainManager {
-            base,
-            protocol,
-            owner,
-            wait,
+            base: bases.to_vec(alloc)?,
+            protocol: protocols.to_vec(alloc)?,
+            owner: vec![in alloc; None; protocols.len()]?,
+            wait: vec![in alloc; None; bases.len()]?,
             next,
         })
     }
 
-    /// Returns the base of a task; None for an unknown one.
+    /// Returns the base of a task; `None` for an unknown one.
     pub fn base(&self, task: TaskNo) -> Option<Prio>
         ensures { result ≡ nth self.now.base task }
     {
         nth(&self.base, task.get())
     }
 
-    /// Returns the protocol of a mutex; None for an unknown one.
+    /// Returns the protocol of a mutex; `None` for an unknown one.
     pub fn protocol(&self, mutex: MutexNo) -> Option<Protocol>
         ensures { result ≡ nth self.now.protocol mutex }
     {
         nth(&self.protocol, mutex.get())
     }
 
-    /// Returns the ceiling of a PROTECT mutex; None for any other, and for an unknown one.
+    /// Returns the ceiling of a PROTECT mutex; `None` for any other, and for an unknown one.
     pub fn ceiling(&self, mutex: MutexNo) -> Option<Prio>
         ensures { result ≡ ceiling (protocol_of self.now mutex) }
     {
         self.protocol(mutex)?.ceiling()
     }
 
-    /// Returns the owner of a mutex; None for a free and for an unknown one.
+    /// Returns the owner of a mutex; `None` for a free and for an unknown one.
     pub fn owner_of(&self, mutex: MutexNo) -> Option<TaskNo>
         ensures { result ≡ owner_of self.now mutex }
     {
         nth(&self.owner, mutex.get()).flatten()
     }
 
-    /// Returns the mutex that a task waits for, with its ticket; None where it doesn't wait, and for an unknown one.
+    /// Returns the mutex that a task waits for, with its ticket; `None` where it doesn't wait, and for an unknown one.
     pub fn wait_of(&self, task: TaskNo) -> Option<Wait>
         ensures { result ≡ wait_of self.now task }
     {
@@ -175,5 +170,16 @@ impl PlainManager {
         ensures { self.new ≡ with_wait self.old task None }
     {
         put(&mut self.wait, task.get(), None);
+    }
+}
+
+/// Puts the item at this number; changes nothing where the list has no such number.
+fn put<T: Copy>(items: &mut [T], number: u16, item: T)
+    ensures { items.new ≡ put items.old number item }
+{
+    if let Some(place) = (number as usize).checked_sub(1) {
+        if place < items.len() {
+            items[place] = item;
+        }
     }
 }

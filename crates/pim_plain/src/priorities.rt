@@ -5,12 +5,11 @@ ghost use Rattle.pim_base.specs.State.{IsTask};
 ghost use Rattle.pim_base.specs.Checks.{unknown_task};
 ghost use Rattle.pim_base.specs.Priorities.{own_priority, effective_priority};
 
-use crate::numbered::higher;
 use crate::plain_manager::PlainManager;
-use pim_base::{MutexNo, Prio, TaskNo};
+use pim_base::{MutexNo, Prio, TaskNo, higher};
 
 impl PlainManager {
-    /// Returns the effective priority of a task; None for an unknown one.
+    /// Returns the effective priority of a task; `None` for an unknown one.
     pub fn effective(&self, task: TaskNo) -> Option<Prio>
         ensures unknown { IsTrue (unknown_task self.now task) → result ≡ None }
         ensures known { IsTask self.now task → result ≡ Some (effective_priority self.now task) }

@@ -12,7 +12,7 @@ use crate::plain_manager::PlainManager;
 use pim_base::{MutexNo, Prio, Reason, TaskNo};
 
 impl PlainManager {
-    /// Returns why a task has its effective priority; None for an unknown one.
+    /// Returns why a task has its effective priority; `None` for an unknown one.
     pub fn reason(&self, task: TaskNo) -> Option<Reason>
         ensures unknown { IsTrue (unknown_task self.now task) → result ≡ None }
         ensures known { IsTask self.now task → result ≡ Some (reason_of self.now task) }
@@ -61,7 +61,7 @@ impl PlainManager {
         self.least_owned(task, |mutex| self.has_ceiling(mutex, prio))
     }
 
-    /// Returns the least INHERIT mutex that the task owns for which somebody waits at that priority.
+    /// Returns the least INHERIT mutex that the task owns for which a task waits at that priority.
     fn lender_at(&self, task: TaskNo, prio: Prio) -> Option<MutexNo>
         ensures { result ≡ find (lends self.now prio) (owned self.now task) }
     {
@@ -85,23 +85,18 @@ impl PlainManager {
     fn has_ceiling(&self, mutex: MutexNo, prio: Prio) -> bool
         ensures { result ≡ (ceiling_of self.now mutex == prio) }
     {
-        match self.ceiling(mutex) {
-            Some(ceiling) => ceiling == prio,
-            None => false,
-        }
+        self.ceiling(mutex) == Some(prio)
     }
 
-    /// Returns whether the mutex is an INHERIT mutex for which somebody waits at this priority.
+    /// Returns whether the mutex is an INHERIT mutex for which a task waits at this priority.
     fn lends(&self, mutex: MutexNo, prio: Prio) -> bool
         ensures { result ≡ lends self.now prio mutex }
     {
-        match self.protocol(mutex) {
-            Some(protocol) => protocol.is_inherit() && self.has_waiter_at(mutex, prio),
-            None => false,
-        }
+        let protocol = self.protocol(mutex);
+        protocol.is_some_and(|protocol| protocol.is_inherit()) && self.has_waiter_at(mutex, prio)
     }
 
-    /// Returns whether somebody waits for the mutex at this priority.
+    /// Returns whether a task waits for the mutex at this priority.
     fn has_waiter_at(&self, mutex: MutexNo, prio: Prio) -> bool
         ensures { result ≡ list_any (λ w. w.prio == prio) (queue_of self.now mutex) }
     {

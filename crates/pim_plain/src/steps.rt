@@ -146,13 +146,9 @@ impl PlainManager {
         ensures state { self.new ≡ hand_over self.old mutex }
     {
         let first = self.first_of(mutex);
-        match &first {
-            Some(waiter) => {
-                let task = waiter.task;
-                self.put_owner(mutex, Some(task));
-                self.leave(task);
-            }
-            None => self.put_owner(mutex, None),
+        self.put_owner(mutex, first.map(|waiter| waiter.task));
+        if let Some(waiter) = &first {
+            self.leave(waiter.task);
         }
         first
     }

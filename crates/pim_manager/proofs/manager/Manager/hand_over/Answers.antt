@@ -1,26 +1,31 @@
 use Rattle.std.proofs.Common.{◌≡◌, ◌+◌, None, sym, subst, ◌∙◌, ap, arith, length}
+use Rattle.std.proofs.lemmas.Option.{none-some}
 use Rattle.pim_base.specs.State.{State, IsTask, wait_of, with_owner}
 use Rattle.pim_base.specs.Steps.{hand_over, hand_over_to}
 use Rattle.pim_base.proofs.HandOvers.{base-hand_over}
 use Rattle.pim_base.proofs.Steady.{steady_kept}
 use Rattle.pim_chain.specs.Views.{View}
 use Rattle.pim_manager.proofs.Works.{Walked, walked, steady_shown}
-use Rattle.pim_manager.proofs.Handing.{Passed, passed, passed_state, first_is, heir_idle, freed_idle, two_walks}
+use Rattle.pim_manager.proofs.Handing.{Passed, first_blocked, passed, passed_state, heir_idle, freed_idle, two_walks}
 use Rattle.pim_manager.proofs.Releases.{handed_once}
 use Rattle.pim_manager.proofs.manager.Manager.hand_over.Goals as goal
+
+pub leave-requires : goal.leave-requires
+leave-requires c none =
+    none-some _ (sym none ∙ first_blocked c.unbind.new.self c.settle_from.new.self c.args.mutex c.self.invariant c.self.view_is c.requires.mutex (sym c.first_of-first.ensures ∙ c.in-Some.is) c.unbind.ensures.state c.settle_from.ensures.state)
 
 pub bind-requires : goal.bind-requires
 bind-requires c =
     let p : Passed c.args.self.now c.settle_from.new.self c.leave.new.self c.args.mutex c.in-Some.waiter.task =
     passed _ _ _ _ c.self.invariant c.self.view_is c.requires.mutex
-    (sym c.first_waiter-first.ensures ∙ c.in-Some.is) c.unbind.ensures.state c.settle_from.ensures.state c.settle_from.ensures.settled c.leave.ensures.left c.leave.ensures.unsettles in
+    (sym c.first_of-first.ensures ∙ c.in-Some.is) c.unbind.ensures.state c.settle_from.ensures.state c.settle_from.ensures.settled c.leave.ensures.left c.leave.ensures.unsettles in
     record { mutex = p.mutex; free = p.free; known = p.known; idle = p.idle }
 
 pub settle_from-requires-in-Some : goal.settle_from-requires-in-Some
 settle_from-requires-in-Some c =
     let p : Passed c.args.self.now c.settle_from.new.self c.leave.new.self c.args.mutex c.in-Some.waiter.task =
     passed _ _ _ _ c.self.invariant c.self.view_is c.requires.mutex
-    (sym c.first_waiter-first.ensures ∙ c.in-Some.is) c.unbind.ensures.state c.settle_from.ensures.state c.settle_from.ensures.settled c.leave.ensures.left c.leave.ensures.unsettles in
+    (sym c.first_of-first.ensures ∙ c.in-Some.is) c.unbind.ensures.state c.settle_from.ensures.state c.settle_from.ensures.settled c.leave.ensures.left c.leave.ensures.unsettles in
     let one = c.settle_from.ensures.single (freed_idle c.args.mutex c.args.owner c.unbind.ensures.state c.self.view_is c.requires.idle) in
     record {
       settled = c.bind.ensures.unsettles p.settled;
@@ -34,13 +39,13 @@ left :
     → Passed c.args.self.now c.settle_from.new.self c.leave.new.self c.args.mutex c.in-Some.waiter.task
 left c =
     passed _ _ _ _ c.self.invariant c.self.view_is c.requires.mutex
-    (sym c.first_waiter-first.ensures ∙ c.in-Some.is) c.unbind.ensures.state c.settle_from.ensures.state c.settle_from.ensures.settled c.leave.ensures.left c.leave.ensures.unsettles
+    (sym c.first_of-first.ensures ∙ c.in-Some.is) c.unbind.ensures.state c.settle_from.ensures.state c.settle_from.ensures.settled c.leave.ensures.left c.leave.ensures.unsettles
 
 -- the mutex has gone to the first waiter
 handed : (c : goal.After-settle_from-in-Some) → c.bind.new.self.state ≡ hand_over c.args.self.now c.args.mutex
 handed c =
     passed_state (left c)
-    (sym (first_is c.self.invariant c.self.view_is c.requires.mutex c.first_waiter-first.ensures) ∙ c.in-Some.is) c.bind.ensures.state
+    (sym c.first_of-first.ensures ∙ c.in-Some.is) c.bind.ensures.state
 
 gone :
     (c : goal.After-settle_from-in-Some)
@@ -64,7 +69,7 @@ returns-in-Some c =
     (heir_idle c.bind.new.self.state c.in-Some.waiter.task (ap (λ (w : View). wait_of w.state c.in-Some.waiter.task) c.bind.ensures.state ∙ (left c).idle)) in
     let is : c.settle_from-in-Some.new.self.state ≡ hand_over c.args.self.now c.args.mutex = c.settle_from-in-Some.ensures.state ∙ handed c in
     record {
-      first = first_is c.self.invariant c.self.view_is c.requires.mutex c.first_waiter-first.ensures;
+      first = c.first_of-first.ensures;
       state = is;
       work = (gone c).work;
       most = omega (arith, one, two);
@@ -78,9 +83,8 @@ freed_state :
     (c : goal.In_default)
     → c.unbind.new.self.state ≡ hand_over c.args.self.now c.args.mutex
 freed_state c =
-    let first = first_is c.self.invariant c.self.view_is c.requires.mutex c.first_waiter-first.ensures in
     ap (λ (w : View). w.state) c.unbind.ensures.state ∙ ap (λ (U : State). with_owner U c.args.mutex None) c.self.view_is
-    ∙ ap (hand_over_to c.args.self.now c.args.mutex) (sym c.in_default.is ∙ first)
+    ∙ ap (hand_over_to c.args.self.now c.args.mutex) (sym c.in_default.is ∙ c.first_of-first.ensures)
 
 freed :
     (c : goal.In_default)
@@ -100,7 +104,7 @@ pub returns-in_default : goal.returns-in_default
 returns-in_default c =
     let one = c.settle_from.ensures.single (freed_idle c.args.mutex c.args.owner c.unbind.ensures.state c.self.view_is c.requires.idle) in
     record {
-      first = first_is c.self.invariant c.self.view_is c.requires.mutex c.first_waiter-first.ensures;
+      first = c.first_of-first.ensures;
       state = c.settle_from.ensures.state ∙ freed_state c;
       work = (freed c).work;
       most = omega (arith, one);

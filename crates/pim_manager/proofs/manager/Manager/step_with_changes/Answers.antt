@@ -12,4 +12,4 @@ returns-clause-changed c =
     ∙ ap (map (changed_task T))
     (noted_changes_of_step S T c.restart.new.self c.reply_to-reply.new.visits
     (ap (λ (U : State). length U.base) c.reply_to-reply.ensures.state ∙ bases_after S c.args.step)
-    c.reply_to-reply.ensures.work (c.restart.ensures.keeps c.changed.invariant.1) c.restart.ensures.none)
+    c.reply_to-reply.ensures.work (c.restart.ensures.keeps ∙ c.changed.invariant.1) c.restart.ensures.none)

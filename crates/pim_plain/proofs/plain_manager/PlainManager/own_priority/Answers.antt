@@ -14,20 +14,18 @@ loop-number-preserved c =
     let n : ℕ = c.loop-number.number in
     let done : (n - 1) + 1 ≡ n = omega (arith, c.loop-number.auto.number) in
     let next : (n + 1) - 1 ≡ n = omega arith in
-    let more : n + 1 - 1 ≡ n = next in
-    let precedes = c.loop-number.invariant in
     elim c.if-owns.branch [
       | then-owns+in-Some w ↦
           let passes : p n ≡ true = sym c.owns.ensures ∙ w.if-owns.true in
           let worth : f n ≡ w.in-Some.ceiling = ap (λ o. unwrap_or o 0) (sym w.ceiling.ensures ∙ w.in-Some.is) in
-          rw next (omega (arith, w.prio-is, w.higher-prio.ensures, precedes, worth, greatest_of-pass f p n (n - 1) done passes))
+          rw next (omega (arith, w.prio-is, w.higher-prio.ensures, c.loop-number.invariant, worth, greatest_of-pass f p n (n - 1) done passes))
       | then-owns+in_default w ↦
           let passes : p n ≡ true = sym c.owns.ensures ∙ w.if-owns.true in
           let worth : f n ≡ 0 = ap (λ o. unwrap_or o 0) (sym w.ceiling.ensures ∙ w.in_default.is) in
-          rw next (omega (arith, w.prio-is, precedes, worth, greatest_of-pass f p n (n - 1) done passes))
+          rw next (omega (arith, w.prio-is, c.loop-number.invariant, worth, greatest_of-pass f p n (n - 1) done passes))
       | else-owns w ↦
           let fails : p n ≡ false = sym c.owns.ensures ∙ w.if-owns.false in
-          rw next (omega (arith, w.prio-is, precedes, greatest_of-fail f p n (n - 1) done fails))
+          rw next (omega (arith, w.prio-is, c.loop-number.invariant, greatest_of-fail f p n (n - 1) done fails))
     ]
 
 pub returns : goal.returns
