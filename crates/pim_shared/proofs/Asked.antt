@@ -1,5 +1,5 @@
 -- What a task asks for from one entry on, beside what is due from there on.
-use Rattle.std.proofs.Common.{◌≡◌, ◌≢◌, ◌<◌, ◌↔◌, ℕ, zero, suc, List, [], ◌∷◌, Some, None, length, drop, get_or, slice_get, refl, sym, ap, ◌∙◌, eq-eqb, ne_eqb, drop-cons, add-one, ◌+◌, ◌≤◌}
+use Rattle.std.proofs.Common.{◌≡◌, ◌≢◌, ◌<◌, ◌↔◌, ℕ, zero, suc, List, [], ◌∷◌, Some, None, length, drop, ◌++◌, get_or, slice_get, refl, sym, ap, ◌∙◌, eq-eqb, ne_eqb, drop-cons, add-one, ◌+◌, ◌≤◌}
 use Rattle.std.proofs.Math.ListN.{drop_of_length-le}
 use Rattle.pim_base.specs.Runs.{asked_by}
 use Rattle.pim_base.specs.declared.steps.Entry.{Entry}
@@ -33,22 +33,32 @@ nil_is_drop [] (suc k) = (λ e. refl, λ e. refl)
 nil_is_drop (y ∷ ys) zero = (λ e. cc, λ e. cc)
 nil_is_drop (y ∷ ys) (suc k) = nil_is_drop ys k
 
--- What the entries from place i on ask for is what is due from place k on: where entry i is the task's, that is its step, and
--- then what both go on with.
-pub own_goes_on : (t : ℕ) (es : List Entry) (whole : List Op) (i k : ℕ) (e : Entry) → i < length es → e ≡ get_or es i e → e.step.actor ≡ t
-    → (asked_by t (drop i es) ≡ drop k whole) ↔ (slice_get whole k ≡ Some e.step.op) × (asked_by t (drop (i + 1) es) ≡ drop (k + 1) whole)
-own_goes_on t es whole i k e within is own =
+-- a script and then one release of all
+abbrev pub with_release : List Op → List Op
+with_release script = script ++ Op.ReleaseAll ∷ []
+
+-- what the task asks for from entry i on is what is left of its script, with the release, from place k on
+abbrev pub GoesOn : ℕ → List Entry → List Op → ℕ → ℕ → Type 0
+GoesOn t es script i k = asked_by t (drop i es) ≡ drop k (with_release script)
+
+-- where entry i is the task's, its step stands at place k, and both go on after it
+pub own_goes_on : (t : ℕ) (es : List Entry) (script : List Op) (i k : ℕ) (e : Entry) → i < length es → e ≡ get_or es i e → e.step.actor ≡ t
+    → GoesOn t es script i k ↔ (slice_get (with_release script) k ≡ Some e.step.op) × GoesOn t es script (i + 1) (k + 1)
+own_goes_on t es script i k e within is own =
     let step = asked_by-drop_own t es i e within is own in
-    let both = cons_is_drop e.step.op (asked_by t (drop (suc i) es)) whole k in
+    let both = cons_is_drop e.step.op (asked_by t (drop (suc i) es)) (with_release script) k in
     rw add-one (rw add-one (λ h. both.0 (sym step ∙ h), λ h. step ∙ both.1 h))
 
--- and where it is another's, what the entries go on with
-pub other_goes_on : (t : ℕ) (es : List Entry) (i : ℕ) (e : Entry) → i < length es → e ≡ get_or es i e → e.step.actor ≢ t
-    → asked_by t (drop i es) ≡ asked_by t (drop (i + 1) es)
-other_goes_on t es i e within is other = rw add-one (asked_by-drop_other t es i e within is other)
+-- where it is another's, the entries go on after it
+pub other_goes_on : (t : ℕ) (es : List Entry) (script : List Op) (i k : ℕ) (e : Entry) → i < length es → e ≡ get_or es i e → e.step.actor ≢ t
+    → GoesOn t es script i k ↔ GoesOn t es script (i + 1) k
+other_goes_on t es script i k e within is other =
+    let step = asked_by-drop_other t es i e within is other in
+    rw add-one (λ h. sym step ∙ h, λ h. step ∙ h)
 
--- past the last entry nothing is asked for, which is what is due where nothing is
-pub end_goes_on : (t : ℕ) (es : List Entry) (whole : List Op) (i k : ℕ) → length es ≤ i → (asked_by t (drop i es) ≡ drop k whole) ↔ (slice_get whole k ≡ None)
-end_goes_on t es whole i k past =
+-- past the last entry nothing is asked for, so nothing stands at place k
+pub end_goes_on : (t : ℕ) (es : List Entry) (script : List Op) (i k : ℕ) → length es ≤ i → GoesOn t es script i k ↔ (slice_get (with_release script) k ≡ None)
+end_goes_on t es script i k past =
     let nothing : asked_by t (drop i es) ≡ [] = ap (asked_by t) (drop_of_length-le es past) in
-    (λ h. (nil_is_drop whole k).1 (sym nothing ∙ h), λ h. nothing ∙ (nil_is_drop whole k).0 h)
+    let both = nil_is_drop (with_release script) k in
+    (λ h. both.1 (sym nothing ∙ h), λ h. nothing ∙ both.0 h)

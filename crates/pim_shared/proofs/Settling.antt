@@ -1,5 +1,5 @@
 -- What a manager shows of an unknown task or mutex: it waits for nothing, and has no owner.
-use Rattle.std.proofs.Common.{◌≡◌, ◌==◌, ◌||◌, ℕ, List, length, Bool, true, false, Option, Some, None, refl, nat_lt, arith, rules, subst}
+use Rattle.std.proofs.Common.{◌≡◌, ◌==◌, ◌||◌, ℕ, List, length, Bool, true, false, Option, Some, None, refl, nat_lt, rules, subst}
 use Rattle.std.specs.Prelude.{unwrap_or, is_some, if◌then◌else◌}
 use Rattle.std.specs.Option.{option_flatten, option_map}
 use Rattle.pim_base.specs.Lists.{nth}
