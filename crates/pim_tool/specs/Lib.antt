@@ -6,6 +6,6 @@ pub use Rattle.pim_base.specs.Reports
 pub mod Faults
 pub mod Ends
 pub mod Printed
-pub mod Reported
+pub mod Taken
 pub mod Status
 pub mod Words

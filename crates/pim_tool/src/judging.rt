@@ -7,15 +7,15 @@ ghost use Rattle.pim_base.specs.Reports.{agrees, step_lines, report_from, report
 ghost use Rattle.pim_tool.specs.Ends.{Happened, Fails, Appends, AppendsFront, Prints};
 ghost use Rattle.pim_text.specs.Reading.{trace_of};
 ghost use Rattle.pim_tool.specs.Faults.{IsParseFault};
-ghost use Rattle.pim_tool.specs.Reported.{Takes};
+ghost use Rattle.pim_tool.specs.Taken.{Takes};
 ghost use Rattle.pim_tool.specs.Status.{status_of};
 
 use crate::ends::{Sink, Source};
 use crate::fault::Fault;
 use crate::memory_ends::MemoryWriter;
 use crate::page::Page;
+use crate::printer::Printer;
 use crate::reading::parse;
-use crate::report::Report;
 use crate::transfer::read_all;
 use pim_base::{StepLine, Verdict};
 use pim_manager::{ChangedTasks, Manager};
@@ -120,7 +120,7 @@ fn print_text<W: Sink>(alloc: Global, writer: &mut W, text: &Text) -> Result<Ver
     let mut page = Page::new(alloc)?;
     let mut manager = manager_of(alloc, text)?;
     let mut changed = ChangedTasks::new(alloc)?;
-    let mut report = Report::new(writer, &mut page);
+    let mut report = Printer::new(writer, &mut page);
     let verdict = make_steps(&mut report, &mut manager, &mut changed, &text.lines)?;
     report.write()?;
     Ok(verdict)
@@ -128,7 +128,7 @@ fn print_text<W: Sink>(alloc: Global, writer: &mut W, text: &Text) -> Result<Ver
 
 /// Makes the steps, and reports on each, up to the first whose recorded reply differs from the model's.
 fn make_steps<W: Sink>(
-    report: &mut Report<'_, W>,
+    report: &mut Printer<'_, W>,
     manager: &mut Manager,
     changed: &mut ChangedTasks,
     lines: &[StepLine],
@@ -151,7 +151,7 @@ fn make_steps<W: Sink>(
 /// Makes a step, and reports on it. Returns whether the recorded reply agrees with the model's.
 #[tactic(auto, using(crate::proofs::ReportLemmas::takes_step))]
 fn make_step<W: Sink>(
-    report: &mut Report<'_, W>,
+    report: &mut Printer<'_, W>,
     manager: &mut Manager,
     changed: &mut ChangedTasks,
     number: u32,

@@ -22,6 +22,7 @@ mod fault;
 mod judging;
 mod memory_ends;
 mod page;
+mod printer;
 mod reading;
 mod report;
 mod streams;
