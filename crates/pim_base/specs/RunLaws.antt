@@ -7,7 +7,7 @@ use Rattle.pim_base.specs.Reports.{changed_tasks, same_reply}
 use Rattle.pim_base.specs.Runs.{IsRun}
 use Rattle.pim_base.specs.Steady.{IsSteady}
 use Rattle.pim_base.specs.declared.steps.Entry.{Entry}
-use Rattle.pim_base.specs.declared.limits.TheConstants.{MAX_TASKS, MAX_MUTEXES, MAX_STEPS, LAST_TICKET}
+use Rattle.pim_base.specs.declared.limits.TheConstants.{MAX_TASKS, MAX_MUTEXES, MAX_STEPS, MAX_WORKERS, LAST_TICKET}
 use Rattle.pim_base.specs.declared.steps.Protocol.{Protocol}
 use Rattle.pim_base.specs.declared.steps.Reply.{Reply}
 use Rattle.pim_base.specs.declared.steps.Step.{Step}
@@ -21,6 +21,7 @@ pub record LimitsLaw : Type 0 where
   pub tasks : MAX_TASKS ≡ 256
   pub mutexes : MAX_MUTEXES ≡ 256
   pub steps : MAX_STEPS ≡ 65536
+  pub workers : MAX_WORKERS ≡ 16
   pub tickets : LAST_TICKET ≡ 2 ^ 64 - 2
 
 -- Two replies are taken for the same exactly where they are equal.

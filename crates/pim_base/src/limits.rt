@@ -1,4 +1,4 @@
-//! The limits of a manager and of a text, each under one name.
+//! The limits of a manager, of a text and of workers, each under one name.
 
 /// The most tasks that a manager has, and that a text declares.
 pub const MAX_TASKS: usize = 256;
@@ -8,6 +8,9 @@ pub const MAX_MUTEXES: usize = 256;
 
 /// The most step lines that a text has.
 pub const MAX_STEPS: usize = 65_536;
+
+/// The most workers that run scripts at once, and so the most tasks of a script.
+pub const MAX_WORKERS: usize = 16;
 
 /// The last ticket that is given out; where the next one would be above it, none is left.
 pub const LAST_TICKET: u64 = u64::MAX - 1;

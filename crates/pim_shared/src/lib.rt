@@ -2,7 +2,11 @@
 #![tactic(auto)]
 
 mod fault;
+mod gate;
 mod log;
+mod workers;
 
 pub use fault::SharedFault;
+pub use gate::{Gate, Settled};
 pub use log::Log;
+pub use workers::{run_scripts, worker};

@@ -1,0 +1,19 @@
+-- What many workers' answers come to.
+use Rattle.std.specs.Prelude.{List, [], ◌∷◌, Result, Ok, Err}
+use Rattle.pim_shared.specs.declared.fault.SharedFault.{SharedFault}
+use Rattle.pim_shared.specs.declared.fault.SharedFault.TheVariants.{Full, Memory, Closed, Torn, NoPlace}
+
+-- a fault stays, and Ok is Closed
+abbrev pub or_closed : Result Unit SharedFault → Result Unit SharedFault
+or_closed (Ok _) = Err Closed
+or_closed (Err fault) = Err fault
+
+-- the first fault that isn't Closed, else Closed if any is there, else Ok
+abbrev pub outcome_of : List (Result Unit SharedFault) → Result Unit SharedFault
+outcome_of [] = Ok tt
+outcome_of (Ok _ ∷ answers) = outcome_of answers
+outcome_of (Err Closed ∷ answers) = or_closed (outcome_of answers)
+outcome_of (Err Full ∷ _) = Err Full
+outcome_of (Err Memory ∷ _) = Err Memory
+outcome_of (Err Torn ∷ _) = Err Torn
+outcome_of (Err NoPlace ∷ _) = Err NoPlace
