@@ -1,11 +1,15 @@
--- What a step shows, by what stands in it.
+-- What a step shows, by what stands in it; and the parts of a line.
 use Rattle.std.specs.Prelude.{ℕ, List, ◌++◌, Option, codes, decimal, flat_map, if◌then◌else◌}
 use Rattle.std.specs.List.{join_with_byte}
-use Rattle.pim_base.specs.Spelling.{SPACE}
+use Rattle.pim_base.specs.Spelling.{SPACE, op_words}
 use Rattle.pim_base.specs.Reports.{agrees, reason_words, reply_line, rejection_lines}
+use Rattle.pim_base.specs.declared.steps.Op.{Op}
 use Rattle.pim_base.specs.declared.steps.Reply.{Reply}
 use Rattle.pim_base.specs.declared.steps.Reason.{Reason}
 use Rattle.pim_manager.specs.declared.changed_tasks.ChangedTask.{ChangedTask}
+
+abbrev pub op_text : Op → List ℕ
+op_text op = join_with_byte SPACE (op_words op)
 
 abbrev pub reason_text : Reason → List ℕ
 reason_text r = join_with_byte SPACE (reason_words r)

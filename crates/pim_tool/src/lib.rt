@@ -26,6 +26,7 @@ mod printer;
 mod reading;
 mod report;
 mod streams;
+mod trace;
 mod transfer;
 
 pub use command_line::{Job, command};
