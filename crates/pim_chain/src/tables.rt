@@ -1,6 +1,6 @@
 //! What is owned and waited for, with the stored priorities and the queues.
 
-ghost use Rattle.std.specs.Prelude.{◌≡◌, ◌≢◌, ◌≤◌, length, IfOk, None, Some, false, ℕ};
+ghost use Rattle.std.specs.Prelude.{◌≡◌, ◌≢◌, ◌≤◌, ◌↔◌, IsTrue, length, IfOk, None, Some, false, ℕ};
 ghost use Rattle.std.specs.List.{filter};
 ghost use Rattle.std.specs.Option.{option_copied};
 ghost use Rattle.pim_base.specs.declared.limits.TheConstants.{MAX_TASKS, MAX_MUTEXES};
@@ -97,6 +97,28 @@ impl Tables {
             queues: self.queues.try_clone(alloc)?,
             next: self.next,
         })
+    }
+
+    /// Returns whether bases, protocols, owners, waits with their tickets and the next ticket are those of the other
+    /// tables. Looks at most once at each task and each mutex.
+    pub fn has_state_of(&self, other: &Tables) -> bool
+        ensures { IsTrue result ↔ self.now.state ≡ other.now.state }
+    {
+        let ours = (
+            &self.base,
+            &self.protocol,
+            &self.owner,
+            &self.wait,
+            self.next,
+        );
+        let theirs = (
+            &other.base,
+            &other.protocol,
+            &other.owner,
+            &other.wait,
+            other.next,
+        );
+        ours == theirs
     }
 
     /// Returns the number of tasks, at most `MAX_TASKS`.

@@ -366,8 +366,10 @@ fn reasons_name_a_ceiling_or_the_first_waiter(rt: HostRuntime) -> Result<(), Fai
     let mut tables = scene(&rt, rt.alloc())?;
     assert_eq!(rt; reason(&rt, &tables, 1), Reason::Ceiling(MutexNo(2)));
     let clone = tables.try_clone(rt.alloc())?;
+    assert!(rt; clone.has_state_of(&tables));
     let mut visits = Visits::new();
     lock(&rt, &mut tables, TaskNo(3), MutexNo(1), 9, &mut visits);
+    assert!(rt; !clone.has_state_of(&tables));
     assert_eq!(rt; visits.get(), 1);
     assert_eq!(rt;
         reason(&rt, &tables, 1),

@@ -1,6 +1,6 @@
 //! The manager of mutexes: how it is made, what it shows, and its step.
 
-ghost use Rattle.std.specs.Prelude.{◌≡◌, ◌≤◌, ◌<◌, ◌+◌, ◌*◌, ◌↔◌, length, map, AllPairs, IfOk, IfSome, IsErrOf};
+ghost use Rattle.std.specs.Prelude.{◌≡◌, ◌≤◌, ◌<◌, ◌+◌, ◌*◌, ◌↔◌, length, map, AllPairs, IfOk, IfSome, IsErrOf, IsTrue};
 ghost use Rattle.std.specs.Vec.{vec_capacity};
 ghost use Rattle.std.specs.Option.{option_map, option_copied};
 ghost use Rattle.pim_base.specs.State.{start, base_of, protocol_of, owner_of, wait_of};
@@ -102,6 +102,14 @@ impl Manager {
     {
         let tables = self.tables.try_clone(alloc)?;
         Ok(Manager { tables })
+    }
+
+    /// Returns whether the other manager is equal: it has the same bases, protocols, owners, waits with
+    /// their tickets, and next ticket. Looks at most once at each task and each mutex.
+    pub fn has_state_of(&self, other: &Manager) -> bool
+        ensures { IsTrue result ↔ self.now ≡ other.now }
+    {
+        self.tables.has_state_of(&other.tables)
     }
 
     /// Returns how many tasks there are, at most `MAX_TASKS`. They have the numbers from 1 on.

@@ -155,6 +155,46 @@ fn a_copy_goes_its_own_way(rt: HostRuntime) -> Result<(), Fail> {
 }
 
 #[test]
+fn equal_managers_have_the_same_state(rt: HostRuntime) -> Result<(), Fail> {
+    let start = made(rt.alloc(), &[10, 90], &[Inherit, Inherit])?;
+    let mut manager = start.try_clone(rt.alloc())?;
+    assert!(rt; manager.has_state_of(&start));
+    for (away, back) in [
+        (by(1, Lock(FIRST)), by(1, Unlock(FIRST))),
+        (by(1, SetBase(TaskNo(2), 91)), by(1, SetBase(TaskNo(2), 90))),
+    ] {
+        manager.step(away);
+        assert!(rt; !manager.has_state_of(&start), "{away:?}");
+        assert!(rt; !start.has_state_of(&manager), "{away:?}");
+        manager.step(back);
+        assert!(rt; manager.has_state_of(&start), "{back:?}");
+    }
+    Ok(())
+}
+
+#[test]
+fn managers_of_other_facts_have_other_states(rt: HostRuntime) -> Result<(), Fail> {
+    let start = made(rt.alloc(), &[10, 90], &[Inherit, Inherit])?;
+    for bases in [&[10, 91][..], &[10], &[10, 90, 90]] {
+        let other = made(rt.alloc(), bases, &[Inherit, Inherit])?;
+        assert!(rt; !other.has_state_of(&start));
+    }
+    for protocols in [&[Inherit, Protocol::None][..], &[Inherit]] {
+        let other = made(rt.alloc(), &[10, 90], protocols)?;
+        assert!(rt; !other.has_state_of(&start));
+    }
+    let mut waits = start.try_clone(rt.alloc())?;
+    waits.run(&[by(1, Lock(FIRST)), by(2, Lock(FIRST))]);
+    let mut withdrawn = waits.try_clone(rt.alloc())?;
+    withdrawn.step(by(2, Cancel(TaskNo(2))));
+    assert!(rt; !withdrawn.has_state_of(&waits));
+    // No mutex is owned and no task waits, but a ticket was given out.
+    withdrawn.step(by(1, Unlock(FIRST)));
+    assert!(rt; !withdrawn.has_state_of(&start));
+    Ok(())
+}
+
+#[test]
 fn changed_tasks_in_ascending_order(rt: HostRuntime) -> Result<(), Fail> {
     let mut manager = made(rt.alloc(), &[10, 20, 30, 90], &[Inherit; 3])?;
     for number in 1..4 {

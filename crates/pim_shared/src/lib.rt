@@ -3,10 +3,12 @@
 
 mod fault;
 mod gate;
+mod gathering;
 mod log;
 mod workers;
 
 pub use fault::SharedFault;
 pub use gate::{Gate, Settled};
+pub use gathering::gather;
 pub use log::Log;
 pub use workers::{run_scripts, worker};

@@ -1,0 +1,3 @@
+pub mod SameOps
+pub mod Asked
+pub mod Wholes
