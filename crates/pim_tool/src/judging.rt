@@ -1,12 +1,12 @@
 //! From a reader to a writer.
-ghost use Rattle.std.specs.Prelude.{◌≡◌, ◌<◌, ◌^◌, ℕ, ◌⊎◌, [], length, Some, IfOk, IfSome, Err, MatchResult};
+ghost use Rattle.std.specs.Prelude.{◌≡◌, ◌<◌, ◌^◌, ℕ, ◌⊎◌, [], length, Some, IfOk, IfErr, IfSome, Err, MatchResult};
 ghost use Rattle.pim_base.specs.State.{start};
 ghost use Rattle.pim_base.specs.Steps.{after, reply_of};
 ghost use Rattle.pim_base.specs.Texts.{Trace, lines_of, Spells, IsTrace, IsWithinLimits, FirstBadLine};
 ghost use Rattle.pim_base.specs.Reports.{agrees, step_lines, report_from, report_of, verdict_from, verdict_of};
 ghost use Rattle.pim_tool.specs.Ends.{Happened, Fails, Appends, AppendsFront, Prints};
 ghost use Rattle.pim_text.specs.Reading.{trace_of};
-ghost use Rattle.pim_tool.specs.Faults.{IsParseFault};
+ghost use Rattle.pim_tool.specs.Faults.{IsParseFault, IsWorkerless};
 ghost use Rattle.pim_tool.specs.Taken.{Takes};
 ghost use Rattle.pim_tool.specs.Status.{status_of};
 
@@ -61,6 +61,9 @@ pub fn judge<R: Source, W: Sink>(
     ensures memory { result ≡ Err Fault.Memory → ((W.told writer.new).contents ≡ (W.told writer.old).contents)
         ⊎ IfSome (R.remaining reader.old) (λ bytes. (t : Trace) × Spells (lines_of bytes) t
         × AppendsFront (W.told writer.old).contents (W.told writer.new).contents (report_of t)) }
+
+    // There is no other fault.
+    ensures others { IfErr result IsWorkerless }
 {
     let text = read_text(alloc, reader)?;
     print_text(alloc, writer, &text)
@@ -74,6 +77,7 @@ fn read_text<R: Source>(alloc: Global, reader: &mut R) -> Result<Text, Fault>
     ensures line { (n : ℕ) → result ≡ Err (Fault.Line n) → IfSome (R.remaining reader.old) (λ bytes. FirstBadLine (lines_of bytes) n) }
     ensures read { result ≡ Err Fault.Read → Happened (R.failures reader.old) (R.failures reader.new) }
     ensures write { result ≡ Err Fault.Write → ⊥ }
+    ensures others { IfErr result IsWorkerless }
 {
     let bytes = read_all(alloc, reader)?;
     parse(alloc, &bytes)
@@ -166,7 +170,7 @@ fn make_step<W: Sink>(
 }
 
 /// Returns the manager of what a text declares, in which all mutexes are free.
-fn manager_of(alloc: Global, text: &Text) -> Result<Manager, Fault>
+pub(crate) fn manager_of(alloc: Global, text: &Text) -> Result<Manager, Fault>
     requires limits { IsWithinLimits (trace_of text.now) }
     ensures { MatchResult result
         (λ manager. manager ≡ start text.now.bases.items text.now.protocols.items 1)

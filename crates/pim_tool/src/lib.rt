@@ -25,6 +25,7 @@ mod page;
 mod printer;
 mod reading;
 mod report;
+mod scripts;
 mod streams;
 mod trace;
 mod transfer;
