@@ -36,7 +36,7 @@ fn is_interleaving(entries: &[Entry], scripts: &[Vec<Op>]) -> bool
     ensures { IsTrue result ↔ IsInterleaving entries.now (lines scripts.now) }
 {
     for (index, script) in scripts.iter().enumerate() {
-        if !is_whole(entries, index + 1, script) {
+        if !has_made_script(entries, index + 1, script) {
             return false;
         }
     }
@@ -47,12 +47,12 @@ fn is_interleaving(entries: &[Entry], scripts: &[Vec<Op>]) -> bool
 fn have_scripts(entries: &[Entry], count: usize) -> bool
     ensures { IsTrue result ↔ All (λ (e : Entry). (1 ≤ e.step.actor) × (e.step.actor ≤ count)) entries.now }
 {
-    entries.iter().all(|entry| 1 <= entry.step.actor.get()
-        && usize::from(entry.step.actor.get()) <= count)
+    let tasks = 1..=count;
+    entries.iter().all(|entry| tasks.contains(&usize::from(entry.step.actor.get())))
 }
 
 /// Returns whether the steps of the task with this number are the script and then one release of all.
-fn is_whole(entries: &[Entry], task: usize, script: &[Op]) -> bool
+fn has_made_script(entries: &[Entry], task: usize, script: &[Op]) -> bool
     ensures { IsTrue result ↔ asked_by task entries.now ≡ script.now ++ Op.ReleaseAll ∷ [] }
 {
     let mut done = 0;

@@ -1,7 +1,7 @@
 use Rattle.std.proofs.Common.{◌≡◌, ◌≤◌, ◌∷◌, ◌++◌, ◌↔◌, [], drop}
 use Rattle.pim_base.specs.Runs.{asked_by}
 use Rattle.pim_base.specs.declared.steps.Op.{Op}
-use Rattle.pim_shared.proofs.gathering.is_whole.Given as goal
+use Rattle.pim_shared.proofs.gathering.has_made_script.Given as goal
 
 -- the script is whole exactly where what is left of the entries asks for what is due from here on
 abbrev pub invariant-loop-entry : goal.invariant-loop-entry

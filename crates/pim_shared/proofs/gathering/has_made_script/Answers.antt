@@ -3,8 +3,8 @@ use Rattle.pim_base.specs.Runs.{asked_by}
 use Rattle.pim_base.specs.declared.steps.Op.{Op}
 use Rattle.pim_shared.proofs.Asked.{own_goes_on, other_goes_on, end_goes_on}
 use Rattle.pim_shared.proofs.SameOps.{alike}
-use Rattle.pim_shared.proofs.gathering.is_whole.Goals as goal
-use Rattle.pim_shared.proofs.gathering.is_whole.Goals.{then-from-task+else-ne, else-from-task}
+use Rattle.pim_shared.proofs.gathering.has_made_script.Goals as goal
+use Rattle.pim_shared.proofs.gathering.has_made_script.Goals.{then-from-task+else-ne, else-from-task}
 
 abbrev whole : List Op → List Op
 whole script = script ++ Op.ReleaseAll ∷ []
