@@ -4,3 +4,4 @@ pub mod PrintingLemmas
 pub mod ReportLemmas
 pub mod TraceLineLemmas
 pub mod CommandLemmas
+pub mod RunningLemmas

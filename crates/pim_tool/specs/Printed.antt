@@ -4,8 +4,10 @@ use Rattle.std.specs.List.{join_with_byte}
 use Rattle.pim_base.specs.Spelling.{SPACE, version_line, spelled, op_words}
 use Rattle.pim_base.specs.Texts.{Trace, task_lines, mutex_lines}
 use Rattle.pim_base.specs.Recordings.{ended, entry_line}
-use Rattle.pim_base.specs.Reports.{agrees, reason_words, reply_line, rejection_lines}
+use Rattle.pim_base.specs.Reports.{agrees, reason_words, reply_line, rejection_lines, accepted, rejected}
 use Rattle.pim_base.specs.declared.lines.Line.TheVariants as lines
+use Rattle.pim_base.specs.declared.lines.Verdict.{Verdict}
+use Rattle.pim_base.specs.declared.lines.Verdict.TheVariants as verdicts
 use Rattle.pim_base.specs.declared.steps.Entry.{Entry}
 use Rattle.pim_base.specs.declared.steps.Op.{Op}
 use Rattle.pim_base.specs.declared.steps.Protocol.{Protocol}
@@ -31,6 +33,11 @@ line_of c = changed_line c.task c.prio c.reason
 unfoldable pub shown_lines : ℕ → Reply → Option Reply → List ChangedTask → List ℕ
 shown_lines k reply recorded cs =
     if agrees recorded reply then reply_line k reply ++ flat_map line_of cs else rejection_lines k reply recorded
+
+-- the last line of a report
+abbrev pub verdict_line : Verdict → List ℕ
+verdict_line (verdicts.Accepted n) = accepted n
+verdict_line (verdicts.Rejected k) = rejected k
 
 -- the lines of the tasks, numbered from n on
 abbrev pub tasks_text : ℕ → List ℕ → List ℕ

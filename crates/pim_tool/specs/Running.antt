@@ -43,9 +43,9 @@ IsTraceOfRun script bytes = (es : List Entry) × IsRunOf script es × (bytes ≡
 abbrev pub IsEndOfReport : Trace → List ℕ → Type 0
 IsEndOfReport script bytes = bytes ≡ accepted (run_length script)
 
--- the verdict of that report
-abbrev pub IsVerdictOfRun : Trace → Verdict → Type 0
-IsVerdictOfRun script verdict = verdict ≡ verdicts.Accepted (run_length script)
+-- the verdict of that report, for the script that the lines spell
+abbrev pub IsVerdictOfRun : List (List ℕ) → Verdict → Type 0
+IsVerdictOfRun ls verdict = (script : Trace) × SpellsRunnable ls script × (verdict ≡ verdicts.Accepted (run_length script))
 
 -- ---- calls
 

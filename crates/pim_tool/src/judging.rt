@@ -182,8 +182,8 @@ pub(crate) fn manager_of(alloc: Global, text: &Text) -> Result<Manager, Fault>
     }
 }
 
-/// Returns the exit status for an answer of `judge`: 0 where the trace was accepted, 1 where it was rejected, 2 for a
-/// fault.
+/// Returns the exit status for an answer of `judge` or `check`: 0 where the trace was accepted, 1 where it was rejected,
+/// 2 for a fault. An `Ok` of `run` counts as accepted.
 pub fn status(answer: &Result<Verdict, Fault>) -> u8
     ensures { result ≡ status_of answer.now }
 {

@@ -141,7 +141,7 @@ impl Page {
 
     /// Adds the last line of a report in which a recorded reply differs.
     #[tactic(auto, unfolding(pim_base::specs::Reports::rejected))]
-    fn rejected(&mut self, number: u32) -> Result<(), AllocError>
+    pub fn rejected(&mut self, number: u32) -> Result<(), AllocError>
         ensures { OnOk result (self.new ≡ self.old ++ rejected number) }
     {
         self.word(b"rejected ")?;

@@ -12,7 +12,8 @@ use std::alloc::{AllocError, Global};
 /// Returns what each task of the text asks for, in order: that of task 1 first.
 pub(crate) fn scripts_of(alloc: Global, text: &Text) -> Result<Vec<Vec<Op>>, AllocError>
     requires few { length text.now.bases.items ≤ MAX_WORKERS }
-    ensures { IfOk result (λ scripts. lines scripts.items ≡ scripts_of (trace_of text.now)) }
+    ensures scripts { IfOk result (λ scripts. lines scripts.items ≡ scripts_of (trace_of text.now)) }
+    ensures count { IfOk result (λ scripts. length scripts.items ≡ length text.now.bases.items) }
 {
     let mut scripts = Vec::with_capacity(alloc, text.bases.len())?;
     for index in 0..text.bases.len() {

@@ -1,5 +1,6 @@
 use Rattle.std.proofs.Common.{◌≡◌, ℕ, ◌+◌, List, Vec, [], ◌∷◌, ◌++◌, ◌∙◌, map, ap, ap₂, sym, arith, rules}
 use Rattle.std.specs.Global.{Global}
+use Rattle.std.proofs.lemmas.Grind.{common_steps}
 use Rattle.std.proofs.lemmas.List.{map-append}
 use Rattle.std.proofs.lemmas.List.FromFn.{map-range_with_len_more}
 use Rattle.pim_base.specs.Lists.{numbers}
@@ -23,4 +24,7 @@ lines_more ls i xs ys x pushed before next =
     ∙ sym (map-range_with_len_more (script_of ls) 1 i (i + 1) (omega arith))
 
 pub loop-index-preserved : goal.loop-index-preserved
-loop-index-preserved c = lines_more c.args.text.now.lines.items c.loop-index.index _ _ _ c.in_ok-push.ensures.items c.loop-index.invariant (search (rules, c.in_ok-script_of.ensures))
+loop-index-preserved c = record {
+  scripts = lines_more c.args.text.now.lines.items c.loop-index.index _ _ _ c.in_ok-push.ensures.items c.loop-index.invariant.scripts (search (rules, c.in_ok-script_of.ensures));
+  count = grind (arith, common_steps);
+}
