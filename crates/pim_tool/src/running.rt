@@ -104,11 +104,7 @@ fn read_script<R: Source>(alloc: Global, reader: &mut R) -> Result<Text, Fault>
 }
 
 /// Runs the script, and returns the log of that run.
-fn log_of_run<T: Threads + Wait + Sync>(
-    rt: &T,
-    alloc: Global,
-    script: &Text,
-) -> Result<Log, Fault>
+fn log_of_run<T: Threads + Wait + Sync>(rt: &T, alloc: Global, script: &Text) -> Result<Log, Fault>
     requires runnable { IsRunnable (trace_of script.now) }
     ensures ok { IfOk result (λ log. IsRunOf (trace_of script.now) log.entries) }
     ensures fault { IfErr result IsOfRun }
