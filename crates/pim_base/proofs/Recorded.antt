@@ -1,5 +1,5 @@
 -- The recorded run of a script: how many entries it has, and that its report accepts them all.
-use Rattle.std.proofs.Common.{◌≡◌, ◌≤◌, ◌<◌, ℕ, zero, suc, ◌+◌, ◌==◌, Bool, true, false, cond, List, [], ◌∷◌, ◌++◌, length, map, filter, Some, refl, ap, ap₂, sym, subst, ◌∙◌, inl, inr, arith, length-append, if◌then◌else◌}
+use Rattle.std.proofs.Common.{◌≡◌, ◌≤◌, ◌<◌, ℕ, zero, suc, ◌+◌, ◌==◌, Bool, true, false, cond, List, [], ◌∷◌, ◌++◌, length, map, filter, Some, refl, ap, ap₂, sym, subst, ◌∙◌, inl, inr, arith, rules, length-append, if◌then◌else◌}
 use Rattle.std.specs.List.{AllByRecursion}
 use Rattle.std.proofs.lemmas.Bool.Decides.{leb_tells, nat_tests}
 use Rattle.std.proofs.lemmas.List.{length-map}
@@ -21,8 +21,8 @@ use Rattle.pim_base.specs.declared.lines.Verdict.{Verdict}
 use Rattle.pim_base.specs.declared.steps.Entry.{Entry}
 use Rattle.pim_base.specs.declared.steps.Op.{Op}
 use Rattle.pim_base.specs.declared.steps.Op.TheVariants as ops
+use Rattle.pim_base.specs.declared.steps.Reply.{Reply}
 use Rattle.pim_base.proofs.Places.{nth-get_or}
-use Rattle.pim_base.proofs.SameReplies.{same_reply_law}
 
 -- ---- sums over the tasks
 
@@ -145,10 +145,13 @@ run_is_long t es limits rules mixed =
 
 -- ---- the report
 
+same_reply-equal : (r q : Reply) → r ≡ q → same_reply r q ≡ true
+same_reply-equal r q h = search rules
+
 pub run_accepted : (k : ℕ) (S end : State) (es : List Entry) → IsRun S es end → verdict_from (k + 1) S (map entry_line es) ≡ Verdict.Accepted (k + length es)
 run_accepted k S end [] run = ap Verdict.Accepted (omega arith)
 run_accepted k S end (e ∷ es) run =
-    let same : same_reply e.reply (reply_of S e.step) ≡ true = (same_reply_law e.reply (reply_of S e.step)).1 run.0 in
+    let same : same_reply e.reply (reply_of S e.step) ≡ true = same_reply-equal e.reply (reply_of S e.step) run.0 in
     ap (λ b. if b then verdict_from (k + 1 + 1) (after S e.step) (map entry_line es) else Verdict.Rejected (k + 1)) same
     ∙ run_accepted (k + 1) (after S e.step) end es run.1
     ∙ ap Verdict.Accepted (omega arith)
