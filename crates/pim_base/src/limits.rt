@@ -1,4 +1,4 @@
-//! The limits of a manager, of a text and of workers, each under one name.
+//! The limits of a manager, of a text, of workers and lookers, each under one name.
 
 /// The most tasks that a manager has, and that a text declares.
 pub const MAX_TASKS: usize = 256;
@@ -11,6 +11,9 @@ pub const MAX_STEPS: usize = 65_536;
 
 /// The most workers that run scripts at once, and so the most tasks of a script.
 pub const MAX_WORKERS: usize = 16;
+
+/// The most lookers of a shared manager.
+pub const MAX_LOOKERS: u16 = 8;
 
 /// The last ticket that is given out; where the next one would be above it, none is left.
 pub const LAST_TICKET: u64 = u64::MAX - 1;

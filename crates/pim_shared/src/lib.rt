@@ -35,5 +35,5 @@ pub use gate::{Gate, Settled};
 pub use gathering::gather;
 pub use log::Log;
 pub use looker::{Looker, Seen};
-pub use shared::{MAX_LOOKERS, Shared};
+pub use shared::Shared;
 pub use workers::{run_scripts, worker};

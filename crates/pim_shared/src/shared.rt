@@ -6,7 +6,7 @@ ghost use Rattle.std.specs.Vec.{vec_len};
 ghost use Rattle.pim_base.specs.Runs.{IsRun};
 ghost use Rattle.pim_shared.specs.Books.{IsCallFault};
 ghost use Rattle.pim_shared.specs.Lookers.{HaveSeenNothing, EndsWithNew};
-ghost use Rattle.pim_shared.specs.declared.shared.TheConstants.{MAX_LOOKERS};
+ghost use Rattle.pim_base.specs.declared.limits.TheConstants.{MAX_LOOKERS};
 
 use crate::book::Book;
 use crate::fault::SharedFault;
@@ -15,13 +15,10 @@ use crate::log::Log;
 use crate::looker::Looker;
 use crate::publisher::Publisher;
 use crate::version::entry;
-use pim_base::{MutexNo, Reply, Step, TaskNo};
+use pim_base::{MAX_LOOKERS, MutexNo, Reply, Step, TaskNo};
 use pim_manager::Manager;
 use std::alloc::Global;
 use std::sync::{Condvar, Mutex, Wait};
-
-/// As many lookers as a shared manager can have.
-pub const MAX_LOOKERS: u16 = 8;
 
 /// A manager that many threads call, one at a time, and that lookers read without a lock.
 ///

@@ -71,7 +71,7 @@ fn a_closed_manager_is_still_looked_at(rt: HostRuntime) {
 
 #[test]
 fn there_are_as_many_lookers_as_asked_for_up_to_the_most(rt: HostRuntime) {
-    for count in 0..crate::MAX_LOOKERS + 1 {
+    for count in 0..pim_base::MAX_LOOKERS + 1 {
         let (shared, lookers) = shared(&rt, rt.alloc(), &[], 1, count);
         assert_eq!(rt; lookers.len(), usize::from(count));
         assert_eq!(rt; shared.call(&rt, base(2, 70)), Ok(Reply::Set));

@@ -105,7 +105,7 @@ fn eight_lookers_see_what_the_log_replays_to(rt: HostRuntime) {
     let protocols = [Protocol::Inherit, Protocol::Inherit];
     let manager = made(&rt, rt.alloc(), &[10, 20, 30, 40], &protocols);
     let room = usize::from(CALLERS * CALLS);
-    let made = Shared::new(&rt, rt.alloc(), manager, room, crate::MAX_LOOKERS);
+    let made = Shared::new(&rt, rt.alloc(), manager, room, pim_base::MAX_LOOKERS);
     let (shared, mut lookers) = made.expect(&rt, "memory and places");
     let (watched, called) = join(
         &rt,
