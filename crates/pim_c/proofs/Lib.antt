@@ -1,0 +1,4 @@
+mod Copies
+mod Handles
+mod Priorities
+mod RawBoxes
