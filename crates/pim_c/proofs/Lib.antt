@@ -1,3 +1,4 @@
+mod Changes
 mod Copies
 mod Handles
 mod Priorities

@@ -6,7 +6,7 @@ use Rattle.pim_base.specs.Steps.{reply_of, after}
 use Rattle.pim_base.specs.declared.steps.Step.{Step}
 use Rattle.pim_c.specs.Numbers.{reply_number, reply_refusal, reply_detail}
 use Rattle.pim_c.specs.declared.numbers.TheConstants.{NO_MANAGER}
-use Rattle.pim_c.specs.declared.held.Held.{Held}
+use Rattle.pim_c.specs.Held.{HeldView}
 use Rattle.pim_c.specs.declared.answer.CAnswer.{CAnswer}
 
 -- the answer of a handle without a manager
@@ -22,6 +22,6 @@ pub record IsAnswer (S : State) (step : Step) (a : CAnswer) : Type 0 where
   pub most : a.visits ≤ 1 + changed_task_count S (after S step) + 2 * handed_mutex_count S (after S step)
 
 -- the same where there may be no manager
-abbrev pub IsAnswered : Option Held → Step → CAnswer → Type 0
+abbrev pub IsAnswered : Option HeldView → Step → CAnswer → Type 0
 IsAnswered None step a = a ≡ no_answer
 IsAnswered (Some h) step a = IsAnswer h.manager step a

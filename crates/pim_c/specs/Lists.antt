@@ -6,12 +6,12 @@ use Rattle.pim_base.specs.declared.steps.Waiter.{Waiter}
 use Rattle.pim_manager.specs.Known.{of_mutex}
 use Rattle.pim_manager.specs.declared.changed_tasks.ChangedTask.{ChangedTask}
 use Rattle.pim_c.specs.Getters.{in_manager}
-use Rattle.pim_c.specs.declared.held.Held.{Held}
+use Rattle.pim_c.specs.Held.{HeldView}
 
 -- those who wait for the mutex, none for an unknown one
-abbrev pub waiters_in : Option Held → ℕ → List Waiter
+abbrev pub waiters_in : Option HeldView → ℕ → List Waiter
 waiters_in held m = in_manager held [] (λ S. unwrap_or (of_mutex S m (queue_of S m)) [])
 
 -- the tasks that the last step changed
-abbrev pub changed_in : Option Held → List ChangedTask
-changed_in held = option_map_or (λ (h : Held). h.changed) held []
+abbrev pub changed_in : Option HeldView → List ChangedTask
+changed_in held = option_map_or (λ (h : HeldView). h.changed) held []

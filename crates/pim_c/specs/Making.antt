@@ -6,7 +6,7 @@ use Rattle.pim_base.specs.declared.limits.TheConstants.{MAX_TASKS, MAX_MUTEXES}
 use Rattle.pim_base.specs.declared.steps.Protocol.{Protocol}
 use Rattle.pim_c.specs.Numbers.{is_priority, priority_meant}
 use Rattle.pim_c.specs.Shapes.{protocol_meant}
-use Rattle.pim_c.specs.declared.held.Held.{Held}
+use Rattle.pim_c.specs.Held.{HeldView}
 use Rattle.pim_c.specs.declared.numbers.TheConstants.{MADE, OCCUPIED, TOO_MANY_TASKS, TOO_MANY_MUTEXES, BAD_BASE, BAD_PROTOCOL}
 use Rattle.pim_c.specs.declared.protocol.CProtocol.{CProtocol}
 
@@ -23,7 +23,7 @@ abbrev pub protocols_meant : List CProtocol → List Protocol
 protocols_meant ps = filter_map protocol_meant ps
 
 -- the first fault of what C asks for, MADE where it has none
-abbrev pub first_fault : Option Held → List ℕ → List CProtocol → ℕ
+abbrev pub first_fault : Option HeldView → List ℕ → List CProtocol → ℕ
 first_fault held bases protocols =
     if is_some held then OCCUPIED
     else if nat_lt MAX_TASKS (length bases) then TOO_MANY_TASKS
@@ -33,5 +33,5 @@ first_fault held bases protocols =
     else MADE
 
 -- a manager of these in which all mutexes are free, and no step was made
-abbrev pub made : List ℕ → List CProtocol → Held
+abbrev pub made : List ℕ → List CProtocol → HeldView
 made bases protocols = record { manager = start bases (protocols_meant protocols) 1; changed = [] }

@@ -19,7 +19,7 @@ pub extern "C" fn pim_task_count(alloc: Global, handle: &mut Handle) -> u16
     match handle.take(alloc) {
         None => 0,
         Some(held) => {
-            let count = held.manager.tasks();
+            let count = held.manager().tasks();
             handle.put(held);
             count
         }
@@ -35,7 +35,7 @@ pub extern "C" fn pim_mutex_count(alloc: Global, handle: &mut Handle) -> u16
     match handle.take(alloc) {
         None => 0,
         Some(held) => {
-            let count = held.manager.mutexes();
+            let count = held.manager().mutexes();
             handle.put(held);
             count
         }
@@ -51,7 +51,7 @@ pub extern "C" fn pim_next_ticket(alloc: Global, handle: &mut Handle) -> u64
     match handle.take(alloc) {
         None => 0,
         Some(held) => {
-            let ticket = held.manager.next_ticket();
+            let ticket = held.manager().next_ticket();
             handle.put(held);
             ticket
         }
@@ -67,7 +67,7 @@ pub extern "C" fn pim_effective_prio(alloc: Global, handle: &mut Handle, task: u
     match handle.take(alloc) {
         None => 0,
         Some(held) => {
-            let prio = held.manager.effective(TaskNo(task));
+            let prio = held.manager().effective(TaskNo(task));
             handle.put(held);
             level_of(prio)
         }
@@ -83,7 +83,7 @@ pub extern "C" fn pim_base_prio(alloc: Global, handle: &mut Handle, task: u16) -
     match handle.take(alloc) {
         None => 0,
         Some(held) => {
-            let prio = held.manager.base(TaskNo(task));
+            let prio = held.manager().base(TaskNo(task));
             handle.put(held);
             level_of(prio)
         }
@@ -92,14 +92,14 @@ pub extern "C" fn pim_base_prio(alloc: Global, handle: &mut Handle, task: u16) -
 
 /// Returns why the task has its effective priority. It looks at the mutexes that the task owns, twice at most.
 #[unsafe(no_mangle)]
-pub extern "C" fn pim_reason(alloc: Global, handle: &mut Handle, task: u16) -> CReason
+pub extern "C" fn pim_task_reason(alloc: Global, handle: &mut Handle, task: u16) -> CReason
     ensures reason { result ≡ reason_in handle.old.held task }
     ensures same { handle.new.held ≡ handle.old.held }
 {
     match handle.take(alloc) {
         None => CReason::none(),
         Some(held) => {
-            let reason = held.manager.reason(TaskNo(task));
+            let reason = held.manager().reason(TaskNo(task));
             handle.put(held);
             match reason {
                 Some(reason) => CReason::of(reason),
@@ -118,7 +118,7 @@ pub extern "C" fn pim_waits_for(alloc: Global, handle: &mut Handle, task: u16) -
     match handle.take(alloc) {
         None => UNKNOWN,
         Some(held) => {
-            let mutex = held.manager.waits_for(TaskNo(task));
+            let mutex = held.manager().waits_for(TaskNo(task));
             handle.put(held);
             match mutex {
                 None => UNKNOWN,
@@ -138,7 +138,7 @@ pub extern "C" fn pim_owner(alloc: Global, handle: &mut Handle, mutex: u16) -> u
     match handle.take(alloc) {
         None => UNKNOWN,
         Some(held) => {
-            let owner = held.manager.owner(MutexNo(mutex));
+            let owner = held.manager().owner(MutexNo(mutex));
             handle.put(held);
             match owner {
                 None => UNKNOWN,
@@ -151,14 +151,14 @@ pub extern "C" fn pim_owner(alloc: Global, handle: &mut Handle, mutex: u16) -> u
 
 /// Returns the protocol of the mutex; its kind is `UNKNOWN` for an unknown one.
 #[unsafe(no_mangle)]
-pub extern "C" fn pim_protocol(alloc: Global, handle: &mut Handle, mutex: u16) -> CProtocol
+pub extern "C" fn pim_mutex_protocol(alloc: Global, handle: &mut Handle, mutex: u16) -> CProtocol
     ensures protocol { result ≡ protocol_in handle.old.held mutex }
     ensures same { handle.new.held ≡ handle.old.held }
 {
     match handle.take(alloc) {
         None => CProtocol::none(),
         Some(held) => {
-            let protocol = held.manager.protocol(MutexNo(mutex));
+            let protocol = held.manager().protocol(MutexNo(mutex));
             handle.put(held);
             match protocol {
                 Some(protocol) => CProtocol::of(protocol),

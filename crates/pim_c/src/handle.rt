@@ -4,7 +4,7 @@ ghost use Rattle.std.specs.Prelude.{◌≡◌, Option, None, Some};
 ghost use Rattle.std.specs.Option.{option_map};
 ghost use Rattle.std.specs.Box.{box_value};
 ghost use Rattle.pim_c.specs.Ownership.{raw_value};
-ghost use Rattle.pim_c.specs.declared.held.Held.{Held};
+ghost use Rattle.pim_c.specs.Held.{HeldView};
 
 use crate::held::Held;
 use crate::raw_box::RawBox;
@@ -21,12 +21,12 @@ use std::ptr::null_mut;
 pub struct Handle {
     at: *mut u8,
     alloc: Global,
-    pub ghost held: { Option Held },
+    pub ghost held: { Option HeldView },
 }
 
 impl Model for Handle {
     ghost use Rattle.pim_c.specs.Ownership.{owns_held};
-    ghost use Rattle.pim_c.specs.declared.held.Held.{Held};
+    ghost use Rattle.pim_c.specs.Held.{HeldView};
 
     ghost also_owns = { λ h. owns_held h.alloc h.held h.at };
 }

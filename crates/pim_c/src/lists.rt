@@ -8,7 +8,6 @@ use crate::changed_task::CChangedTask;
 use crate::handle::Handle;
 use crate::waiter::CWaiter;
 use pim_base::{MutexNo, Waiter};
-use pim_manager::ChangedTask;
 use std::alloc::Global;
 
 /// Copies those who wait for the mutex, the next owner first, as far as there is room, and returns how many wait; 0 for
@@ -27,7 +26,7 @@ pub extern "C" fn pim_waiters(
     match handle.take(alloc) {
         None => 0,
         Some(held) => {
-            let count = match held.manager.waiters(MutexNo(mutex)) {
+            let count = match held.manager().waiters(MutexNo(mutex)) {
                 Some(waiters) => copy_waiters(waiters, to),
                 None => 0,
             };
@@ -48,7 +47,7 @@ pub extern "C" fn pim_changed(alloc: Global, handle: &mut Handle, to: &mut [CCha
     match handle.take(alloc) {
         None => 0,
         Some(held) => {
-            let count = copy_changed(held.changed.as_slice(), to);
+            let count = held.copy_changed(to);
             handle.put(held);
             count
         }
@@ -64,19 +63,6 @@ fn copy_waiters(from: &[Waiter], to: &mut [CWaiter]) -> usize
     let count = if from.len() < room { from.len() } else { room };
     for place in 0..count {
         to[place] = CWaiter::of(from[place]);
-    }
-    from.len()
-}
-
-/// Copies the changed tasks as far as there is room, and returns how many there are.
-fn copy_changed(from: &[ChangedTask], to: &mut [CChangedTask]) -> usize
-    ensures count { result ≡ length from.now }
-    ensures copied { to.new ≡ copied (map c_changed_task from.now) to.old }
-{
-    let room = to.len();
-    let count = if from.len() < room { from.len() } else { room };
-    for place in 0..count {
-        to[place] = CChangedTask::of(from[place]);
     }
     from.len()
 }

@@ -3,8 +3,8 @@
 use crate::answer::CAnswer;
 use crate::changed_task::CChangedTask;
 use crate::getters::{
-    pim_base_prio, pim_effective_prio, pim_mutex_count, pim_next_ticket, pim_owner, pim_protocol,
-    pim_reason, pim_task_count, pim_waits_for,
+    pim_base_prio, pim_effective_prio, pim_mutex_count, pim_mutex_protocol, pim_next_ticket,
+    pim_owner, pim_task_count, pim_task_reason, pim_waits_for,
 };
 use crate::handle::Handle;
 use crate::lists::{pim_changed, pim_waiters};
@@ -109,7 +109,7 @@ fn boosted_owner_is_listed_with_its_reason(rt: HostRuntime) -> Result<(), Fail> 
     assert_eq!(rt; (changed[0].task, changed[0].prio), (1, 90));
     assert_eq!(rt; changed[0].reason, why);
     assert_eq!(rt; changed[1], NO_CHANGED_TASK);
-    assert_eq!(rt; pim_reason(alloc, h, 1), why);
+    assert_eq!(rt; pim_task_reason(alloc, h, 1), why);
     pim_drop(alloc, h);
     Ok(())
 }
@@ -149,9 +149,9 @@ fn owner_of_a_protect_mutex_has_its_ceiling(rt: HostRuntime) -> Result<(), Fail>
     assert_eq!(rt; make(alloc, h), MADE);
     assert!(rt; says(pim_try(alloc, h, 2, 2), GRANTED, 0, 0));
     assert_eq!(rt; pim_effective_prio(alloc, h, 2), 60);
-    let why = pim_reason(alloc, h, 2);
+    let why = pim_task_reason(alloc, h, 2);
     assert_eq!(rt; (why.kind, why.task, why.mutex), (OF_CEILING, 0, 2));
-    assert_eq!(rt; pim_reason(alloc, h, 1).kind, OF_BASE);
+    assert_eq!(rt; pim_task_reason(alloc, h, 1).kind, OF_BASE);
     assert!(rt; says(pim_try(alloc, h, 3, 2), REFUSED, CEILING, 0));
     assert!(rt; says(pim_unlock(alloc, h, 3, 2), REFUSED, NOT_OWNER, 0));
     pim_drop(alloc, h);
@@ -193,10 +193,10 @@ fn getters_tell_what_is_unknown(rt: HostRuntime) -> Result<(), Fail> {
         (pim_effective_prio(alloc, h, 0), pim_base_prio(alloc, h, 4)),
         (0, 0)
     );
-    assert_eq!(rt; pim_reason(alloc, h, 4), NO_REASON);
-    assert_eq!(rt; pim_protocol(alloc, h, 1), AN_INHERIT_MUTEX);
-    assert_eq!(rt; pim_protocol(alloc, h, 2), CEILING_60);
-    assert_eq!(rt; pim_protocol(alloc, h, 3).kind, UNKNOWN);
+    assert_eq!(rt; pim_task_reason(alloc, h, 4), NO_REASON);
+    assert_eq!(rt; pim_mutex_protocol(alloc, h, 1), AN_INHERIT_MUTEX);
+    assert_eq!(rt; pim_mutex_protocol(alloc, h, 2), CEILING_60);
+    assert_eq!(rt; pim_mutex_protocol(alloc, h, 3).kind, UNKNOWN);
     pim_drop(alloc, h);
     Ok(())
 }
@@ -239,9 +239,9 @@ fn protocols_that_C_means_are_the_managers(rt: HostRuntime) -> Result<(), Fail> 
         ceiling: 7,
     };
     assert_eq!(rt; pim_make(alloc, h, &[5], &[a_none_mutex, CEILING_60]), MADE);
-    let shown = pim_protocol(alloc, h, 1);
+    let shown = pim_mutex_protocol(alloc, h, 1);
     assert_eq!(rt; (shown.kind, shown.ceiling), (NONE, 0));
-    assert_eq!(rt; pim_protocol(alloc, h, 2), CEILING_60);
+    assert_eq!(rt; pim_mutex_protocol(alloc, h, 2), CEILING_60);
     pim_drop(alloc, h);
     Ok(())
 }
