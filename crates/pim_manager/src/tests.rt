@@ -8,6 +8,7 @@ use pim_base::{
     MAX_MUTEXES, MAX_TASKS, MutexNo, Op, Prio, Protocol, Reason, Refusal, Reply, Step, TaskNo,
     Waiter,
 };
+use pim_chain::Visits;
 use std::alloc::Global;
 use std::process::Abort;
 use std::test::Fail;
@@ -151,6 +152,29 @@ fn a_copy_goes_its_own_way(rt: HostRuntime) -> Result<(), Fail> {
     assert_eq!(rt; copy.owner(FIRST), Some(Some(TaskNo(2))));
     assert_eq!(rt; copy.effective(TaskNo(1)), Prio::new(10));
     assert_eq!(rt; copy.next_ticket(), 2);
+    Ok(())
+}
+
+#[test]
+fn noted_changes_are_those_of_the_last_step(rt: HostRuntime) -> Result<(), Fail> {
+    let mut manager = made(rt.alloc(), &[10, 20, 90], &[Inherit])?;
+    let mut visits = Visits::with_notes(rt.alloc())?;
+    let boosted = ChangedTask {
+        task: TaskNo(1),
+        prio: prio(&rt, 90),
+        reason: reason(3, 1),
+    };
+    manager.step_with_notes(by(1, Lock(FIRST)), &mut visits);
+    assert_eq!(rt; manager.changed(&visits).next(), None);
+    let done = manager.step_with_notes(by(3, Lock(FIRST)), &mut visits);
+    assert_eq!(rt; (done.reply, done.visits), (Reply::Queued, 1));
+    let mut changed = manager.changed(&visits);
+    assert_eq!(rt; changed.next(), Some(TaskNo(1)));
+    assert_eq!(rt; changed.next(), None);
+    assert_eq!(rt; manager.changed_task(TaskNo(1)), Some(boosted));
+    assert_eq!(rt; manager.changed_task(TaskNo(4)), None);
+    manager.step_with_notes(by(2, Lock(FIRST)), &mut visits);
+    assert_eq!(rt; manager.changed(&visits).next(), None);
     Ok(())
 }
 

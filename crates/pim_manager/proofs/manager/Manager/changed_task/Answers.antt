@@ -8,7 +8,6 @@ use Rattle.pim_base.proofs.Kept.{known_from_tests}
 use Rattle.pim_chain.specs.Views.{View, stored_at}
 use Rattle.pim_chain.proofs.Walking.{settled_effective}
 use Rattle.pim_manager.specs.Changed.{changed_task}
-use Rattle.pim_manager.specs.declared.changed_tasks.ChangedTask.{ChangedTask}
 use Rattle.pim_manager.proofs.manager.Manager.changed_task.Goals as goal
 
 pub returns : goal.returns
