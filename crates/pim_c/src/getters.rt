@@ -1,6 +1,6 @@
 //! What C may ask without changing anything.
 
-ghost use Rattle.std.specs.Prelude.{◌≡◌, None, Some};
+ghost use Rattle.std.specs.Prelude.{◌≡◌};
 ghost use Rattle.pim_c.specs.Getters.{base_in, effective_in, mutex_count, or_zero, owner_in, protocol_in, reason_in, task_count, ticket_in, waits_for_in};
 
 use crate::handle::Handle;

@@ -1,6 +1,6 @@
 //! A manager as C holds it.
 
-ghost use Rattle.std.specs.Prelude.{◌≡◌, Option, None, Some};
+ghost use Rattle.std.specs.Prelude.{◌≡◌, Option};
 ghost use Rattle.std.specs.Option.{option_map};
 ghost use Rattle.std.specs.Box.{box_value};
 ghost use Rattle.pim_c.specs.Ownership.{raw_value};

@@ -1,6 +1,6 @@
 //! Lists that are copied into memory of the caller's.
 
-ghost use Rattle.std.specs.Prelude.{◌≡◌, None, Some, length, map};
+ghost use Rattle.std.specs.Prelude.{◌≡◌, length, map};
 ghost use Rattle.pim_c.specs.Shapes.{c_changed_task, c_waiter, copied};
 ghost use Rattle.pim_c.specs.Lists.{changed_in, waiters_in};
 

@@ -1,6 +1,6 @@
 //! How a manager is made and dropped.
 
-ghost use Rattle.std.specs.Prelude.{◌≡◌, ◌≢◌, true, None, Some, IfOk};
+ghost use Rattle.std.specs.Prelude.{◌≡◌, ◌≢◌, true, IfOk};
 ghost use Rattle.std.specs.List.{list_all};
 ghost use Rattle.pim_c.specs.Numbers.{is_priority, priority_meant};
 ghost use Rattle.pim_c.specs.Making.{first_fault, is_protocol, made, priorities_meant, protocols_meant};

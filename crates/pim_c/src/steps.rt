@@ -1,8 +1,6 @@
 //! The steps.
 
-ghost use Rattle.std.specs.Prelude.{◌≡◌, None, Some};
-ghost use Rattle.pim_base.specs.declared.steps.Op.{Op};
-ghost use Rattle.pim_base.specs.declared.steps.Step.{Step as Asked};
+ghost use Rattle.std.specs.Prelude.{◌≡◌};
 ghost use Rattle.pim_c.specs.Held.{after_step};
 ghost use Rattle.pim_c.specs.Answers.{IsAnswered};
 
