@@ -1,9 +1,10 @@
-/* Three tasks on one processor, under a scheduler that runs the ready task with the highest effective priority. It runs
- * them twice: over a NONE mutex, where the medium task holds up the high one, and over an INHERIT mutex, where it can't.
+/* Three tasks on one processor, under a scheduler that runs the ready task with the highest
+ * effective priority. It runs them twice: over a NONE mutex, where the medium task holds up the
+ * high one, and over an INHERIT mutex, where it can't.
  *
- *   low    10   arrives at 0: works 1, holds the mutex for 4, works 1
- *   medium 50   arrives at 3: works 8
- *   high   90   arrives at 2: works 1, holds the mutex for 2, works 1 */
+ * low 10 arrives at 0: works 1, holds the mutex for 4, works 1
+ * medium 50 arrives at 3: works 8
+ * high 90 arrives at 2: works 1, holds the mutex for 2, works 1 */
 #include "pim.h"
 
 #include <stdint.h>
@@ -39,7 +40,8 @@ struct task {
 
 static struct task tasks[TASKS + 1];
 
-/* Puts those whose priority the last step changed elsewhere in the ready queue, which here is a number. */
+/* Puts those whose priority the last step changed elsewhere in the ready queue, which here is a
+ * number. */
 static void queue_anew(struct pim_handle *locks, int now) {
     struct pim_changed_task changed[TASKS];
     size_t count = pim_changed(locks, changed, TASKS);

@@ -1,7 +1,8 @@
-/* A program without a C library, start files and a heap: the inversion in one static array. It ends with status 0 where
- * each answer is the right one, else with the number of the first that isn't. For Linux on x86-64:
+/* A program without a C library, start files and a heap: the inversion in one static array. It ends
+ * with status 0 where each answer is the right one, else with the number of the first that isn't.
+ * For Linux on x86-64:
  *
- *   cc -ffreestanding -fno-stack-protector -nostdlib -static freestanding.c heap/static.c libpim.a */
+ * cc -ffreestanding -fno-stack-protector -nostdlib -static freestanding.c heap/static.c libpim.a */
 #include "pim.h"
 
 /* What the compiler and libpim may call, and a kernel has already. */

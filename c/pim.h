@@ -1,7 +1,9 @@
-/* pim.h - a proved manager of mutexes with the three protocols of POSIX.1-2017: NONE, INHERIT and PROTECT.
+/* pim.h - a proved manager of mutexes with the three protocols of POSIX.1-2017: NONE, INHERIT and
+ * PROTECT.
  *
- * The manager decides and keeps books; it blocks nobody and switches nothing. The caller, a kernel or a run-time library,
- * asks it about each lock and unlock, does what the answer says, and gives the tasks that it lists to its scheduler:
+ * The manager decides and keeps books; it blocks nobody and switches nothing. The caller, a kernel
+ * or a run-time library, asks it about each lock and unlock, does what the answer says, and gives
+ * the tasks that it lists to its scheduler:
  *
  *     struct pim_handle locks = PIM_HANDLE_INIT;
  *     const uint16_t bases[] = { 10, 50, 90 };
@@ -9,52 +11,56 @@
  *     pim_make(&locks, bases, 3, protocols, 1); // PIM_MADE
  *     pim_lock(&locks, 1, 1);                   // PIM_GRANTED
  *     pim_lock(&locks, 3, 1);                   // PIM_QUEUED: task 3 blocks
- *     pim_effective_prio(&locks, 1);            // 90: task 1 executes at the priority of task 3
- *     pim_unlock(&locks, 1, 1);                 // PIM_HANDED, number 3: task 3 owns the mutex, and runs on
+ *     pim_effective_prio(&locks, 1);            // 90, the priority of task 3
+ *     pim_unlock(&locks, 1, 1);                 // PIM_HANDED to task 3, which runs on
  *     pim_drop(&locks);
  *
  *
  * What is promised
  *
- * What each function returns, and what state it leaves, is proved of its code, for all numbers that it may be passed.
- * Tasks and mutexes have the numbers from 1 to their count, at most 256 each. Priorities are 1 to 99, the larger the
- * higher. A number that names nothing is answered so, and an unknown kind of protocol is refused.
- * Between two calls no cycle of waits stands, each queue is in order, and each task has exactly the priority that the
- * protocols give it: the greatest of its base, the ceilings of the PROTECT mutexes that it owns, and the effective
- * priorities of those who wait for the INHERIT mutexes that it owns.
+ * What each function returns, and what state it leaves, is proved of its code, for all numbers that
+ * it may be passed. Tasks and mutexes have the numbers from 1 to their count, at most 256 each.
+ * Priorities are 1 to 99, the larger the higher. A number that names nothing is answered so, and an
+ * unknown kind of protocol is refused. Between two calls no cycle of waits stands, each queue is in
+ * order, and each task has exactly the priority that the protocols give it: the greatest of its
+ * base, the ceilings of the PROTECT mutexes that it owns, and the effective priorities of those who
+ * wait for the INHERIT mutexes that it owns.
  *
  *
  * What the caller must keep
  *
- *   - h points to a struct pim_handle that was PIM_HANDLE_INIT, and that since then was passed to functions of this file
- *     alone. It is not copied, and what it points to is neither read nor written.
- *   - One call at a time on one handle, and none from a signal or interrupt handler that may come in the middle of
- *     another. What orders the calls, a lock or disabled interrupts, is the caller's. Two handles share nothing.
- *   - A pointer that comes with a count points to that many items, is aligned, isn't null even where the count is 0, and
- *     overlaps no other memory of the call.
+ *   - h points to a struct pim_handle that was PIM_HANDLE_INIT, and that since then was passed to
+ *     functions of this file alone. It is not copied, and what it points to is neither read nor
+ *     written.
+ *   - One call at a time on one handle, and none from a signal or interrupt handler that may come
+ *     in the middle of another. What orders the calls, a lock or disabled interrupts, is the
+ *     caller's. Two handles share nothing.
+ *   - A pointer that comes with a count points to that many items, is aligned, isn't null even
+ *     where the count is 0, and overlaps no other memory of the call.
  *   - There are PIM_STACK bytes of stack.
- *   - rattle_alloc, rattle_realloc and rattle_dealloc keep what pim_heap.h says. memmove and memset are the C library's,
- *     or do the same.
- *   - A manager that isn't dropped keeps its memory.
- *   - The floating-point and vector registers may be used: a kernel that keeps them from its own code saves them around
- *     the calls.
+ *   - rattle_alloc, rattle_realloc and rattle_dealloc keep what pim_heap.h says. memmove and memset
+ *     are the C library's, or do the same.
+ *   - A manager that isn't dropped keeps its memory. pim_make refuses a handle that has one. GCC and
+ *     Clang drop it at the end of a scope by __attribute__((cleanup(pim_drop))).
+ *   - The floating-point and vector registers may be used: a kernel that keeps them from its own
+ *     code saves them around the calls.
  *
  *
  * What a call costs
  *
- * n tasks and m mutexes stand. Only pim_make and pim_drop call the heap. Nothing else is called but memmove and memset,
- * and nothing waits. The second column is the most bytes of stack that a call takes as libpim is built for x86-64,
- * without what those functions take.
+ * n tasks and m mutexes stand. Only pim_make and pim_drop call the heap. Nothing else is called but
+ * memmove and memset, and nothing waits. The second column is the most bytes of stack that a call
+ * takes as libpim is built for x86-64, without what those functions take.
  *
  *   pim_make             640   allocates some m blocks, and fills them
  *   pim_drop             192   gives them back
- *   pim_lock             512   at most n hops for the test of deadlock, one place in a queue, and the walk
+ *   pim_lock             512   n hops at most for the test of deadlock, a queue, and the walk
  *   pim_try              512   the walk
- *   pim_unlock           512   one place in a queue, and the walk
+ *   pim_unlock           512   a queue, and the walk
  *   pim_release_all      512   that for each mutex that the task owns
- *   pim_cancel           512   one place in a queue, and the walk
+ *   pim_cancel           512   a queue, and the walk
  *   pim_set_base         512   the walk
- *   pim_changed          384   each task that the step stored a priority of, and the mutexes that those own who changed
+ *   pim_changed          384   the mutexes of each task that is listed, twice at most
  *   pim_waiters          256   what it copies
  *   pim_task_reason      256   the mutexes that the task owns, twice at most
  *   pim_effective_prio    64   a few loads
@@ -66,16 +72,18 @@
  *   pim_mutex_count       64   a few loads
  *   pim_next_ticket       64   a few loads
  *
- * The walk goes from the task whose cause changed along the chain of tasks that wait for one another, as far as
- * priorities change: the answer says by `visits` how many it computed. They are at least the tasks whose priority
- * changed, and at most 1 more, and 2 for each mutex whose owner changed: that is proved. A visit looks at the mutexes
- * that the task owns, and moves one waiter in one queue, past those who wait there.
+ * The walk goes from the task whose cause changed along the chain of tasks that wait for one
+ * another, as far as priorities change: the answer says by `visits` how many it computed. They are
+ * at least the tasks whose priority changed, and at most 1 more, and 2 for each mutex whose owner
+ * changed: that is proved. A visit looks at the mutexes that the task owns. To find a place in a
+ * queue is a binary search, and moves the waiters behind it.
  *
  *
  * What grows
  *
- * A later version adds functions, and numbers at the end of a table: no number changes its meaning. So a caller treats a
- * kind or a reason that it doesn't know as an error of its own, and not as another one. */
+ * A later version adds functions, and numbers at the end of a table: no number changes its meaning.
+ * So a caller treats a kind or a reason that it doesn't know as an error of its own, and not as
+ * another one. */
 #ifndef PIM_H
 #define PIM_H
 
@@ -89,16 +97,20 @@ extern "C" {
 #define PIM_MAX_TASKS 256u
 #define PIM_MAX_MUTEXES 256u
 
-/* What stands for the owner of an unknown mutex, what an unknown task waits for, and the protocol of an unknown mutex. */
+/* What stands for the owner of an unknown mutex, what an unknown task waits for, and the protocol
+ * of an unknown mutex. */
 #define PIM_UNKNOWN 65535u
 
-/* The most bytes of stack that any call takes, without what memmove, memset and the heap's functions take. */
+/* The most bytes of stack that any call takes, without what memmove, memset and the heap's
+ * functions take. */
 #define PIM_STACK 640u
 
-/* The most bytes that a manager takes from heap/static.c or heap/given.c, where the memory is aligned to 16. */
-#define PIM_MEMORY(tasks, mutexes) (1024u + 80u * (tasks) + 64u * (mutexes) + 16u * (tasks) * (mutexes))
+/* The most bytes that a manager takes from heap/static.c or heap/given.c, where the memory is
+ * aligned to 16. */
+#define PIM_MEMORY(tasks, mutexes) \
+    (1024u + 80u * (tasks) + 64u * (mutexes) + 16u * (tasks) * (mutexes))
 
-/* ---- the handle ------------------------------------------------------------------------------------------------- */
+/* ---- the handle ------------------------------------------------------------------------------ */
 
 /* A manager, if one was made. */
 struct pim_handle {
@@ -107,12 +119,12 @@ struct pim_handle {
 
 #define PIM_HANDLE_INIT { NULL }
 
-/* ---- numbers ---------------------------------------------------------------------------------------------------- */
+/* ---- numbers --------------------------------------------------------------------------------- */
 
 /* How owning a mutex affects its owner's priority. */
 enum {
     PIM_NONE = 0,    /* not at all */
-    PIM_INHERIT = 1, /* the owner executes at least at the effective priority of each task that waits for the mutex */
+    PIM_INHERIT = 1, /* the owner executes at least at the priority of each waiter */
     PIM_PROTECT = 2  /* the owner executes at least at the mutex's ceiling */
 };
 
@@ -140,7 +152,8 @@ enum {
     PIM_REFUSED = 8     /* nothing changed at all; `refusal` says why */
 };
 
-/* Why a step is refused: the first of its tests that fails. In brackets the error that POSIX has for the call. */
+/* Why a step is refused: the first of its tests that fails. In brackets the error that POSIX has
+ * for the call. */
 enum {
     PIM_NO_TASK = 1,     /* the task or the target is unknown (ESRCH) */
     PIM_WAITING = 2,     /* the task waits, and the step isn't the withdrawal of itself */
@@ -158,11 +171,11 @@ enum {
 enum {
     PIM_OF_NOTHING = 0, /* the task is unknown */
     PIM_OF_BASE = 1,    /* it is its base priority */
-    PIM_OF_CEILING = 2, /* it is the ceiling of `mutex`, the least such PROTECT mutex that the task owns */
-    PIM_OF_WAITER = 3   /* `task` waits at it for `mutex`, the least such INHERIT mutex that the task owns, as the first */
+    PIM_OF_CEILING = 2, /* it is the ceiling of `mutex`, the least such PROTECT mutex that it owns */
+    PIM_OF_WAITER = 3   /* `task` waits at it, first in the queue of `mutex`, the least such INHERIT mutex */
 };
 
-/* ---- what is passed --------------------------------------------------------------------------------------------- */
+/* ---- what is passed -------------------------------------------------------------------------- */
 
 struct pim_protocol {
     uint16_t kind;    /* PIM_NONE, PIM_INHERIT or PIM_PROTECT */
@@ -196,52 +209,58 @@ struct pim_changed_task {
     struct pim_reason reason;
 };
 
-/* ---- making and dropping ---------------------------------------------------------------------------------------- */
+/* ---- making and dropping --------------------------------------------------------------------- */
 
-/* Makes a manager of tasks with these base priorities, which are known as 1, 2, .., and of mutexes with these protocols,
- * likewise. All mutexes are free, nobody waits, and the next ticket is 1. Returns PIM_MADE, or why it made none, and
- * then the handle is as it was. */
-uint32_t pim_make(struct pim_handle *h, const uint16_t *bases, size_t tasks, const struct pim_protocol *protocols, size_t mutexes);
+/* Makes a manager of tasks with these base priorities, which are known as 1, 2, .., and of mutexes
+ * with these protocols, likewise. All mutexes are free, nobody waits, and the next ticket is 1.
+ * Returns PIM_MADE, or why it made none, and then the handle is as it was. */
+uint32_t pim_make(struct pim_handle *h, const uint16_t *bases, size_t tasks,
+                  const struct pim_protocol *protocols, size_t mutexes);
 
-/* Drops the manager, if there is one, and gives its memory back. The handle is then PIM_HANDLE_INIT again. */
+/* Drops the manager, if there is one, and gives its memory back. The handle is then PIM_HANDLE_INIT
+ * again. */
 void pim_drop(struct pim_handle *h);
 
-/* ---- steps ------------------------------------------------------------------------------------------------------ */
+/* ---- steps ----------------------------------------------------------------------------------- */
 
-/* pthread_mutex_lock: the task owns the mutex if it is free (PIM_GRANTED), else waits for it (PIM_QUEUED). Refused:
- * PIM_NO_TASK, PIM_WAITING, PIM_NO_MUTEX, PIM_DEADLOCK, PIM_CEILING, PIM_TICKETS. */
+/* pthread_mutex_lock: the task owns the mutex if it is free (PIM_GRANTED), else waits for it
+ * (PIM_QUEUED). Refused: PIM_NO_TASK, PIM_WAITING, PIM_NO_MUTEX, PIM_DEADLOCK, PIM_CEILING,
+ * PIM_TICKETS. */
 struct pim_answer pim_lock(struct pim_handle *h, uint16_t task, uint16_t mutex);
 
-/* pthread_mutex_trylock: the task owns the mutex if it is free (PIM_GRANTED). Refused: PIM_NO_TASK, PIM_WAITING,
- * PIM_NO_MUTEX, PIM_CEILING, PIM_BUSY. */
+/* pthread_mutex_trylock: the task owns the mutex if it is free (PIM_GRANTED). Refused: PIM_NO_TASK,
+ * PIM_WAITING, PIM_NO_MUTEX, PIM_CEILING, PIM_BUSY. */
 struct pim_answer pim_try(struct pim_handle *h, uint16_t task, uint16_t mutex);
 
-/* pthread_mutex_unlock: the mutex goes to the first of its queue (PIM_HANDED), or is free (PIM_FREED). Refused:
- * PIM_NO_TASK, PIM_WAITING, PIM_NO_MUTEX, PIM_NOT_OWNER. */
+/* pthread_mutex_unlock: the mutex goes to the first of its queue (PIM_HANDED), or is free
+ * (PIM_FREED). Refused: PIM_NO_TASK, PIM_WAITING, PIM_NO_MUTEX, PIM_NOT_OWNER. */
 struct pim_answer pim_unlock(struct pim_handle *h, uint16_t task, uint16_t mutex);
 
-/* Unlocks all mutexes of the task in ascending order (PIM_RELEASED), as where a thread ends. Refused: PIM_NO_TASK,
- * PIM_WAITING. */
+/* Unlocks all mutexes of the task in ascending order (PIM_RELEASED), as where a thread ends.
+ * Refused: PIM_NO_TASK, PIM_WAITING. */
 struct pim_answer pim_release_all(struct pim_handle *h, uint16_t task);
 
-/* Withdraws the target, which waits, from its queue (PIM_WITHDRAWN), as where a time is out or a thread is cancelled. Any
- * task may ask that does not wait, and the target itself. Refused: PIM_NO_TASK, PIM_WAITING, PIM_NOT_WAITING. */
+/* Withdraws the target, which waits, from its queue (PIM_WITHDRAWN), as where a time is out or a
+ * thread is cancelled. Any task may ask that does not wait, and the target itself. Refused:
+ * PIM_NO_TASK, PIM_WAITING, PIM_NOT_WAITING. */
 struct pim_answer pim_cancel(struct pim_handle *h, uint16_t task, uint16_t target);
 
-/* pthread_setschedprio: sets the base priority of the target (PIM_SET). Refused: PIM_NO_TASK, PIM_WAITING,
- * PIM_PRIORITY. */
+/* pthread_setschedprio: sets the base priority of the target (PIM_SET). Refused: PIM_NO_TASK,
+ * PIM_WAITING, PIM_PRIORITY. */
 struct pim_answer pim_set_base(struct pim_handle *h, uint16_t task, uint16_t target, uint16_t prio);
 
-/* ---- what the last step changed --------------------------------------------------------------------------------- */
+/* ---- what the last step changed -------------------------------------------------------------- */
 
-/* Copies the tasks whose effective priority the last step changed, in ascending order, at most `room` of them, and
- * returns how many there are. They are the tasks that a scheduler has to queue anew: all of them, and no others. None
- * where no step was made yet, or the last one was refused. */
+/* Copies the tasks whose effective priority the last step changed, in ascending order, at most
+ * `room` of them, and returns how many there are. They are the tasks that a scheduler has to queue
+ * anew: all of them, and no others. None where no step was made yet, or the last one was refused.
+ */
 size_t pim_changed(struct pim_handle *h, struct pim_changed_task *to, size_t room);
 
-/* ---- what stands ------------------------------------------------------------------------------------------------ */
+/* ---- what stands ----------------------------------------------------------------------------- */
 
-/* Copies those who wait for the mutex, the next owner first, at most `room` of them, and returns how many there are. */
+/* Copies those who wait for the mutex, the next owner first, at most `room` of them, and returns
+ * how many there are. */
 size_t pim_waiters(struct pim_handle *h, uint16_t mutex, struct pim_waiter *to, size_t room);
 
 uint16_t pim_task_count(struct pim_handle *h);
@@ -259,7 +278,8 @@ uint16_t pim_base_prio(struct pim_handle *h, uint16_t task);
 /* Returns why the task has its effective priority. */
 struct pim_reason pim_task_reason(struct pim_handle *h, uint16_t task);
 
-/* Returns the mutex that the task waits for, 0 where it waits for none, PIM_UNKNOWN for an unknown task. */
+/* Returns the mutex that the task waits for, 0 where it waits for none, PIM_UNKNOWN for an unknown
+ * task. */
 uint16_t pim_waits_for(struct pim_handle *h, uint16_t task);
 
 /* Returns the owner of the mutex, 0 where it is free, PIM_UNKNOWN for an unknown mutex. */
@@ -268,7 +288,7 @@ uint16_t pim_owner(struct pim_handle *h, uint16_t mutex);
 /* Returns the protocol of the mutex; its kind is PIM_UNKNOWN for an unknown mutex. */
 struct pim_protocol pim_mutex_protocol(struct pim_handle *h, uint16_t mutex);
 
-/* ---- that this file fits libpim --------------------------------------------------------------------------------- */
+/* ---- that this file fits libpim -------------------------------------------------------------- */
 
 #if defined(__cplusplus) && __cplusplus >= 201103L
 #define PIM_ASSERT(holds, text) static_assert(holds, text)

@@ -1,9 +1,10 @@
 /* Replays a trace through libpim, and prints the report that `pim` prints of it:
  *
- *   replay [-check] < TRACE
+ * replay [-check] < TRACE
  *
- * The trace is a valid one, as `pim` takes it. With -check it also asks every getter after each step, and sees that what
- * they say hangs together. Status 0 accepted, 1 rejected, 2 out of memory or not a trace, 3 a getter is wrong. */
+ * The trace is a valid one, as `pim` takes it. With -check it also asks every getter after each
+ * step, and sees that what they say hangs together. Status 0 accepted, 1 rejected, 2 out of memory
+ * or not a trace, 3 a getter is wrong. */
 #include "pim.h"
 
 #include <stdio.h>
@@ -20,7 +21,7 @@ static size_t tasks, mutexes;
 static uint16_t listed[PIM_MAX_TASKS + 1]; /* the priority of each task, as the lists alone tell it */
 static unsigned long number;               /* of the step */
 
-/* ---- what the getters say hangs together ---- */
+/* ---- what the getters say hangs together ----------------------------------------------------- */
 
 static void must(int holds, const char *what) {
     if (holds) return;
@@ -91,7 +92,7 @@ static void check_all(void) {
     must(waiting == queued, "as many wait as are in queues");
 }
 
-/* ---- the report ---- */
+/* ---- the report ------------------------------------------------------------------------------ */
 
 static void print_answer(char *to, size_t room, struct pim_answer answer) {
     if (answer.kind == PIM_HANDED || answer.kind == PIM_RELEASED)
@@ -115,7 +116,7 @@ static void print_changes(void) {
     }
 }
 
-/* ---- the trace ---- */
+/* ---- the trace ------------------------------------------------------------------------------- */
 
 static int read_task(const char *line) {
     unsigned task, base;
@@ -152,7 +153,8 @@ static struct pim_answer step(const char *line) {
     return answer;
 }
 
-/* Makes the step of a line, and prints its lines of the report. Returns 0, or the status to end with. */
+/* Makes the step of a line, and prints its lines of the report. Returns 0, or the status to end
+ * with. */
 static int answer_line(char *line, int checks) {
     char text[64];
     char *recorded = strstr(line, " = ");

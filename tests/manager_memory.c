@@ -1,4 +1,5 @@
-/* Makes managers of many sizes in just the memory that PIM_MEMORY tells. Prints how many, or the first that doesn't fit. */
+/* Makes managers of many sizes in just the memory that PIM_MEMORY tells. Prints how many, or the
+ * first that doesn't fit. */
 #include "heap/given.h"
 #include "pim.h"
 

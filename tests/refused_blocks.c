@@ -1,6 +1,6 @@
-/* A heap whose block of each number is refused in turn, under AddressSanitizer: pim_make is then out of memory and keeps
- * nothing, or does with a smaller block; a manager that was made gives all back; and no step calls the heap. Prints how
- * many refusals there were, or what is wrong. */
+/* A heap whose block of each number is refused in turn, under AddressSanitizer: pim_make is then
+ * out of memory and keeps nothing, or does with a smaller block; a manager that was made gives all
+ * back; and no step calls the heap. Prints how many refusals there were, or what is wrong. */
 #include "pim.h"
 #include "pim_heap.h"
 
@@ -49,7 +49,8 @@ static uint32_t make(struct pim_handle *h) {
     return pim_make(h, bases, TASKS, protocols, MUTEXES);
 }
 
-/* Steps of all kinds, also with numbers that name nothing, and every list into less room than it needs. */
+/* Steps of all kinds, also with numbers that name nothing, and every list into less room than it
+ * needs. */
 static void step_at_random(struct pim_handle *h) {
     struct pim_changed_task *changed = malloc(2 * sizeof *changed);
     struct pim_waiter *waiters = malloc(2 * sizeof *waiters);

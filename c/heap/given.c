@@ -7,8 +7,9 @@
  *     ..
  *     pim_drop(&locks);                          // from here on the memory is the program's again
  *
- * Blocks are taken from the front of the memory, and none is used twice: it comes back as a whole. Nothing is kept from
- * one manager to the next but where the memory ends that was handed over last. */
+ * Blocks are taken from the front of the memory, and none is used twice: it comes back as a whole.
+ * Nothing is kept from one manager to the next but where the memory ends that was handed over last.
+ */
 #include "given.h"
 
 #include "pim_heap.h"

@@ -8,8 +8,8 @@
 extern "C" {
 #endif
 
-/* Hands over these bytes for the next manager, until it is dropped. What was handed over before and isn't taken yet is
- * the program's again. */
+/* Hands over these bytes for the next manager, until it is dropped. What was handed over before and
+ * isn't taken yet is the program's again. */
 void pim_heap_give(void *memory, size_t bytes);
 
 #ifdef __cplusplus

@@ -1,6 +1,7 @@
-/* Three threads over the mutexes of pi_mutex.h: the low one owns a mutex, the medium one works, and the high one asks for
- * the mutex; then a deadlock is refused, and a wait is given up. What each is answered is printed, the same at each run.
- * The word -v tells on standard error whether the system ran the threads at their priorities. */
+/* Three threads over the mutexes of pi_mutex.h: the low one owns a mutex, the medium one works, and
+ * the high one asks for the mutex; then a deadlock is refused, and a wait is given up. What each is
+ * answered is printed, the same at each run. The word -v tells on standard error whether the system
+ * ran the threads at their priorities. */
 #include "pi_mutex.h"
 
 #include <errno.h>
@@ -36,8 +37,8 @@ static void *low(void *none) {
     return none;
 }
 
-/* Works from the time that high waits until it is through: on one processor low would never run again, were it not at
- * the priority of high. */
+/* Works from the time that high waits until it is through: on one processor low would never run
+ * again, were it not at the priority of high. */
 static void *medium(void *none) {
     struct timespec moment = { 0, 1000000 };
     pi_register(MEDIUM);
