@@ -38,14 +38,11 @@ impl CAnswer {
     pub fn of(reply: Reply, visits: u32) -> CAnswer
         ensures { result ≡ record { kind = reply_number reply; refusal = reply_refusal reply; number = reply_detail reply; visits = visits } }
     {
-        let refusal = match reply {
-            Reply::Refused(refusal) => number_of_refusal(refusal),
-            _ => 0,
-        };
-        let number = match reply {
-            Reply::Handed(task) => task.get(),
-            Reply::Released(count) => count,
-            _ => 0,
+        let (refusal, number) = match reply {
+            Reply::Handed(task) => (0, task.get()),
+            Reply::Released(count) => (0, count),
+            Reply::Refused(refusal) => (number_of_refusal(refusal), 0),
+            Reply::Granted | Reply::Queued | Reply::Freed | Reply::Withdrawn | Reply::Set => (0, 0),
         };
         CAnswer {
             kind: number_of_reply(reply),

@@ -7,14 +7,16 @@ ghost use Rattle.pim_base.specs.Reports.{refusal_number};
 
 use pim_base::{Refusal, Reply};
 
-/// The protocols of mutexes.
+// ---- protocols of mutexes
+
 pub const NONE: u16 = 0;
 
 pub const INHERIT: u16 = 1;
 
 pub const PROTECT: u16 = 2;
 
-/// What a step is answered.
+// ---- what a step is answered
+
 pub const NO_MANAGER: u8 = 0;
 
 pub const GRANTED: u8 = 1;
@@ -33,7 +35,8 @@ pub const SET: u8 = 7;
 
 pub const REFUSED: u8 = 8;
 
-/// Why a step is refused; 0 where it isn't.
+// ---- why a step is refused, 0 where it isn't
+
 pub const NO_TASK: u8 = 1;
 
 pub const WAITING: u8 = 2;
@@ -54,7 +57,8 @@ pub const PRIORITY: u8 = 9;
 
 pub const TICKETS: u8 = 10;
 
-/// Why a task has its effective priority.
+// ---- why a task has its effective priority
+
 pub const OF_NOTHING: u16 = 0;
 
 pub const OF_BASE: u16 = 1;
@@ -63,7 +67,8 @@ pub const OF_CEILING: u16 = 2;
 
 pub const OF_WAITER: u16 = 3;
 
-/// What making a manager is answered.
+// ---- what making a manager is answered
+
 pub const MADE: u32 = 0;
 
 pub const OCCUPIED: u32 = 1;
