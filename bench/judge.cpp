@@ -349,7 +349,7 @@ public:
         return true;
     }
 
-private:
+protected:
     std::vector<Task> tasks;     // from 1 on
     std::vector<Mutex> mutexes;  // from 1 on
     std::vector<uint16_t> touched;

@@ -1,5 +1,5 @@
 -- Mutexes handed over one after another.
-use Rattle.std.proofs.Common.{◌≡◌, ◌≤◌, ◌<◌, ℕ, zero, suc, cond, ◌+◌, ◌*◌, Bool, true, false, not, eqb, List, [], ◌∷◌, length, filter, All, Option, Some, None, refl, sym, ◌∙◌, ap, subst, arith, eq-or-lt_of_le, fold, ◌⊎◌, inl, inr}
+use Rattle.std.proofs.Common.{◌≡◌, ◌≤◌, ℕ, ◌+◌, ◌*◌, true, false, not, eqb, List, [], ◌∷◌, length, filter, All, Option, Some, None, refl, sym, ◌∙◌, ap, subst, arith, fold, ◌⊎◌, inl, inr}
 use Rattle.std.proofs.lemmas.Bool.{both_ways, eq-eqb, ne_eqb}
 use Rattle.std.proofs.lemmas.Option.{none-some, same_Some}
 use Rattle.pim_base.specs.Lists.{first_item, holds, numbers}
@@ -7,7 +7,7 @@ use Rattle.pim_base.specs.State.{State, IsTask, IsMutex, owned, owner_of, wait_o
 use Rattle.pim_base.specs.Queues.{waiter_of, queue_of, first_of}
 use Rattle.pim_base.specs.Steps.{hand_over, hand_over_to}
 use Rattle.pim_base.specs.Steady.{HasOwnTickets, IsSteady}
-use Rattle.pim_base.specs.Counts.{count, same_owner, handed_mutex_count}
+use Rattle.pim_base.specs.Counts.{same_owner, handed_mutex_count}
 use Rattle.pim_base.specs.Priorities.{effective_priority}
 use Rattle.pim_base.specs.declared.limits.TheConstants.{MAX_MUTEXES}
 use Rattle.pim_base.specs.declared.steps.Waiter.{Waiter}

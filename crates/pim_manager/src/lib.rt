@@ -28,6 +28,7 @@ mod changes;
 mod done;
 mod make_fault;
 mod manager;
+mod noting;
 mod runs;
 mod steps;
 #[cfg(test)]

@@ -240,13 +240,9 @@ impl Manager {
         ensures most { result.visits ≤ 1 + changed_task_count self.old self.new + 2 * handed_mutex_count self.old self.new }
         ensures changed { changed.new ≡ map (changed_task self.new) (changed_tasks self.old self.new) }
     {
-        changed.visits.restart();
-        let reply = self.reply_to(step, &mut changed.visits);
+        let done = self.step_with_notes(step, &mut changed.visits);
         self.list_changed(&changed.visits, &mut changed.tasks);
-        Done {
-            reply,
-            visits: changed.visits.get(),
-        }
+        done
     }
 
     /// Lists the tasks whose effective priority differs from the noted one, in ascending order.

@@ -8,6 +8,7 @@ use pim_base::{
     MAX_MUTEXES, MAX_TASKS, MutexNo, Op, Prio, Protocol, Reason, Refusal, Reply, Step, TaskNo,
     Waiter,
 };
+use pim_chain::Visits;
 use std::alloc::Global;
 use std::process::Abort;
 use std::test::Fail;
@@ -191,6 +192,29 @@ fn managers_of_other_facts_have_other_states(rt: HostRuntime) -> Result<(), Fail
     // No mutex is owned and no task waits, but a ticket was given out.
     withdrawn.step(by(1, Unlock(FIRST)));
     assert!(rt; !withdrawn.has_state_of(&start));
+    Ok(())
+}
+
+#[test]
+fn noted_changes_are_those_of_the_last_step(rt: HostRuntime) -> Result<(), Fail> {
+    let mut manager = made(rt.alloc(), &[10, 20, 90], &[Inherit])?;
+    let mut visits = Visits::with_notes(rt.alloc())?;
+    let boosted = ChangedTask {
+        task: TaskNo(1),
+        prio: prio(&rt, 90),
+        reason: reason(3, 1),
+    };
+    manager.step_with_notes(by(1, Lock(FIRST)), &mut visits);
+    assert_eq!(rt; manager.changed(&visits).next(), None);
+    let done = manager.step_with_notes(by(3, Lock(FIRST)), &mut visits);
+    assert_eq!(rt; (done.reply, done.visits), (Reply::Queued, 1));
+    let mut changed = manager.changed(&visits);
+    assert_eq!(rt; changed.next(), Some(TaskNo(1)));
+    assert_eq!(rt; changed.next(), None);
+    assert_eq!(rt; manager.changed_task(TaskNo(1)), Some(boosted));
+    assert_eq!(rt; manager.changed_task(TaskNo(4)), None);
+    manager.step_with_notes(by(2, Lock(FIRST)), &mut visits);
+    assert_eq!(rt; manager.changed(&visits).next(), None);
     Ok(())
 }
 

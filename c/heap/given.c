@@ -1,0 +1,50 @@
+/* The memory of libpim is what the program hands over before each pim_make:
+ *
+ *     static _Alignas(16) unsigned char memory[PIM_MEMORY(16, 8)];
+ *
+ *     pim_heap_give(memory, sizeof memory);
+ *     pim_make(&locks, bases, 16, protocols, 8); // PIM_NO_MEMORY if it was too little
+ *     ..
+ *     pim_drop(&locks);                          // from here on the memory is the program's again
+ *
+ * Blocks are taken from the front of the memory, and none is used twice: it comes back as a whole.
+ * Nothing is kept from one manager to the next but where the memory ends that was handed over last.
+ */
+#include "given.h"
+
+#include "pim_heap.h"
+
+static unsigned char *rest; /* what isn't taken yet: left bytes from here on */
+static size_t left;
+static unsigned char none[16];
+
+void pim_heap_give(void *memory, size_t bytes) {
+    rest = memory;
+    left = bytes;
+}
+
+struct pim_block rattle_alloc(size_t n, size_t a) {
+    struct pim_block b = { 0, none };
+    size_t skip = (size_t)(-(uintptr_t)rest & 15);
+    size_t room = n == 0 ? 16 : (n + 15) & ~(size_t)15;
+    (void)a;
+    if (rest == NULL || n > left || skip > left || room > left - skip) return b;
+    b.ok = 1;
+    b.p = rest + skip;
+    rest += skip + room;
+    left -= skip + room;
+    return b;
+}
+
+struct pim_block rattle_realloc(void *p, size_t kept, size_t n, size_t a) {
+    struct pim_block b = rattle_alloc(n, a);
+    const unsigned char *from = p;
+    unsigned char *to = b.p;
+    if (!b.ok) return b;
+    for (size_t i = 0; i < kept && i < n; i++) to[i] = from[i];
+    return b;
+}
+
+void rattle_dealloc(void *p) {
+    (void)p;
+}

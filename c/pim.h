@@ -1,0 +1,312 @@
+/* pim.h - a proved manager of mutexes with the three protocols of POSIX.1-2017: NONE, INHERIT and
+ * PROTECT.
+ *
+ * The manager decides and keeps books; it blocks nobody and switches nothing. The caller, a kernel
+ * or a run-time library, asks it about each lock and unlock, does what the answer says, and gives
+ * the tasks that it lists to its scheduler:
+ *
+ *     struct pim_handle locks = PIM_HANDLE_INIT;
+ *     const uint16_t bases[] = { 10, 50, 90 };
+ *     const struct pim_protocol protocols[] = { { PIM_INHERIT, 0 } };
+ *     pim_make(&locks, bases, 3, protocols, 1); // PIM_MADE
+ *     pim_lock(&locks, 1, 1);                   // PIM_GRANTED
+ *     pim_lock(&locks, 3, 1);                   // PIM_QUEUED: task 3 blocks
+ *     pim_effective_prio(&locks, 1);            // 90, the priority of task 3
+ *     pim_unlock(&locks, 1, 1);                 // PIM_HANDED to task 3, which runs on
+ *     pim_drop(&locks);
+ *
+ *
+ * What is promised
+ *
+ * What each function returns, and what state it leaves, is proved of its code, for all numbers that
+ * it may be passed. Tasks and mutexes have the numbers from 1 to their count, at most 256 each.
+ * Priorities are 1 to 99, the larger the higher. A number that names nothing is answered so, and an
+ * unknown kind of protocol is refused. Between two calls no cycle of waits stands, each queue is in
+ * order, and each task has exactly the priority that the protocols give it: the greatest of its
+ * base, the ceilings of the PROTECT mutexes that it owns, and the effective priorities of those who
+ * wait for the INHERIT mutexes that it owns.
+ *
+ *
+ * What the caller must keep
+ *
+ *   - h points to a struct pim_handle that was PIM_HANDLE_INIT, and that since then was passed to
+ *     functions of this file alone. It is not copied, and what it points to is neither read nor
+ *     written.
+ *   - One call at a time on one handle, and none from a signal or interrupt handler that may come
+ *     in the middle of another. What orders the calls, a lock or disabled interrupts, is the
+ *     caller's. Two handles share nothing.
+ *   - A pointer that comes with a count points to that many items, is aligned, isn't null even
+ *     where the count is 0, and overlaps no other memory of the call.
+ *   - There are PIM_STACK bytes of stack.
+ *   - rattle_alloc, rattle_realloc and rattle_dealloc keep what pim_heap.h says. memmove and memset
+ *     are the C library's, or do the same.
+ *   - A manager that isn't dropped keeps its memory. pim_make refuses a handle that has one. GCC and
+ *     Clang drop it at the end of a scope by __attribute__((cleanup(pim_drop))).
+ *   - The floating-point and vector registers may be used: a kernel that keeps them from its own
+ *     code saves them around the calls.
+ *
+ *
+ * What a call costs
+ *
+ * n tasks and m mutexes stand. Only pim_make and pim_drop call the heap. Nothing else is called but
+ * memmove and memset, and nothing waits. The second column is the most bytes of stack that a call
+ * takes as libpim is built for x86-64, without what those functions take.
+ *
+ *   pim_make             640   allocates some m blocks, and fills them
+ *   pim_drop             192   gives them back
+ *   pim_lock             512   n hops at most for the test of deadlock, a queue, and the walk
+ *   pim_try              512   the walk
+ *   pim_unlock           512   a queue, and the walk
+ *   pim_release_all      512   that for each mutex that the task owns
+ *   pim_cancel           512   a queue, and the walk
+ *   pim_set_base         512   the walk
+ *   pim_changed          384   the mutexes of each task that is listed, twice at most
+ *   pim_waiters          256   what it copies
+ *   pim_task_reason      256   the mutexes that the task owns, twice at most
+ *   pim_effective_prio    64   a few loads
+ *   pim_base_prio         64   a few loads
+ *   pim_waits_for         64   a few loads
+ *   pim_owner             64   a few loads
+ *   pim_mutex_protocol    64   a few loads
+ *   pim_task_count        64   a few loads
+ *   pim_mutex_count       64   a few loads
+ *   pim_next_ticket       64   a few loads
+ *
+ * The walk goes from the task whose cause changed along the chain of tasks that wait for one
+ * another, as far as priorities change: the answer says by `visits` how many it computed. They are
+ * at least the tasks whose priority changed, and at most 1 more, and 2 for each mutex whose owner
+ * changed: that is proved. A visit looks at the mutexes that the task owns. To find a place in a
+ * queue is a binary search, and moves the waiters behind it.
+ *
+ *
+ * What grows
+ *
+ * A later version adds functions, and numbers at the end of a table: no number changes its meaning.
+ * So a caller treats a kind or a reason that it doesn't know as an error of its own, and not as
+ * another one. */
+#ifndef PIM_H
+#define PIM_H
+
+#include <stddef.h>
+#include <stdint.h>
+
+#ifdef __cplusplus
+extern "C" {
+#endif
+
+#define PIM_MAX_TASKS 256u
+#define PIM_MAX_MUTEXES 256u
+
+/* What stands for the owner of an unknown mutex, what an unknown task waits for, and the protocol
+ * of an unknown mutex. */
+#define PIM_UNKNOWN 65535u
+
+/* The most bytes of stack that any call takes, without what memmove, memset and the heap's
+ * functions take. */
+#define PIM_STACK 640u
+
+/* The most bytes that a manager takes from heap/static.c or heap/given.c, where the memory is
+ * aligned to 16. */
+#define PIM_MEMORY(tasks, mutexes) \
+    (1024u + 80u * (tasks) + 64u * (mutexes) + 16u * (tasks) * (mutexes))
+
+/* ---- the handle ------------------------------------------------------------------------------ */
+
+/* A manager, if one was made. */
+struct pim_handle {
+    void *at;
+};
+
+#define PIM_HANDLE_INIT { NULL }
+
+/* ---- numbers --------------------------------------------------------------------------------- */
+
+/* How owning a mutex affects its owner's priority. */
+enum {
+    PIM_NONE = 0,    /* not at all */
+    PIM_INHERIT = 1, /* the owner executes at least at the priority of each waiter */
+    PIM_PROTECT = 2  /* the owner executes at least at the mutex's ceiling */
+};
+
+/* What pim_make returns: the first of these that holds. */
+enum {
+    PIM_MADE = 0,
+    PIM_OCCUPIED = 1,         /* the handle has a manager already */
+    PIM_TOO_MANY_TASKS = 2,   /* more than PIM_MAX_TASKS */
+    PIM_TOO_MANY_MUTEXES = 3, /* more than PIM_MAX_MUTEXES */
+    PIM_BAD_BASE = 4,         /* a base priority isn't 1 to 99 */
+    PIM_BAD_PROTOCOL = 5,     /* a kind is unknown, or the ceiling of a PROTECT mutex isn't 1 to 99 */
+    PIM_NO_MEMORY = 6         /* out of memory: nothing was made, and nothing is kept */
+};
+
+/* What a step is answered. */
+enum {
+    PIM_NO_MANAGER = 0, /* the handle has none */
+    PIM_GRANTED = 1,    /* the task owns the mutex */
+    PIM_QUEUED = 2,     /* the task waits for the mutex: it is to block */
+    PIM_FREED = 3,      /* the mutex had no waiter, and is free */
+    PIM_HANDED = 4,     /* task `number` was the first waiter, and owns the mutex: it is to run on */
+    PIM_RELEASED = 5,   /* `number` mutexes were unlocked; pim_owner says who owns one that had waiters */
+    PIM_WITHDRAWN = 6,  /* the target waits no more: it is to run on, without the mutex */
+    PIM_SET = 7,        /* the target has the new base priority */
+    PIM_REFUSED = 8     /* nothing changed at all; `refusal` says why */
+};
+
+/* Why a step is refused: the first of its tests that fails. In brackets the error that POSIX has
+ * for the call. */
+enum {
+    PIM_NO_TASK = 1,     /* the task or the target is unknown (ESRCH) */
+    PIM_WAITING = 2,     /* the task waits, and the step isn't the withdrawal of itself */
+    PIM_NO_MUTEX = 3,    /* the mutex is unknown (EINVAL) */
+    PIM_DEADLOCK = 4,    /* the request would close a cycle of waits, its own mutex included (EDEADLK) */
+    PIM_CEILING = 5,     /* the task's base priority is above the ceiling of a PROTECT mutex (EINVAL) */
+    PIM_BUSY = 6,        /* a try on a mutex that is owned (EBUSY) */
+    PIM_NOT_OWNER = 7,   /* the task doesn't own the mutex (EPERM) */
+    PIM_NOT_WAITING = 8, /* the target of a cancel doesn't wait */
+    PIM_PRIORITY = 9,    /* the new base priority isn't 1 to 99 (EINVAL) */
+    PIM_TICKETS = 10     /* 2^64 - 2 waits were queued */
+};
+
+/* Why a task has its effective priority: the first of these that gives it. */
+enum {
+    PIM_OF_NOTHING = 0, /* the task is unknown */
+    PIM_OF_BASE = 1,    /* it is its base priority */
+    PIM_OF_CEILING = 2, /* it is the ceiling of `mutex`, the least such PROTECT mutex that it owns */
+    PIM_OF_WAITER = 3   /* `task` waits at it, first in the queue of `mutex`, the least such INHERIT mutex */
+};
+
+/* ---- what is passed -------------------------------------------------------------------------- */
+
+struct pim_protocol {
+    uint16_t kind;    /* PIM_NONE, PIM_INHERIT or PIM_PROTECT */
+    uint16_t ceiling; /* of a PROTECT mutex, 1 to 99; that of the others isn't read */
+};
+
+struct pim_answer {
+    uint8_t kind;    /* PIM_NO_MANAGER .. PIM_REFUSED */
+    uint8_t refusal; /* PIM_NO_TASK .. PIM_TICKETS, or 0 */
+    uint16_t number; /* the task that was handed the mutex, or how many mutexes were released, or 0 */
+    uint32_t visits; /* how many priorities were computed */
+};
+
+struct pim_reason {
+    uint16_t kind;  /* PIM_OF_NOTHING .. PIM_OF_WAITER */
+    uint16_t task;  /* the task that waits, or 0 */
+    uint16_t mutex; /* the mutex, or 0 */
+};
+
+/* A task in the queue of a mutex. */
+struct pim_waiter {
+    uint16_t task;
+    uint16_t prio;   /* its effective priority */
+    uint64_t ticket; /* of two with the same priority the smaller is first */
+};
+
+/* A task whose effective priority a step changed. */
+struct pim_changed_task {
+    uint16_t task;
+    uint16_t prio; /* its effective priority after the step */
+    struct pim_reason reason;
+};
+
+/* ---- making and dropping --------------------------------------------------------------------- */
+
+/* Makes a manager of tasks with these base priorities, which are known as 1, 2, .., and of mutexes
+ * with these protocols, likewise. All mutexes are free, nobody waits, and the next ticket is 1.
+ * Returns PIM_MADE, or why it made none, and then the handle is as it was. */
+uint32_t pim_make(struct pim_handle *h, const uint16_t *bases, size_t tasks,
+                  const struct pim_protocol *protocols, size_t mutexes);
+
+/* Drops the manager, if there is one, and gives its memory back. The handle is then PIM_HANDLE_INIT
+ * again. */
+void pim_drop(struct pim_handle *h);
+
+/* ---- steps ----------------------------------------------------------------------------------- */
+
+/* pthread_mutex_lock: the task owns the mutex if it is free (PIM_GRANTED), else waits for it
+ * (PIM_QUEUED). Refused: PIM_NO_TASK, PIM_WAITING, PIM_NO_MUTEX, PIM_DEADLOCK, PIM_CEILING,
+ * PIM_TICKETS. */
+struct pim_answer pim_lock(struct pim_handle *h, uint16_t task, uint16_t mutex);
+
+/* pthread_mutex_trylock: the task owns the mutex if it is free (PIM_GRANTED). Refused: PIM_NO_TASK,
+ * PIM_WAITING, PIM_NO_MUTEX, PIM_CEILING, PIM_BUSY. */
+struct pim_answer pim_try(struct pim_handle *h, uint16_t task, uint16_t mutex);
+
+/* pthread_mutex_unlock: the mutex goes to the first of its queue (PIM_HANDED), or is free
+ * (PIM_FREED). Refused: PIM_NO_TASK, PIM_WAITING, PIM_NO_MUTEX, PIM_NOT_OWNER. */
+struct pim_answer pim_unlock(struct pim_handle *h, uint16_t task, uint16_t mutex);
+
+/* Unlocks all mutexes of the task in ascending order (PIM_RELEASED), as where a thread ends.
+ * Refused: PIM_NO_TASK, PIM_WAITING. */
+struct pim_answer pim_release_all(struct pim_handle *h, uint16_t task);
+
+/* Withdraws the target, which waits, from its queue (PIM_WITHDRAWN), as where a time is out or a
+ * thread is cancelled. Any task may ask that does not wait, and the target itself. Refused:
+ * PIM_NO_TASK, PIM_WAITING, PIM_NOT_WAITING. */
+struct pim_answer pim_cancel(struct pim_handle *h, uint16_t task, uint16_t target);
+
+/* pthread_setschedprio: sets the base priority of the target (PIM_SET). Refused: PIM_NO_TASK,
+ * PIM_WAITING, PIM_PRIORITY. */
+struct pim_answer pim_set_base(struct pim_handle *h, uint16_t task, uint16_t target, uint16_t prio);
+
+/* ---- what the last step changed -------------------------------------------------------------- */
+
+/* Copies the tasks whose effective priority the last step changed, in ascending order, at most
+ * `room` of them, and returns how many there are. They are the tasks that a scheduler has to queue
+ * anew: all of them, and no others. None where no step was made yet, or the last one was refused.
+ */
+size_t pim_changed(struct pim_handle *h, struct pim_changed_task *to, size_t room);
+
+/* ---- what stands ----------------------------------------------------------------------------- */
+
+/* Copies those who wait for the mutex, the next owner first, at most `room` of them, and returns
+ * how many there are. */
+size_t pim_waiters(struct pim_handle *h, uint16_t mutex, struct pim_waiter *to, size_t room);
+
+uint16_t pim_task_count(struct pim_handle *h);
+uint16_t pim_mutex_count(struct pim_handle *h);
+
+/* Returns the ticket that the next waiter gets, from 1 on. */
+uint64_t pim_next_ticket(struct pim_handle *h);
+
+/* Returns the priority at which the task is to execute, 0 for an unknown one. */
+uint16_t pim_effective_prio(struct pim_handle *h, uint16_t task);
+
+/* Returns the base priority of the task, 0 for an unknown one. */
+uint16_t pim_base_prio(struct pim_handle *h, uint16_t task);
+
+/* Returns why the task has its effective priority. */
+struct pim_reason pim_task_reason(struct pim_handle *h, uint16_t task);
+
+/* Returns the mutex that the task waits for, 0 where it waits for none, PIM_UNKNOWN for an unknown
+ * task. */
+uint16_t pim_waits_for(struct pim_handle *h, uint16_t task);
+
+/* Returns the owner of the mutex, 0 where it is free, PIM_UNKNOWN for an unknown mutex. */
+uint16_t pim_owner(struct pim_handle *h, uint16_t mutex);
+
+/* Returns the protocol of the mutex; its kind is PIM_UNKNOWN for an unknown mutex. */
+struct pim_protocol pim_mutex_protocol(struct pim_handle *h, uint16_t mutex);
+
+/* ---- that this file fits libpim -------------------------------------------------------------- */
+
+#if defined(__cplusplus) && __cplusplus >= 201103L
+#define PIM_ASSERT(holds, text) static_assert(holds, text)
+#elif defined(__STDC_VERSION__) && __STDC_VERSION__ >= 201112L
+#define PIM_ASSERT(holds, text) _Static_assert(holds, text)
+#endif
+#ifdef PIM_ASSERT
+PIM_ASSERT(sizeof(size_t) == 8 && sizeof(void *) == 8, "libpim is built for 64 bits");
+PIM_ASSERT(sizeof(struct pim_handle) == 8, "struct pim_handle");
+PIM_ASSERT(sizeof(struct pim_protocol) == 4, "struct pim_protocol");
+PIM_ASSERT(sizeof(struct pim_answer) == 8 && offsetof(struct pim_answer, visits) == 4, "struct pim_answer");
+PIM_ASSERT(sizeof(struct pim_reason) == 6, "struct pim_reason");
+PIM_ASSERT(sizeof(struct pim_waiter) == 16 && offsetof(struct pim_waiter, ticket) == 8, "struct pim_waiter");
+PIM_ASSERT(sizeof(struct pim_changed_task) == 10 && offsetof(struct pim_changed_task, reason) == 4, "struct pim_changed_task");
+#undef PIM_ASSERT
+#endif
+
+#ifdef __cplusplus
+}
+#endif
+#endif

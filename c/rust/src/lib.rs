@@ -1,0 +1,295 @@
+//! A safe wrapper of libpim: an example of how a language wraps it, not a part of what is proved.
+//!
+//! A [`Manager`] owns its memory and is used by `&mut`, so that the rules that `pim.h` gives to a caller hold by
+//! themselves: one call at a time, no copy of the handle, and a drop at the end.
+//!
+//! ```
+//! use pim::{Manager, Op, Protocol, Reply};
+//!
+//! let mut locks = Manager::new(&[10, 50, 90], &[Protocol::Inherit])?;
+//! assert_eq!(locks.step(1, Op::Lock(1)), Reply::Granted);
+//! assert_eq!(locks.step(3, Op::Lock(1)), Reply::Queued);
+//! assert_eq!(locks.effective(1), Some(90));
+//! assert_eq!(locks.step(1, Op::Unlock(1)), Reply::Handed(3));
+//! # Ok::<(), pim::MakeFault>(())
+//! ```
+
+mod c;
+
+/// The protocol of a mutex.
+#[derive(Clone, Copy, Debug, PartialEq, Eq)]
+pub enum Protocol {
+    None,
+    Inherit,
+    Protect(u16),
+}
+
+/// What a step asks for.
+#[derive(Clone, Copy, Debug, PartialEq, Eq)]
+pub enum Op {
+    Lock(u16),
+    Try(u16),
+    Unlock(u16),
+    ReleaseAll,
+    Cancel(u16),
+    SetBase(u16, u16),
+}
+
+/// Why a step is refused.
+#[derive(Clone, Copy, Debug, PartialEq, Eq)]
+pub enum Refusal {
+    NoTask,
+    Waiting,
+    NoMutex,
+    Deadlock,
+    Ceiling,
+    Busy,
+    NotOwner,
+    NotWaiting,
+    Priority,
+    Tickets,
+    /// One of a later version of libpim.
+    Other(u8),
+}
+
+/// What a step is answered.
+#[derive(Clone, Copy, Debug, PartialEq, Eq)]
+pub enum Reply {
+    Granted,
+    Queued,
+    Freed,
+    Handed(u16),
+    Released(u16),
+    Withdrawn,
+    Set,
+    Refused(Refusal),
+    /// One of a later version of libpim.
+    Other(u8),
+}
+
+/// Why no manager was made.
+#[derive(Clone, Copy, Debug, PartialEq, Eq)]
+pub enum MakeFault {
+    TooManyTasks,
+    TooManyMutexes,
+    BadBase,
+    BadProtocol,
+    NoMemory,
+}
+
+impl std::fmt::Display for MakeFault {
+    fn fmt(&self, f: &mut std::fmt::Formatter<'_>) -> std::fmt::Result {
+        let text = match self {
+            MakeFault::TooManyTasks => "more than 256 tasks",
+            MakeFault::TooManyMutexes => "more than 256 mutexes",
+            MakeFault::BadBase => "a base priority isn't 1 to 99",
+            MakeFault::BadProtocol => "a ceiling isn't 1 to 99",
+            MakeFault::NoMemory => "out of memory",
+        };
+        f.write_str(text)
+    }
+}
+
+impl std::error::Error for MakeFault {}
+
+/// A task whose effective priority a step changed.
+#[derive(Clone, Copy, Debug, PartialEq, Eq)]
+pub struct ChangedTask {
+    pub task: u16,
+    pub prio: u16,
+}
+
+/// A manager of tasks and mutexes.
+pub struct Manager {
+    handle: c::Handle,
+    changed: Vec<c::ChangedTask>,
+}
+
+// Nothing behind the handle belongs to a thread, and no other handle leads there.
+unsafe impl Send for Manager {}
+
+impl Manager {
+    /// Returns a manager of tasks with these base priorities and of mutexes with these protocols.
+    pub fn new(bases: &[u16], protocols: &[Protocol]) -> Result<Manager, MakeFault> {
+        let protocols: Vec<c::Protocol> =
+            protocols.iter().map(|protocol| protocol.to_c()).collect();
+        let mut handle = c::Handle::EMPTY;
+        // The handle is empty, and a slice's pointer is never null.
+        let fault = unsafe {
+            c::pim_make(
+                &mut handle,
+                bases.as_ptr(),
+                bases.len(),
+                protocols.as_ptr(),
+                protocols.len(),
+            )
+        };
+        match fault {
+            0 => Ok(Manager {
+                handle,
+                changed: vec![c::ChangedTask::default(); bases.len()],
+            }),
+            2 => Err(MakeFault::TooManyTasks),
+            3 => Err(MakeFault::TooManyMutexes),
+            4 => Err(MakeFault::BadBase),
+            5 => Err(MakeFault::BadProtocol),
+            _ => Err(MakeFault::NoMemory),
+        }
+    }
+
+    /// Makes one step of the task. Any numbers may be passed.
+    pub fn step(&mut self, task: u16, op: Op) -> Reply {
+        let h = &mut self.handle;
+        Reply::of(unsafe {
+            match op {
+                Op::Lock(mutex) => c::pim_lock(h, task, mutex),
+                Op::Try(mutex) => c::pim_try(h, task, mutex),
+                Op::Unlock(mutex) => c::pim_unlock(h, task, mutex),
+                Op::ReleaseAll => c::pim_release_all(h, task),
+                Op::Cancel(target) => c::pim_cancel(h, task, target),
+                Op::SetBase(target, prio) => c::pim_set_base(h, task, target, prio),
+            }
+        })
+    }
+
+    /// Returns the tasks whose effective priority the last step changed, in ascending order.
+    pub fn changed(&mut self) -> impl Iterator<Item = ChangedTask> + '_ {
+        let room = self.changed.len();
+        let count = unsafe { c::pim_changed(&mut self.handle, self.changed.as_mut_ptr(), room) };
+        self.changed[..count].iter().map(|one| ChangedTask {
+            task: one.task,
+            prio: one.prio,
+        })
+    }
+
+    /// Returns how many tasks there are.
+    pub fn tasks(&mut self) -> u16 {
+        unsafe { c::pim_task_count(&mut self.handle) }
+    }
+
+    /// Returns the priority at which the task is to execute, None for an unknown one.
+    pub fn effective(&mut self, task: u16) -> Option<u16> {
+        let prio = unsafe { c::pim_effective_prio(&mut self.handle, task) };
+        (prio != 0).then_some(prio)
+    }
+
+    /// Returns the owner of the mutex, None where it is free or unknown.
+    pub fn owner(&mut self, mutex: u16) -> Option<u16> {
+        known(unsafe { c::pim_owner(&mut self.handle, mutex) })
+    }
+
+    /// Returns the mutex that the task waits for, if it waits for one.
+    pub fn waits_for(&mut self, task: u16) -> Option<u16> {
+        known(unsafe { c::pim_waits_for(&mut self.handle, task) })
+    }
+}
+
+impl Drop for Manager {
+    fn drop(&mut self) {
+        unsafe { c::pim_drop(&mut self.handle) }
+    }
+}
+
+impl Protocol {
+    fn to_c(self) -> c::Protocol {
+        match self {
+            Protocol::None => c::Protocol {
+                kind: 0,
+                ceiling: 0,
+            },
+            Protocol::Inherit => c::Protocol {
+                kind: 1,
+                ceiling: 0,
+            },
+            Protocol::Protect(ceiling) => c::Protocol { kind: 2, ceiling },
+        }
+    }
+}
+
+impl Reply {
+    fn of(answer: c::Answer) -> Reply {
+        match answer.kind {
+            1 => Reply::Granted,
+            2 => Reply::Queued,
+            3 => Reply::Freed,
+            4 => Reply::Handed(answer.number),
+            5 => Reply::Released(answer.number),
+            6 => Reply::Withdrawn,
+            7 => Reply::Set,
+            8 => Reply::Refused(Refusal::of(answer.refusal)),
+            other => Reply::Other(other),
+        }
+    }
+}
+
+impl Refusal {
+    fn of(number: u8) -> Refusal {
+        match number {
+            1 => Refusal::NoTask,
+            2 => Refusal::Waiting,
+            3 => Refusal::NoMutex,
+            4 => Refusal::Deadlock,
+            5 => Refusal::Ceiling,
+            6 => Refusal::Busy,
+            7 => Refusal::NotOwner,
+            8 => Refusal::NotWaiting,
+            9 => Refusal::Priority,
+            10 => Refusal::Tickets,
+            other => Refusal::Other(other),
+        }
+    }
+}
+
+// what isn't 0, for none, nor 65535, for an unknown one
+fn known(number: u16) -> Option<u16> {
+    (number != 0 && number != u16::MAX).then_some(number)
+}
+
+#[cfg(test)]
+mod tests {
+    use super::*;
+
+    #[test]
+    fn owner_is_boosted_until_it_unlocks() {
+        let mut locks = Manager::new(&[10, 50, 90], &[Protocol::Inherit]).unwrap();
+        assert_eq!(locks.tasks(), 3);
+        assert_eq!(locks.step(1, Op::Lock(1)), Reply::Granted);
+        assert_eq!(locks.step(3, Op::Lock(1)), Reply::Queued);
+        assert_eq!(
+            locks.changed().collect::<Vec<_>>(),
+            [ChangedTask { task: 1, prio: 90 }]
+        );
+        assert_eq!(
+            (locks.owner(1), locks.waits_for(3), locks.waits_for(1)),
+            (Some(1), Some(1), None)
+        );
+        assert_eq!(locks.step(1, Op::Unlock(1)), Reply::Handed(3));
+        assert_eq!((locks.effective(1), locks.effective(4)), (Some(10), None));
+    }
+
+    #[test]
+    fn refusals_and_faults_are_told() {
+        let mut locks = Manager::new(&[50], &[Protocol::Protect(40), Protocol::None]).unwrap();
+        assert_eq!(locks.step(1, Op::Lock(1)), Reply::Refused(Refusal::Ceiling));
+        assert_eq!(locks.step(1, Op::Lock(3)), Reply::Refused(Refusal::NoMutex));
+        assert_eq!(
+            locks.step(2, Op::ReleaseAll),
+            Reply::Refused(Refusal::NoTask)
+        );
+        assert_eq!(
+            locks.step(1, Op::Cancel(1)),
+            Reply::Refused(Refusal::NotWaiting)
+        );
+        assert_eq!(locks.step(1, Op::Try(2)), Reply::Granted);
+        assert_eq!(locks.step(1, Op::SetBase(1, 99)), Reply::Set);
+        assert_eq!(Manager::new(&[100], &[]).err(), Some(MakeFault::BadBase));
+        assert_eq!(
+            Manager::new(&[1], &[Protocol::Protect(0)]).err(),
+            Some(MakeFault::BadProtocol)
+        );
+        assert_eq!(
+            Manager::new(&[1; 257], &[]).err(),
+            Some(MakeFault::TooManyTasks)
+        );
+    }
+}

@@ -1,0 +1,97 @@
+-- The machine value of a `Handle`, which is its pointer and the C library's allocator. Assumes `Logic`.
+use Rattle.std.proofs.Common.{◌≡◌, ℕ, List, [], ◌∷◌, ◌++◌, ◌∙◌, refl, subst, lit<}
+use seplogic.Ra.Ura.{Ura}
+use mir.Raw.{raw as bare}
+use mir.Val.{Val, vstruct, of_list, has_ty}
+use base.Logic.{ent, guard, guard_i, via, snd∗}
+use base.Fml.{Fml}
+use contract.Monad.{fact_use}
+use types.Logic.{Logic, sem}
+use types.Kit.{Item, Goal, Seq, Step, step, ‵, ◌$◌, move, drop, fsplit, fjoin, fpick, fpack, feq_i, feq_l, use1, learn, given}
+use denote.RattleType.{RattleType, Valss}
+use denote.Builtin.{RawPtr}
+use denote.Memory.{lone}
+use denote.RawPtr.{Ptr, block_ptr, null_ptr, ptr_val, lies_at, Testable}
+use denote.Steps.{nothing}
+use denote.Param.{layout}
+use denote.Param.Laws.{Laws}
+use denote.Struct.Struct.{within}
+use denote.Struct.Owning.{shape}
+use Rattle.std.specs.Prelude.{Option, None, Some}
+use Rattle.std.specs.contracts.alloc.Global as heap
+use Rattle.std.specs.contracts.impls.GlobalAllocator.TheImpl.{ghosts}
+use Rattle.std.proofs.GlobalToken.{dealloc_token-Testable}
+use Rattle.std.proofs.ResultValues.{and_tt}
+use Rattle.std.proofs.alloc.Calls.{handle_tells}
+use Rattle.std.proofs.alloc.Global.TheLaws as heap_laws
+use Rattle.std.proofs.cell.Inside.{Good}
+use Rattle.pim_c.specs.Ownership.{owns_held}
+use Rattle.pim_c.specs.contracts.handle.Handle as handle
+use Rattle.pim_c.specs.contracts.held.Held as held
+use Rattle.pim_c.proofs.RawBoxes.{struct_of_two, memory, memory_in_a_block, allocator}
+
+-- the allocator
+abbrev pub Z : RattleType
+Z = heap.the_row
+
+abbrev pub LZ : Laws Z
+LZ = heap_laws.the_row_laws
+
+-- what a handle leads to
+abbrev pub R : RattleType
+R = held.the_row
+
+abbrev pub Handle : RattleType
+Handle = handle.the_row
+
+-- the manager at the pointer, and the right to free its memory
+abbrev pub boxed : Z.Denot → R.Denot → Ptr → Fml
+boxed = memory R Z LZ ghosts
+
+abbrev pub handle_val : Ptr → Val → Val
+handle_val p h = struct_of_two (ptr_val p) h
+
+pub handle_good : (p : Ptr) (h : Val) → Good (layout Z) h → Good (layout Handle) (handle_val p h)
+handle_good null_ptr h fits = (and_tt (has_ty (layout Z) h) fits.0, (record { fits = lit< tt }, (fits.1, tt)))
+handle_good (block_ptr b o) h fits = (and_tt (has_ty (layout Z) h) fits.0, (tt, (fits.1, tt)))
+
+module _ {M : Type 1} {𝓤 : Ura M} (𝓛 : Logic 𝓤) where
+  -- a pointer with memory can be compared with null
+  pub tested : (a : Z.Denot) (x : R.Denot) (p : Ptr)
+      → ent 𝓤 (sem 𝓛 (boxed a x p)) (guard 𝓤 (Testable p) (sem 𝓛 (boxed a x p)))
+  tested a x p =
+      let token = ghosts.dealloc_token a (bare (lone R.mir)) p in
+      fact_use 𝓤 (Testable p)
+      (via 𝓤 _ (snd∗ 𝓤 (sem 𝓛 (lies_at R base.Fraction.full_share p x)) (sem 𝓛 token)) (dealloc_token-Testable 𝓛 a (bare (lone R.mir)) p))
+      (guard_i 𝓤 (Testable p) (sem 𝓛 (boxed a x p)))
+
+module _ {M : Type 1} {𝓤 : Ura M} {𝓛 : Logic 𝓤} {K : Type 0} {Γ : List (Item 𝓤)} {G : Goal 𝓤 𝓛.H} where
+  pub opens_handle : K → (d : Handle.Denot) (vs : List Val)
+      → ((h : Val) → vs ≡ handle_val d.at h ∷ [] → Good (layout Z) h
+      → Seq K 𝓛 (‵ (owns_held d.alloc d.held d.at) ∷ ‵ (Z.own_val d.alloc (h ∷ [])) ∷ Γ) G)
+      → Seq K 𝓛 (‵ (Handle.own_val d vs) ∷ Γ) G
+  opens_handle t d vs k =
+      fsplit t $ fpick t (λ fields. fsplit t $ feq_l t (λ whole. fsplit t $ feq_l t (λ pointer. fsplit t $
+      handle_tells (allocator R Z LZ ghosts) t d.alloc fields.1.0 (λ h alloc fits. move t (1 ∷ []) $ drop t $ move t (1 ∷ []) $
+      k h (whole ∙ (λ i. vstruct (of_list (pointer i ++ (alloc i ++ []))) ∷ [])) fits))))
+
+  pub closes_handle : K → (p : Ptr) (h : Val) (a : Z.Denot) (x : Option R.Denot)
+      → Step K 𝓛 (‵ (Handle.own_val (record { at = p; alloc = a; held = x }) (handle_val p h ∷ [])) ∷ Γ) G
+      (‵ (owns_held a x p) ∷ ‵ (Z.own_val a (h ∷ [])) ∷ Γ) G
+  closes_handle t p h a x = step (λ rest. let v : Val = handle_val p h in
+      nothing t $ move t (2 ∷ 0 ∷ []) $ fjoin t $
+      feq_i t (List Val) (ptr_val p ∷ []) (ptr_val p ∷ []) refl $ fjoin t $
+      feq_i t (List Val) (v ∷ []) (v ∷ []) refl $ fjoin t $
+      fpack t (Valss (RawPtr ∷ Z ∷ [])) (within (shape handle.the_type) (p, ((heap.the_field).into a, tt)) (v ∷ []))
+      (ptr_val p ∷ [], (h ∷ [], tt)) $ fjoin t $ rest)
+
+  -- a handle is null and has nothing, or leads to a manager
+  pub held_cases : K → (a : Z.Denot) (x : Option R.Denot) (p : Ptr)
+      → (x ≡ None → p ≡ null_ptr → Seq K 𝓛 Γ G)
+      → ((b o : ℕ) (v : R.Denot) → x ≡ Some v → p ≡ block_ptr b o → Testable (block_ptr b o)
+      → Seq K 𝓛 (‵ (boxed a v (block_ptr b o)) ∷ Γ) G)
+      → Seq K 𝓛 (‵ (owns_held a x p) ∷ Γ) G
+  held_cases t a None p none some = feq_l t (λ e. none refl e)
+  held_cases t a (Some v) p none some =
+      use1 𝓛 (given (Testable p) (‵ (boxed a v p))) (tested 𝓛 a v p) $ learn t (λ testable.
+      memory_in_a_block R Z LZ ghosts t a v p (λ b o e. some b o v refl e (subst Testable e testable)))

@@ -1,0 +1,5 @@
+mod Changes
+mod Copies
+mod Handles
+mod Priorities
+mod RawBoxes

@@ -1,0 +1,27 @@
+-- What a step is answered in C.
+use Rattle.std.specs.Prelude.{◌≡◌, ◌≤◌, ◌+◌, ◌*◌, Option, Some, None}
+use Rattle.pim_base.specs.Counts.{changed_task_count, handed_mutex_count}
+use Rattle.pim_base.specs.State.{State}
+use Rattle.pim_base.specs.Steps.{reply_of, after}
+use Rattle.pim_base.specs.declared.steps.Step.{Step}
+use Rattle.pim_c.specs.Numbers.{reply_number, reply_refusal, reply_detail}
+use Rattle.pim_c.specs.declared.numbers.TheConstants.{NO_MANAGER}
+use Rattle.pim_c.specs.Held.{HeldView}
+use Rattle.pim_c.specs.declared.answer.CAnswer.{CAnswer}
+
+-- the answer of a handle without a manager
+abbrev pub no_answer : CAnswer
+no_answer = record { kind = NO_MANAGER; refusal = 0; number = 0; visits = 0 }
+
+-- the reply to the step in this state, and visits within the manager's bound
+pub record IsAnswer (S : State) (step : Step) (a : CAnswer) : Type 0 where
+  pub kind : a.kind ≡ reply_number (reply_of S step)
+  pub refusal : a.refusal ≡ reply_refusal (reply_of S step)
+  pub number : a.number ≡ reply_detail (reply_of S step)
+  pub least : changed_task_count S (after S step) ≤ a.visits
+  pub most : a.visits ≤ 1 + changed_task_count S (after S step) + 2 * handed_mutex_count S (after S step)
+
+-- the same where there may be no manager
+abbrev pub IsAnswered : Option HeldView → Step → CAnswer → Type 0
+IsAnswered None step a = a ≡ no_answer
+IsAnswered (Some h) step a = IsAnswer h.manager step a

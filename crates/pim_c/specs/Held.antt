@@ -1,0 +1,25 @@
+-- What a handle leads to, and what a step makes of it.
+use Rattle.std.specs.Prelude.{List, map, Option}
+use Rattle.std.specs.Option.{option_map}
+use Rattle.pim_base.specs.Reports.{changed_tasks}
+use Rattle.pim_base.specs.State.{State}
+use Rattle.pim_base.specs.Steps.{after}
+use Rattle.pim_base.specs.declared.steps.Step.{Step}
+use Rattle.pim_manager.specs.Changed.{changed_task}
+use Rattle.pim_manager.specs.declared.changed_tasks.ChangedTask.{ChangedTask}
+
+-- a manager's state, and the tasks whose effective priority its last step changed
+pub record HeldView : Type 0 where
+  pub manager : State
+  pub changed : List ChangedTask
+
+-- the manager after the step, and the tasks whose effective priority it changed
+abbrev pub stepped : HeldView → Step → HeldView
+stepped h step = record {
+  manager = after h.manager step;
+  changed = map (changed_task (after h.manager step)) (changed_tasks h.manager (after h.manager step));
+}
+
+-- the same where there may be no manager
+abbrev pub after_step : Option HeldView → Step → Option HeldView
+after_step held step = option_map (λ h. stepped h step) held

@@ -1,0 +1,17 @@
+-- The lists that C may ask for, where there may be no manager.
+use Rattle.std.specs.Prelude.{ℕ, List, [], Option, unwrap_or}
+use Rattle.std.specs.Option.{option_map_or}
+use Rattle.pim_base.specs.Queues.{queue_of}
+use Rattle.pim_base.specs.declared.steps.Waiter.{Waiter}
+use Rattle.pim_manager.specs.Known.{of_mutex}
+use Rattle.pim_manager.specs.declared.changed_tasks.ChangedTask.{ChangedTask}
+use Rattle.pim_c.specs.Getters.{in_manager}
+use Rattle.pim_c.specs.Held.{HeldView}
+
+-- those who wait for the mutex, none for an unknown one
+abbrev pub waiters_in : Option HeldView → ℕ → List Waiter
+waiters_in held m = in_manager held [] (λ S. unwrap_or (of_mutex S m (queue_of S m)) [])
+
+-- the tasks that the last step changed
+abbrev pub changed_in : Option HeldView → List ChangedTask
+changed_in held = option_map_or (λ (h : HeldView). h.changed) held []

@@ -1,0 +1,37 @@
+-- Of what a manager is made, and what bars it.
+use Rattle.std.specs.Prelude.{ℕ, nat_lt, not, is_some, Bool, List, [], length, Option, if◌then◌else◌}
+use Rattle.std.specs.List.{list_all, filter_map}
+use Rattle.pim_base.specs.State.{start}
+use Rattle.pim_base.specs.declared.limits.TheConstants.{MAX_TASKS, MAX_MUTEXES}
+use Rattle.pim_base.specs.declared.steps.Protocol.{Protocol}
+use Rattle.pim_c.specs.Numbers.{is_priority, priority_meant}
+use Rattle.pim_c.specs.Shapes.{protocol_meant}
+use Rattle.pim_c.specs.Held.{HeldView}
+use Rattle.pim_c.specs.declared.numbers.TheConstants.{MADE, OCCUPIED, TOO_MANY_TASKS, TOO_MANY_MUTEXES, BAD_BASE, BAD_PROTOCOL}
+use Rattle.pim_c.specs.declared.protocol.CProtocol.{CProtocol}
+
+-- those that are a priority
+abbrev pub priorities_meant : List ℕ → List ℕ
+priorities_meant ns = filter_map priority_meant ns
+
+-- C means a protocol by it
+abbrev pub is_protocol : CProtocol → Bool
+is_protocol p = is_some (protocol_meant p)
+
+-- the protocols that C means
+abbrev pub protocols_meant : List CProtocol → List Protocol
+protocols_meant ps = filter_map protocol_meant ps
+
+-- the first fault of what C asks for, MADE where it has none
+abbrev pub first_fault : Option HeldView → List ℕ → List CProtocol → ℕ
+first_fault held bases protocols =
+    if is_some held then OCCUPIED
+    else if nat_lt MAX_TASKS (length bases) then TOO_MANY_TASKS
+    else if nat_lt MAX_MUTEXES (length protocols) then TOO_MANY_MUTEXES
+    else if not (list_all is_priority bases) then BAD_BASE
+    else if not (list_all is_protocol protocols) then BAD_PROTOCOL
+    else MADE
+
+-- a manager of these in which all mutexes are free, and no step was made
+abbrev pub made : List ℕ → List CProtocol → HeldView
+made bases protocols = record { manager = start bases (protocols_meant protocols) 1; changed = [] }

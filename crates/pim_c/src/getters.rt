@@ -1,0 +1,179 @@
+//! What C may ask without changing anything.
+
+ghost use Rattle.std.specs.Prelude.{◌≡◌};
+ghost use Rattle.pim_c.specs.Getters.{base_in, effective_in, mutex_count, or_zero, owner_in, protocol_in, reason_in, task_count, ticket_in, waits_for_in};
+
+use crate::handle::Handle;
+use crate::numbers::UNKNOWN;
+use crate::protocol::CProtocol;
+use crate::reason::CReason;
+use pim_base::{MutexNo, Prio, TaskNo};
+use std::alloc::Global;
+
+/// Returns how many tasks there are, 0 where there is no manager.
+#[unsafe(no_mangle)]
+pub extern "C" fn pim_task_count(alloc: Global, handle: &mut Handle) -> u16
+    ensures count { result ≡ task_count handle.old.held }
+    ensures same { handle.new.held ≡ handle.old.held }
+{
+    match handle.take(alloc) {
+        None => 0,
+        Some(held) => {
+            let count = held.manager().tasks();
+            handle.put(held);
+            count
+        }
+    }
+}
+
+/// Returns how many mutexes there are, 0 where there is no manager.
+#[unsafe(no_mangle)]
+pub extern "C" fn pim_mutex_count(alloc: Global, handle: &mut Handle) -> u16
+    ensures count { result ≡ mutex_count handle.old.held }
+    ensures same { handle.new.held ≡ handle.old.held }
+{
+    match handle.take(alloc) {
+        None => 0,
+        Some(held) => {
+            let count = held.manager().mutexes();
+            handle.put(held);
+            count
+        }
+    }
+}
+
+/// Returns the ticket that the next waiter gets, 0 where there is no manager.
+#[unsafe(no_mangle)]
+pub extern "C" fn pim_next_ticket(alloc: Global, handle: &mut Handle) -> u64
+    ensures ticket { result ≡ ticket_in handle.old.held }
+    ensures same { handle.new.held ≡ handle.old.held }
+{
+    match handle.take(alloc) {
+        None => 0,
+        Some(held) => {
+            let ticket = held.manager().next_ticket();
+            handle.put(held);
+            ticket
+        }
+    }
+}
+
+/// Returns the priority at which the task would execute, 0 for an unknown one.
+#[unsafe(no_mangle)]
+pub extern "C" fn pim_effective_prio(alloc: Global, handle: &mut Handle, task: u16) -> u16
+    ensures level { result ≡ effective_in handle.old.held task }
+    ensures same { handle.new.held ≡ handle.old.held }
+{
+    match handle.take(alloc) {
+        None => 0,
+        Some(held) => {
+            let prio = held.manager().effective(TaskNo(task));
+            handle.put(held);
+            level_of(prio)
+        }
+    }
+}
+
+/// Returns the base priority of the task, 0 for an unknown one.
+#[unsafe(no_mangle)]
+pub extern "C" fn pim_base_prio(alloc: Global, handle: &mut Handle, task: u16) -> u16
+    ensures level { result ≡ base_in handle.old.held task }
+    ensures same { handle.new.held ≡ handle.old.held }
+{
+    match handle.take(alloc) {
+        None => 0,
+        Some(held) => {
+            let prio = held.manager().base(TaskNo(task));
+            handle.put(held);
+            level_of(prio)
+        }
+    }
+}
+
+/// Returns why the task has its effective priority. It looks at the mutexes that the task owns, twice at most.
+#[unsafe(no_mangle)]
+pub extern "C" fn pim_task_reason(alloc: Global, handle: &mut Handle, task: u16) -> CReason
+    ensures reason { result ≡ reason_in handle.old.held task }
+    ensures same { handle.new.held ≡ handle.old.held }
+{
+    match handle.take(alloc) {
+        None => CReason::none(),
+        Some(held) => {
+            let reason = held.manager().reason(TaskNo(task));
+            handle.put(held);
+            match reason {
+                Some(reason) => CReason::of(reason),
+                None => CReason::none(),
+            }
+        }
+    }
+}
+
+/// Returns the mutex that the task waits for, 0 where it waits for none, `UNKNOWN` for an unknown one.
+#[unsafe(no_mangle)]
+pub extern "C" fn pim_waits_for(alloc: Global, handle: &mut Handle, task: u16) -> u16
+    ensures mutex { result ≡ waits_for_in handle.old.held task }
+    ensures same { handle.new.held ≡ handle.old.held }
+{
+    match handle.take(alloc) {
+        None => UNKNOWN,
+        Some(held) => {
+            let mutex = held.manager().waits_for(TaskNo(task));
+            handle.put(held);
+            match mutex {
+                None => UNKNOWN,
+                Some(None) => 0,
+                Some(Some(mutex)) => mutex.get(),
+            }
+        }
+    }
+}
+
+/// Returns the owner of the mutex, 0 where it is free, `UNKNOWN` for an unknown one.
+#[unsafe(no_mangle)]
+pub extern "C" fn pim_owner(alloc: Global, handle: &mut Handle, mutex: u16) -> u16
+    ensures owner { result ≡ owner_in handle.old.held mutex }
+    ensures same { handle.new.held ≡ handle.old.held }
+{
+    match handle.take(alloc) {
+        None => UNKNOWN,
+        Some(held) => {
+            let owner = held.manager().owner(MutexNo(mutex));
+            handle.put(held);
+            match owner {
+                None => UNKNOWN,
+                Some(None) => 0,
+                Some(Some(task)) => task.get(),
+            }
+        }
+    }
+}
+
+/// Returns the protocol of the mutex; its kind is `UNKNOWN` for an unknown one.
+#[unsafe(no_mangle)]
+pub extern "C" fn pim_mutex_protocol(alloc: Global, handle: &mut Handle, mutex: u16) -> CProtocol
+    ensures protocol { result ≡ protocol_in handle.old.held mutex }
+    ensures same { handle.new.held ≡ handle.old.held }
+{
+    match handle.take(alloc) {
+        None => CProtocol::none(),
+        Some(held) => {
+            let protocol = held.manager().protocol(MutexNo(mutex));
+            handle.put(held);
+            match protocol {
+                Some(protocol) => CProtocol::of(protocol),
+                None => CProtocol::none(),
+            }
+        }
+    }
+}
+
+/// Returns the level, 0 for none.
+fn level_of(prio: Option<Prio>) -> u16
+    ensures { result ≡ or_zero prio }
+{
+    match prio {
+        Some(prio) => prio.get(),
+        None => 0,
+    }
+}

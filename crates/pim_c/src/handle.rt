@@ -1,0 +1,94 @@
+//! A manager as C holds it.
+
+ghost use Rattle.std.specs.Prelude.{◌≡◌, Option};
+ghost use Rattle.std.specs.Option.{option_map};
+ghost use Rattle.std.specs.Box.{box_value};
+ghost use Rattle.pim_c.specs.Ownership.{raw_value};
+ghost use Rattle.pim_c.specs.Held.{HeldView};
+
+use crate::held::Held;
+use crate::raw_box::RawBox;
+use std::alloc::Global;
+use std::marker::Model;
+use std::mem::replace;
+use std::ptr::null_mut;
+
+/// A pointer to a manager, null where there is none. C copies it nowhere, and reads nothing behind it.
+///
+/// In contracts `held` is what it leads to. Rattle's own code can't lose a manager: a handle that goes out of scope
+/// gives its memory back. C has no such end of a scope, and calls `pim_drop`.
+#[repr(C)]
+pub struct Handle {
+    at: *mut u8,
+    alloc: Global,
+    pub ghost held: { Option HeldView },
+}
+
+impl Model for Handle {
+    ghost use Rattle.pim_c.specs.Ownership.{owns_held};
+    ghost use Rattle.pim_c.specs.Held.{HeldView};
+
+    ghost also_owns = { λ h. owns_held h.alloc h.held h.at };
+}
+
+impl Drop for Handle {
+    fn drop(self) {
+        if let Some(raw) = self.into_raw() {
+            drop(raw.into_box());
+        }
+    }
+}
+
+impl Handle {
+    /// Returns a handle without a manager.
+    pub fn empty(alloc: Global) -> Handle
+        ensures { result.held ≡ None }
+    {
+        Handle {
+            at: null_mut(),
+            alloc,
+        }
+    }
+
+    /// Puts a manager in. One that was there is dropped.
+    pub fn put(&mut self, held: Box<Held, Global>)
+        ensures { self.new.held ≡ Some held.value }
+    {
+        *self = Handle::from_raw(RawBox::of(held));
+    }
+
+    /// Takes the manager out, if there is one.
+    pub fn take(&mut self, alloc: Global) -> Option<Box<Held, Global>>
+        ensures held { option_map box_value result ≡ self.old.held }
+        ensures empty { self.new.held ≡ None }
+    {
+        match replace(self, Handle::empty(alloc)).into_raw() {
+            Some(raw) => Some(raw.into_box()),
+            None => None,
+        }
+    }
+
+    /// Returns the handle of this manager.
+    fn from_raw(raw: RawBox<Held, Global>) -> Handle
+        ensures { result.held ≡ Some raw.value }
+    {
+        let RawBox { at, alloc } = raw;
+        Handle {
+            at: at as *mut u8,
+            alloc,
+        }
+    }
+
+    /// Returns the manager of this handle, if there is one.
+    fn into_raw(self) -> Option<RawBox<Held, Global>>
+        ensures { option_map raw_value result ≡ self.held }
+    {
+        let Handle { at, alloc } = self;
+        if at.is_null() {
+            None
+        } else {
+            let at = at as *mut Held;
+            Some(RawBox { at, alloc })
+        }
+    }
+}

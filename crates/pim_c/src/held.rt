@@ -1,0 +1,107 @@
+//! What a handle leads to.
+
+ghost use Rattle.std.specs.Prelude.{◌≡◌, ◌↔◌, ◌<◌, ◌≤◌, [], IfOk, IsErrOf, length, map};
+ghost use Rattle.pim_base.specs.State.{start};
+ghost use Rattle.pim_base.specs.declared.limits.TheConstants.{MAX_MUTEXES, MAX_TASKS};
+ghost use Rattle.pim_manager.specs.Changed.{changed_task, noted_changes};
+ghost use Rattle.pim_c.specs.Answers.{IsAnswer};
+ghost use Rattle.pim_c.specs.Held.{stepped};
+ghost use Rattle.pim_c.specs.Shapes.{c_changed_task, copied};
+
+use crate::answer::CAnswer;
+use crate::changed_task::CChangedTask;
+use pim_base::{Prio, Protocol, Step};
+use pim_chain::Visits;
+use pim_manager::{MakeFault, Manager};
+use std::alloc::Global;
+use std::marker::Model;
+
+/// A manager, and the tasks that its last step changed.
+///
+/// These are noted while the step is made, and listed where C asks for them, right into its memory.
+#[derive(Drop)]
+pub struct Held {
+    manager: Manager,
+    visits: Visits,
+}
+
+impl Model for Held {
+    ghost use Rattle.std.specs.Prelude.{map, IsSome};
+    ghost use Rattle.pim_manager.specs.Changed.{changed_task, noted_changes};
+    ghost use Rattle.pim_c.specs.Held.{HeldView};
+
+    ghost Value = { HeldView };
+
+    ghost view = { λ h. record { manager = h.manager; changed = map (changed_task h.manager) (noted_changes h.manager h.visits) } };
+
+    ghost invariant = { λ h. IsSome h.visits.notes };
+}
+
+impl Held {
+    /// Returns a manager of tasks with these base priorities and of mutexes with these protocols, on the heap. No step
+    /// was made.
+    ///
+    /// # Errors
+    ///
+    /// Those of `Manager::new`.
+    pub fn new(
+        alloc: Global,
+        bases: &[Prio],
+        protocols: &[Protocol],
+    ) -> Result<Box<Held>, MakeFault>
+        ensures made { IfOk result (λ held. held.value ≡ record { manager = start bases.now protocols.now 1; changed = [] }) }
+        ensures tasks { IsErrOf result MakeFault.TooManyTasks ↔ (MAX_TASKS < length bases.now) }
+        ensures mutexes { IsErrOf result MakeFault.TooManyMutexes ↔ ((length bases.now ≤ MAX_TASKS) × (MAX_MUTEXES < length protocols.now)) }
+    {
+        let manager = Manager::new(alloc, bases, protocols)?;
+        let visits = Visits::with_notes(alloc)?;
+        match Box::new(alloc, Held { manager, visits }) {
+            Ok(held) => Ok(held),
+            Err(_) => Err(MakeFault::Memory),
+        }
+    }
+
+    /// Returns the manager.
+    pub fn manager(&self) -> &Manager
+        ensures { result.now ≡ self.now.manager }
+    {
+        &self.manager
+    }
+
+    /// Makes one step, and notes the tasks that it changes.
+    pub fn step(&mut self, step: Step) -> CAnswer
+        ensures answer { IsAnswer self.old.manager step result }
+        ensures state { self.new ≡ stepped self.old step }
+    {
+        let done = self.manager.step_with_notes(step, &mut self.visits);
+        CAnswer::of(done.reply, done.visits)
+    }
+
+    /// Copies the tasks that the last step changed, as far as there is room, and returns how many there are.
+    pub fn copy_changed(&self, to: &mut [CChangedTask]) -> usize
+        ensures count { result ≡ length self.now.changed }
+        ensures copied { to.new ≡ copied (map c_changed_task self.now.changed) to.old }
+    {
+        copy_noted(&self.manager, &self.visits, to)
+    }
+}
+
+/// Copies the tasks whose effective priority isn't the noted one, as far as there is room, and returns how many there
+/// are.
+fn copy_noted(manager: &Manager, visits: &Visits, to: &mut [CChangedTask]) -> usize
+    ensures count { result ≡ length (noted_changes manager.now visits.now) }
+    ensures copied { to.new ≡ copied (map c_changed_task (map (changed_task manager.now) (noted_changes manager.now visits.now))) to.old }
+{
+    // Its contract tells the proof how many tasks there are at most.
+    let _tasks = manager.tasks();
+    let mut count = 0;
+    for task in manager.changed(visits) {
+        if let Some(changed) = manager.changed_task(task) {
+            if count < to.len() {
+                to[count] = CChangedTask::of(changed);
+            }
+            count += 1;
+        }
+    }
+    count
+}

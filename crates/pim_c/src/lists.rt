@@ -1,0 +1,68 @@
+//! Lists that are copied into memory of the caller's.
+
+ghost use Rattle.std.specs.Prelude.{◌≡◌, length, map};
+ghost use Rattle.pim_c.specs.Shapes.{c_changed_task, c_waiter, copied};
+ghost use Rattle.pim_c.specs.Lists.{changed_in, waiters_in};
+
+use crate::changed_task::CChangedTask;
+use crate::handle::Handle;
+use crate::waiter::CWaiter;
+use pim_base::{MutexNo, Waiter};
+use std::alloc::Global;
+
+/// Copies those who wait for the mutex, the next owner first, as far as there is room, and returns how many wait; 0 for
+/// an unknown mutex.
+#[unsafe(no_mangle)]
+pub extern "C" fn pim_waiters(
+    alloc: Global,
+    handle: &mut Handle,
+    mutex: u16,
+    to: &mut [CWaiter],
+) -> usize
+    ensures count { result ≡ length (waiters_in handle.old.held mutex) }
+    ensures copied { to.new ≡ copied (map c_waiter (waiters_in handle.old.held mutex)) to.old }
+    ensures same { handle.new.held ≡ handle.old.held }
+{
+    match handle.take(alloc) {
+        None => 0,
+        Some(held) => {
+            let count = match held.manager().waiters(MutexNo(mutex)) {
+                Some(waiters) => copy_waiters(waiters, to),
+                None => 0,
+            };
+            handle.put(held);
+            count
+        }
+    }
+}
+
+/// Copies the tasks whose effective priority the last step changed, in ascending order, as far as there is room, and
+/// returns how many there are.
+#[unsafe(no_mangle)]
+pub extern "C" fn pim_changed(alloc: Global, handle: &mut Handle, to: &mut [CChangedTask]) -> usize
+    ensures count { result ≡ length (changed_in handle.old.held) }
+    ensures copied { to.new ≡ copied (map c_changed_task (changed_in handle.old.held)) to.old }
+    ensures same { handle.new.held ≡ handle.old.held }
+{
+    match handle.take(alloc) {
+        None => 0,
+        Some(held) => {
+            let count = held.copy_changed(to);
+            handle.put(held);
+            count
+        }
+    }
+}
+
+/// Copies the waiters as far as there is room, and returns how many there are.
+fn copy_waiters(from: &[Waiter], to: &mut [CWaiter]) -> usize
+    ensures count { result ≡ length from.now }
+    ensures copied { to.new ≡ copied (map c_waiter from.now) to.old }
+{
+    let room = to.len();
+    let count = if from.len() < room { from.len() } else { room };
+    for place in 0..count {
+        to[place] = CWaiter::of(from[place]);
+    }
+    from.len()
+}

@@ -1,0 +1,135 @@
+//! How a manager is made and dropped.
+
+ghost use Rattle.std.specs.Prelude.{◌≡◌, ◌≢◌, true, IfOk};
+ghost use Rattle.std.specs.List.{list_all};
+ghost use Rattle.pim_c.specs.Numbers.{is_priority, priority_meant};
+ghost use Rattle.pim_c.specs.Making.{first_fault, is_protocol, made, priorities_meant, protocols_meant};
+
+use crate::handle::Handle;
+use crate::held::Held;
+use crate::numbers::{
+    BAD_BASE, BAD_PROTOCOL, MADE, NO_MEMORY, OCCUPIED, TOO_MANY_MUTEXES, TOO_MANY_TASKS,
+};
+use crate::protocol::CProtocol;
+use pim_base::{MAX_MUTEXES, MAX_TASKS, Prio, Protocol};
+use std::alloc::{AllocError, Global};
+
+/// Makes a manager of tasks with these base priorities and of mutexes with these protocols. All mutexes are free, nobody
+/// waits, and the next ticket is 1. Returns `MADE`, or the first fault, and then the handle is as it was: `OCCUPIED` has
+/// a manager already, `TOO_MANY_TASKS` and `TOO_MANY_MUTEXES` are more than 256, `BAD_BASE` isn't 1 to 99,
+/// `BAD_PROTOCOL` means none, `NO_MEMORY` is out of memory.
+#[unsafe(no_mangle)]
+pub extern "C" fn pim_make(
+    alloc: Global,
+    handle: &mut Handle,
+    bases: &[u16],
+    protocols: &[CProtocol],
+) -> u32
+    ensures fault { first_fault handle.old.held bases.now protocols.now ≢ MADE → result ≡ first_fault handle.old.held bases.now protocols.now }
+    ensures no_fault { first_fault handle.old.held bases.now protocols.now ≡ MADE → result ≢ MADE → result ≡ NO_MEMORY }
+    ensures made { result ≡ MADE → handle.new.held ≡ Some (made bases.now protocols.now) }
+    ensures unmade { result ≢ MADE → handle.new.held ≡ handle.old.held }
+{
+    if let Some(held) = handle.take(alloc) {
+        handle.put(held);
+        return OCCUPIED;
+    }
+    if MAX_TASKS < bases.len() {
+        return TOO_MANY_TASKS;
+    }
+    if MAX_MUTEXES < protocols.len() {
+        return TOO_MANY_MUTEXES;
+    }
+    if !are_priorities(bases) {
+        return BAD_BASE;
+    }
+    if !are_protocols(protocols) {
+        return BAD_PROTOCOL;
+    }
+    match hold(alloc, bases, protocols) {
+        Ok(held) => {
+            handle.put(held);
+            MADE
+        }
+        Err(_) => NO_MEMORY,
+    }
+}
+
+/// Drops the manager, if there is one, and gives its memory back.
+#[unsafe(no_mangle)]
+pub extern "C" fn pim_drop(alloc: Global, handle: &mut Handle)
+    ensures { handle.new.held ≡ None }
+{
+    drop(handle.take(alloc));
+}
+
+/// Returns whether each is a priority.
+fn are_priorities(bases: &[u16]) -> bool
+    ensures { result ≡ list_all is_priority bases.now }
+{
+    bases.iter().all(|base| 1 <= *base && *base <= 99)
+}
+
+/// Returns whether each means a protocol.
+fn are_protocols(protocols: &[CProtocol]) -> bool
+    ensures { result ≡ list_all is_protocol protocols.now }
+{
+    protocols.iter().all(|protocol| protocol.read().is_some())
+}
+
+/// Returns a manager of these.
+///
+/// # Errors
+///
+/// Returns `AllocError` if out of memory, or where there are more tasks or mutexes than a manager has.
+#[tactic(auto, using(crate::proofs::Priorities::priorities_meant_of_priorities))]
+fn hold(
+    alloc: Global,
+    bases: &[u16],
+    protocols: &[CProtocol],
+) -> Result<Box<Held, Global>, AllocError>
+    requires { list_all is_priority bases.now ≡ true }
+    ensures { IfOk result (λ held. held.value ≡ made bases.now protocols.now) }
+{
+    let bases = read_bases(alloc, bases)?;
+    let protocols = read_protocols(alloc, protocols)?;
+    match Held::new(alloc, &bases, &protocols) {
+        Ok(held) => Ok(held),
+        Err(_) => Err(AllocError),
+    }
+}
+
+/// Returns the priorities that are meant.
+///
+/// # Errors
+///
+/// Returns `AllocError` if out of memory.
+fn read_bases(alloc: Global, bases: &[u16]) -> Result<Vec<Prio>, AllocError>
+    ensures { IfOk result (λ prios. prios.items ≡ priorities_meant bases.now) }
+{
+    bases
+        .iter()
+        .filter_map(|base| read_base(*base))
+        .collect(alloc)
+}
+
+/// Returns the priority that is meant, if one is.
+fn read_base(level: u16) -> Option<Prio>
+    ensures { result ≡ priority_meant level }
+{
+    Prio::new(level)
+}
+
+/// Returns the protocols that are meant.
+///
+/// # Errors
+///
+/// Returns `AllocError` if out of memory.
+fn read_protocols(alloc: Global, protocols: &[CProtocol]) -> Result<Vec<Protocol>, AllocError>
+    ensures { IfOk result (λ read. read.items ≡ protocols_meant protocols.now) }
+{
+    protocols
+        .iter()
+        .filter_map(|protocol| protocol.read())
+        .collect(alloc)
+}

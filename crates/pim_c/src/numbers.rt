@@ -1,0 +1,122 @@
+//! The numbers by which C knows protocols, replies, refusals, reasons and faults: one table each. A later version adds
+//! numbers at the end of a table, and changes none. `c/pim.h` has the same names with `PIM_` before them.
+
+ghost use Rattle.std.specs.Prelude.{◌≡◌};
+ghost use Rattle.pim_c.specs.Numbers.{reply_number};
+ghost use Rattle.pim_base.specs.Reports.{refusal_number};
+
+use pim_base::{Refusal, Reply};
+
+// ---- protocols of mutexes
+
+pub const NONE: u16 = 0;
+
+pub const INHERIT: u16 = 1;
+
+pub const PROTECT: u16 = 2;
+
+// ---- what a step is answered
+
+pub const NO_MANAGER: u8 = 0;
+
+pub const GRANTED: u8 = 1;
+
+pub const QUEUED: u8 = 2;
+
+pub const FREED: u8 = 3;
+
+pub const HANDED: u8 = 4;
+
+pub const RELEASED: u8 = 5;
+
+pub const WITHDRAWN: u8 = 6;
+
+pub const SET: u8 = 7;
+
+pub const REFUSED: u8 = 8;
+
+// ---- why a step is refused, 0 where it isn't
+
+pub const NO_TASK: u8 = 1;
+
+pub const WAITING: u8 = 2;
+
+pub const NO_MUTEX: u8 = 3;
+
+pub const DEADLOCK: u8 = 4;
+
+pub const CEILING: u8 = 5;
+
+pub const BUSY: u8 = 6;
+
+pub const NOT_OWNER: u8 = 7;
+
+pub const NOT_WAITING: u8 = 8;
+
+pub const PRIORITY: u8 = 9;
+
+pub const TICKETS: u8 = 10;
+
+// ---- why a task has its effective priority
+
+pub const OF_NOTHING: u16 = 0;
+
+pub const OF_BASE: u16 = 1;
+
+pub const OF_CEILING: u16 = 2;
+
+pub const OF_WAITER: u16 = 3;
+
+// ---- what making a manager is answered
+
+pub const MADE: u32 = 0;
+
+pub const OCCUPIED: u32 = 1;
+
+pub const TOO_MANY_TASKS: u32 = 2;
+
+pub const TOO_MANY_MUTEXES: u32 = 3;
+
+pub const BAD_BASE: u32 = 4;
+
+pub const BAD_PROTOCOL: u32 = 5;
+
+pub const NO_MEMORY: u32 = 6;
+
+/// What stands for the owner of an unknown mutex, for what an unknown task waits for, and for the protocol of an
+/// unknown mutex.
+pub const UNKNOWN: u16 = 65535;
+
+/// Returns the number of the reply.
+pub fn number_of_reply(reply: Reply) -> u8
+    ensures { result ≡ reply_number reply }
+{
+    match reply {
+        Reply::Granted => GRANTED,
+        Reply::Queued => QUEUED,
+        Reply::Freed => FREED,
+        Reply::Handed(_) => HANDED,
+        Reply::Released(_) => RELEASED,
+        Reply::Withdrawn => WITHDRAWN,
+        Reply::Set => SET,
+        Reply::Refused(_) => REFUSED,
+    }
+}
+
+/// Returns the number of the refusal.
+pub fn number_of_refusal(refusal: Refusal) -> u8
+    ensures { result ≡ refusal_number refusal }
+{
+    match refusal {
+        Refusal::NoTask => NO_TASK,
+        Refusal::Waiting => WAITING,
+        Refusal::NoMutex => NO_MUTEX,
+        Refusal::Deadlock => DEADLOCK,
+        Refusal::Ceiling => CEILING,
+        Refusal::Busy => BUSY,
+        Refusal::NotOwner => NOT_OWNER,
+        Refusal::NotWaiting => NOT_WAITING,
+        Refusal::Priority => PRIORITY,
+        Refusal::Tickets => TICKETS,
+    }
+}

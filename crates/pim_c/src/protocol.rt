@@ -1,0 +1,64 @@
+//! The protocol of a mutex.
+
+ghost use Rattle.std.specs.Prelude.{◌≡◌};
+ghost use Rattle.pim_c.specs.Shapes.{c_protocol, no_protocol, protocol_meant};
+
+use crate::numbers::{INHERIT, NONE, PROTECT, UNKNOWN};
+use pim_base::{Prio, Protocol};
+
+/// The protocol of a mutex, in C.
+#[repr(C)]
+#[derive(Clone, Copy, Debug, PartialEq, Eq)]
+pub struct CProtocol {
+    /// The number of the protocol.
+    pub kind: u16,
+    /// The ceiling of a PROTECT mutex; that of the others isn't read.
+    pub ceiling: u16,
+}
+
+impl CProtocol {
+    /// Returns the protocol of an unknown mutex.
+    pub fn none() -> CProtocol
+        ensures { result ≡ no_protocol }
+    {
+        CProtocol {
+            kind: UNKNOWN,
+            ceiling: 0,
+        }
+    }
+
+    /// Returns this protocol.
+    pub fn of(protocol: Protocol) -> CProtocol
+        ensures { result ≡ c_protocol protocol }
+    {
+        match protocol {
+            Protocol::None => CProtocol {
+                kind: NONE,
+                ceiling: 0,
+            },
+            Protocol::Inherit => CProtocol {
+                kind: INHERIT,
+                ceiling: 0,
+            },
+            Protocol::Protect(ceiling) => CProtocol {
+                kind: PROTECT,
+                ceiling: ceiling.get(),
+            },
+        }
+    }
+
+    /// Returns the protocol that is meant, None where the kind is unknown or the ceiling isn't a priority.
+    pub fn read(self) -> Option<Protocol>
+        ensures { result ≡ protocol_meant self }
+    {
+        if self.kind == NONE {
+            Some(Protocol::None)
+        } else if self.kind == INHERIT {
+            Some(Protocol::Inherit)
+        } else if self.kind == PROTECT {
+            Some(Protocol::Protect(Prio::new(self.ceiling)?))
+        } else {
+            None
+        }
+    }
+}

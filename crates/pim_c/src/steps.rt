@@ -1,0 +1,89 @@
+//! The steps.
+
+ghost use Rattle.std.specs.Prelude.{◌≡◌};
+ghost use Rattle.pim_c.specs.Held.{after_step};
+ghost use Rattle.pim_c.specs.Answers.{IsAnswered};
+
+use crate::answer::CAnswer;
+use crate::handle::Handle;
+use pim_base::{MutexNo, Op, Step, TaskNo};
+use std::alloc::Global;
+
+/// `pthread_mutex_lock`: the task owns the mutex if it is free, else waits for it.
+#[unsafe(no_mangle)]
+pub extern "C" fn pim_lock(alloc: Global, handle: &mut Handle, task: u16, mutex: u16) -> CAnswer
+    ensures answer { IsAnswered handle.old.held (record { actor = task; op = Op.Lock mutex }) result }
+    ensures state { handle.new.held ≡ after_step handle.old.held (record { actor = task; op = Op.Lock mutex }) }
+{
+    make_step(alloc, handle, task, Op::Lock(MutexNo(mutex)))
+}
+
+/// `pthread_mutex_trylock`: the task owns the mutex if it is free, else is refused.
+#[unsafe(no_mangle)]
+pub extern "C" fn pim_try(alloc: Global, handle: &mut Handle, task: u16, mutex: u16) -> CAnswer
+    ensures answer { IsAnswered handle.old.held (record { actor = task; op = Op.Try mutex }) result }
+    ensures state { handle.new.held ≡ after_step handle.old.held (record { actor = task; op = Op.Try mutex }) }
+{
+    make_step(alloc, handle, task, Op::Try(MutexNo(mutex)))
+}
+
+/// `pthread_mutex_unlock`: the mutex goes to the first of its queue, or is free.
+#[unsafe(no_mangle)]
+pub extern "C" fn pim_unlock(alloc: Global, handle: &mut Handle, task: u16, mutex: u16) -> CAnswer
+    ensures answer { IsAnswered handle.old.held (record { actor = task; op = Op.Unlock mutex }) result }
+    ensures state { handle.new.held ≡ after_step handle.old.held (record { actor = task; op = Op.Unlock mutex }) }
+{
+    make_step(alloc, handle, task, Op::Unlock(MutexNo(mutex)))
+}
+
+/// Unlocks all mutexes of the task, in ascending order.
+#[unsafe(no_mangle)]
+pub extern "C" fn pim_release_all(alloc: Global, handle: &mut Handle, task: u16) -> CAnswer
+    ensures answer { IsAnswered handle.old.held (record { actor = task; op = Op.ReleaseAll }) result }
+    ensures state { handle.new.held ≡ after_step handle.old.held (record { actor = task; op = Op.ReleaseAll }) }
+{
+    make_step(alloc, handle, task, Op::ReleaseAll)
+}
+
+/// Withdraws the target, which waits, from its queue, as the task asks.
+#[unsafe(no_mangle)]
+pub extern "C" fn pim_cancel(alloc: Global, handle: &mut Handle, task: u16, target: u16) -> CAnswer
+    ensures answer { IsAnswered handle.old.held (record { actor = task; op = Op.Cancel target }) result }
+    ensures state { handle.new.held ≡ after_step handle.old.held (record { actor = task; op = Op.Cancel target }) }
+{
+    make_step(alloc, handle, task, Op::Cancel(TaskNo(target)))
+}
+
+/// `pthread_setschedprio`: sets the base priority of the target to this level, as the task asks.
+#[unsafe(no_mangle)]
+pub extern "C" fn pim_set_base(
+    alloc: Global,
+    handle: &mut Handle,
+    task: u16,
+    target: u16,
+    level: u16,
+) -> CAnswer
+    ensures answer { IsAnswered handle.old.held (record { actor = task; op = Op.SetBase target level }) result }
+    ensures state { handle.new.held ≡ after_step handle.old.held (record { actor = task; op = Op.SetBase target level }) }
+{
+    make_step(alloc, handle, task, Op::SetBase(TaskNo(target), level))
+}
+
+/// Makes the step, if there is a manager.
+fn make_step(alloc: Global, handle: &mut Handle, task: u16, op: Op) -> CAnswer
+    ensures answer { IsAnswered handle.old.held (record { actor = task; op = op }) result }
+    ensures state { handle.new.held ≡ after_step handle.old.held (record { actor = task; op = op }) }
+{
+    match handle.take(alloc) {
+        None => CAnswer::none(),
+        Some(mut held) => {
+            let step = Step {
+                actor: TaskNo(task),
+                op,
+            };
+            let answer = held.step(step);
+            handle.put(held);
+            answer
+        }
+    }
+}

@@ -1,0 +1,274 @@
+//! Each function, as C calls it.
+
+use crate::answer::CAnswer;
+use crate::changed_task::CChangedTask;
+use crate::getters::{
+    pim_base_prio, pim_effective_prio, pim_mutex_count, pim_mutex_protocol, pim_next_ticket,
+    pim_owner, pim_task_count, pim_task_reason, pim_waits_for,
+};
+use crate::handle::Handle;
+use crate::lists::{pim_changed, pim_waiters};
+use crate::making::{pim_drop, pim_make};
+use crate::numbers::{
+    BAD_BASE, BAD_PROTOCOL, CEILING, FREED, GRANTED, HANDED, INHERIT, MADE, NO_MANAGER, NO_MEMORY,
+    NONE, NOT_OWNER, OCCUPIED, OF_BASE, OF_CEILING, OF_NOTHING, OF_WAITER, PROTECT, QUEUED,
+    REFUSED, RELEASED, SET, TOO_MANY_MUTEXES, TOO_MANY_TASKS, UNKNOWN, WITHDRAWN,
+};
+use crate::protocol::CProtocol;
+use crate::reason::CReason;
+use crate::steps::{pim_cancel, pim_lock, pim_release_all, pim_set_base, pim_try, pim_unlock};
+use crate::waiter::CWaiter;
+use std::alloc::Global;
+use std::test::Fail;
+
+const AN_INHERIT_MUTEX: CProtocol = CProtocol {
+    kind: INHERIT,
+    ceiling: 0,
+};
+
+const CEILING_60: CProtocol = CProtocol {
+    kind: PROTECT,
+    ceiling: 60,
+};
+
+const NO_REASON: CReason = CReason {
+    kind: OF_NOTHING,
+    task: 0,
+    mutex: 0,
+};
+
+const NO_CHANGED_TASK: CChangedTask = CChangedTask {
+    task: 0,
+    prio: 0,
+    reason: NO_REASON,
+};
+
+const NO_WAITER: CWaiter = CWaiter {
+    task: 0,
+    prio: 0,
+    ticket: 0,
+};
+
+// low 10, medium 50 and high 90, an INHERIT mutex and one with ceiling 60; MADE or NO_MEMORY
+fn make(alloc: Global, handle: &mut Handle) -> u32 {
+    pim_make(
+        alloc,
+        handle,
+        &[10, 50, 90],
+        &[AN_INHERIT_MUTEX, CEILING_60],
+    )
+}
+
+fn says(answer: CAnswer, kind: u8, refusal: u8, number: u16) -> bool {
+    answer.kind == kind && answer.refusal == refusal && answer.number == number
+}
+
+#[test]
+fn owner_is_boosted_until_it_unlocks(rt: HostRuntime) -> Result<(), Fail> {
+    let alloc = rt.alloc();
+    let mut handle = Handle::empty(alloc);
+    let h = &mut handle;
+    assert_eq!(rt; make(alloc, h), MADE);
+    assert_eq!(rt;
+        (pim_task_count(alloc, h), pim_mutex_count(alloc, h)),
+        (3, 2)
+    );
+    assert_eq!(rt; pim_next_ticket(alloc, h), 1);
+    assert!(rt; says(pim_lock(alloc, h, 1, 1), GRANTED, 0, 0));
+    assert_eq!(rt; pim_changed(alloc, h, &mut []), 0);
+    assert!(rt; says(pim_lock(alloc, h, 3, 1), QUEUED, 0, 0));
+    assert_eq!(rt; pim_next_ticket(alloc, h), 2);
+    assert_eq!(rt;
+        (pim_effective_prio(alloc, h, 1), pim_base_prio(alloc, h, 1)),
+        (90, 10)
+    );
+    assert!(rt; says(pim_unlock(alloc, h, 1, 1), HANDED, 0, 3));
+    assert_eq!(rt; pim_effective_prio(alloc, h, 1), 10);
+    assert!(rt; says(pim_unlock(alloc, h, 3, 1), FREED, 0, 0));
+    pim_drop(alloc, h);
+    Ok(())
+}
+
+#[test]
+fn boosted_owner_is_listed_with_its_reason(rt: HostRuntime) -> Result<(), Fail> {
+    let alloc = rt.alloc();
+    let mut handle = Handle::empty(alloc);
+    let h = &mut handle;
+    let why = CReason {
+        kind: OF_WAITER,
+        task: 3,
+        mutex: 1,
+    };
+    let mut changed = [NO_CHANGED_TASK; 2];
+    assert_eq!(rt; make(alloc, h), MADE);
+    assert_eq!(rt; pim_changed(alloc, h, &mut changed), 0);
+    pim_lock(alloc, h, 1, 1);
+    pim_lock(alloc, h, 3, 1);
+    assert_eq!(rt; pim_changed(alloc, h, &mut []), 1);
+    assert_eq!(rt; pim_changed(alloc, h, &mut changed), 1);
+    assert_eq!(rt; (changed[0].task, changed[0].prio), (1, 90));
+    assert_eq!(rt; changed[0].reason, why);
+    assert_eq!(rt; changed[1], NO_CHANGED_TASK);
+    assert_eq!(rt; pim_task_reason(alloc, h, 1), why);
+    pim_drop(alloc, h);
+    Ok(())
+}
+
+#[test]
+fn waiters_are_copied_as_far_as_there_is_room(rt: HostRuntime) -> Result<(), Fail> {
+    let alloc = rt.alloc();
+    let mut handle = Handle::empty(alloc);
+    let h = &mut handle;
+    let mut waiters = [NO_WAITER; 3];
+    assert_eq!(rt; make(alloc, h), MADE);
+    pim_lock(alloc, h, 1, 1);
+    pim_lock(alloc, h, 2, 1);
+    pim_lock(alloc, h, 3, 1);
+    assert_eq!(rt; pim_waiters(alloc, h, 1, &mut waiters[..1]), 2);
+    assert_eq!(rt;
+        (waiters[0].task, waiters[0].prio, waiters[0].ticket),
+        (3, 90, 2)
+    );
+    assert_eq!(rt; waiters[1], NO_WAITER);
+    assert_eq!(rt; pim_waiters(alloc, h, 1, &mut waiters), 2);
+    assert_eq!(rt;
+        (waiters[1].task, waiters[1].prio, waiters[1].ticket),
+        (2, 50, 1)
+    );
+    assert_eq!(rt; waiters[2], NO_WAITER);
+    assert_eq!(rt; pim_waiters(alloc, h, 3, &mut waiters), 0);
+    pim_drop(alloc, h);
+    Ok(())
+}
+
+#[test]
+fn owner_of_a_protect_mutex_has_its_ceiling(rt: HostRuntime) -> Result<(), Fail> {
+    let alloc = rt.alloc();
+    let mut handle = Handle::empty(alloc);
+    let h = &mut handle;
+    assert_eq!(rt; make(alloc, h), MADE);
+    assert!(rt; says(pim_try(alloc, h, 2, 2), GRANTED, 0, 0));
+    assert_eq!(rt; pim_effective_prio(alloc, h, 2), 60);
+    let why = pim_task_reason(alloc, h, 2);
+    assert_eq!(rt; (why.kind, why.task, why.mutex), (OF_CEILING, 0, 2));
+    assert_eq!(rt; pim_task_reason(alloc, h, 1).kind, OF_BASE);
+    assert!(rt; says(pim_try(alloc, h, 3, 2), REFUSED, CEILING, 0));
+    assert!(rt; says(pim_unlock(alloc, h, 3, 2), REFUSED, NOT_OWNER, 0));
+    pim_drop(alloc, h);
+    Ok(())
+}
+
+#[test]
+fn wait_is_withdrawn_and_base_is_set(rt: HostRuntime) -> Result<(), Fail> {
+    let alloc = rt.alloc();
+    let mut handle = Handle::empty(alloc);
+    let h = &mut handle;
+    assert_eq!(rt; make(alloc, h), MADE);
+    pim_lock(alloc, h, 2, 1);
+    pim_lock(alloc, h, 2, 2);
+    pim_lock(alloc, h, 1, 1);
+    assert_eq!(rt; pim_waits_for(alloc, h, 1), 1);
+    assert!(rt; says(pim_cancel(alloc, h, 3, 1), WITHDRAWN, 0, 0));
+    assert_eq!(rt; pim_waits_for(alloc, h, 1), 0);
+    assert!(rt; says(pim_set_base(alloc, h, 3, 1, 99), SET, 0, 0));
+    assert_eq!(rt; pim_base_prio(alloc, h, 1), 99);
+    assert!(rt; says(pim_release_all(alloc, h, 2), RELEASED, 0, 2));
+    pim_drop(alloc, h);
+    Ok(())
+}
+
+#[test]
+fn getters_tell_what_is_unknown(rt: HostRuntime) -> Result<(), Fail> {
+    let alloc = rt.alloc();
+    let mut handle = Handle::empty(alloc);
+    let h = &mut handle;
+    assert_eq!(rt; make(alloc, h), MADE);
+    pim_lock(alloc, h, 1, 1);
+    assert_eq!(rt; (pim_owner(alloc, h, 1), pim_owner(alloc, h, 2)), (1, 0));
+    assert_eq!(rt;
+        (pim_owner(alloc, h, 3), pim_waits_for(alloc, h, 4)),
+        (UNKNOWN, UNKNOWN)
+    );
+    assert_eq!(rt;
+        (pim_effective_prio(alloc, h, 0), pim_base_prio(alloc, h, 4)),
+        (0, 0)
+    );
+    assert_eq!(rt; pim_task_reason(alloc, h, 4), NO_REASON);
+    assert_eq!(rt; pim_mutex_protocol(alloc, h, 1), AN_INHERIT_MUTEX);
+    assert_eq!(rt; pim_mutex_protocol(alloc, h, 2), CEILING_60);
+    assert_eq!(rt; pim_mutex_protocol(alloc, h, 3).kind, UNKNOWN);
+    pim_drop(alloc, h);
+    Ok(())
+}
+
+#[test]
+fn faults_are_told_in_their_order(rt: HostRuntime) -> Result<(), Fail> {
+    let alloc = rt.alloc();
+    let mut handle = Handle::empty(alloc);
+    let h = &mut handle;
+    let tasks = [1; 257];
+    let mutexes = [AN_INHERIT_MUTEX; 257];
+    let unknown = CProtocol {
+        kind: 3,
+        ceiling: 1,
+    };
+    let too_high = CProtocol {
+        kind: PROTECT,
+        ceiling: 100,
+    };
+    assert_eq!(rt; pim_make(alloc, h, &tasks, &mutexes), TOO_MANY_TASKS);
+    assert_eq!(rt; pim_make(alloc, h, &[0], &mutexes), TOO_MANY_MUTEXES);
+    assert_eq!(rt; pim_make(alloc, h, &[1, 0], &[unknown]), BAD_BASE);
+    assert_eq!(rt; pim_make(alloc, h, &[1, 100], &[]), BAD_BASE);
+    assert_eq!(rt; pim_make(alloc, h, &[1, 99], &[unknown]), BAD_PROTOCOL);
+    assert_eq!(rt; pim_make(alloc, h, &[1, 99], &[too_high]), BAD_PROTOCOL);
+    assert_eq!(rt; pim_make(alloc, h, &tasks[..256], &mutexes[..256]), MADE);
+    assert_eq!(rt; pim_make(alloc, h, &[0], &[]), OCCUPIED);
+    assert_eq!(rt; pim_task_count(alloc, h), 256);
+    pim_drop(alloc, h);
+    Ok(())
+}
+
+#[test]
+fn protocols_that_C_means_are_the_managers(rt: HostRuntime) -> Result<(), Fail> {
+    let alloc = rt.alloc();
+    let mut handle = Handle::empty(alloc);
+    let h = &mut handle;
+    let a_none_mutex = CProtocol {
+        kind: NONE,
+        ceiling: 7,
+    };
+    assert_eq!(rt; pim_make(alloc, h, &[5], &[a_none_mutex, CEILING_60]), MADE);
+    let shown = pim_mutex_protocol(alloc, h, 1);
+    assert_eq!(rt; (shown.kind, shown.ceiling), (NONE, 0));
+    assert_eq!(rt; pim_mutex_protocol(alloc, h, 2), CEILING_60);
+    pim_drop(alloc, h);
+    Ok(())
+}
+
+#[test]
+fn handle_without_a_manager_answers_so(rt: HostRuntime) -> Result<(), Fail> {
+    let alloc = rt.alloc();
+    let mut handle = Handle::empty(alloc);
+    let h = &mut handle;
+    assert!(rt; says(pim_lock(alloc, h, 1, 1), NO_MANAGER, 0, 0));
+    assert_eq!(rt;
+        (pim_task_count(alloc, h), pim_effective_prio(alloc, h, 1)),
+        (0, 0)
+    );
+    assert_eq!(rt; pim_owner(alloc, h, 1), UNKNOWN);
+    assert_eq!(rt; pim_changed(alloc, h, &mut [NO_CHANGED_TASK]), 0);
+    pim_drop(alloc, h);
+    assert_eq!(rt; make(alloc, h), MADE);
+    pim_drop(alloc, h);
+    assert!(rt; says(pim_lock(alloc, h, 1, 1), NO_MANAGER, 0, 0));
+    Ok(())
+}
+
+#[test]
+fn handle_that_goes_out_of_scope_gives_its_memory_back(rt: HostRuntime) -> Result<(), Fail> {
+    let alloc = rt.alloc();
+    let mut handle = Handle::empty(alloc);
+    assert!(rt; make(alloc, &mut handle) != NO_MEMORY);
+    Ok(())
+}

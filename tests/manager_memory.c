@@ -1,0 +1,28 @@
+/* Makes managers of many sizes in just the memory that PIM_MEMORY tells. Prints how many, or the
+ * first that doesn't fit. */
+#include "heap/given.h"
+#include "pim.h"
+
+#include <stdio.h>
+
+static _Alignas(16) unsigned char memory[PIM_MEMORY(256, 256)];
+
+int main(void) {
+    static uint16_t bases[PIM_MAX_TASKS];
+    static struct pim_protocol protocols[PIM_MAX_MUTEXES];
+    unsigned count = 0;
+    for (unsigned t = 0; t < PIM_MAX_TASKS; t++) bases[t] = 1;
+    for (unsigned n = 0; n <= PIM_MAX_TASKS; n++)
+        for (unsigned m = 0; m <= PIM_MAX_MUTEXES; m += n < 70 || m < 20 || m > 240 ? 1 : 17) {
+            struct pim_handle h = PIM_HANDLE_INIT;
+            pim_heap_give(memory, PIM_MEMORY(n, m));
+            if (pim_make(&h, bases, n, protocols, m) != PIM_MADE) {
+                printf("%u tasks and %u mutexes need more than %u bytes\n", n, m, PIM_MEMORY(n, m));
+                return 1;
+            }
+            pim_drop(&h);
+            count++;
+        }
+    printf("%u managers; of 3 tasks and 3 mutexes at most %u bytes\n", count, PIM_MEMORY(3, 3));
+    return PIM_MEMORY(3, 3) <= 2048 ? 0 : 1;
+}
