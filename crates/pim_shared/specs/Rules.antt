@@ -26,11 +26,11 @@ pub record Keeps (v : Version) (all : List Known) : Type 0 where
 abbrev pub unseen : Option State → Known
 unseen start = record { start = start; seen = [] }
 
--- who comes knows nothing yet
+-- a newcomer knows nothing yet
 abbrev pub newcomer : Known
 newcomer = unseen None
 
--- who is told the start keeps what it has seen
+-- one that learns the start keeps what it has seen
 abbrev pub told : Known → Known → Known
 told k teller = record { start = teller.start; seen = k.seen }
 

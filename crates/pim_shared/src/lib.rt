@@ -3,8 +3,8 @@
 //! [`Shared`] has a manager behind one lock. A call makes one step, logs it with its reply and publishes it. What is
 //! behind the lock, a [`Book`], keeps by its type that the log is a run of the model from the start to the manager as it
 //! is now, and that it is what was published. [`Shared::finish`] gives the manager and the [`Log`]. A [`Looker`] takes
-//! what was published last: it waits for nobody, never goes back, and shows the model's priority and reason after a list
-//! of entries that really was published. [`Shared::call_with`] lets the caller's looker see the call that it makes.
+//! what was published last: it never waits and never goes back, and shows the model's priority and reason after a list of
+//! entries that really was published. [`Shared::call_with`] lets the caller's looker see the call that it makes.
 //!
 //! ```text
 //! let (shared, mut lookers) = Shared::new(&rt, alloc, manager, 200, 1)?; // room for 200 entries, one looker

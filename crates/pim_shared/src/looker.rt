@@ -1,4 +1,4 @@
-//! A reader of the manager that waits for nobody.
+//! A reader of the manager that never waits.
 
 ghost use Rattle.std.specs.Prelude.{◌≡◌, [], IsTrue, IfOk, IfErr, MatchOption};
 ghost use mathlib.Core.List.{IsPrefix};
@@ -24,7 +24,7 @@ pub struct Seen {
     pub reason: Reason,
 }
 
-/// A reader of the manager, which waits for nobody and takes no lock.
+/// A reader of the manager, which never waits and takes no lock.
 ///
 /// Its value in contracts is the state at the start and the list of entries that it has seen, at first none. Each look
 /// sees a list that was published and begins with the one seen before, so no look goes back.
@@ -58,7 +58,7 @@ impl Looker {
     /// Returns the effective priority of the task, the reason, and after how many entries: all by the definitions, after
     /// the list that was published last. None for an unknown task.
     ///
-    /// It waits for nobody, takes no lock and no memory. It costs a few atomic steps and what `Manager::reason` costs.
+    /// It never waits, and takes no lock and no memory. It costs a few atomic steps and what `Manager::reason` costs.
     ///
     /// # Errors
     ///

@@ -72,8 +72,8 @@ impl Shared {
 
     /// Makes one step under the lock by `Book::call`, and returns its reply.
     ///
-    /// It waits for the calls of other threads, and for lookers that still read the version before the last one. What it did
-    /// to the book behind the lock no contract can say; tests show it.
+    /// It waits for the calls of other threads, and for lookers that still read the version before the last one. No contract
+    /// can say what it did to the book behind the lock, since other threads may have changed it since; tests show that.
     ///
     /// # Errors
     ///
