@@ -1,2 +1,7 @@
 pub mod Logs
 pub mod Outcomes
+pub mod Versions
+pub mod Rules
+pub mod Lookers
+pub mod Publishers
+pub mod Books

@@ -1,0 +1,155 @@
+//! What is kept behind the lock.
+
+ghost use Rattle.std.specs.Prelude.{◌≡◌, ◌≤◌, [], false, length};
+ghost use Rattle.std.specs.Vec.{vec_capacity};
+ghost use Rattle.pim_base.specs.Runs.{IsRun};
+ghost use Rattle.pim_base.specs.Steady.{IsSteady};
+ghost use Rattle.pim_shared.specs.Books.{IsCall, settled_of};
+ghost use Rattle.pim_shared.specs.Publishers.{unpublished};
+
+use crate::fault::SharedFault;
+use crate::gate::Settled;
+use crate::log::Log;
+use crate::publisher::Publisher;
+use pim_base::{Entry, MutexNo, Reply, Step, TaskNo};
+use pim_manager::Manager;
+use std::marker::Model;
+use std::sync::Wait;
+
+/// A manager with its log, as it is whenever the lock is free.
+///
+/// Its value in contracts is the state at the start and now, the entries between, the room for them and whether all
+/// further calls are refused. The type keeps that the entries are a run of the model from the start to the state now, that
+/// there are at most as many as there is room for, and that they are the published list. By the type of the manager, no
+/// cycle of waits stands, each queue is in order, and each priority in force is the effective one.
+pub struct Book {
+    start: Manager,
+    manager: Manager,
+    entries: Vec<Entry>,
+    room: usize,
+    closed: bool,
+    publisher: Publisher,
+}
+
+impl Model for Book {
+    ghost use Rattle.std.specs.Vec.{vec_capacity};
+    ghost use Rattle.pim_shared.specs.Books.{BookState, IsBook};
+
+    ghost Value = { BookState };
+
+    ghost view = { λ b. record { start = b.start; manager = b.manager; entries = b.entries.items; room = b.room; closed = b.closed } };
+
+    ghost invariant = { λ b. IsBook (record { start = b.start; manager = b.manager; entries = b.entries.items; room = b.room; closed = b.closed }) (vec_capacity b.entries) b.publisher };
+}
+
+impl Book {
+    /// Returns an open book of a manager at its start, with room for so many entries.
+    pub(crate) fn new(
+        start: Manager,
+        manager: Manager,
+        entries: Vec<Entry>,
+        room: usize,
+        publisher: Publisher,
+    ) -> Book
+        requires start { start ≡ manager }
+        requires room { (entries.items ≡ []) × (room ≤ vec_capacity entries) }
+        requires publisher { publisher ≡ unpublished manager }
+        ensures { result ≡ record { start = manager; manager = manager; entries = []; room = room; closed = false } }
+    {
+        Book {
+            start,
+            manager,
+            entries,
+            room,
+            closed: false,
+            publisher,
+        }
+    }
+
+    /// Makes one step, logs it with its reply, and publishes it to the lookers. It is the one change of a book.
+    ///
+    /// It waits for lookers that still read the version before the last one.
+    ///
+    /// # Errors
+    ///
+    /// `Closed` if it is closed, else `Full` if the log has no room left, else `Memory` if out of memory. Then manager and
+    /// log are unchanged, and the book is closed.
+    pub fn call<R: Wait>(&mut self, rt: &R, step: Step) -> Result<Reply, SharedFault>
+        ensures { IsCall self.old step result self.new }
+    {
+        if self.closed {
+            return Err(SharedFault::Closed);
+        }
+        if self.entries.len() >= self.room {
+            self.closed = true;
+            return Err(SharedFault::Full);
+        }
+        if self.publisher.append(step).is_err() {
+            self.closed = true;
+            return Err(SharedFault::Memory);
+        }
+        let reply = self.manager.step(step).reply;
+        self.entries.push_reserved(Entry { step, reply });
+        self.publisher.publish(rt);
+        Ok(reply)
+    }
+
+    /// Returns the manager as it is now: after a run of the model from the start, with the logged entries. Its state is
+    /// steady, so that no cycle of waits stands.
+    pub fn manager(&self) -> &Manager
+        ensures manager { result.now ≡ self.now.manager }
+        ensures run { IsRun self.now.start self.now.entries self.now.manager }
+        ensures steady { IsSteady self.now.manager }
+    {
+        // Its contract tells the proof that the state is steady.
+        let _steady = self.manager.tasks();
+        &self.manager
+    }
+
+    /// Returns the entries since the start, at most as many as there is room for.
+    pub fn entries(&self) -> &[Entry]
+        ensures entries { result.now ≡ self.now.entries }
+        ensures within_room { length self.now.entries ≤ self.now.room }
+    {
+        self.entries.as_slice()
+    }
+
+    /// Returns whether all further calls are refused.
+    pub fn is_closed(&self) -> bool
+        ensures { result ≡ self.now.closed }
+    {
+        self.closed
+    }
+
+    /// Returns None while the task waits, else whether it owns the mutex. An unknown task doesn't wait and owns nothing,
+    /// and an unknown mutex has no owner.
+    pub fn settled(&self, task: TaskNo, mutex: MutexNo) -> Option<Settled>
+        ensures { result ≡ settled_of self.now.manager task mutex }
+    {
+        if let Some(Some(_)) = self.manager.waits_for(task) {
+            None
+        } else if self.manager.owner(mutex) == Some(Some(task)) {
+            Some(Settled::Owns)
+        } else {
+            Some(Settled::Withdrawn)
+        }
+    }
+
+    /// Ends the publishing, and returns the manager and the log.
+    pub(crate) fn end<R: Wait>(self, rt: &R) -> (Manager, Log)
+        ensures manager { result.0 ≡ self.manager }
+        ensures log { (result.1.start ≡ self.start) × (result.1.entries ≡ self.entries) }
+        ensures run { IsRun self.start self.entries self.manager }
+    {
+        let Book {
+            start,
+            manager,
+            entries,
+            room: _,
+            closed: _,
+            publisher,
+        } = self;
+        publisher.end(rt);
+        (manager, Log::new(start, entries))
+    }
+}

@@ -1,0 +1,182 @@
+//! A manager behind one lock.
+
+ghost use Rattle.std.specs.Prelude.{◌≡◌, ◌≢◌, [], ◌⊎◌, IfOk, IfErr};
+ghost use mathlib.Core.List.{IsPrefix};
+ghost use Rattle.std.specs.List.{All};
+ghost use Rattle.std.specs.Vec.{vec_len};
+ghost use Rattle.pim_base.specs.Runs.{IsRun};
+ghost use Rattle.pim_shared.specs.Logs.{History};
+ghost use Rattle.pim_shared.specs.Lookers.{EndsWithNew};
+
+use crate::book::Book;
+use crate::fault::SharedFault;
+use crate::gate::{Gate, Settled};
+use crate::log::Log;
+use crate::looker::Looker;
+use crate::publisher::Publisher;
+use pim_base::{Entry, MutexNo, Reply, Step, TaskNo};
+use pim_manager::Manager;
+use std::alloc::Global;
+use std::sync::{Condvar, Mutex, Wait};
+
+/// As many lookers as a shared manager can have.
+pub const MAX_LOOKERS: u16 = 8;
+
+/// A manager that many threads call, one at a time, and that lookers read without a lock.
+///
+/// It isn't `Drop`: `finish` ends it.
+pub struct Shared {
+    book: Mutex<Book>,
+    changed: Condvar,
+}
+
+impl Shared {
+    /// Returns a shared manager whose start is the state of this one, with an empty log that has room for `room` entries,
+    /// and so many lookers.
+    ///
+    /// # Errors
+    ///
+    /// `NoPlace` above `MAX_LOOKERS`, else `Memory` if out of memory, also `NoPlace` if there is no place for a looker.
+    pub fn new<R: Wait>(
+        rt: &R,
+        alloc: Global,
+        manager: Manager,
+        room: usize,
+        lookers: u16,
+    ) -> Result<(Shared, Vec<Looker>), SharedFault>
+        ensures count { IfOk result (λ made. vec_len made.1 ≡ lookers) }
+        ensures lookers { IfOk result (λ made. All (λ (looker : History). looker ≡ record { start = manager; entries = [] }) made.1.items) }
+        ensures refused { IfErr result (λ fault. (fault ≡ SharedFault.Memory) ⊎ (fault ≡ SharedFault.NoPlace)) }
+    {
+        if lookers > MAX_LOOKERS {
+            return Err(SharedFault::NoPlace);
+        }
+        let start = manager.try_clone(alloc)?;
+        let (first, second) = (manager.try_clone(alloc)?, manager.try_clone(alloc)?);
+        let entries = Vec::with_capacity(alloc, room)?;
+        let mut publisher = Publisher::new(rt, alloc, first, second, lookers)?;
+        match lookers_of(&mut publisher, alloc, lookers) {
+            Ok(lookers) => {
+                let book = Book::new(start, manager, entries, room, publisher);
+                let shared = Shared {
+                    book: Mutex::new(book),
+                    changed: Condvar::new(),
+                };
+                Ok((shared, lookers))
+            }
+            Err(fault) => {
+                publisher.end(rt);
+                Err(fault)
+            }
+        }
+    }
+
+    /// Makes one step under the lock by `Book::call`, and returns its reply.
+    ///
+    /// It waits for the calls of other threads, and for lookers that still read the version before the last one. What it did
+    /// to the book behind the lock no contract can say; tests show it.
+    ///
+    /// # Errors
+    ///
+    /// Those of `Book::call`. All who wait in `settle` are woken.
+    pub fn call<R: Wait>(&self, rt: &R, step: Step) -> Result<Reply, SharedFault> {
+        let mut book = self.book.lock(rt);
+        let answer = book.call(rt, step);
+        self.changed.notify_all();
+        answer
+    }
+
+    /// Makes one step as `call` does, and lets the looker see it while the lock is held.
+    ///
+    /// # Errors
+    ///
+    /// Those of `call`: the looker has seen what it had seen. `NoPlace` if what the looker sees isn't longer or doesn't end
+    /// with this step and reply, as where it is a looker of another shared manager: the step is made and logged.
+    pub fn call_with<R: Wait>(
+        &self,
+        rt: &R,
+        looker: &mut Looker,
+        step: Step,
+    ) -> Result<Reply, SharedFault>
+        ensures start { looker.new.start ≡ looker.old.start }
+        ensures grown { IsPrefix looker.old.entries looker.new.entries }
+        ensures seen { IfOk result (λ reply. EndsWithNew looker.old looker.new (record { step = step; reply = reply })) }
+        ensures refused { IfErr result (λ fault. fault ≢ SharedFault.NoPlace → looker.new ≡ looker.old) }
+    {
+        let mut book = self.book.lock(rt);
+        let answer = book.call(rt, step);
+        self.changed.notify_all();
+        let reply = answer?;
+        if looker.finds(Entry { step, reply }) {
+            Ok(reply)
+        } else {
+            Err(SharedFault::NoPlace)
+        }
+    }
+
+    /// Waits until the task doesn't wait, and returns whether it owns the mutex then.
+    ///
+    /// # Errors
+    ///
+    /// `Closed` if the task waits and all further calls are refused, so that none can end its wait.
+    pub fn settle<R: Wait>(
+        &self,
+        rt: &R,
+        task: TaskNo,
+        mutex: MutexNo,
+    ) -> Result<Settled, SharedFault>
+        ensures { IfErr result (λ fault. fault ≡ SharedFault.Closed) }
+    {
+        let book = self.changed.wait_while(rt, self.book.lock(rt), |book| {
+            book.settled(task, mutex).is_none() && !book.is_closed()
+        });
+        book.settled(task, mutex).ok_or(SharedFault::Closed)
+    }
+
+    /// Returns the manager and the log, whose entries are a run of the model from its start. From then on looks answer
+    /// `Closed`.
+    ///
+    /// It waits for lookers that still read.
+    pub fn finish<R: Wait>(self, rt: &R) -> (Manager, Log)
+        ensures { IsRun result.1.start result.1.entries result.0 }
+    {
+        let Shared { book, changed: _ } = self;
+        book.into_inner().end(rt)
+    }
+}
+
+/// Returns so many lookers that have seen nothing.
+fn lookers_of(
+    publisher: &mut Publisher,
+    alloc: Global,
+    count: u16,
+) -> Result<Vec<Looker>, SharedFault>
+    ensures same { publisher.new ≡ publisher.old }
+    ensures count { IfOk result (λ lookers. vec_len lookers ≡ count) }
+    ensures lookers { IfOk result (λ lookers. All (λ (looker : History). looker ≡ record { start = publisher.old.start; entries = [] }) lookers.items) }
+    ensures refused { IfErr result (λ fault. (fault ≡ SharedFault.Memory) ⊎ (fault ≡ SharedFault.NoPlace)) }
+{
+    let mut lookers = Vec::with_capacity(alloc, usize::from(count))?;
+    for _ in 0..count {
+        let Ok(looker) = publisher.looker() else {
+            return Err(SharedFault::NoPlace);
+        };
+        lookers.push_reserved(looker);
+    }
+    Ok(lookers)
+}
+
+impl Gate for Shared {
+    fn call<R: Wait>(&self, rt: &R, step: Step) -> Result<Reply, SharedFault> {
+        Shared::call(self, rt, step)
+    }
+
+    fn settle<R: Wait>(
+        &self,
+        rt: &R,
+        task: TaskNo,
+        mutex: MutexNo,
+    ) -> Result<Settled, SharedFault> {
+        Shared::settle(self, rt, task, mutex)
+    }
+}
