@@ -1,12 +1,11 @@
 -- What `==` tells of the lists of a state: all are equal exactly where the states are.
-use Rattle.std.proofs.Common.{◌≡◌, ◌↔◌, ◌==◌, ◌&&◌, ℕ, Bool, Option, Some, None, IsTrue, refl, ap, ap₂, eqb-true, eq-eqb, sym, ◌∙◌}
+use Rattle.std.proofs.Common.{rules, ◌≡◌, ◌↔◌, ◌==◌, ◌&&◌, ℕ, Bool, Option, IsTrue, ap, eqb-true, eq-eqb, sym, ◌∙◌}
 use Rattle.std.specs.Bool.{Decides}
 use Rattle.std.specs.Option.{option_eq}
 use Rattle.std.proofs.lemmas.Bool.Decides.{Decides-and}
 use lib.Pointwise.{pointwise, pointwise_decides}
 use Rattle.pim_base.specs.State.{State}
 use Rattle.pim_base.specs.declared.steps.Protocol.{Protocol}
-use Rattle.pim_base.specs.declared.steps.Protocol.TheVariants.{None as NONE, Inherit, Protect}
 use Rattle.pim_base.specs.declared.steps.Wait.{Wait}
 use Rattle.pim_base.specs.contracts.numbers.PrioPartialEq.TheImpl as prio
 use Rattle.pim_base.specs.contracts.numbers.TaskNoPartialEq.TheImpl as task
@@ -17,28 +16,13 @@ numbers_decide : (x y : ℕ) → Decides (x == y) (x ≡ y)
 numbers_decide x y = (eqb-true x y, eq-eqb x y)
 
 protocols_decide : (x y : Protocol) → Decides (protocol.eq-value.it x y) (x ≡ y)
-protocols_decide NONE NONE = (λ _. refl, λ _. refl)
-protocols_decide NONE Inherit = (λ t. cc, λ e. cc)
-protocols_decide NONE (Protect c) = (λ t. cc, λ e. cc)
-protocols_decide Inherit NONE = (λ t. cc, λ e. cc)
-protocols_decide Inherit Inherit = (λ _. refl, λ _. refl)
-protocols_decide Inherit (Protect c) = (λ t. cc, λ e. cc)
-protocols_decide (Protect b) NONE = (λ t. cc, λ e. cc)
-protocols_decide (Protect b) Inherit = (λ t. cc, λ e. cc)
-protocols_decide (Protect b) (Protect c) = (λ t. ap Protect (eqb-true b c t), λ e. eq-eqb b c cc)
+protocols_decide x y = search rules
 
 waits_decide : (x y : Wait) → Decides (wait.eq-value.it x y) (x ≡ y)
-waits_decide x y =
-    let both = Decides-and (x.mutex == y.mutex) (x.ticket == y.ticket) (numbers_decide x.mutex y.mutex) (numbers_decide x.ticket y.ticket) in (
-      λ t. let fields = both.0 t in ap₂ (λ (m k : ℕ). let w : Wait = record { mutex = m; ticket = k } in w) fields.0 fields.1,
-      λ e. both.1 (ap (λ (w : Wait). w.mutex) e, ap (λ (w : Wait). w.ticket) e),
-    )
+waits_decide x y = search rules
 
 options_decide : {X : Type 0} (E : X → X → Bool) → ((x y : X) → Decides (E x y) (x ≡ y)) → (x y : Option X) → Decides (option_eq E x y) (x ≡ y)
-options_decide E decides None None = (λ _. refl, λ _. refl)
-options_decide E decides None (Some y) = (λ t. cc, λ e. cc)
-options_decide E decides (Some x) None = (λ t. cc, λ e. cc)
-options_decide E decides (Some x) (Some y) = (λ t. ap Some ((decides x y).0 t), λ e. (decides x y).1 cc)
+options_decide E decides x y = search (rules, decides)
 
 -- whether bases, protocols, owners, waits and next ticket are the same
 abbrev pub same_fields : State → State → Bool

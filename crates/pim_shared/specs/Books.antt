@@ -1,13 +1,13 @@
 -- What is kept behind the lock, and what a call does to it.
 use Rattle.std.specs.Prelude.{◌≡◌, ◌≤◌, ◌<◌, ℕ, List, [], ◌∷◌, ◌++◌, length, Bool, true, false, Option, Some, None, Result, MatchResult, if◌then◌else◌}
 use Rattle.pim_base.specs.Lists.{holds}
-use Rattle.pim_base.specs.State.{State, owner_of, wait_of}
+use Rattle.pim_base.specs.State.{State, owner_of}
+use Rattle.pim_base.specs.Checks.{is_waiting}
 use Rattle.pim_base.specs.Steps.{reply_of, after}
 use Rattle.pim_base.specs.Runs.{IsRun}
 use Rattle.pim_base.specs.declared.steps.Step.{Step}
 use Rattle.pim_base.specs.declared.steps.Entry.{Entry}
 use Rattle.pim_base.specs.declared.steps.Reply.{Reply}
-use Rattle.pim_base.specs.declared.steps.Wait.{Wait}
 use Rattle.pim_shared.specs.declared.fault.SharedFault.{SharedFault}
 use Rattle.pim_shared.specs.declared.fault.SharedFault.TheVariants.{Full, Memory, Closed, Torn, NoPlace}
 use Rattle.pim_shared.specs.declared.gate.Settled.{Settled}
@@ -36,6 +36,14 @@ IsFaultOf b Memory = (b.closed ≡ false) × (length b.entries < b.room)
 IsFaultOf b Torn = ⊥
 IsFaultOf b NoPlace = ⊥
 
+-- one of the faults of a call
+abbrev pub IsCallFault : SharedFault → Type 0
+IsCallFault Closed = Unit {0}
+IsCallFault Full = Unit {0}
+IsCallFault Memory = Unit {0}
+IsCallFault Torn = ⊥
+IsCallFault NoPlace = ⊥
+
 -- the step and its reply are one entry more
 abbrev pub with_entry : BookState → Step → Reply → BookState
 with_entry b step reply = record b {
@@ -51,11 +59,8 @@ IsCall b step result c =
     (λ reply. (b.closed ≡ false) × (length b.entries < b.room) × (reply ≡ reply_of b.manager step) × (c ≡ with_entry b step reply))
     (λ fault. IsFaultOf b fault × (c ≡ record b { closed = true }))
 
--- whether a task that doesn't wait owns the mutex
-abbrev pub settled_as : Option Wait → Bool → Option Settled
-settled_as (Some w) owns = None
-settled_as None owns = Some (if owns then Settled.Owns else Settled.Withdrawn)
-
 -- nothing of a task that waits, else whether it owns the mutex
 abbrev pub settled_of : State → ℕ → ℕ → Option Settled
-settled_of S t m = settled_as (wait_of S t) (holds (owner_of S m) t)
+settled_of S t m =
+    if is_waiting S t then None
+    else Some (if holds (owner_of S m) t then Settled.Owns else Settled.Withdrawn)

@@ -1,5 +1,6 @@
 pub mod Logs
 pub mod Outcomes
+pub mod Gathered
 pub mod Versions
 pub mod Rules
 pub mod Lookers

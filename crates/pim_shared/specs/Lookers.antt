@@ -25,7 +25,7 @@ history_of k = record { start = start_of k; entries = k.seen }
 -- the start is known, and so many entries
 pub record IsCounted (k : Known) (steps : ℕ) : Type 0 where
   pub start : KnowsStart k
-  pub steps : steps ≡ length k.seen
+  pub counted : steps ≡ length k.seen
 
 -- the task's effective priority and its reason in this state, after so many steps; None of an unknown task
 abbrev pub seen_of : State → ℕ → ℕ → Option Seen
@@ -43,7 +43,7 @@ EndsIn h last = (last ≡ last_of h.entries) × ((S : State) × IsRun h.start h.
 pub record HasSeenMore (k l : Known) (steps : ℕ) : Type 0 where
   pub start : l.start ≡ k.start
   pub more : IsPrefix k.seen l.seen
-  pub steps : steps ≡ length l.seen
+  pub counted : steps ≡ length l.seen
 
 -- the list seen now is longer than the one before, begins with it and ends with this entry, whose reply is the model's there
 pub record EndsWithNew (old new : History) (entry : Entry) : Type 0 where

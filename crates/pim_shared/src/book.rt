@@ -11,6 +11,7 @@ use crate::fault::SharedFault;
 use crate::gate::Settled;
 use crate::log::Log;
 use crate::publisher::Publisher;
+use crate::version::entry;
 use pim_base::{Entry, MutexNo, Reply, Step, TaskNo};
 use pim_manager::Manager;
 use std::marker::Model;
@@ -84,14 +85,15 @@ impl Book {
             self.closed = true;
             return Err(SharedFault::Full);
         }
-        if self.publisher.append(step).is_err() {
+        let step = &step;
+        if self.publisher.append(*step).is_err() {
             self.closed = true;
             return Err(SharedFault::Memory);
         }
-        let reply = self.manager.step(step).reply;
-        self.entries.push_reserved(Entry { step, reply });
+        let reply = &self.manager.step(*step).reply;
+        self.entries.push_reserved(entry(*step, *reply));
         self.publisher.publish(rt);
-        Ok(reply)
+        Ok(*reply)
     }
 
     /// Returns the manager as it is now: after a run of the model from the start, with the logged entries. Its state is
@@ -126,9 +128,13 @@ impl Book {
     pub fn settled(&self, task: TaskNo, mutex: MutexNo) -> Option<Settled>
         ensures { result ≡ settled_of self.now.manager task mutex }
     {
-        if let Some(Some(_)) = self.manager.waits_for(task) {
+        // Its contract tells the proof that the state is steady, so that its lists fit together.
+        let _steady = self.manager.tasks();
+        let waits = self.manager.waits_for(task).flatten().is_some();
+        let owner = self.manager.owner(mutex).flatten();
+        if waits {
             None
-        } else if self.manager.owner(mutex) == Some(Some(task)) {
+        } else if owner == Some(task) {
             Some(Settled::Owns)
         } else {
             Some(Settled::Withdrawn)

@@ -4,8 +4,8 @@
 mod book;
 mod fault;
 mod gate;
+mod gathering;
 mod log;
-mod workers;
 mod looker;
 mod publisher;
 mod rule;
@@ -13,11 +13,13 @@ mod shared;
 #[cfg(test)]
 mod tests;
 mod version;
+mod workers;
 
 pub use book::Book;
 pub use fault::SharedFault;
 pub use gate::{Gate, Settled};
+pub use gathering::gather;
 pub use log::Log;
-pub use workers::{run_scripts, worker};
 pub use looker::{Looker, Seen};
 pub use shared::{MAX_LOOKERS, Shared};
+pub use workers::{run_scripts, worker};

@@ -81,7 +81,12 @@ impl Publisher {
     pub(crate) fn append(&mut self, step: Step) -> Result<(), AllocError>
         ensures { MatchResult result (λ _. self.new ≡ with_pending self.old step) (λ _. self.new ≡ self.old) }
     {
-        self.writer.append(step).map_err(|_| AllocError)
+        // Taken apart, since the generated proof knows of an operation only where it stands by itself.
+        let Step { actor, op } = step;
+        match self.writer.append(Step { actor, op }) {
+            Ok(()) => Ok(()),
+            Err(_step) => Err(AllocError),
+        }
     }
 
     /// Publishes the step that is pending. It waits for lookers that still read the version before the last one.

@@ -1,10 +1,12 @@
 //! A manager behind one lock.
 
-ghost use Rattle.std.specs.Prelude.{◌≡◌, ◌≢◌, [], ◌⊎◌, IfOk, IfErr};
+ghost use Rattle.std.specs.Prelude.{◌≡◌, ◌≢◌, ◌<◌, [], ◌⊎◌, IfOk, IfErr, IsErrOf};
 ghost use mathlib.Core.List.{IsPrefix};
 ghost use Rattle.std.specs.List.{All};
 ghost use Rattle.std.specs.Vec.{vec_len};
 ghost use Rattle.pim_base.specs.Runs.{IsRun};
+ghost use Rattle.pim_shared.specs.declared.shared.TheConstants.{MAX_LOOKERS};
+ghost use Rattle.pim_shared.specs.Books.{IsCallFault};
 ghost use Rattle.pim_shared.specs.Logs.{History};
 ghost use Rattle.pim_shared.specs.Lookers.{EndsWithNew};
 
@@ -14,7 +16,8 @@ use crate::gate::{Gate, Settled};
 use crate::log::Log;
 use crate::looker::Looker;
 use crate::publisher::Publisher;
-use pim_base::{Entry, MutexNo, Reply, Step, TaskNo};
+use crate::version::entry;
+use pim_base::{MutexNo, Reply, Step, TaskNo};
 use pim_manager::Manager;
 use std::alloc::Global;
 use std::sync::{Condvar, Mutex, Wait};
@@ -46,6 +49,7 @@ impl Shared {
     ) -> Result<(Shared, Vec<Looker>), SharedFault>
         ensures count { IfOk result (λ made. vec_len made.1 ≡ lookers) }
         ensures lookers { IfOk result (λ made. All (λ (looker : History). looker ≡ record { start = manager; entries = [] }) made.1.items) }
+        ensures most { MAX_LOOKERS < lookers → IsErrOf result SharedFault.NoPlace }
         ensures refused { IfErr result (λ fault. (fault ≡ SharedFault.Memory) ⊎ (fault ≡ SharedFault.NoPlace)) }
     {
         if lookers > MAX_LOOKERS {
@@ -79,7 +83,9 @@ impl Shared {
     /// # Errors
     ///
     /// Those of `Book::call`. All who wait in `settle` are woken.
-    pub fn call<R: Wait>(&self, rt: &R, step: Step) -> Result<Reply, SharedFault> {
+    pub fn call<R: Wait>(&self, rt: &R, step: Step) -> Result<Reply, SharedFault>
+        ensures refused { IfErr result IsCallFault }
+    {
         let mut book = self.book.lock(rt);
         let answer = book.call(rt, step);
         self.changed.notify_all();
@@ -101,14 +107,15 @@ impl Shared {
         ensures start { looker.new.start ≡ looker.old.start }
         ensures grown { IsPrefix looker.old.entries looker.new.entries }
         ensures seen { IfOk result (λ reply. EndsWithNew looker.old looker.new (record { step = step; reply = reply })) }
-        ensures refused { IfErr result (λ fault. fault ≢ SharedFault.NoPlace → looker.new ≡ looker.old) }
+        ensures refused { IfErr result (λ fault. (fault ≡ SharedFault.NoPlace) ⊎ (IsCallFault fault × (looker.new ≡ looker.old))) }
     {
+        let step = &step;
         let mut book = self.book.lock(rt);
-        let answer = book.call(rt, step);
+        let answer = book.call(rt, *step);
         self.changed.notify_all();
-        let reply = answer?;
-        if looker.finds(Entry { step, reply }) {
-            Ok(reply)
+        let reply = &answer?;
+        if looker.finds(entry(*step, *reply)) {
+            Ok(*reply)
         } else {
             Err(SharedFault::NoPlace)
         }

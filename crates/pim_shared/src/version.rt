@@ -1,10 +1,10 @@
 //! What lookers take.
 
 ghost use Rattle.std.specs.Prelude.{◌≡◌};
-ghost use Rattle.pim_shared.specs.Versions.{first_version};
+ghost use Rattle.pim_shared.specs.Versions.{first_version, next_version};
 
 use left_right::Absorb;
-use pim_base::{Entry, Step};
+use pim_base::{Entry, Reply, Step};
 use pim_manager::Manager;
 use std::alloc::AllocError;
 
@@ -27,6 +27,24 @@ impl Version {
             last: None,
         }
     }
+
+    /// Makes one step more.
+    fn step(&mut self, step: &Step)
+        ensures { self.new ≡ next_version self.old step.now }
+    {
+        let reply = self.manager.step(*step).reply;
+        self.steps = self.steps.saturating_add(1);
+        self.last = Some(entry(*step, reply));
+    }
+}
+
+/// Returns the entry of a step and its reply.
+///
+/// It is a call of its own since the generated proof copies a step only where it is handed to one.
+pub(crate) fn entry(step: Step, reply: Reply) -> Entry
+    ensures { result ≡ record { step = step; reply = reply } }
+{
+    Entry { step, reply }
 }
 
 /// A whole step is absorbed, by each copy for itself: from equal states the same step has equal replies and leaves
@@ -43,10 +61,12 @@ impl Absorb<Step> for Version {
     ghost never_fails = { Unit {0} };
 
     fn absorb_first(&mut self, step: &Step, _other: &Version) -> Result<(), AllocError> {
-        let step = *step;
-        let reply = self.manager.step(step).reply;
-        self.steps = self.steps.saturating_add(1);
-        self.last = Some(Entry { step, reply });
+        self.step(step);
+        Ok(())
+    }
+
+    fn absorb_second(&mut self, step: Step, _other: &Version) -> Result<(), Step> {
+        self.step(&step);
         Ok(())
     }
 }
