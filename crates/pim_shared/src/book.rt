@@ -2,6 +2,7 @@
 
 ghost use Rattle.std.specs.Prelude.{◌≡◌, ◌≤◌, [], false, length};
 ghost use Rattle.std.specs.Vec.{vec_capacity};
+ghost use Rattle.pim_base.specs.Chains.{HasCycle};
 ghost use Rattle.pim_base.specs.Runs.{IsRun};
 ghost use Rattle.pim_base.specs.Steady.{IsSteady};
 ghost use Rattle.pim_shared.specs.Books.{IsCall, settled_of};
@@ -96,12 +97,13 @@ impl Book {
         Ok(*reply)
     }
 
-    /// Returns the manager as it is now: after a run of the model from the start, with the logged entries. Its state is
-    /// steady, so that no cycle of waits stands.
+    /// Returns the manager as it is now: after a run of the model from the start, with the logged entries. Its getters show
+    /// each queue in order, and each priority in force as the effective one.
     pub fn manager(&self) -> &Manager
         ensures manager { result.now ≡ self.now.manager }
         ensures run { IsRun self.now.start self.now.entries self.now.manager }
         ensures steady { IsSteady self.now.manager }
+        ensures no_cycle { ¬ HasCycle self.now.manager }
     {
         // Its contract tells the proof that the state is steady.
         let _steady = self.manager.tasks();
