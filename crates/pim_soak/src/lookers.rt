@@ -3,9 +3,10 @@
 ghost use Rattle.std.specs.Prelude.{◌≤◌, length};
 ghost use Rattle.pim_base.specs.declared.limits.TheConstants.{MAX_WORKERS};
 
+use crate::crowd::Crowd;
 use crate::figures::count;
 use pim_base::{Op, Prio, Reason, TaskNo};
-use pim_shared::{Looker, Seen, Shared, SharedFault, run_scripts};
+use pim_shared::{Looker, SharedFault, run_scripts};
 use std::alloc::{AllocError, Global};
 use std::sync::Wait;
 use std::sync::atomic::{AtomicBool, Ordering};
@@ -127,7 +128,7 @@ fn watch<R: Wait>(
 pub fn run_beside_lookers<R: Threads + Wait + Sync>(
     rt: &R,
     alloc: Global,
-    shared: &Shared,
+    crowd: &Crowd<'_>,
     scripts: &[Vec<Op>],
     lookers: &mut [Looker],
     records: &mut [Record],
@@ -146,7 +147,7 @@ pub fn run_beside_lookers<R: Threads + Wait + Sync>(
             for (looker, record) in lookers.iter_mut().zip(records) {
                 let _started = scope.spawn(move || watch(rt, looker, record, tasks, least, ended));
             }
-            let answer = run_scripts(rt, alloc, shared, scripts);
+            let answer = run_scripts(rt, alloc, crowd, scripts);
             ended.store(true, Ordering::SeqCst);
             answer
         },

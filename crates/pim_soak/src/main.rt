@@ -10,6 +10,7 @@
 //! it, as far as the schedule of the threads lets it.
 #![tactic(auto)]
 
+mod crowd;
 mod figures;
 mod lookers;
 mod replay;

@@ -3,6 +3,7 @@
 ghost use Rattle.std.specs.Prelude.{◌≤◌, length};
 ghost use Rattle.pim_base.specs.declared.limits.TheConstants.{MAX_TASKS, MAX_MUTEXES, MAX_WORKERS};
 
+use crate::crowd::Crowd;
 use crate::figures::Figures;
 use crate::lookers::{Record, run_beside_lookers};
 use crate::replay::{compare_ends, replay};
@@ -69,7 +70,15 @@ fn run_watched<R: Threads + Wait + Sync>(
     let count = u16::try_from(records.len()).map_err(|_error| SharedFault::NoPlace)?;
     let manager = start.try_clone(alloc)?;
     let (shared, mut lookers) = Shared::new(rt, alloc, manager, room, count)?;
-    let answer = run_beside_lookers(rt, alloc, &shared, scripts, &mut lookers, records, least);
+    let answer = run_beside_lookers(
+        rt,
+        alloc,
+        &Crowd::new(&shared),
+        scripts,
+        &mut lookers,
+        records,
+        least,
+    );
     let ended = shared.finish(rt);
     answer?;
     for (looker, record) in lookers.iter_mut().zip(records) {
