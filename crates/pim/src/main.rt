@@ -1,20 +1,35 @@
-//! The program `pim`: judges traces of mutexes with the POSIX protocols.
+//! The program `pim`: judges traces of mutexes with the POSIX protocols, and runs scripts of them.
 //!
-//! It reads its words with `pim_tool::command`, hands standard input and output to `pim_tool::judge`, and turns the answer
-//! into a line on standard error and an exit status. What it decides is in `pim_tool`, proved; here is only what no
-//! contract can say: the streams, the texts and the process.
+//! It reads its words with `pim_tool::command`, hands standard input and output to `pim_tool::judge`, `run` or `check`, and
+//! turns the answer into a line on standard error and an exit status. What it decides is in `pim_tool`, proved; here is
+//! only what no contract can say: the streams, the texts and the process.
 #![tactic(auto)]
 
 use clap::error::ErrorKind;
-use pim_tool::{Fault, Input, Job, Output, command, judge, status};
+use pim_tool::{
+    Fault, Input, Job, Output, Sink, Source, Verdict, check, command, judge, run, status,
+};
+use std::alloc::Global;
 use std::io;
 use std::process::ExitCode;
+use std::sync::Wait;
+use std::thread::Threads;
 
 /// The exit status for a fault, of the command line too.
 const FAULT: u8 = 2;
 
 fn main(rt: HostRuntime) -> ExitCode {
-    match answer(&rt) {
+    let ended = match asked(&rt) {
+        Ok(Ok(job)) => {
+            let mut reader = Input::new(rt.reader());
+            let mut writer = Output::new(io::writer(&rt));
+            let answer = answer_to(job, &rt, rt.alloc(), &mut reader, &mut writer);
+            told(&rt, &answer)
+        }
+        Ok(Err(status)) => Ok(status),
+        Err(error) => Err(error),
+    };
+    match ended {
         Ok(status) => status,
         Err(error) => {
             // Where not even this line can be written, the status tells.
@@ -28,39 +43,48 @@ fn main(rt: HostRuntime) -> ExitCode {
     }
 }
 
-/// Does what the words ask for, and returns the exit status.
+/// Returns the job that the words ask for, or the exit status where they ask for none and a text was shown.
 ///
 /// # Errors
 ///
 /// Out of memory for the words, or a standard stream that can't be written.
-fn answer(rt: &HostRuntime) -> io::Result<ExitCode> {
+fn asked(rt: &HostRuntime) -> io::Result<Result<Job, ExitCode>> {
     let alloc = rt.alloc();
     let arguments: Vec<String> = std::env::args(rt)?.collect(alloc)?;
     let words: Vec<&str> = arguments.iter().map(|word| word.as_str()).collect(alloc)?;
     match command(alloc, words.as_slice()) {
-        Ok(Job::Judge) => judge_input(rt),
-        Ok(Job::Run) | Ok(Job::Check) => {
-            eprintln!(rt; "pim: run and check are not there yet")?;
-            Ok(ExitCode::from(FAULT))
-        }
+        Ok(job) => Ok(Ok(job)),
         Err(error) if error.kind() == ErrorKind::OutOfMemory => {
             eprintln!(rt; "pim: {}", Fault::Memory)?;
-            Ok(ExitCode::from(FAULT))
+            Ok(Err(ExitCode::from(FAULT)))
         }
         Err(error) => {
             error.print(rt)?;
-            Ok(ExitCode::from(if error.use_stderr() { FAULT } else { 0 }))
+            let status = if error.use_stderr() { FAULT } else { 0 };
+            Ok(Err(ExitCode::from(status)))
         }
     }
 }
 
-/// Judges the trace on standard input, and returns the exit status.
-fn judge_input(rt: &HostRuntime) -> io::Result<ExitCode> {
-    let mut reader = Input::new(rt.reader());
-    let mut writer = Output::new(io::writer(rt));
-    let answer = judge(rt.alloc(), &mut reader, &mut writer);
-    if let Err(fault) = &answer {
+/// Does the job. A run whose trace was printed ends as an accepted trace does.
+fn answer_to<T: Threads + Wait + Sync, R: Source, W: Sink>(
+    job: Job,
+    rt: &T,
+    alloc: Global,
+    reader: &mut R,
+    writer: &mut W,
+) -> Result<Verdict, Fault> {
+    match job {
+        Job::Judge => judge(alloc, reader, writer),
+        Job::Run => run(rt, alloc, reader, writer).map(|()| Verdict::Accepted(0)),
+        Job::Check => check(rt, alloc, reader, writer),
+    }
+}
+
+/// Writes a fault to standard error, and returns the exit status for the answer.
+fn told(rt: &HostRuntime, answer: &Result<Verdict, Fault>) -> io::Result<ExitCode> {
+    if let Err(fault) = answer {
         eprintln!(rt; "pim: {fault}")?;
     }
-    Ok(ExitCode::from(status(&answer)))
+    Ok(ExitCode::from(status(answer)))
 }

@@ -13,5 +13,6 @@ pub mod Laws
 pub mod Spelling
 pub mod Texts
 pub mod Scripts
+pub mod Recordings
 pub mod Reports
 pub mod RunLaws

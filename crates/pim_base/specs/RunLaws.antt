@@ -1,11 +1,15 @@
 -- What holds of steps and of whole runs.
-use Rattle.std.specs.Prelude.{◌≡◌, ◌-◌, ◌^◌, ◌↔◌, ℕ, List, length, map, IsTrue}
+use Rattle.std.specs.Prelude.{◌≡◌, ◌+◌, ◌-◌, ◌^◌, ◌↔◌, ℕ, List, length, map, IsTrue}
 use Rattle.pim_base.specs.State.{State, start}
 use Rattle.pim_base.specs.Steps.{reply_of, after}
 use Rattle.pim_base.specs.Counts.{changed_task_count}
-use Rattle.pim_base.specs.Reports.{changed_tasks, same_reply}
+use Rattle.pim_base.specs.Reports.{changed_tasks, same_reply, verdict_of}
+use Rattle.pim_base.specs.Texts.{Trace, IsWithinLimits}
+use Rattle.pim_base.specs.Scripts.{KeepsScriptRules}
+use Rattle.pim_base.specs.Recordings.{IsRunOf, recording}
 use Rattle.pim_base.specs.Runs.{IsRun}
 use Rattle.pim_base.specs.Steady.{IsSteady}
+use Rattle.pim_base.specs.declared.lines.Verdict.{Verdict}
 use Rattle.pim_base.specs.declared.steps.Entry.{Entry}
 use Rattle.pim_base.specs.declared.limits.TheConstants.{MAX_TASKS, MAX_MUTEXES, MAX_STEPS, MAX_WORKERS, LAST_TICKET}
 use Rattle.pim_base.specs.declared.steps.Protocol.{Protocol}
@@ -53,3 +57,13 @@ SteadyRunLaw = (S end : State) (es : List Entry) → IsRun S es end → IsSteady
 -- The start is steady, and so is the state after every run from it.
 abbrev pub StartLaw : Type 0
 StartLaw = (bases : List ℕ) (protocols : List Protocol) (next : ℕ) → IsSteady (start bases protocols next)
+
+-- A run of a script has an entry for each step of the script and one release for each task, and the report of its trace
+-- accepts them all.
+abbrev pub RecordingLaw : Type 0
+RecordingLaw =
+    (script : Trace) (es : List Entry)
+    → IsWithinLimits script
+    → KeepsScriptRules script
+    → IsRunOf script es
+    → (length es ≡ length script.steps + length script.bases) × (verdict_of (recording script es) ≡ Verdict.Accepted (length es))

@@ -35,9 +35,13 @@ pub record IsWithinLimits (t : Trace) : Type 0 where
   pub steps : length t.steps ≤ MAX_STEPS
   pub each : AllByRecursion IsLine (declared t)
 
+-- the one spelling of the text, line by line
+abbrev pub spelled_lines : Trace → List (List ℕ)
+spelled_lines t = version_line ∷ map spelled (declared t)
+
 -- the lines are the one spelling of the text
 abbrev pub Spells : List (List ℕ) → Trace → Type 0
-Spells ls t = IsWithinLimits t × (ls ≡ version_line ∷ map spelled (declared t))
+Spells ls t = IsWithinLimits t × (ls ≡ spelled_lines t)
 
 -- the lines are those of a trace
 abbrev pub IsTrace : List (List ℕ) → Type 0

@@ -1,9 +1,11 @@
-//! Judges each example trace, and says whether its report is the one that is stored beside it.
+//! Judges each example trace, and says whether its report is the one that is stored beside it; and runs each example script.
 #![tactic(auto)]
 
 #[cfg(test)]
 mod library;
+mod scripts;
 
+use crate::scripts::{SCRIPTS, is_accepted_always};
 use pim_tool::{Input, Output, judge};
 use std::fs::File;
 use std::{fs, io};
@@ -26,6 +28,15 @@ fn main(rt: HostRuntime) -> io::Result<()> {
             "another report"
         };
         println!(rt; "{name}: {answer}")?;
+    }
+    for script in &SCRIPTS {
+        let path = format!(in rt.alloc(); "{}.script", script.name)?;
+        let text = fs::read(&rt, path.as_str())?;
+        let answer = match is_accepted_always(&rt, rt.alloc(), script, &text) {
+            Ok(true) => "accepted in each run",
+            _ => "another trace",
+        };
+        println!(rt; "{}: {answer}", script.name)?;
     }
     Ok(())
 }

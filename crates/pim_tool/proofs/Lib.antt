@@ -2,4 +2,6 @@ pub mod EndsLemmas
 pub mod DecimalLemmas
 pub mod PrintingLemmas
 pub mod ReportLemmas
+pub mod TraceLineLemmas
 pub mod CommandLemmas
+pub mod RunningLemmas

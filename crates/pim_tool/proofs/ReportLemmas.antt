@@ -11,9 +11,9 @@ use Rattle.pim_base.specs.declared.lines.StepLine.{StepLine}
 use Rattle.pim_base.specs.declared.lines.Verdict.TheVariants as verdicts
 use Rattle.pim_tool.specs.Ends.{Told}
 use Rattle.pim_tool.specs.Printed.{changed_line, line_of, shown_lines}
-use Rattle.pim_tool.specs.Reported.{Takes}
+use Rattle.pim_tool.specs.Taken.{Takes}
 use Rattle.pim_tool.specs.declared.fault.Fault.{Fault}
-use Rattle.pim_tool.specs.declared.report.Report.{Report}
+use Rattle.pim_tool.specs.declared.printer.Printer.{Printer}
 use Rattle.pim_manager.specs.Changed.{changed_task}
 use Rattle.pim_manager.specs.declared.changed_tasks.ChangedTask.{ChangedTask}
 
@@ -39,7 +39,7 @@ shown_is k S T line reply cs is next are =
 
 -- so the report has what the step shows
 pub takes_step :
-    {W T : Type 0} (told : W → Told) (a b : Report W) (r : Result T Fault) (k : ℕ) (S U : State) (line : StepLine) (reply : Reply) (cs : List ChangedTask)
+    {W T : Type 0} (told : W → Told) (a b : Printer W) (r : Result T Fault) (k : ℕ) (S U : State) (line : StepLine) (reply : Reply) (cs : List ChangedTask)
     → Takes told a b (shown_lines k reply line.recorded cs) r
     → reply ≡ reply_of S line.step
     → U ≡ after S line.step

@@ -1,4 +1,4 @@
--- Why a text is not read, in the faults of this crate.
+-- Which faults a call can have.
 use Rattle.std.specs.Prelude.{ℕ, List}
 use Rattle.pim_base.specs.Texts.{FirstBad}
 use Rattle.pim_text.specs.declared.fault.TextFault.{TextFault}
@@ -17,3 +17,14 @@ IsParseFault Is ls (faults.Line n) = FirstBad Is ls n
 IsParseFault Is ls faults.Memory = Unit {0}
 IsParseFault Is ls faults.Read = ⊥
 IsParseFault Is ls faults.Write = ⊥
+IsParseFault Is ls (faults.Shared f) = ⊥
+IsParseFault Is ls faults.TooManyWorkers = ⊥
+
+-- a fault of a text or of the ends of a call: no worker has to do with it
+abbrev pub IsWorkerless : Fault → Type 0
+IsWorkerless (faults.Line n) = Unit {0}
+IsWorkerless faults.Read = Unit {0}
+IsWorkerless faults.Write = Unit {0}
+IsWorkerless faults.Memory = Unit {0}
+IsWorkerless (faults.Shared f) = ⊥
+IsWorkerless faults.TooManyWorkers = ⊥

@@ -39,9 +39,23 @@ A step may end with ' = <reply>', the reply that was recorded; the report ends a
 Replies: granted, queued, freed, handed <task>, released <count>, withdrawn, set, refused <name>. The names:
 no-task, waiting, no-mutex, deadlock, ceiling, busy, not-owner, not-waiting, priority, tickets.
 
+To run a script, with a thread for each of its tasks, of which there are at most 16: pim run < SCRIPT
+
+    $ printf 'pim 1\\ntask 1 10\\nmutex 1 protect 40\\n1 lock 1\\n' | pim run
+    pim 1
+    task 1 10
+    mutex 1 protect 40
+    1 lock 1 = granted
+    1 release = released 1
+
+A script has the lines of a trace, but no recorded reply, and each step is that of a declared task. Each task makes
+its steps in their order, and then a release; the trace has the steps of all tasks as they came. To judge it:
+pim run < SCRIPT | pim judge, or for the last line of that report alone: pim check < SCRIPT
+
 Input is standard input, results go to standard output, faults to standard error.
 Exit status: 0 accepted, 1 rejected, 2 any fault: 'pim: line <n>' where line n is the first that is invalid,
-'pim: read' or 'pim: write' where that failed, 'pim: memory' when out of memory; or a wrong command line.";
+'pim: read' or 'pim: write' where that failed, 'pim: memory' when out of memory; from run and check also
+'pim: too many workers' and 'pim: shared <why>', where the script couldn't be run; or a wrong command line.";
 
 /// Returns what the words ask for, the program's name first: Judge for the name alone, and Judge, Run or Check for the
 /// name followed by just `judge`, `run` or `check`.
@@ -65,8 +79,8 @@ fn pim<'a>(alloc: Global) -> Result<Command<'a>, AllocError>
     ensures { IfOk result (λ command. app_of command ≡ pim_app) }
 {
     let judge = Command::new(alloc, "judge").about("Print the report of a trace (the default)");
-    let run = Command::new(alloc, "run").about("Run a script and print its trace (not yet)");
-    let check = Command::new(alloc, "check").about("Run a script and judge its trace (not yet)");
+    let run = Command::new(alloc, "run").about("Run a script and print its trace");
+    let check = Command::new(alloc, "check").about("Run a script and judge its trace");
     Command::new(alloc, "pim")
         .about(
             "Judge traces of mutexes with the POSIX protocols: say which task executes at which priority, and why",

@@ -1,14 +1,15 @@
-//! What keeps the judge from a report.
+//! What keeps a call from its output.
 
 ghost use Rattle.std.specs.Prelude.{◌≡◌};
 ghost use Rattle.pim_tool.specs.Faults.{fault_of};
-ghost use Rattle.pim_tool.specs.declared.fault.Fault.TheVariants.{Memory};
+ghost use Rattle.pim_tool.specs.declared.fault.Fault.TheVariants.{Memory, Shared};
 
+use pim_shared::SharedFault;
 use pim_text::TextFault;
 use std::alloc::{AllocError, AllocFailed};
 use thiserror::Error;
 
-/// Why there is no report, or only a prefix of it.
+/// Why there is no output, or only a prefix of it.
 #[derive(Clone, Copy, Debug, PartialEq, Eq, Error)]
 pub enum Fault {
     /// This line, counted from 1, is the first invalid one. Nothing was written.
@@ -17,12 +18,26 @@ pub enum Fault {
     /// A read failed. Nothing was written.
     #[error("read")]
     Read,
-    /// A write failed, or took no byte of a piece that wasn't empty. A prefix of the report was written.
+    /// A write failed, or took no byte of a piece that wasn't empty. A prefix of the output was written.
     #[error("write")]
     Write,
-    /// Out of memory. A prefix of the report was written, perhaps an empty one.
+    /// Out of memory. A prefix of the output was written, perhaps an empty one.
     #[error("memory")]
     Memory,
+    /// A script couldn't be run, or its log isn't that of a run of it. Nothing was written.
+    #[error("shared {0}")]
+    Shared(SharedFault),
+    /// A script has more tasks than there may be workers. Nothing was written.
+    #[error("too many workers")]
+    TooManyWorkers,
+}
+
+impl From<SharedFault> for Fault {
+    ghost from_gives = { λ shared fault. fault ≡ Shared shared };
+
+    fn from(fault: SharedFault) -> Fault {
+        Fault::Shared(fault)
+    }
 }
 
 impl From<TextFault> for Fault {

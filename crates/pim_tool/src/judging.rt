@@ -1,21 +1,21 @@
 //! From a reader to a writer.
-ghost use Rattle.std.specs.Prelude.{◌≡◌, ◌<◌, ◌^◌, ℕ, ◌⊎◌, [], length, Some, IfOk, IfSome, Err, MatchResult};
+ghost use Rattle.std.specs.Prelude.{◌≡◌, ◌<◌, ◌^◌, ℕ, ◌⊎◌, [], length, Some, IfOk, IfErr, IfSome, Err, MatchResult};
 ghost use Rattle.pim_base.specs.State.{start};
 ghost use Rattle.pim_base.specs.Steps.{after, reply_of};
 ghost use Rattle.pim_base.specs.Texts.{Trace, lines_of, Spells, IsTrace, IsWithinLimits, FirstBadLine};
 ghost use Rattle.pim_base.specs.Reports.{agrees, step_lines, report_from, report_of, verdict_from, verdict_of};
 ghost use Rattle.pim_tool.specs.Ends.{Happened, Fails, Appends, AppendsFront, Prints};
 ghost use Rattle.pim_text.specs.Reading.{trace_of};
-ghost use Rattle.pim_tool.specs.Faults.{IsParseFault};
-ghost use Rattle.pim_tool.specs.Reported.{Takes};
+ghost use Rattle.pim_tool.specs.Faults.{IsParseFault, IsWorkerless};
+ghost use Rattle.pim_tool.specs.Taken.{Takes};
 ghost use Rattle.pim_tool.specs.Status.{status_of};
 
 use crate::ends::{Sink, Source};
 use crate::fault::Fault;
 use crate::memory_ends::MemoryWriter;
 use crate::page::Page;
+use crate::printer::Printer;
 use crate::reading::parse;
-use crate::report::Report;
 use crate::transfer::read_all;
 use pim_base::{StepLine, Verdict};
 use pim_manager::{ChangedTasks, Manager};
@@ -61,6 +61,9 @@ pub fn judge<R: Source, W: Sink>(
     ensures memory { result ≡ Err Fault.Memory → ((W.told writer.new).contents ≡ (W.told writer.old).contents)
         ⊎ IfSome (R.remaining reader.old) (λ bytes. (t : Trace) × Spells (lines_of bytes) t
         × AppendsFront (W.told writer.old).contents (W.told writer.new).contents (report_of t)) }
+
+    // There is no other fault.
+    ensures others { IfErr result IsWorkerless }
 {
     let text = read_text(alloc, reader)?;
     print_text(alloc, writer, &text)
@@ -74,6 +77,7 @@ fn read_text<R: Source>(alloc: Global, reader: &mut R) -> Result<Text, Fault>
     ensures line { (n : ℕ) → result ≡ Err (Fault.Line n) → IfSome (R.remaining reader.old) (λ bytes. FirstBadLine (lines_of bytes) n) }
     ensures read { result ≡ Err Fault.Read → Happened (R.failures reader.old) (R.failures reader.new) }
     ensures write { result ≡ Err Fault.Write → ⊥ }
+    ensures others { IfErr result IsWorkerless }
 {
     let bytes = read_all(alloc, reader)?;
     parse(alloc, &bytes)
@@ -120,7 +124,7 @@ fn print_text<W: Sink>(alloc: Global, writer: &mut W, text: &Text) -> Result<Ver
     let mut page = Page::new(alloc)?;
     let mut manager = manager_of(alloc, text)?;
     let mut changed = ChangedTasks::new(alloc)?;
-    let mut report = Report::new(writer, &mut page);
+    let mut report = Printer::new(writer, &mut page);
     let verdict = make_steps(&mut report, &mut manager, &mut changed, &text.lines)?;
     report.write()?;
     Ok(verdict)
@@ -128,7 +132,7 @@ fn print_text<W: Sink>(alloc: Global, writer: &mut W, text: &Text) -> Result<Ver
 
 /// Makes the steps, and reports on each, up to the first whose recorded reply differs from the model's.
 fn make_steps<W: Sink>(
-    report: &mut Report<'_, W>,
+    report: &mut Printer<'_, W>,
     manager: &mut Manager,
     changed: &mut ChangedTasks,
     lines: &[StepLine],
@@ -151,7 +155,7 @@ fn make_steps<W: Sink>(
 /// Makes a step, and reports on it. Returns whether the recorded reply agrees with the model's.
 #[tactic(auto, using(crate::proofs::ReportLemmas::takes_step))]
 fn make_step<W: Sink>(
-    report: &mut Report<'_, W>,
+    report: &mut Printer<'_, W>,
     manager: &mut Manager,
     changed: &mut ChangedTasks,
     number: u32,
@@ -166,7 +170,7 @@ fn make_step<W: Sink>(
 }
 
 /// Returns the manager of what a text declares, in which all mutexes are free.
-fn manager_of(alloc: Global, text: &Text) -> Result<Manager, Fault>
+pub(crate) fn manager_of(alloc: Global, text: &Text) -> Result<Manager, Fault>
     requires limits { IsWithinLimits (trace_of text.now) }
     ensures { MatchResult result
         (λ manager. manager ≡ start text.now.bases.items text.now.protocols.items 1)
@@ -178,8 +182,8 @@ fn manager_of(alloc: Global, text: &Text) -> Result<Manager, Fault>
     }
 }
 
-/// Returns the exit status for an answer of `judge`: 0 where the trace was accepted, 1 where it was rejected, 2 for a
-/// fault.
+/// Returns the exit status for an answer of `judge` or `check`: 0 where the trace was accepted, 1 where it was rejected,
+/// 2 for a fault. An `Ok` of `run` counts as accepted.
 pub fn status(answer: &Result<Verdict, Fault>) -> u8
     ensures { result ≡ status_of answer.now }
 {

@@ -141,7 +141,7 @@ impl Page {
 
     /// Adds the last line of a report in which a recorded reply differs.
     #[tactic(auto, unfolding(pim_base::specs::Reports::rejected))]
-    fn rejected(&mut self, number: u32) -> Result<(), AllocError>
+    pub fn rejected(&mut self, number: u32) -> Result<(), AllocError>
         ensures { OnOk result (self.new ≡ self.old ++ rejected number) }
     {
         self.word(b"rejected ")?;
@@ -150,7 +150,7 @@ impl Page {
     }
 
     /// Adds the text of a reply.
-    fn reply(&mut self, reply: &Reply) -> Result<(), AllocError>
+    pub(crate) fn reply(&mut self, reply: &Reply) -> Result<(), AllocError>
         ensures { OnOk result (self.new ≡ self.old ++ reply_text reply.now) }
     {
         match reply {
@@ -203,7 +203,7 @@ impl Page {
 
     /// Adds these bytes.
     #[inline]
-    fn word(&mut self, word: &[u8]) -> Result<(), AllocError>
+    pub(crate) fn word(&mut self, word: &[u8]) -> Result<(), AllocError>
         ensures { OnOk result (self.new ≡ self.old ++ word.now) }
     {
         self.bytes.extend_from_slice(word)
@@ -212,7 +212,7 @@ impl Page {
     /// Adds a number in decimal digits. Most have at most three, and those are put without a call.
     #[inline(always)]
     #[tactic(auto, using(std::proofs::lemmas::Fmt::decimal_digit, crate::proofs::DecimalLemmas::two_digits, crate::proofs::DecimalLemmas::three_digits))]
-    fn number(&mut self, number: u32) -> Result<(), AllocError>
+    pub(crate) fn number(&mut self, number: u32) -> Result<(), AllocError>
         ensures { OnOk result (self.new ≡ self.old ++ decimal number) }
     {
         if number < 10 {

@@ -1,40 +1,16 @@
-//! A report on its way to its writer.
-ghost use Rattle.std.specs.Prelude.{◌≡◌, [], IfOk};
+//! The lines of a report, for a printer.
+ghost use Rattle.std.specs.Prelude.{◌≡◌, IfOk};
 ghost use Rattle.pim_base.specs.Reports.{agrees, accepted};
 ghost use Rattle.pim_tool.specs.Printed.{shown_lines};
 
 use crate::ends::Sink;
 use crate::fault::Fault;
-use crate::page::Page;
-use crate::transfer::write_all;
+use crate::printer::Printer;
 use pim_base::Reply;
 use pim_manager::ChangedTask;
 
-/// A report over its writer: what the writer was told, and a page of what is not yet written.
-///
-/// Lines go to the page, and the page goes to the writer whenever it is full.
-///
-/// # Errors
-///
-/// A call fails with `Fault::Write` where a write fails, and with `Fault::Memory` where memory was refused. What the writer
-/// was told is then a prefix of the report.
-#[derive(Drop)]
-pub(crate) struct Report<'a, W> {
-    writer: &'a mut W,
-    page: &'a mut Page,
-}
-
-impl<'a, W: Sink> Report<'a, W> {
-    ghost use Rattle.pim_tool.specs.Reported.{Takes};
-
-    /// Returns a report whose first bytes are those of the page.
-    pub fn new(writer: &'a mut W, page: &'a mut Page) -> Report<'a, W>
-        ensures same_writer { result.writer.ghost_name ≡ writer.entry.ghost_name }
-        ensures told { result.writer.now ≡ writer.old }
-        ensures page { result.page.now ≡ page.old }
-    {
-        Report { writer, page }
-    }
+impl<'a, W: Sink> Printer<'a, W> {
+    ghost use Rattle.pim_tool.specs.Taken.{Takes};
 
     /// Adds the line of a step's reply, and one for each task whose priority the step changed; or both lines of the rejection,
     /// where the recorded reply differs from this one. Returns whether it agrees.
@@ -56,9 +32,7 @@ impl<'a, W: Sink> Report<'a, W> {
             }
             _ => {
                 self.page.answer(number, reply, changed)?;
-                if self.page.is_full() {
-                    self.write()?;
-                }
+                self.write_if_full()?;
                 Ok(true)
             }
         }
@@ -71,15 +45,5 @@ impl<'a, W: Sink> Report<'a, W> {
     {
         self.page.accepted(count)?;
         Ok(())
-    }
-
-    /// Writes all that is not yet written.
-    pub fn write(&mut self) -> Result<(), Fault>
-        ensures takes { Takes W.told self.old self.new [] result }
-        ensures all { self.new.page.now ≡ [] }
-    {
-        let written = write_all(self.writer, self.page.as_slice());
-        self.page.clear();
-        written
     }
 }

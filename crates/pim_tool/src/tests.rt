@@ -1,4 +1,4 @@
-//! Worked texts with their reports, answers, words of the command line, and ends that fail.
+//! Worked texts with their reports, scripts that are run, answers, words of the command line, and ends that fail.
 
 mod answers;
 mod boosts;
@@ -8,6 +8,9 @@ mod expected;
 mod failing_ends;
 mod odd_sizes;
 mod refusals;
+mod running;
+mod running_ends;
+mod scripts;
 mod sizes;
 mod streams;
 mod worked;

@@ -4,13 +4,21 @@ use crate::Verdict::{Accepted, Rejected};
 use crate::tests::expected::{expect_line, expect_report};
 use crate::tests::worked::{REPORT, TEXT};
 use crate::{Fault, Text, judge_bytes, parse, parse_script, status};
+use pim_shared::SharedFault;
 use std::test::Fail;
 
 #[test]
 fn statuses_of_verdicts_and_faults(rt: HostRuntime) {
     assert_eq!(rt; status(&Ok(Accepted(3))), 0);
     assert_eq!(rt; status(&Ok(Rejected(3))), 1);
-    for fault in [Fault::Line(1), Fault::Read, Fault::Write, Fault::Memory] {
+    for fault in [
+        Fault::Line(1),
+        Fault::Read,
+        Fault::Write,
+        Fault::Memory,
+        Fault::Shared(SharedFault::Torn),
+        Fault::TooManyWorkers,
+    ] {
         assert_eq!(rt; status(&Err(fault)), 2, "{fault:?}");
     }
 }
@@ -22,6 +30,12 @@ fn faults_are_printed_in_words(rt: HostRuntime) -> Result<(), Fail> {
         (Fault::Read, "read"),
         (Fault::Write, "write"),
         (Fault::Memory, "memory"),
+        (Fault::Shared(SharedFault::Full), "shared full"),
+        (Fault::Shared(SharedFault::Memory), "shared memory"),
+        (Fault::Shared(SharedFault::Closed), "shared closed"),
+        (Fault::Shared(SharedFault::Torn), "shared torn"),
+        (Fault::Shared(SharedFault::NoPlace), "shared no place"),
+        (Fault::TooManyWorkers, "too many workers"),
     ] {
         let printed = format!(in rt.alloc(); "{fault}")?;
         assert_eq!(rt; printed.as_str(), words);

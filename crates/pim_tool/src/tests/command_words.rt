@@ -52,6 +52,9 @@ fn help_teaches_the_text_and_the_statuses(rt: HostRuntime) -> Result<(), Fail> {
         "task <n> <base>; mutex <n> none | inherit | protect <ceiling>",
         "    $ printf 'pim 1\\ntask 1 10\\ntask 2 50\\nmutex 1 inherit\\n1 lock 1\\n2 lock 1\\n' | pim\n",
         "    2 queued\n      task 1 at 50 waiter 2 mutex 1\n    accepted 2\n",
+        "    $ printf 'pim 1\\ntask 1 10\\nmutex 1 protect 40\\n1 lock 1\\n' | pim run\n    pim 1\n",
+        "    1 lock 1 = granted\n    1 release = released 1\n",
+        "pim run < SCRIPT | pim judge",
         "Exit status: 0 accepted, 1 rejected, 2 any fault",
     ];
     let kind = ErrorKind::DisplayHelp;

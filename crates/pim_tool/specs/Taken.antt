@@ -1,10 +1,10 @@
--- What becomes of a report.
+-- What becomes of what a printer is given.
 use Rattle.std.specs.Prelude.{◌≡◌, List, ℕ, ◌++◌, Result}
 use Rattle.pim_tool.specs.Ends.{Told, Prints}
-use Rattle.pim_tool.specs.declared.report.Report.{Report}
+use Rattle.pim_tool.specs.declared.printer.Printer.{Printer}
 use Rattle.pim_tool.specs.declared.fault.Fault.{Fault}
 
--- the report has these bytes more, written or still in the page; else it stopped
-pub record Takes {W T : Type 0} (told : W → Told) (old new : Report W) (bytes : List ℕ) (result : Result T Fault) : Type 0 where
+-- the printer has these bytes more, written or still in the page; else it stopped
+pub record Takes {W T : Type 0} (told : W → Told) (old new : Printer W) (bytes : List ℕ) (result : Result T Fault) : Type 0 where
   pub same_writer : new.writer.ghost_name ≡ old.writer.ghost_name
   pub prints : Prints (told old.writer.now) (told new.writer.now) (old.page.now ++ bytes) new.page.now result

@@ -1,0 +1,130 @@
+-- What comes of a script that is run.
+use Rattle.std.proofs.Common.{◌≡◌, ◌<◌, ◌≤◌, ◌+◌, ◌-◌, ◌^◌, if◌then◌else◌, ℕ, Bool, List, [], length, map, drop, get_or, Option, Some, None, Result, Ok, Err, IfOk, IfErr, IfSome, ◌∙◌, ap, sym, subst, inl, inr, arith}
+use Rattle.std.proofs.lemmas.List.{length-map, get_or-map, drop_all}
+use Rattle.pim_base.specs.State.{State, start}
+use Rattle.pim_base.specs.Steps.{after, reply_of}
+use Rattle.pim_base.specs.Texts.{Trace, lines_of}
+use Rattle.pim_base.specs.Recordings.{IsRunOf, entry_line}
+use Rattle.pim_base.specs.Reports.{agrees, verdict_from}
+use Rattle.pim_base.specs.declared.steps.Entry.{Entry}
+use Rattle.pim_base.specs.declared.steps.Reply.{Reply}
+use Rattle.pim_base.specs.declared.lines.Verdict.{Verdict}
+use Rattle.pim_base.specs.declared.lines.Verdict.TheVariants as verdicts
+use Rattle.pim_base.proofs.Recorded.{recording_law}
+use Rattle.pim_tool.specs.Ends.{Puts, Stops, Prints, Appends, AppendsFront}
+use Rattle.pim_tool.specs.Running.{IsRunnable, SpellsRunnable, run_length, IsVerdictOfRun, Call, Wrote, WroteFront, StandsAfter}
+use Rattle.pim_tool.specs.declared.fault.Fault.{Fault}
+use Rattle.pim_tool.proofs.PrintingLemmas.{puts_whole, stops_front}
+use Rattle.pim_tool.proofs.ReportLemmas.{verdict_next}
+
+-- ---- the entries, judged
+
+-- the verdict of the entries from one on
+pub entry_verdict :
+    (k : ℕ) (S T : State) (es : List Entry) (i : ℕ) (e : Entry) (reply : Reply) (goes_on : Bool)
+    → i < length es
+    → e ≡ get_or es i e
+    → T ≡ after S e.step
+    → reply ≡ reply_of S e.step
+    → goes_on ≡ agrees (Some e.reply) reply
+    → verdict_from k S (drop i (map entry_line es)) ≡ (if goes_on then verdict_from (k + 1) T (drop (i + 1) (map entry_line es)) else verdicts.Rejected k)
+entry_verdict k S T es i e reply goes_on inside at next replied says =
+    verdict_next k S T (map entry_line es) i (entry_line e) goes_on
+    (omega (arith, length-map es entry_line))
+    (ap entry_line at ∙ sym (get_or-map entry_line es i e (entry_line e) inside))
+    next
+    (says ∙ ap (agrees (Some e.reply)) replied)
+
+-- after the last entry
+pub end_verdict : (S : State) (es : List Entry) (i : ℕ) → i ≡ length es → verdict_from (i + 1) S (drop i (map entry_line es)) ≡ verdicts.Accepted (length es)
+end_verdict S es i e =
+    ap (verdict_from (i + 1) S) (let over : length (map entry_line es) ≤ i = omega (arith, length-map es entry_line) in drop_all i (map entry_line es) over)
+    ∙ ap verdicts.Accepted (let less : (i + 1) - 1 ≡ length es = omega arith in less)
+
+-- a run is accepted
+pub run_verdict :
+    (script : Trace) (es : List Entry) (S : State) (verdict : Verdict)
+    → IsRunnable script
+    → IsRunOf script es
+    → S ≡ start script.bases script.protocols 1
+    → verdict ≡ verdict_from 1 S (map entry_line es)
+    → verdict ≡ verdicts.Accepted (run_length script)
+run_verdict script es S verdict runnable run begins says =
+    let law = recording_law script es runnable.limits runnable.rules run in
+    says ∙ ap (λ (T : State). verdict_from 1 T (map entry_line es)) begins ∙ law.1 ∙ ap verdicts.Accepted law.0
+
+pub few_entries : (script : Trace) (es : List Entry) → IsRunnable script → IsRunOf script es → length es < 2 ^ 32
+few_entries script es runnable run =
+    let long : length es ≡ length script.steps + length script.bases = (recording_law script es runnable.limits runnable.rules run).0 in
+    omega (arith, runnable.limits.steps, runnable.few)
+
+-- ---- what is written
+
+-- all of it was
+pub put_ok :
+    (Is : Trace → List ℕ → Type 0) (c : Call) (script : Trace) (out : List ℕ)
+    → IfSome c.bytes (λ bytes. SpellsRunnable (lines_of bytes) script)
+    → Is script out
+    → Puts c.before c.after out []
+    → Wrote Is c
+put_ok Is c script out spells is put = go c.bytes spells
+  where
+    go : (o : Option (List ℕ)) → IfSome o (λ bytes. SpellsRunnable (lines_of bytes) script)
+        → IfSome o (λ bytes. (s : Trace) × (bs : List ℕ) × SpellsRunnable (lines_of bytes) s × Is s bs × Appends c.before.contents c.after.contents bs)
+    go None h = tt
+    go (Some bytes) h = (script, out, h, is, puts_whole c.before c.after out put)
+
+-- a prefix of it was
+front_written :
+    (Is : Trace → List ℕ → Type 0) (c : Call) (script : Trace) (out : List ℕ) (f : Fault)
+    → IfSome c.bytes (λ bytes. SpellsRunnable (lines_of bytes) script)
+    → Is script out
+    → Stops c.before c.after out f
+    → WroteFront Is c
+front_written Is c script out f spells is stopped = go c.bytes spells
+  where
+    go : (o : Option (List ℕ)) → IfSome o (λ bytes. SpellsRunnable (lines_of bytes) script)
+        → IfSome o (λ bytes. (s : Trace) × (bs : List ℕ) × SpellsRunnable (lines_of bytes) s × Is s bs × AppendsFront c.before.contents c.after.contents bs)
+    go None h = tt
+    go (Some bytes) h = (script, out, h, is, stops_front c.before c.after out f stopped)
+
+pub stopped_err :
+    (Is : Trace → List ℕ → Type 0) (c : Call) (script : Trace) (out : List ℕ) (f : Fault)
+    → IfSome c.bytes (λ bytes. SpellsRunnable (lines_of bytes) script)
+    → Is script out
+    → Stops c.before c.after out f
+    → StandsAfter Is c f
+stopped_err Is c script out f spells is stopped =
+    let front = front_written Is c script out f spells is stopped in
+    elim stopped.others as (λ _. StandsAfter Is c f) [
+      | inl e ↦ subst (λ (g : Fault). StandsAfter Is c g) (sym e) (stopped.write e, front)
+      | inr e ↦ subst (λ (g : Fault). StandsAfter Is c g) (sym e) (inr front)
+    ]
+
+-- one of the two, as the printing came out
+pub printed_ok :
+    {T : Type 0} (Is : Trace → List ℕ → Type 0) (c : Call) (script : Trace) (out : List ℕ) (r : Result T Fault)
+    → IfSome c.bytes (λ bytes. SpellsRunnable (lines_of bytes) script)
+    → Is script out
+    → Prints c.before c.after out [] r
+    → IfOk r (λ _. Wrote Is c)
+printed_ok Is c script out (Ok x) spells is put = put_ok Is c script out spells is put
+printed_ok Is c script out (Err f) spells is put = tt
+
+pub printed_err :
+    {T : Type 0} (Is : Trace → List ℕ → Type 0) (c : Call) (script : Trace) (out : List ℕ) (r : Result T Fault)
+    → IfSome c.bytes (λ bytes. SpellsRunnable (lines_of bytes) script)
+    → Is script out
+    → Prints c.before c.after out [] r
+    → IfErr r (StandsAfter Is c)
+printed_err Is c script out (Ok x) spells is put = tt
+printed_err Is c script out (Err f) spells is stopped = stopped_err Is c script out f spells is stopped
+
+-- the verdict is that of the script that was read
+pub verdict_ok :
+    (script : Trace) (read : Option (List ℕ)) (verdict : Verdict)
+    → IfSome read (λ bytes. SpellsRunnable (lines_of bytes) script)
+    → verdict ≡ verdicts.Accepted (run_length script)
+    → IfSome read (λ bytes. IsVerdictOfRun (lines_of bytes) verdict)
+verdict_ok script None verdict spells is = tt
+verdict_ok script (Some bytes) verdict spells is = (script, spells, is)

@@ -1,0 +1,157 @@
+//! Scripts: a worker for each task, and the trace of what they were answered.
+ghost use Rattle.std.specs.Prelude.{◌≡◌, ◌<◌, ◌≤◌, ◌^◌, [], length, map, Some, IfOk, IfErr, IfSome};
+ghost use Rattle.pim_base.specs.Texts.{lines_of};
+ghost use Rattle.pim_base.specs.Reports.{agrees, verdict_from};
+ghost use Rattle.pim_base.specs.Recordings.{IsRunOf, entry_line};
+ghost use Rattle.pim_text.specs.Reading.{trace_of};
+ghost use Rattle.pim_tool.specs.Ends.{Prints};
+ghost use Rattle.pim_tool.specs.Running.{IsRunnable, SpellsRunnable, IsTraceOfRun, IsEndOfReport, IsVerdictOfRun, Unread, IsOfRun, Wrote, StandsAfter, call};
+ghost use Rattle.pim_tool.specs.Printed.{verdict_line};
+
+use crate::ends::{Sink, Source};
+use crate::fault::Fault;
+use crate::judging::manager_of;
+use crate::page::Page;
+use crate::printer::Printer;
+use crate::reading::parse_script;
+use crate::scripts::scripts_of;
+use crate::trace::print_trace;
+use crate::transfer::read_all;
+use pim_base::{Entry, MAX_WORKERS, Reply, Verdict};
+use pim_manager::Manager;
+use pim_shared::{Log, Shared, gather, run_scripts};
+use pim_text::Text;
+use std::alloc::Global;
+use std::sync::Wait;
+use std::thread::Threads;
+
+/// Reads a script to its end, runs it with a worker for each task, each in a thread of its own, and writes the trace of
+/// that run: what each step was answered, in the order in which the steps were made, and a release for each task after its
+/// last line. [`judge`](crate::judge) accepts that trace, if it has at most 65,536 steps.
+///
+/// The clauses on bytes speak of a reader and a writer that tell them, as those of `MemoryReader` and `MemoryWriter`.
+/// Nothing is written before the run has ended. In which order the threads come is not promised, nor that each comes to its
+/// end: a task that never unlocks a mutex keeps those waiting that ask for it.
+///
+/// # Errors
+///
+/// `Fault::Line(n)` where line n, counted from 1, is the first that is invalid in a script, else `Fault::TooManyWorkers`
+/// above 16 tasks; `Fault::Read` and `Fault::Write` where a read or a write of this call failed; `Fault::Shared` where the
+/// script couldn't be run; `Fault::Memory` if out of memory.
+pub fn run<T: Threads + Wait + Sync, R: Source, W: Sink>(
+    rt: &T,
+    alloc: Global,
+    reader: &mut R,
+    writer: &mut W,
+) -> Result<(), Fault>
+    // What was read is a script of at most 16 tasks, and the trace of a run of it was written and nothing else.
+    ensures ok { IfOk result (λ _. Wrote IsTraceOfRun (call R.remaining R.failures W.told reader.old reader.new writer.old writer.new)) }
+
+    // The reader is at its end.
+    ensures end { IfOk result (λ _. IfSome (R.remaining reader.old) (λ _. R.remaining reader.new ≡ Some [])) }
+
+    // What the fault says, and what was written by then.
+    ensures fault { IfErr result (StandsAfter IsTraceOfRun (call R.remaining R.failures W.told reader.old reader.new writer.old writer.new)) }
+{
+    let script = read_script(alloc, reader)?;
+    let log = log_of_run(rt, alloc, &script)?;
+    print_trace(alloc, writer, &script, log.entries())
+}
+
+/// Runs a script as [`run`] does, judges the trace of that run, and writes the last line of the report alone.
+///
+/// # Errors
+///
+/// Those of `run`.
+pub fn check<T: Threads + Wait + Sync, R: Source, W: Sink>(
+    rt: &T,
+    alloc: Global,
+    reader: &mut R,
+    writer: &mut W,
+) -> Result<Verdict, Fault>
+    // What was read is a script of at most 16 tasks, and the last line of the report of a run was written and nothing else:
+    // it accepts the steps and the releases.
+    ensures ok { IfOk result (λ _. Wrote IsEndOfReport (call R.remaining R.failures W.told reader.old reader.new writer.old writer.new)) }
+    ensures verdict { IfOk result (λ verdict. IfSome (R.remaining reader.old) (λ bytes. IsVerdictOfRun (lines_of bytes) verdict)) }
+
+    // The reader is at its end.
+    ensures end { IfOk result (λ _. IfSome (R.remaining reader.old) (λ _. R.remaining reader.new ≡ Some [])) }
+
+    // What the fault says, and what was written by then.
+    ensures fault { IfErr result (StandsAfter IsEndOfReport (call R.remaining R.failures W.told reader.old reader.new writer.old writer.new)) }
+{
+    let script = read_script(alloc, reader)?;
+    let log = log_of_run(rt, alloc, &script)?;
+    let mut manager = manager_of(alloc, &script)?;
+    let verdict = judge_entries(&mut manager, log.entries());
+    print_verdict(alloc, writer, &verdict)?;
+    Ok(verdict)
+}
+
+/// Reads the script that a reader has. Its bytes are not kept.
+fn read_script<R: Source>(alloc: Global, reader: &mut R) -> Result<Text, Fault>
+    ensures ok { IfOk result (λ script. IfSome (R.remaining reader.old) (λ bytes. SpellsRunnable (lines_of bytes) (trace_of script))) }
+    ensures runnable { IfOk result (λ script. IsRunnable (trace_of script)) }
+    ensures end { IfOk result (λ _. IfSome (R.remaining reader.old) (λ _. R.remaining reader.new ≡ Some [])) }
+    ensures fault { IfErr result (Unread (R.remaining reader.old) (R.failures reader.old) (R.failures reader.new)) }
+{
+    let bytes = read_all(alloc, reader)?;
+    let script = parse_script(alloc, &bytes)?;
+    if script.bases.len() > MAX_WORKERS {
+        return Err(Fault::TooManyWorkers);
+    }
+    Ok(script)
+}
+
+/// Runs the script, and returns the log of that run.
+fn log_of_run<T: Threads + Wait + Sync>(rt: &T, alloc: Global, script: &Text) -> Result<Log, Fault>
+    requires runnable { IsRunnable (trace_of script.now) }
+    ensures ok { IfOk result (λ log. IsRunOf (trace_of script.now) log.entries) }
+    ensures fault { IfErr result IsOfRun }
+{
+    let scripts = scripts_of(alloc, script)?;
+    let start = manager_of(alloc, script)?;
+    let manager = start.try_clone(alloc)?;
+    let room = script.lines.len() + script.bases.len();
+    let (shared, _no_lookers) = Shared::new(rt, alloc, manager, room, 0)?;
+    let ran = run_scripts(rt, alloc, &shared, &scripts);
+    // Also after a fault: this alone ends what is shared.
+    let (_end, log) = shared.finish(rt);
+    ran?;
+    Ok(gather(log, &start, &scripts)?)
+}
+
+/// Makes the steps of the entries, and returns the verdict of the report in which their replies are the recorded ones.
+fn judge_entries(manager: &mut Manager, entries: &[Entry]) -> Verdict
+    requires few { length entries.now < 2 ^ 32 }
+    ensures { result ≡ verdict_from 1 manager.old (map entry_line entries.now) }
+{
+    for (index, entry) in entries.iter().enumerate() {
+        let reply = manager.step(entry.step).reply;
+        if !is_recorded(entry, &reply) {
+            return Verdict::Rejected(index as u32 + 1);
+        }
+    }
+    Verdict::Accepted(entries.len() as u32)
+}
+
+/// Returns whether this is the reply of the entry.
+fn is_recorded(entry: &Entry, reply: &Reply) -> bool
+    ensures { result ≡ agrees (Some entry.now.reply) reply.now }
+{
+    entry.reply == *reply
+}
+
+/// Writes the last line of a report.
+#[tactic(auto, using(crate::proofs::PrintingLemmas::prints_unwritten))]
+fn print_verdict<W: Sink>(alloc: Global, writer: &mut W, verdict: &Verdict) -> Result<(), Fault>
+    ensures { Prints (W.told writer.old) (W.told writer.new) (verdict_line verdict.now) [] result }
+{
+    let mut page = Page::new(alloc)?;
+    match verdict {
+        Verdict::Accepted(count) => page.accepted(*count)?,
+        Verdict::Rejected(number) => page.rejected(*number)?,
+    }
+    let mut printer = Printer::new(writer, &mut page);
+    printer.write()
+}

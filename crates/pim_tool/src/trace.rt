@@ -1,0 +1,164 @@
+//! The trace of a run, and its lines.
+ghost use Rattle.std.specs.Prelude.{◌≡◌, ◌<◌, ◌^◌, ◌++◌, [], length, flat_map, decimal, IfOk, OnOk};
+ghost use Rattle.pim_base.specs.Spelling.{version_line, spelled};
+ghost use Rattle.pim_base.specs.Texts.{IsWithinLimits};
+ghost use Rattle.pim_base.specs.Recordings.{ended, recording, text_of};
+ghost use Rattle.pim_base.specs.declared.lines.Line.TheVariants as lines;
+ghost use Rattle.pim_text.specs.Reading.{trace_of};
+ghost use Rattle.pim_tool.specs.Ends.{Prints};
+ghost use Rattle.pim_tool.specs.Printed.{op_text, tasks_text, mutexes_text, declarations_text, entry_text};
+
+use crate::ends::Sink;
+use crate::fault::Fault;
+use crate::page::Page;
+use crate::printer::Printer;
+use pim_base::{Entry, Op, Prio, Protocol};
+use pim_text::Text;
+use std::alloc::{AllocError, Global};
+
+/// Writes the trace of these entries, over what a script declares.
+pub(crate) fn print_trace<W: Sink>(
+    alloc: Global,
+    writer: &mut W,
+    script: &Text,
+    entries: &[Entry],
+) -> Result<(), Fault>
+    requires limits { IsWithinLimits (trace_of script.now) }
+    ensures { Prints (W.told writer.old) (W.told writer.new) (text_of (recording (trace_of script.now) entries.now)) [] result }
+{
+    let mut page = Page::declaring(alloc, script)?;
+    let mut printer = Printer::new(writer, &mut page);
+    printer.entries(entries)?;
+    printer.write()
+}
+
+impl<'a, W: Sink> Printer<'a, W> {
+    ghost use Rattle.pim_tool.specs.Taken.{Takes};
+
+    /// Adds the lines of these entries.
+    fn entries(&mut self, entries: &[Entry]) -> Result<(), Fault>
+        ensures { Takes W.told self.old self.new (flat_map entry_text entries.now) result }
+    {
+        for entry in entries {
+            self.entry(entry)?;
+        }
+        Ok(())
+    }
+
+    /// Adds the line of an entry.
+    #[tactic(auto, using(crate::proofs::PrintingLemmas::prints_unwritten))]
+    fn entry(&mut self, entry: &Entry) -> Result<(), Fault>
+        ensures { Takes W.told self.old self.new (entry_text entry.now) result }
+    {
+        self.page.entry(entry)?;
+        self.write_if_full()
+    }
+}
+
+impl Page {
+    /// Returns a page of the lines above the steps: the version, and what the text declares.
+    fn declaring(alloc: Global, text: &Text) -> Result<Page, AllocError>
+        requires limits { IsWithinLimits (trace_of text.now) }
+        ensures { IfOk result (λ page. page ≡ declarations_text (trace_of text.now)) }
+    {
+        let mut page = Page::new(alloc)?;
+        page.version()?;
+        page.tasks(&text.bases)?;
+        page.mutexes(&text.protocols)?;
+        Ok(page)
+    }
+
+    /// Adds the first line, which names the version of the format.
+    fn version(&mut self) -> Result<(), AllocError>
+        ensures { OnOk result (self.new ≡ self.old ++ ended version_line) }
+    {
+        self.word(b"pim 1\n")
+    }
+
+    /// Adds the lines that declare the tasks with these bases.
+    fn tasks(&mut self, bases: &[Prio]) -> Result<(), AllocError>
+        requires few { length bases.now < 2 ^ 32 }
+        ensures { OnOk result (self.new ≡ self.old ++ tasks_text 1 bases.now) }
+    {
+        for (index, base) in bases.iter().enumerate() {
+            self.task(index as u32 + 1, *base)?;
+        }
+        Ok(())
+    }
+
+    /// Adds the lines that declare the mutexes with these protocols.
+    fn mutexes(&mut self, protocols: &[Protocol]) -> Result<(), AllocError>
+        requires few { length protocols.now < 2 ^ 32 }
+        ensures { OnOk result (self.new ≡ self.old ++ mutexes_text 1 protocols.now) }
+    {
+        for (index, protocol) in protocols.iter().enumerate() {
+            self.mutex(index as u32 + 1, *protocol)?;
+        }
+        Ok(())
+    }
+
+    /// Adds the line that declares a task.
+    fn task(&mut self, number: u32, base: Prio) -> Result<(), AllocError>
+        ensures { OnOk result (self.new ≡ self.old ++ ended (spelled (lines.Task number base))) }
+    {
+        self.word(b"task ")?;
+        self.number(number)?;
+        self.word(b" ")?;
+        self.number(u32::from(base.get()))?;
+        self.word(b"\n")
+    }
+
+    /// Adds the line that declares a mutex.
+    fn mutex(&mut self, number: u32, protocol: Protocol) -> Result<(), AllocError>
+        ensures { OnOk result (self.new ≡ self.old ++ ended (spelled (lines.Mutex number protocol))) }
+    {
+        self.word(b"mutex ")?;
+        self.number(number)?;
+        match protocol {
+            Protocol::None => self.word(b" none\n"),
+            Protocol::Inherit => self.word(b" inherit\n"),
+            Protocol::Protect(ceiling) => {
+                self.word(b" protect ")?;
+                self.number(u32::from(ceiling.get()))?;
+                self.word(b"\n")
+            }
+        }
+    }
+
+    /// Adds the line of a step, with its reply as the recorded one.
+    fn entry(&mut self, entry: &Entry) -> Result<(), AllocError>
+        ensures { OnOk result (self.new ≡ self.old ++ entry_text entry.now) }
+    {
+        self.number(u32::from(entry.step.actor.get()))?;
+        self.word(b" ")?;
+        self.op(&entry.step.op)?;
+        self.word(b" = ")?;
+        self.reply(&entry.reply)?;
+        self.word(b"\n")
+    }
+
+    /// Adds the words of an operation.
+    fn op(&mut self, op: &Op) -> Result<(), AllocError>
+        ensures { OnOk result (self.new ≡ self.old ++ op_text op.now) }
+    {
+        match op {
+            Op::Lock(mutex) => self.word_with(b"lock ", mutex.get()),
+            Op::Try(mutex) => self.word_with(b"try ", mutex.get()),
+            Op::Unlock(mutex) => self.word_with(b"unlock ", mutex.get()),
+            Op::ReleaseAll => self.word(b"release"),
+            Op::Cancel(task) => self.word_with(b"cancel ", task.get()),
+            Op::SetBase(task, level) => {
+                self.word_with(b"base ", task.get())?;
+                self.word_with(b" ", *level)
+            }
+        }
+    }
+
+    /// Adds these bytes, and a number.
+    fn word_with(&mut self, word: &[u8], number: u16) -> Result<(), AllocError>
+        ensures { OnOk result (self.new ≡ self.old ++ (word.now ++ decimal number)) }
+    {
+        self.word(word)?;
+        self.number(u32::from(number))
+    }
+}
