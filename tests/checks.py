@@ -31,11 +31,26 @@ def end():
 
 def program():
     """Returns the path of the program to test: the script's first word, or the repository's own."""
-    if len(sys.argv) > 1:
-        return str(pathlib.Path(sys.argv[1]).resolve())
+    return str(pathlib.Path(sys.argv[1]).resolve()) if len(sys.argv) > 1 else own_program()
+
+
+def own_program():
+    """Returns the path of the repository's own program, and builds it where it is older than the code."""
     if subprocess.run([ROOT / "pim", "--version"], stdout=subprocess.DEVNULL).returncode:
         sys.exit("the program was not built")
     return str(ROOT / "crates/pim/out/pim")
+
+
+def built(crate, file, *command):
+    """Returns the path of what the command makes of a crate, and makes it where it is older than the code."""
+    made = ROOT / "crates" / crate / "out" / file
+    newest = max(os.path.getmtime(source) for source in ROOT.glob("crates/*/src/**/*.rt"))
+    if not made.exists() or made.stat().st_mtime < newest:
+        print(f"proving and building crates/{crate}", flush=True)
+        folder = ROOT / "crates" / crate
+        subprocess.run(command, cwd=folder, check=True, stdout=subprocess.DEVNULL)
+        os.utime(made)
+    return str(made)
 
 
 def compiled(source, folder, *flags):

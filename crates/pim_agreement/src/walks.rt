@@ -3,7 +3,7 @@
 use crate::scene::{Both, INHERIT, base, cancel, handed, lock, set_base, unlock, waiter};
 use Refusal::{Deadlock, NoTask};
 use Reply::{Granted, Queued, Refused, Set, Withdrawn};
-use pim_base::{MutexNo, Prio, Reason, Refusal, Reply, TaskNo};
+use pim_base::{MutexNo, Prio, Reason, Refusal, Reply, TaskNo, Waiter};
 use pim_manager::{ChangedTasks, Done};
 use std::alloc::Global;
 use std::process::Abort;
@@ -198,5 +198,70 @@ fn chain_of_all_tasks_is_raised_and_lowered(rt: HostRuntime) -> Result<(), Fail>
     assert_eq!(rt; changed.as_slice().len(), 256);
     assert_eq!(rt; both.effective(TaskNo(1)), Prio::new(10));
     assert_eq!(rt; both.effective(TaskNo(256)), Prio::new(5));
+    Ok(())
+}
+
+#[test]
+fn withdrawal_from_the_middle_of_all_tasks_cuts_their_chain(rt: HostRuntime) -> Result<(), Fail> {
+    let mut both = chain_of_all_tasks(&rt, rt.alloc())?;
+    let mut changed = ChangedTasks::new(rt.alloc())?;
+    let low = (Prio::new(10), Some(Reason::Base));
+    for (step, reply, visits, lowered) in [
+        (lock(256, 255), Queued, 255, 0),
+        (cancel(1, 128), Withdrawn, 127, 127),
+        (lock(128, 127), Queued, 127, 0),
+        (cancel(1, 2), Withdrawn, 1, 1),
+    ] {
+        let done = both.step_with_changes(step, &mut changed);
+        assert_eq!(rt; done, Done { reply, visits }, "{step:?}");
+        assert_eq!(rt; changed.as_slice().len(), visits as usize, "{step:?}");
+        for number in 1u16..256 {
+            let lent = Some(Reason::Waiter(TaskNo(number + 1), MutexNo(number)));
+            let boosted = (Prio::new(99), lent);
+            let expected = if number <= lowered { low } else { boosted };
+            let task = TaskNo(number);
+            let shown = (both.manager.effective(task), both.manager.reason(task));
+            assert_eq!(rt; shown, expected, "{task:?} after {step:?}");
+        }
+    }
+    Ok(())
+}
+
+// those raised so far are first, by their tickets, and then come the others
+fn expect_raised(rt: &impl Abort, queue: &[Waiter], first: u16) {
+    assert_eq!(rt; queue.len(), 255);
+    for (number, waiter) in (first..257).chain(2..first).zip(queue) {
+        let prio = Prio::new(if number < first { 10 } else { 50 });
+        assert_eq!(rt; waiter.task, TaskNo(number), "{first} is raised");
+        assert_eq!(rt; Some(waiter.prio), prio, "{number} when {first} is raised");
+        assert_eq!(rt;
+            waiter.ticket.checked_add(1),
+            Some(u64::from(number)),
+            "{number}"
+        );
+    }
+}
+
+// the plain manager compares the replies, and the whole queue at the end alone
+#[test]
+fn waiters_of_a_full_queue_are_raised_one_by_one(rt: HostRuntime) -> Result<(), Fail> {
+    let mut both = Both::new(&rt, rt.alloc(), &[10; 256], &[INHERIT])?;
+    for number in 1u16..257 {
+        both.step(lock(number, 1));
+    }
+    // The last waiter raises the owner; each further one comes before all that were raised.
+    for raised in 0u16..255 {
+        let number = 256 - raised;
+        let visits = if raised == 0 { 2 } else { 1 };
+        let done = both.step(set_base(1, number, 50));
+        assert_eq!(rt; done, Done { reply: Set, visits }, "{number}");
+        let queue = both.manager.waiters(MutexNo(1)).ok_or("a known mutex")?;
+        expect_raised(&rt, queue, number);
+        let lent = Some(Reason::Waiter(TaskNo(number), MutexNo(1)));
+        assert_eq!(rt; both.manager.reason(TaskNo(1)), lent);
+        assert_eq!(rt; both.manager.effective(TaskNo(1)), Prio::new(50));
+    }
+    both.queue(MutexNo(1))?;
+    both.expect_step(unlock(1, 1), handed(2), 2, &[base(10)]);
     Ok(())
 }

@@ -1,0 +1,72 @@
+//! What a soak comes to, in numbers.
+
+use std::fmt;
+
+/// How much was run and seen, and how often it differed from what the plain manager says.
+#[derive(Clone, Copy, Debug, Default, PartialEq, Eq)]
+pub struct Figures {
+    /// How many scenes were run.
+    pub scripts: u64,
+    /// How many entries their logs have.
+    pub steps: u64,
+    /// How many of these were queued, refused as a deadlock, and refused by a ceiling.
+    pub queued: u64,
+    pub deadlocks: u64,
+    pub ceilings: u64,
+    /// How often a looker looked, and how many of these looks were compared.
+    pub looks: u64,
+    pub compared: u64,
+    /// How often a reply, a look or the manager at the end wasn't what the plain manager says.
+    pub differences: u64,
+}
+
+impl Figures {
+    /// Adds those of another soak.
+    pub fn add(&mut self, other: &Figures) {
+        count(&mut self.scripts, other.scripts);
+        count(&mut self.steps, other.steps);
+        count(&mut self.queued, other.queued);
+        count(&mut self.deadlocks, other.deadlocks);
+        count(&mut self.ceilings, other.ceilings);
+        count(&mut self.looks, other.looks);
+        count(&mut self.compared, other.compared);
+        count(&mut self.differences, other.differences);
+    }
+
+    /// Counts a difference, unless both are the same.
+    pub fn expect(&mut self, is_same: bool) {
+        if !is_same {
+            count(&mut self.differences, 1);
+        }
+    }
+}
+
+/// Adds to a count, which stays at its largest value.
+pub fn count(sum: &mut u64, more: u64) {
+    *sum = sum.saturating_add(more);
+}
+
+impl fmt::Display for Figures {
+    fn fmt<W: fmt::Write>(&self, f: &mut fmt::Formatter<W>) -> fmt::Result {
+        let Figures { scripts, steps, .. } = *self;
+        let Figures {
+            queued,
+            deadlocks,
+            ..
+        } = *self;
+        let Figures {
+            ceilings,
+            looks,
+            ..
+        } = *self;
+        let Figures {
+            compared,
+            differences,
+            ..
+        } = *self;
+        write!(
+            f,
+            "{scripts} scripts, {steps} steps ({queued} queued, {deadlocks} deadlocks, {ceilings} ceilings), {looks} looks ({compared} compared), {differences} differences"
+        )
+    }
+}

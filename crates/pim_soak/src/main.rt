@@ -1,0 +1,114 @@
+//! Runs random scripts for some time, beside lookers, and compares all that came of them with the plain manager.
+//!
+//! `pim_soak SECONDS [SEED]` draws tasks, mutexes and a script for each task; runs the scripts, each by a worker in a
+//! thread of its own, while 8 lookers look all the time; makes the steps of the log again on the plain manager; and
+//! compares each reply, a sample of what the lookers saw, and the manager at the end. Then it draws the next ones. Once a
+//! second it tells on standard error how far it is, and at the end it prints one line: how many scripts, steps and looks
+//! there were, and how many differences. The status is 0 where there was none, else 1.
+//!
+//! The scripts with number k are those of the seed SEED + k, so a difference is found again by the seed that is told of
+//! it, as far as the schedule of the threads lets it.
+#![tactic(auto)]
+
+mod crowd;
+mod figures;
+mod lookers;
+mod replay;
+mod scene;
+#[cfg(test)]
+mod tests;
+mod trial;
+
+use crate::figures::Figures;
+use crate::scene::Scene;
+use crate::trial::trial;
+use pim_shared::{MAX_LOOKERS, SharedFault};
+use std::alloc::Global;
+use std::io;
+use std::process::ExitCode;
+use std::rt::Clock;
+use std::sync::Wait;
+use std::thread::Threads;
+use std::time::{Duration, Instant};
+
+/// The exit status where something differs.
+const DIFFERS: u8 = 1;
+
+/// The exit status for wrong words.
+const FAULT: u8 = 2;
+
+fn main(rt: HostRuntime) -> io::Result<ExitCode> {
+    let alloc = rt.alloc();
+    let words: Vec<String> = std::env::args(&rt)?.collect(alloc)?;
+    let Some((seconds, seed)) = seconds_and_seed(&words) else {
+        eprintln!(&rt; "pim_soak SECONDS [SEED]")?;
+        return Ok(ExitCode::from(FAULT));
+    };
+    let figures = soak(&rt, alloc, Duration::from_secs(seconds), seed)?;
+    println!(rt; "{figures}")?;
+    Ok(ExitCode::from(if figures.differences == 0 { 0 } else { DIFFERS }))
+}
+
+/// Returns the two numbers of the command line, where the seed is 1 if it isn't there; None for other words.
+fn seconds_and_seed(words: &[String]) -> Option<(u64, u64)> {
+    match words {
+        [_program, seconds] => Some((seconds.parse().ok()?, 1)),
+        [_program, seconds, seed] => Some((seconds.parse().ok()?, seed.parse().ok()?)),
+        _ => None,
+    }
+}
+
+/// Runs scripts for so long, and tells on standard error how far it is.
+///
+/// # Errors
+///
+/// A clock or a standard error that fails.
+fn soak<R: Threads + Wait + Sync + Clock + Eprint>(
+    rt: &R,
+    alloc: Global,
+    time: Duration,
+    seed: u64,
+) -> io::Result<Figures> {
+    let begin = Instant::now(rt)?;
+    let mut told = 0;
+    let mut figures = Figures::default();
+    for number in 0..u64::MAX {
+        let elapsed = begin.elapsed(rt)?;
+        if elapsed >= time {
+            break;
+        }
+        if elapsed.as_secs() > told {
+            told = elapsed.as_secs();
+            eprintln!(rt; "{told} s: {figures}")?;
+        }
+        let seed = seed.wrapping_add(number);
+        match drawn(rt, alloc, seed) {
+            Ok(found) => {
+                if found.differences > 0 {
+                    eprintln!(rt; "the scripts of seed {seed}: {found}")?;
+                }
+                figures.add(&found);
+            }
+            Err(fault) => {
+                eprintln!(rt; "the scripts of seed {seed}: {fault}")?;
+                figures.expect(false);
+                break;
+            }
+        }
+    }
+    Ok(figures)
+}
+
+/// Runs the scripts of this seed.
+///
+/// # Errors
+///
+/// Those of `trial`.
+fn drawn<R: Threads + Wait + Sync>(
+    rt: &R,
+    alloc: Global,
+    seed: u64,
+) -> Result<Figures, SharedFault> {
+    let scene = Scene::random(alloc, seed)?;
+    trial(rt, alloc, &scene, MAX_LOOKERS, 0)
+}

@@ -1,0 +1,157 @@
+//! Random scripts for random tasks and mutexes.
+
+ghost use Rattle.std.specs.Prelude.{◌≤◌, ◌<◌};
+ghost use Rattle.pim_soak.specs.declared.scene.TheConstants.{MOST_TASKS, MOST_MUTEXES};
+
+use pim_base::{MutexNo, Op, Prio, Protocol, TaskNo};
+use rand_core::utils::NextWord;
+use rand_pcg::Pcg32;
+use std::alloc::{AllocError, Global};
+
+/// The most tasks, mutexes and lines of a task that are drawn.
+const MOST_TASKS: u16 = 16;
+
+const MOST_MUTEXES: u16 = 8;
+
+const MOST_LINES: u16 = 24;
+
+/// Tasks with their bases, mutexes with their protocols, and a script for each task.
+#[derive(Drop)]
+pub struct Scene {
+    pub bases: Vec<Prio>,
+    pub protocols: Vec<Protocol>,
+    pub scripts: Vec<Vec<Op>>,
+}
+
+impl Scene {
+    /// Returns a scene without tasks and mutexes.
+    pub fn new(alloc: Global) -> Scene {
+        Scene {
+            bases: Vec::new(alloc),
+            protocols: Vec::new(alloc),
+            scripts: Vec::new(alloc),
+        }
+    }
+
+    /// Returns the scene that this seed draws: always the same one.
+    ///
+    /// # Errors
+    ///
+    /// Returns `AllocError` if out of memory.
+    pub fn random(alloc: Global, seed: u64) -> Result<Scene, AllocError> {
+        let mut draw = Draw::new(seed);
+        let mut scene = Scene::new(alloc);
+        for _ in 0..draw.mutexes {
+            scene.protocols.push(draw.protocol())?;
+        }
+        for task in 1..draw.tasks + 1 {
+            scene.bases.push(draw.prio())?;
+            let mut script = Vec::new(alloc);
+            for _ in 0..draw.below(MOST_LINES + 1) {
+                script.push(draw.op(TaskNo(task)))?;
+            }
+            scene.scripts.push(script)?;
+        }
+        Ok(scene)
+    }
+}
+
+/// Returns how many entries the log of a run has: the lines, and a release by each task.
+pub fn entries_of(scripts: &[Vec<Op>]) -> usize {
+    let mut entries = scripts.len();
+    for script in scripts {
+        entries = entries.saturating_add(script.len());
+    }
+    entries
+}
+
+/// Draws a number below the bound.
+fn below(random: &mut Pcg32, bound: u16) -> u16
+    requires { 0 < bound }
+    ensures { result < bound }
+{
+    (random.next_word() % u32::from(bound)) as u16
+}
+
+/// Draws the parts of one scene.
+#[derive(Drop)]
+struct Draw {
+    random: Pcg32,
+    tasks: u16,
+    mutexes: u16,
+    /// The mutex of the last line that locks one.
+    last: MutexNo,
+    ghost few_tasks: { tasks ≤ MOST_TASKS },
+    ghost some_mutexes: { 0 < mutexes },
+    ghost few_mutexes: { mutexes ≤ MOST_MUTEXES },
+}
+
+impl Draw {
+    /// Draws how many tasks and mutexes there are: mostly more tasks than mutexes, so that they meet.
+    fn new(seed: u64) -> Draw {
+        let mut random = Pcg32::new(seed, 54);
+        let tasks = 1 + below(&mut random, MOST_TASKS);
+        let mutexes = 1 + below(&mut random, MOST_MUTEXES);
+        Draw {
+            random,
+            tasks,
+            mutexes,
+            last: MutexNo(1),
+        }
+    }
+
+    /// Draws a number below the bound.
+    fn below(&mut self, bound: u16) -> u16
+        requires { 0 < bound }
+        ensures { result < bound }
+    {
+        below(&mut self.random, bound)
+    }
+
+    fn prio(&mut self) -> Prio {
+        let level = 1 + self.below(99);
+        Prio::new(level).unwrap()
+    }
+
+    /// Draws a protocol: every other one is PRIO_INHERIT, and ceilings are high enough for most tasks.
+    fn protocol(&mut self) -> Protocol {
+        match self.below(8) {
+            0 => Protocol::None,
+            1 | 2 => {
+                let level = 40 + self.below(60);
+                Protocol::Protect(Prio::new(level).unwrap())
+            }
+            _ => Protocol::Inherit,
+        }
+    }
+
+    /// Draws a task: mostly a known one, sometimes 0 or the number behind the last.
+    fn task(&mut self) -> TaskNo {
+        TaskNo(self.below(self.tasks + 2))
+    }
+
+    /// Draws a mutex: mostly a known one, sometimes 0 or the number behind the last.
+    fn mutex(&mut self) -> MutexNo {
+        MutexNo(match self.below(16) {
+            0 => self.below(self.mutexes + 2),
+            _ => 1 + self.below(self.mutexes),
+        })
+    }
+
+    /// Draws what a task asks for: mostly a lock, or to unlock what it locked last.
+    fn op(&mut self, actor: TaskNo) -> Op {
+        match self.below(20) {
+            0..9 => {
+                self.last = self.mutex();
+                Op::Lock(self.last)
+            }
+            9 => Op::Try(self.mutex()),
+            10..14 => Op::Unlock(self.last),
+            14 | 15 => Op::Unlock(self.mutex()),
+            16 => Op::ReleaseAll,
+            17 => Op::Cancel(self.task()),
+            18 => Op::SetBase(self.task(), self.below(110)),
+            _ => Op::SetBase(actor, 1 + self.below(99)),
+        }
+    }
+}
