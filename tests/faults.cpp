@@ -3,11 +3,13 @@
 // FAULT_CALL names the call: alloc, read (of standard input) or write (to standard output).
 // FAULT_KIND says what happens to it: fail, interrupt, nothing (0 bytes) or short (a single byte);
 // an alloc fails.
-// FAULT_AT is the number of the call that it happens to, counted from 1, or 0 for each of them.
+// FAULT_AT is the number of the call that it happens to, counted from 1 over all threads, or 0 for
+// each of them.
 
 #include <sys/syscall.h>
 #include <unistd.h>
 
+#include <atomic>
 #include <cerrno>
 #include <cstdlib>
 #include <string_view>
@@ -24,7 +26,7 @@ std::string_view variable(const char* name) {
 
 // Counts a call, and returns whether it is one that something happens to.
 bool is_chosen(std::string_view call) {
-    static long calls = 0;
+    static std::atomic<long> calls = 0;
     if (variable("FAULT_CALL") != call) return false;
     const long at = std::atol(std::getenv("FAULT_AT"));
     return at == 0 || ++calls == at;

@@ -17,14 +17,18 @@ const LARGEST: usize = 1 << 34;
 
 /// All the memory that there is, of which a grain at a time is given back.
 #[derive(Drop)]
-struct Hoard {
+pub struct Hoard {
     blocks: Vec<Vec<u8>>,
     grains: Vec<Vec<u8>>,
 }
 
 impl Hoard {
     /// Takes what there is: large blocks first, then smaller ones.
-    fn new(alloc: Global) -> Result<Hoard, AllocError> {
+    ///
+    /// # Errors
+    ///
+    /// Returns `AllocError` where memory is refused at first.
+    pub fn new(alloc: Global) -> Result<Hoard, AllocError> {
         let mut hoard = Hoard {
             blocks: Vec::with_capacity(alloc, BLOCKS)?,
             grains: Vec::with_capacity(alloc, GRAINS)?,
@@ -78,4 +82,16 @@ pub fn served_at_last<T: Drop, F: FnMut() -> Option<T>>(
         }
     }
     Err("it was refused with enough memory")?
+}
+
+/// Returns what the call answers while there is no memory at all.
+///
+/// # Errors
+///
+/// Where memory is refused at first.
+pub fn without_memory<T: Drop, F: FnMut() -> T>(alloc: Global, mut call: F) -> Result<T, Fail>
+    requires { F.IsAlwaysCallable call }
+{
+    let _hoard = Hoard::new(alloc)?;
+    Ok(call())
 }

@@ -18,6 +18,8 @@ mod hoard;
 #[cfg(test)]
 mod managers;
 #[cfg(test)]
+mod shared;
+#[cfg(test)]
 mod sizes;
 #[cfg(test)]
 mod texts;

@@ -26,12 +26,12 @@ pub fn step(actor: u16, op: Op) -> Step {
     }
 }
 
-fn lock(task: u16) -> Step {
+pub fn lock(task: u16) -> Step {
     step(task, Op::Lock(MutexNo(1)))
 }
 
 /// Makes a manager whose task 1 owns mutex 1, for which task 2 waits.
-fn waited_for(alloc: Global) -> Result<Manager, Fail> {
+pub fn waited_for(alloc: Global) -> Result<Manager, Fail> {
     let mut manager = Manager::new(alloc, &bases()?, &PROTOCOLS)?;
     manager.run(&[lock(1), lock(2)]);
     Ok(manager)

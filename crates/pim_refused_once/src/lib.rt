@@ -8,6 +8,8 @@
 #[cfg(test)]
 mod managers;
 #[cfg(test)]
+mod shared;
+#[cfg(test)]
 mod texts;
 
 /// The error of a test whose call was out of memory, and left all as it was.

@@ -12,16 +12,22 @@ fn bases() -> Result<[Prio; 3], Fail> {
     Ok([Prio::new(10).ok_or("a priority")?; 3])
 }
 
-fn lock(task: u16) -> Step {
+/// Returns the step in which the task locks mutex 1.
+pub fn lock(task: u16) -> Step {
     Step {
         actor: TaskNo(task),
         op: Op::Lock(MutexNo(1)),
     }
 }
 
+/// A manager of three tasks, whose two mutexes are free.
+pub fn free(alloc: Global) -> Result<Manager, Fail> {
+    Ok(Manager::new(alloc, &bases()?, &PROTOCOLS).map_err(|_fault| REFUSED_BEFORE)?)
+}
+
 /// A manager whose task 1 owns mutex 1, for which task 2 waits.
-fn waited_for(alloc: Global) -> Result<Manager, Fail> {
-    let mut manager = Manager::new(alloc, &bases()?, &PROTOCOLS).map_err(|_fault| REFUSED_BEFORE)?;
+pub fn waited_for(alloc: Global) -> Result<Manager, Fail> {
+    let mut manager = free(alloc)?;
     manager.run(&[lock(1), lock(2)]);
     Ok(manager)
 }
