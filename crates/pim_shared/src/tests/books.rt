@@ -10,10 +10,12 @@ use pim_base::Reply;
 
 /// An open book of two tasks with the bases 10 and 20 and one mutex.
 fn book<R: Wait + Abort>(rt: &R, alloc: Global, room: usize) -> Book {
-    let manager = || made(rt, alloc, &[10, 20], &[Protocol::None]);
+    let start = made(rt, alloc, &[10, 20], &[Protocol::None]);
+    let first = start.try_clone(alloc).expect(rt, "memory");
+    let second = start.try_clone(alloc).expect(rt, "memory");
     let entries = Vec::with_capacity(alloc, room).expect(rt, "memory");
-    let publisher = Publisher::new(rt, alloc, manager(), manager(), 0).expect(rt, "memory");
-    Book::new(manager(), manager(), entries, room, publisher)
+    let publisher = Publisher::new(rt, alloc, first, second, 0).expect(rt, "memory");
+    Book::new(start, entries, room, publisher)
 }
 
 #[test]
