@@ -27,19 +27,7 @@ enum Event {
 
 // what happens, how many visits that takes, and the stored priorities of all tasks then
 #[derive(Drop)]
-struct Row {
-    event: Event,
-    visits: u32,
-    after: &'static [u16],
-}
-
-fn step(event: Event, visits: u32, after: &'static [u16]) -> Row {
-    Row {
-        event,
-        visits,
-        after,
-    }
-}
+struct Row(Event, u32, &'static [u16]);
 
 fn prio(rt: &impl Abort, level: u16) -> Prio {
     Prio::new(level).expect(rt, "1 to 99")
@@ -185,10 +173,10 @@ fn play(rt: &impl Abort, tables: &mut Tables, rows: &[Row])
     let mut ticket = 1;
     for row in rows {
         let mut visits = Visits::new();
-        happen(rt, tables, row.event, ticket, &mut visits);
-        assert_eq!(rt; visits.get(), row.visits, "visits of step {ticket}");
+        happen(rt, tables, row.0, ticket, &mut visits);
+        assert_eq!(rt; visits.get(), row.1, "visits of step {ticket}");
         let mut task = 1;
-        for level in row.after {
+        for level in row.2 {
             assert_eq!(rt;
                 tables.stored(TaskNo(task)),
                 Prio::new(*level),
@@ -205,52 +193,52 @@ const INHERIT: Protocol = Protocol::Inherit;
 #[test]
 fn lowered_through_an_owner_with_another_waiter(rt: HostRuntime) -> Result<(), Fail> {
     let mut tables = tables(&rt, rt.alloc(), &[10, 20, 30, 60, 90], &[INHERIT; 4])?;
-    let rows = [
-        step(Event::Lock(1, 1), 1, &[10, 20, 30, 60, 90]),
-        step(Event::Lock(2, 2), 1, &[10, 20, 30, 60, 90]),
-        step(Event::Lock(2, 3), 1, &[10, 20, 30, 60, 90]),
-        step(Event::Lock(3, 4), 1, &[10, 20, 30, 60, 90]),
-        step(Event::Lock(3, 2), 1, &[10, 30, 30, 60, 90]),
-        step(Event::Lock(4, 3), 1, &[10, 60, 30, 60, 90]),
-        step(Event::Lock(2, 1), 1, &[60, 60, 30, 60, 90]),
-        step(Event::Lock(5, 4), 3, &[90, 90, 90, 60, 90]),
-        step(Event::Cancel(5), 3, &[60, 60, 30, 60, 90]),
+    const ROWS: &[Row] = &[
+        Row(Event::Lock(1, 1), 1, &[10, 20, 30, 60, 90]),
+        Row(Event::Lock(2, 2), 1, &[10, 20, 30, 60, 90]),
+        Row(Event::Lock(2, 3), 1, &[10, 20, 30, 60, 90]),
+        Row(Event::Lock(3, 4), 1, &[10, 20, 30, 60, 90]),
+        Row(Event::Lock(3, 2), 1, &[10, 30, 30, 60, 90]),
+        Row(Event::Lock(4, 3), 1, &[10, 60, 30, 60, 90]),
+        Row(Event::Lock(2, 1), 1, &[60, 60, 30, 60, 90]),
+        Row(Event::Lock(5, 4), 3, &[90, 90, 90, 60, 90]),
+        Row(Event::Cancel(5), 3, &[60, 60, 30, 60, 90]),
     ];
-    play(&rt, &mut tables, &rows);
+    play(&rt, &mut tables, ROWS);
     Ok(())
 }
 
 #[test]
 fn refused_deadlock_leaves_priorities(rt: HostRuntime) -> Result<(), Fail> {
     let mut tables = tables(&rt, rt.alloc(), &[10, 20, 30, 60, 90], &[INHERIT; 5])?;
-    let rows = [
-        step(Event::Lock(5, 5), 1, &[10, 20, 30, 60, 90]),
-        step(Event::Lock(1, 1), 1, &[10, 20, 30, 60, 90]),
-        step(Event::Lock(2, 2), 1, &[10, 20, 30, 60, 90]),
-        step(Event::Lock(2, 3), 1, &[10, 20, 30, 60, 90]),
-        step(Event::Lock(3, 4), 1, &[10, 20, 30, 60, 90]),
-        step(Event::Lock(3, 2), 1, &[10, 30, 30, 60, 90]),
-        step(Event::Lock(4, 3), 1, &[10, 60, 30, 60, 90]),
-        step(Event::Lock(2, 1), 1, &[60, 60, 30, 60, 90]),
-        step(Event::Lock(1, 5), 1, &[60, 60, 30, 60, 90]),
-        step(Event::Deadlock(5, 4), 0, &[60, 60, 30, 60, 90]),
+    const ROWS: &[Row] = &[
+        Row(Event::Lock(5, 5), 1, &[10, 20, 30, 60, 90]),
+        Row(Event::Lock(1, 1), 1, &[10, 20, 30, 60, 90]),
+        Row(Event::Lock(2, 2), 1, &[10, 20, 30, 60, 90]),
+        Row(Event::Lock(2, 3), 1, &[10, 20, 30, 60, 90]),
+        Row(Event::Lock(3, 4), 1, &[10, 20, 30, 60, 90]),
+        Row(Event::Lock(3, 2), 1, &[10, 30, 30, 60, 90]),
+        Row(Event::Lock(4, 3), 1, &[10, 60, 30, 60, 90]),
+        Row(Event::Lock(2, 1), 1, &[60, 60, 30, 60, 90]),
+        Row(Event::Lock(1, 5), 1, &[60, 60, 30, 60, 90]),
+        Row(Event::Deadlock(5, 4), 0, &[60, 60, 30, 60, 90]),
     ];
-    play(&rt, &mut tables, &rows);
+    play(&rt, &mut tables, ROWS);
     Ok(())
 }
 
 #[test]
 fn new_owner_keeps_what_its_waiters_lend(rt: HostRuntime) -> Result<(), Fail> {
     let mut tables = tables(&rt, rt.alloc(), &[10, 50, 40], &[INHERIT])?;
-    let rows = [
-        step(Event::Lock(1, 1), 1, &[10, 50, 40]),
-        step(Event::Lock(2, 1), 1, &[50, 50, 40]),
-        step(Event::Lock(3, 1), 1, &[50, 50, 40]),
-        step(Event::Unlock(1), 2, &[10, 50, 40]),
-        step(Event::Base(2, 20), 1, &[10, 40, 40]),
-        step(Event::Base(2, 21), 1, &[10, 40, 40]),
+    const ROWS: &[Row] = &[
+        Row(Event::Lock(1, 1), 1, &[10, 50, 40]),
+        Row(Event::Lock(2, 1), 1, &[50, 50, 40]),
+        Row(Event::Lock(3, 1), 1, &[50, 50, 40]),
+        Row(Event::Unlock(1), 2, &[10, 50, 40]),
+        Row(Event::Base(2, 20), 1, &[10, 40, 40]),
+        Row(Event::Base(2, 21), 1, &[10, 40, 40]),
     ];
-    play(&rt, &mut tables, &rows);
+    play(&rt, &mut tables, ROWS);
     assert_eq!(rt; tables.owner(MutexNo(1)), Some(TaskNo(2)));
     Ok(())
 }
@@ -258,20 +246,20 @@ fn new_owner_keeps_what_its_waiters_lend(rt: HostRuntime) -> Result<(), Fail> {
 #[test]
 fn second_waiter_becomes_first_with_a_changed_priority(rt: HostRuntime) -> Result<(), Fail> {
     let mut tables = tables(&rt, rt.alloc(), &[10, 20, 30, 50, 70, 90], &[INHERIT; 4])?;
-    let rows = [
-        step(Event::Lock(2, 1), 1, &[10, 20, 30, 50, 70, 90]),
-        step(Event::Lock(2, 2), 1, &[10, 20, 30, 50, 70, 90]),
-        step(Event::Lock(3, 3), 1, &[10, 20, 30, 50, 70, 90]),
-        step(Event::Lock(1, 4), 1, &[10, 20, 30, 50, 70, 90]),
-        step(Event::Lock(4, 2), 1, &[10, 50, 30, 50, 70, 90]),
-        step(Event::Lock(6, 1), 1, &[10, 90, 30, 50, 70, 90]),
-        step(Event::Lock(1, 3), 1, &[10, 90, 30, 50, 70, 90]),
-        step(Event::Lock(2, 3), 1, &[10, 90, 90, 50, 70, 90]),
-        step(Event::Lock(5, 4), 1, &[70, 90, 90, 50, 70, 90]),
-        step(Event::Unlock(3), 2, &[70, 90, 30, 50, 70, 90]),
-        step(Event::Unlock(1), 2, &[70, 70, 30, 50, 70, 90]),
+    const ROWS: &[Row] = &[
+        Row(Event::Lock(2, 1), 1, &[10, 20, 30, 50, 70, 90]),
+        Row(Event::Lock(2, 2), 1, &[10, 20, 30, 50, 70, 90]),
+        Row(Event::Lock(3, 3), 1, &[10, 20, 30, 50, 70, 90]),
+        Row(Event::Lock(1, 4), 1, &[10, 20, 30, 50, 70, 90]),
+        Row(Event::Lock(4, 2), 1, &[10, 50, 30, 50, 70, 90]),
+        Row(Event::Lock(6, 1), 1, &[10, 90, 30, 50, 70, 90]),
+        Row(Event::Lock(1, 3), 1, &[10, 90, 30, 50, 70, 90]),
+        Row(Event::Lock(2, 3), 1, &[10, 90, 90, 50, 70, 90]),
+        Row(Event::Lock(5, 4), 1, &[70, 90, 90, 50, 70, 90]),
+        Row(Event::Unlock(3), 2, &[70, 90, 30, 50, 70, 90]),
+        Row(Event::Unlock(1), 2, &[70, 70, 30, 50, 70, 90]),
     ];
-    play(&rt, &mut tables, &rows);
+    play(&rt, &mut tables, ROWS);
     assert_eq!(rt;
         tables
             .first_waiter(MutexNo(3))
@@ -281,61 +269,68 @@ fn second_waiter_becomes_first_with_a_changed_priority(rt: HostRuntime) -> Resul
     Ok(())
 }
 
-// what each walk costs, and what the reasons are at the end
 #[test]
-fn walks_stop_early(rt: HostRuntime) -> Result<(), Fail> {
+fn walk_stops_where_nothing_changes(rt: HostRuntime) -> Result<(), Fail> {
     // a chain of three, a waiter who changes nothing at its end, and a lower base there
-    let mut chain = tables(&rt, rt.alloc(), &[10, 20, 30, 90, 40], &[INHERIT; 3])?;
-    let rows = [
-        step(Event::Lock(1, 1), 1, &[10, 20, 30, 90, 40]),
-        step(Event::Lock(2, 2), 1, &[10, 20, 30, 90, 40]),
-        step(Event::Lock(3, 3), 1, &[10, 20, 30, 90, 40]),
-        step(Event::Lock(2, 1), 1, &[20, 20, 30, 90, 40]),
-        step(Event::Lock(3, 2), 2, &[30, 30, 30, 90, 40]),
-        step(Event::Lock(4, 3), 3, &[90, 90, 90, 90, 40]),
-        step(Event::Lock(5, 3), 1, &[90, 90, 90, 90, 40]),
-        step(Event::Cancel(5), 1, &[90, 90, 90, 90, 40]),
-        step(Event::Base(4, 15), 4, &[30, 30, 30, 15, 40]),
+    const ROWS: &[Row] = &[
+        Row(Event::Lock(1, 1), 1, &[10, 20, 30, 90, 40]),
+        Row(Event::Lock(2, 2), 1, &[10, 20, 30, 90, 40]),
+        Row(Event::Lock(3, 3), 1, &[10, 20, 30, 90, 40]),
+        Row(Event::Lock(2, 1), 1, &[20, 20, 30, 90, 40]),
+        Row(Event::Lock(3, 2), 2, &[30, 30, 30, 90, 40]),
+        Row(Event::Lock(4, 3), 3, &[90, 90, 90, 90, 40]),
+        Row(Event::Lock(5, 3), 1, &[90, 90, 90, 90, 40]),
+        Row(Event::Cancel(5), 1, &[90, 90, 90, 90, 40]),
+        Row(Event::Base(4, 15), 4, &[30, 30, 30, 15, 40]),
     ];
-    play(&rt, &mut chain, &rows);
-    // a ceiling hands nothing on
+    let mut tables = tables(&rt, rt.alloc(), &[10, 20, 30, 90, 40], &[INHERIT; 3])?;
+    play(&rt, &mut tables, ROWS);
+    Ok(())
+}
+
+#[test]
+fn ceiling_hands_nothing_on(rt: HostRuntime) -> Result<(), Fail> {
+    const ROWS: &[Row] = &[
+        Row(Event::Lock(1, 1), 1, &[50, 40, 90]),
+        Row(Event::Lock(2, 2), 1, &[50, 40, 90]),
+        Row(Event::Lock(2, 1), 1, &[50, 40, 90]),
+        Row(Event::Lock(3, 2), 1, &[50, 90, 90]),
+        Row(Event::Unlock(1), 2, &[20, 90, 90]),
+    ];
     let protocols = [Protocol::Protect(prio(&rt, 50)), INHERIT];
-    let mut ceiling = tables(&rt, rt.alloc(), &[20, 40, 90], &protocols)?;
-    let rows = [
-        step(Event::Lock(1, 1), 1, &[50, 40, 90]),
-        step(Event::Lock(2, 2), 1, &[50, 40, 90]),
-        step(Event::Lock(2, 1), 1, &[50, 40, 90]),
-        step(Event::Lock(3, 2), 1, &[50, 90, 90]),
-        step(Event::Unlock(1), 2, &[20, 90, 90]),
+    let mut tables = tables(&rt, rt.alloc(), &[20, 40, 90], &protocols)?;
+    play(&rt, &mut tables, ROWS);
+    Ok(())
+}
+
+#[test]
+fn raised_waiter_is_first_of_a_mutex_that_lends_nothing(rt: HostRuntime) -> Result<(), Fail> {
+    const ROWS: &[Row] = &[
+        Row(Event::Lock(1, 1), 1, &[10, 40, 30, 90]),
+        Row(Event::Lock(3, 2), 1, &[10, 40, 30, 90]),
+        Row(Event::Lock(2, 1), 1, &[10, 40, 30, 90]),
+        Row(Event::Lock(3, 1), 1, &[10, 40, 30, 90]),
+        Row(Event::Lock(4, 2), 1, &[10, 40, 90, 90]),
+        Row(Event::Unlock(1), 2, &[10, 40, 90, 90]),
     ];
-    play(&rt, &mut ceiling, &rows);
-    // nor does a mutex without a protocol, but the raised waiter is the first there
-    let mut plain = tables(
-        &rt,
-        rt.alloc(),
-        &[10, 40, 30, 90],
-        &[Protocol::None, INHERIT],
-    )?;
-    let rows = [
-        step(Event::Lock(1, 1), 1, &[10, 40, 30, 90]),
-        step(Event::Lock(3, 2), 1, &[10, 40, 30, 90]),
-        step(Event::Lock(2, 1), 1, &[10, 40, 30, 90]),
-        step(Event::Lock(3, 1), 1, &[10, 40, 30, 90]),
-        step(Event::Lock(4, 2), 1, &[10, 40, 90, 90]),
-        step(Event::Unlock(1), 2, &[10, 40, 90, 90]),
+    let protocols = [Protocol::None, INHERIT];
+    let mut tables = tables(&rt, rt.alloc(), &[10, 40, 30, 90], &protocols)?;
+    play(&rt, &mut tables, ROWS);
+    assert_eq!(rt; tables.owner(MutexNo(1)), Some(TaskNo(3)));
+    Ok(())
+}
+
+#[test]
+fn one_of_two_equal_waiters_may_go(rt: HostRuntime) -> Result<(), Fail> {
+    const ROWS: &[Row] = &[
+        Row(Event::Lock(1, 1), 1, &[10, 50, 50]),
+        Row(Event::Lock(2, 1), 1, &[50, 50, 50]),
+        Row(Event::Lock(3, 1), 1, &[50, 50, 50]),
+        Row(Event::Cancel(2), 1, &[50, 50, 50]),
+        Row(Event::Cancel(3), 1, &[10, 50, 50]),
     ];
-    play(&rt, &mut plain, &rows);
-    assert_eq!(rt; plain.owner(MutexNo(1)), Some(TaskNo(3)));
-    // of two equal waiters one may go
-    let mut equal = tables(&rt, rt.alloc(), &[10, 50, 50], &[INHERIT])?;
-    let rows = [
-        step(Event::Lock(1, 1), 1, &[10, 50, 50]),
-        step(Event::Lock(2, 1), 1, &[50, 50, 50]),
-        step(Event::Lock(3, 1), 1, &[50, 50, 50]),
-        step(Event::Cancel(2), 1, &[50, 50, 50]),
-        step(Event::Cancel(3), 1, &[10, 50, 50]),
-    ];
-    play(&rt, &mut equal, &rows);
+    let mut tables = tables(&rt, rt.alloc(), &[10, 50, 50], &[INHERIT])?;
+    play(&rt, &mut tables, ROWS);
     Ok(())
 }
 
@@ -352,12 +347,12 @@ fn scene(rt: &impl Abort, alloc: Global) -> Result<Tables, AllocError>
 {
     let ceiling = Protocol::Protect(prio(rt, 50));
     let mut tables = tables(rt, alloc, &[10, 20, 90], &[INHERIT, ceiling, INHERIT])?;
-    let rows = [
-        step(Event::Lock(1, 1), 1, &[10, 20, 90]),
-        step(Event::Lock(1, 2), 1, &[50, 20, 90]),
-        step(Event::Lock(2, 1), 1, &[50, 20, 90]),
+    const ROWS: &[Row] = &[
+        Row(Event::Lock(1, 1), 1, &[10, 20, 90]),
+        Row(Event::Lock(1, 2), 1, &[50, 20, 90]),
+        Row(Event::Lock(2, 1), 1, &[50, 20, 90]),
     ];
-    play(rt, &mut tables, &rows);
+    play(&rt, &mut tables, ROWS);
     Ok(tables)
 }
 
@@ -365,45 +360,75 @@ fn scene(rt: &impl Abort, alloc: Global) -> Result<Tables, AllocError>
 fn reasons_name_a_ceiling_or_the_first_waiter(rt: HostRuntime) -> Result<(), Fail> {
     let mut tables = scene(&rt, rt.alloc())?;
     assert_eq!(rt; reason(&rt, &tables, 1), Reason::Ceiling(MutexNo(2)));
-    let clone = tables.try_clone(rt.alloc())?;
-    assert!(rt; clone.has_state_of(&tables));
-    let mut visits = Visits::new();
-    lock(&rt, &mut tables, TaskNo(3), MutexNo(1), 9, &mut visits);
-    assert!(rt; !clone.has_state_of(&tables));
-    assert_eq!(rt; visits.get(), 1);
-    assert_eq!(rt;
-        reason(&rt, &tables, 1),
-        Reason::Waiter(TaskNo(3), MutexNo(1))
+    lock(
+        &rt,
+        &mut tables,
+        TaskNo(3),
+        MutexNo(1),
+        9,
+        &mut Visits::new(),
     );
+    let first = Reason::Waiter(TaskNo(3), MutexNo(1));
+    assert_eq!(rt; reason(&rt, &tables, 1), first);
     assert_eq!(rt; reason(&rt, &tables, 2), Reason::Base);
-    assert_eq!(rt; clone.stored(TaskNo(1)), Prio::new(50));
     Ok(())
 }
 
 #[test]
-fn shows_what_stands(rt: HostRuntime) -> Result<(), Fail> {
+fn copy_keeps_the_state_that_it_had(rt: HostRuntime) -> Result<(), Fail> {
+    let mut tables = scene(&rt, rt.alloc())?;
+    let copy = tables.try_clone(rt.alloc())?;
+    assert!(rt; copy.has_state_of(&tables));
+    lock(
+        &rt,
+        &mut tables,
+        TaskNo(3),
+        MutexNo(1),
+        9,
+        &mut Visits::new(),
+    );
+    assert!(rt; !copy.has_state_of(&tables));
+    assert_eq!(rt; copy.stored(TaskNo(1)), Prio::new(50));
+    Ok(())
+}
+
+#[test]
+fn shows_tasks(rt: HostRuntime) -> Result<(), Fail> {
     let tables = scene(&rt, rt.alloc())?;
-    assert_eq!(rt; (tables.tasks(), tables.mutexes()), (3, 3));
-    assert_eq!(rt; tables.base(TaskNo(1)), Prio::new(10));
-    assert_eq!(rt; tables.base(TaskNo(4)), None);
+    assert_eq!(rt; tables.tasks(), 3);
+    let bases = [tables.base(TaskNo(1)), tables.base(TaskNo(4))];
+    assert_eq!(rt; bases, [Prio::new(10), None]);
     assert_eq!(rt; tables.stored(TaskNo(0)), None);
-    assert_eq!(rt; tables.protocol(MutexNo(4)), None);
+    assert!(rt; tables.waits_for(TaskNo(1)).is_none());
+    Ok(())
+}
+
+#[test]
+fn shows_mutexes(rt: HostRuntime) -> Result<(), Fail> {
+    let tables = scene(&rt, rt.alloc())?;
+    assert_eq!(rt; tables.mutexes(), 3);
+    assert!(rt; tables.protocol(MutexNo(4)).is_none());
     assert_eq!(rt; tables.ceiling(MutexNo(2)), Prio::new(50));
-    assert_eq!(rt; tables.owner(MutexNo(2)), Some(TaskNo(1)));
-    assert_eq!(rt; tables.owner(MutexNo(3)), None);
-    assert_eq!(rt; tables.waits_for(TaskNo(1)).is_none(), true);
-    assert_eq!(rt; tables.queue(MutexNo(4)).is_none(), true);
+    let owners = [tables.owner(MutexNo(2)), tables.owner(MutexNo(3))];
+    assert_eq!(rt; owners, [Some(TaskNo(1)), None]);
+    assert!(rt; tables.queue(MutexNo(4)).is_none());
     Ok(())
 }
 
 #[test]
 fn checks_answer_from_what_stands(rt: HostRuntime) -> Result<(), Fail> {
+    let tables = scene(&rt, rt.alloc())?;
+    assert!(rt; tables.on_chain(TaskNo(2), TaskNo(1)));
+    assert!(rt; !tables.on_chain(TaskNo(1), TaskNo(2)));
+    assert!(rt; tables.is_above_ceiling(TaskNo(3), MutexNo(2)));
+    assert!(rt; tables.has_ticket(MutexNo(1), 3));
+    assert!(rt; !tables.has_ticket(MutexNo(1), 4));
+    Ok(())
+}
+
+#[test]
+fn next_ticket_is_the_one_that_was_put(rt: HostRuntime) -> Result<(), Fail> {
     let mut tables = scene(&rt, rt.alloc())?;
-    assert_eq!(rt; tables.on_chain(TaskNo(2), TaskNo(1)), true);
-    assert_eq!(rt; tables.on_chain(TaskNo(1), TaskNo(2)), false);
-    assert_eq!(rt; tables.is_above_ceiling(TaskNo(3), MutexNo(2)), true);
-    assert_eq!(rt; tables.has_ticket(MutexNo(1), 3), true);
-    assert_eq!(rt; tables.has_ticket(MutexNo(1), 4), false);
     assert_eq!(rt; tables.next_ticket(), 1);
     tables.put_next_ticket(10);
     assert_eq!(rt; tables.next_ticket(), 10);
@@ -419,32 +444,52 @@ fn owned_mutexes_come_in_ascending_order(rt: HostRuntime) -> Result<(), Fail> {
     Ok(())
 }
 
+// task 3, who owns mutex 4, waits for a mutex of task 2, and that one for a mutex of task 1
+fn chain(rt: &impl Abort, alloc: Global) -> Result<Tables, AllocError>
+    ensures { IfOk result (λ tables. SettledBut tables.state (stored_at tables) None) }
+{
+    const ROWS: &[Row] = &[
+        Row(Event::Lock(1, 1), 1, &[10, 20, 30, 60, 90]),
+        Row(Event::Lock(2, 2), 1, &[10, 20, 30, 60, 90]),
+        Row(Event::Lock(3, 4), 1, &[10, 20, 30, 60, 90]),
+        Row(Event::Lock(3, 2), 1, &[10, 30, 30, 60, 90]),
+        Row(Event::Lock(2, 1), 1, &[30, 30, 30, 60, 90]),
+    ];
+    let mut tables = tables(rt, alloc, &[10, 20, 30, 60, 90], &[INHERIT; 4])?;
+    play(rt, &mut tables, ROWS);
+    Ok(tables)
+}
+
+#[test]
+fn visits_without_notes_tell_of_no_change(rt: HostRuntime) -> Result<(), Fail> {
+    let tables = chain(&rt, rt.alloc())?;
+    assert_eq!(rt; tables.changed(&Visits::new()).next(), None);
+    let visits = Visits::with_notes(rt.alloc())?;
+    assert_eq!(rt; tables.changed(&visits).next(), None);
+    Ok(())
+}
+
 #[test]
 fn lists_what_changed_since_the_notes_began(rt: HostRuntime) -> Result<(), Fail> {
-    let mut tables = tables(&rt, rt.alloc(), &[10, 20, 30, 60, 90], &[INHERIT; 4])?;
-    let rows = [
-        step(Event::Lock(1, 1), 1, &[10, 20, 30, 60, 90]),
-        step(Event::Lock(2, 2), 1, &[10, 20, 30, 60, 90]),
-        step(Event::Lock(3, 4), 1, &[10, 20, 30, 60, 90]),
-        step(Event::Lock(3, 2), 1, &[10, 30, 30, 60, 90]),
-        step(Event::Lock(2, 1), 1, &[30, 30, 30, 60, 90]),
-    ];
-    play(&rt, &mut tables, &rows);
-    // visits that keep no notes tell nothing
-    assert_eq!(rt; tables.changed(&Visits::new()).next(), None);
+    let mut tables = chain(&rt, rt.alloc())?;
     let mut visits = Visits::with_notes(rt.alloc())?;
-    assert_eq!(rt; tables.changed(&visits).next(), None);
     lock(&rt, &mut tables, TaskNo(5), MutexNo(4), 8, &mut visits);
     assert_eq!(rt; visits.get(), 3);
     let changed: Vec<TaskNo> = tables.changed(&visits).collect(rt.alloc())?;
-    assert_eq!(rt;
-        changed.as_slice(),
-        [TaskNo(1), TaskNo(2), TaskNo(3)].as_slice()
-    );
+    let raised = [TaskNo(1), TaskNo(2), TaskNo(3)];
+    assert_eq!(rt; changed.as_slice(), raised.as_slice());
     // what is again as it was hasn't changed
     cancel(&rt, &mut tables, TaskNo(5), &mut visits);
     assert_eq!(rt; visits.get(), 6);
     assert_eq!(rt; tables.changed(&visits).next(), None);
+    Ok(())
+}
+
+#[test]
+fn notes_begin_anew(rt: HostRuntime) -> Result<(), Fail> {
+    let mut tables = chain(&rt, rt.alloc())?;
+    let mut visits = Visits::with_notes(rt.alloc())?;
+    lock(&rt, &mut tables, TaskNo(5), MutexNo(4), 8, &mut visits);
     visits.restart();
     assert_eq!(rt; visits.get(), 0);
     set_base(&rt, &mut tables, TaskNo(4), 61, &mut visits);
