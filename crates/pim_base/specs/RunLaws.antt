@@ -11,7 +11,7 @@ use Rattle.pim_base.specs.Runs.{IsRun}
 use Rattle.pim_base.specs.Steady.{IsSteady}
 use Rattle.pim_base.specs.declared.lines.Verdict.{Verdict}
 use Rattle.pim_base.specs.declared.steps.Entry.{Entry}
-use Rattle.pim_base.specs.declared.limits.TheConstants.{MAX_TASKS, MAX_MUTEXES, MAX_STEPS, MAX_WORKERS, MAX_LOOKERS, LAST_TICKET}
+use Rattle.pim_base.specs.declared.limits.TheConstants.{MAX_TASKS, MAX_MUTEXES, MAX_STEPS, MAX_WORKERS, MAX_LOOKERS, LAST_TICKET, LAST_VERSION}
 use Rattle.pim_base.specs.declared.steps.Protocol.{Protocol}
 use Rattle.pim_base.specs.declared.steps.Reply.{Reply}
 use Rattle.pim_base.specs.declared.steps.Step.{Step}
@@ -28,6 +28,7 @@ pub record LimitsLaw : Type 0 where
   pub workers : MAX_WORKERS ≡ 16
   pub lookers : MAX_LOOKERS ≡ 8
   pub tickets : LAST_TICKET ≡ 2 ^ 64 - 2
+  pub versions : LAST_VERSION ≡ 2
 
 -- Two replies are taken for the same exactly where they are equal.
 abbrev pub SameReplyLaw : Type 0
