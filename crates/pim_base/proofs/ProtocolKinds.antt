@@ -1,7 +1,7 @@
 -- No step changes the kind of a mutex.
 use Rattle.std.proofs.Common.{◌≡◌, ℕ, List, false, Option, Some, None, refl, sym, ◌∙◌, ap, arith, unwrap_or, inl, inr, rules}
 use Rattle.std.proofs.lemmas.Bool.Decides.{eqb_tells}
-use Rattle.pim_base.specs.Lists.{nth, put}
+use Rattle.pim_base.specs.Lists.{nth}
 use Rattle.pim_base.specs.State.{State, protocol_of, with_ceiling}
 use Rattle.pim_base.specs.Checks.{not_protect}
 use Rattle.pim_base.specs.Laws.{kind, KindLaw}

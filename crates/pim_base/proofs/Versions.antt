@@ -1,6 +1,6 @@
 -- Lines and texts of both versions, as the definitions spell them and take them: which version has which line. These
 -- theorems are checked with the crate, and show that the definitions say what is meant.
-use Rattle.std.proofs.Common.{◌≡◌, ◌≤◌, ℕ, List, [], ◌∷◌, Option, Some, None, codes, refl, arith, rules}
+use Rattle.std.proofs.Common.{◌≡◌, ◌≤◌, ℕ, [], ◌∷◌, Option, Some, None, codes, refl, arith, rules}
 use Rattle.std.specs.Fmt.{digits}
 use Rattle.pim_base.specs.Spelling.{version_line, spelled}
 use Rattle.pim_base.specs.Texts.{Trace, IsWithinLimits, spelled_lines}

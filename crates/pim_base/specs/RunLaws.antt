@@ -1,5 +1,5 @@
 -- What holds of steps and of whole runs.
-use Rattle.std.specs.Prelude.{◌≡◌, ◌+◌, ◌-◌, ◌^◌, ◌↔◌, ℕ, List, length, map, IsTrue}
+use Rattle.std.specs.Prelude.{◌≡◌, ◌≤◌, ◌+◌, ◌-◌, ◌^◌, ◌↔◌, ℕ, List, length, map, IsTrue}
 use Rattle.pim_base.specs.State.{State, start}
 use Rattle.pim_base.specs.Steps.{reply_of, after}
 use Rattle.pim_base.specs.Counts.{changed_task_count}
@@ -69,3 +69,13 @@ RecordingLaw =
     → KeepsScriptRules script
     → IsRunOf script es
     → (length es ≡ length script.steps + length script.bases) × (verdict_of (recording script es) ≡ Verdict.Accepted (length es))
+
+-- The trace of a run of a script is within the limits of a text, and has no line that the script's version hasn't, wherever
+-- it has no more steps than a text may have.
+abbrev pub RecordedTraceLaw : Type 0
+RecordedTraceLaw =
+    (script : Trace) (es : List Entry)
+    → IsWithinLimits script
+    → IsRunOf script es
+    → length es ≤ MAX_STEPS
+    → IsWithinLimits (recording script es)
