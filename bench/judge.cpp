@@ -28,6 +28,7 @@ using std::uint32_t;
 using std::uint64_t;
 using std::uint8_t;
 
+constexpr unsigned LAST_VERSION = 2;
 constexpr size_t MOST_TASKS = 256;
 constexpr size_t MOST_MUTEXES = 256;
 constexpr size_t MOST_STEPS = 65536;
@@ -35,7 +36,7 @@ constexpr unsigned HIGHEST_PRIO = 99;
 constexpr unsigned HIGHEST_NUMBER = 65535;
 
 enum class Protocol : uint8_t { None, Inherit, Protect };
-enum class Op : uint8_t { Lock, Try, Unlock, Release, Cancel, Base };
+enum class Op : uint8_t { Lock, Try, Unlock, Release, Cancel, Base, Ceil };
 enum class Answer : uint8_t {
     Granted,
     Queued,
@@ -52,6 +53,7 @@ enum class Answer : uint8_t {
     NotWaiting,
     Priority,
     Tickets,
+    NotProtect,
     Handed,
     Released,
 };
@@ -73,6 +75,7 @@ constexpr std::string_view ANSWERS[] = {
     "refused not-waiting",
     "refused priority",
     "refused tickets",
+    "refused not-protect",
     "handed ",
     "released ",
 };
@@ -99,6 +102,7 @@ struct Declared {
 };
 
 struct Text {
+    uint16_t version = 0;
     std::vector<uint8_t> bases;
     std::vector<Declared> mutexes;
     std::vector<Step> steps;
@@ -113,7 +117,7 @@ struct Cursor {
 
     bool is_done() const { return at == end; }
 
-    bool eat(std::string_view word) {
+    [[gnu::always_inline]] bool eat(std::string_view word) {
         if (size_t(end - at) < word.size() || std::memcmp(at, word.data(), word.size()) != 0)
             return false;
         at += word.size();
@@ -155,17 +159,25 @@ bool read_op(Cursor& line, Step& step) {
     else if (line.eat(" try ")) step.op = Op::Try;
     else if (line.eat(" cancel ")) step.op = Op::Cancel;
     else if (line.eat(" base ")) step.op = Op::Base;
+    else if (line.eat(" ceil ")) step.op = Op::Ceil;
     else if (line.eat(" release")) step.op = Op::Release;
     else return false;
     if (step.op == Op::Release) return true;
     if (!line.number(step.first)) return false;
-    return step.op != Op::Base || (line.eat(" ") && line.number(step.second));
+    if (step.op != Op::Base && step.op != Op::Ceil) return true;
+    return line.eat(" ") && line.number(step.second);
 }
 
 bool read_step(Cursor& line, Step& step) {
     if (!line.number(step.actor) || !read_op(line, step)) return false;
     if (line.is_done()) return true;
     return line.eat(" = ") && read_reply(line, step.recorded.emplace());
+}
+
+// The first version of the text that has the step, and the reply that was recorded for it.
+unsigned since(const Step& step) {
+    const bool has_new_reply = step.recorded && step.recorded->answer == Answer::NotProtect;
+    return step.op == Op::Ceil || has_new_reply ? 2 : 1;
 }
 
 bool read_protocol(Cursor& line, Declared& declared) {
@@ -177,6 +189,10 @@ bool read_protocol(Cursor& line, Declared& declared) {
     else return false;
     declared.ceiling = uint8_t(ceiling);
     return line.is_done();
+}
+
+bool read_version(Cursor line, Text& text) {
+    return line.eat("pim ") && line.number(text.version, LAST_VERSION) && line.is_done();
 }
 
 // Adds a line below the first, and returns whether it is valid there.
@@ -198,6 +214,7 @@ bool add_line(Cursor line, Text& text) {
     } else {
         Step step;
         if (!read_step(line, step) || text.steps.size() == MOST_STEPS) return false;
+        if (since(step) > text.version) return false;
         text.steps.push_back(step);
     }
     return true;
@@ -212,7 +229,7 @@ uint32_t parse(const char* data, size_t size, Text& text) {
         auto stop = static_cast<const char*>(std::memchr(at, '\n', size_t(end - at)));
         Cursor line{at, stop ? stop : end};
         at = stop ? stop + 1 : end;
-        const bool is_valid = n == 1 ? line.eat("pim 1") && line.is_done() : add_line(line, text);
+        const bool is_valid = n == 1 ? read_version(line, text) : add_line(line, text);
         if (!is_valid) return n;
     }
     return 0;
@@ -295,14 +312,15 @@ struct Task {
 };
 
 struct Mutex {
-    Declared declared;
+    Protocol protocol = Protocol::None;
+    uint8_t ceiling = 0;
     uint16_t owner = 0;  // a task, or 0
     std::vector<Waiter> queue;
 
-    bool inherits() const { return declared.protocol == Protocol::Inherit; }
-    bool protects() const { return declared.protocol == Protocol::Protect; }
+    bool inherits() const { return protocol == Protocol::Inherit; }
+    bool protects() const { return protocol == Protocol::Protect; }
     uint8_t first_prio() const { return queue.empty() ? 0 : queue.front().prio; }
-    uint8_t lends() const { return protects() ? declared.ceiling : inherits() ? first_prio() : 0; }
+    uint8_t lends() const { return protects() ? ceiling : inherits() ? first_prio() : 0; }
 };
 
 class Manager {
@@ -311,7 +329,10 @@ public:
         : tasks(text.bases.size() + 1), mutexes(text.mutexes.size() + 1) {
         for (size_t t = 1; t < tasks.size(); ++t)
             tasks[t].base = tasks[t].stored = text.bases[t - 1];
-        for (size_t m = 1; m < mutexes.size(); ++m) mutexes[m].declared = text.mutexes[m - 1];
+        for (size_t m = 1; m < mutexes.size(); ++m) {
+            mutexes[m].protocol = text.mutexes[m - 1].protocol;
+            mutexes[m].ceiling = text.mutexes[m - 1].ceiling;
+        }
         touched.reserve(MOST_TASKS);
     }
 
@@ -326,6 +347,7 @@ public:
             case Op::Release: return release(step.actor);
             case Op::Cancel: return cancel(step.first);
             case Op::Base: return set_base(step.first, step.second);
+            case Op::Ceil: return set_ceiling(step.actor, step.first, step.second);
         }
         __builtin_unreachable();
     }
@@ -454,7 +476,7 @@ protected:
     }
 
     bool is_above_ceiling(uint16_t actor, const Mutex& mutex) const {
-        return mutex.protects() && tasks[actor].base > mutex.declared.ceiling;
+        return mutex.protects() && tasks[actor].base > mutex.ceiling;
     }
 
     Reply grant(uint16_t actor, uint16_t m) {
@@ -541,10 +563,21 @@ protected:
         return {Answer::Set};
     }
 
+    Reply set_ceiling(uint16_t actor, uint16_t m, uint16_t ceiling) {
+        if (!has_mutex(m)) return {Answer::NoMutex};
+        Mutex& mutex = mutexes[m];
+        if (!mutex.protects()) return {Answer::NotProtect};
+        if (ceiling < 1 || ceiling > HIGHEST_PRIO) return {Answer::Priority};
+        if (mutex.owner && mutex.owner != actor) return {Answer::Busy};
+        mutex.ceiling = uint8_t(ceiling);
+        if (mutex.owner) settle_from(actor);
+        return {Answer::Set};
+    }
+
     void write_reason(Output& out, const Task& task) const {
         if (task.stored == task.base) return out.text(" base\n");
         uint16_t m = first_owned(task, [&](uint16_t m) {
-            return mutexes[m].protects() && mutexes[m].declared.ceiling == task.stored;
+            return mutexes[m].protects() && mutexes[m].ceiling == task.stored;
         });
         if (m) {
             out.text(" ceiling ");

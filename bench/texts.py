@@ -72,6 +72,25 @@ def mixed(tasks, steps, seed=3):
     return text(bases, kinds[1 : tasks + 1], lines)
 
 
+def ceilings(tasks, steps, seed=4):
+    """All protocols and steps, with ceilings that change: a text of the second version.
+
+    Each second mutex is a PROTECT one. Its owner mostly sets its ceiling, or any task where it is free.
+    """
+    draw = random.Random(seed)
+    bases = some_bases(draw, tasks)
+    guess = Guess(bases, {mutex: draw.randint(60, 99) for mutex in range(2, tasks + 1, 2)})
+    kinds = ["none", "inherit", "inherit", "inherit"] * tasks
+    for mutex, ceiling in guess.ceilings.items():
+        kinds[mutex] = f"protect {ceiling}"
+    lines = []
+    while len(lines) < steps:
+        some = some_ceiling if draw.random() < 0.15 else some_step
+        line = some(draw, guess, tasks)
+        lines += [line] if line else []
+    return text(bases, kinds[1 : tasks + 1], lines, version=2)
+
+
 class Guess:
     """Who owns what and who waits, by base priorities alone. A wrong guess is one more refusal."""
 
@@ -137,6 +156,20 @@ def some_step(draw, guess, tasks):
     return f"{task} cancel {task}"
 
 
+def some_ceiling(draw, guess, tasks):
+    """Returns a ceil line, or None where the chosen task waits on."""
+    mutex = draw.randrange(2, tasks + 1, 2) if draw.random() < 0.95 else draw.randint(1, tasks + 1)
+    task = draw.randint(1, tasks)
+    owner = guess.owner.get(mutex, task)
+    task = owner if draw.random() < 0.9 else task
+    if task in guess.waits:
+        return None
+    ceiling = draw.randint(50, 101) if draw.random() < 0.9 else draw.randint(1, 49)
+    if mutex in guess.ceilings and ceiling <= 99 and task == owner:
+        guess.ceilings[mutex] = ceiling
+    return f"{task} ceil {mutex} {ceiling}"
+
+
 def chain(tasks, steps):
     """A chain of all tasks, along all of which priorities rise and fall."""
     lines = [f"{task} lock {task}" for task in range(1, tasks)]
@@ -151,10 +184,10 @@ def some_bases(draw, tasks):
     return [draw.randint(1, 99) for _ in range(tasks)]
 
 
-def text(bases, protocols, lines):
+def text(bases, protocols, lines, version=1):
     declared = [f"task {number} {base}" for number, base in enumerate(bases, 1)]
     declared += [f"mutex {number} {protocol}" for number, protocol in enumerate(protocols, 1)]
-    return "\n".join(["pim 1", *declared, *lines]) + "\n"
+    return "\n".join([f"pim {version}", *declared, *lines]) + "\n"
 
 
-TEXTS = {make.__name__: make for make in (start, free, wide, mixed, chain)}
+TEXTS = {make.__name__: make for make in (start, free, wide, mixed, chain, ceilings)}

@@ -1,13 +1,14 @@
 -- What each step keeps: it is enough to look at the changes of one fact.
-use Rattle.std.proofs.Common.{◌≡◌, ℕ, Bool, true, false, not, ◌&&◌, List, [], ◌∷◌, Some, None, arith, fold, rules}
+use Rattle.std.proofs.Common.{◌≡◌, ℕ, Bool, true, false, not, ◌&&◌, List, [], ◌∷◌, Some, None, refl, arith, fold, rules}
 use Rattle.std.proofs.lemmas.Bool.Decides.{nat_tests}
-use Rattle.pim_base.specs.State.{State, IsTask, wait_of, with_owner, with_wait, with_base, queued}
+use Rattle.pim_base.specs.State.{State, IsTask, wait_of, with_owner, with_wait, with_base, with_ceiling, queued}
 use Rattle.pim_base.specs.Chains.{closes_cycle}
-use Rattle.pim_base.specs.Checks.{unknown_task, is_waiting, is_owned, checks, withdraws_itself}
-use Rattle.pim_base.specs.Steps.{hand_over, served, after_reply, after}
+use Rattle.pim_base.specs.Checks.{unknown_task, is_waiting, is_owned, not_protect, first_checks, checks, withdraws_itself}
+use Rattle.pim_base.specs.Steps.{hand_over, unless, served, answer, after_reply, after}
 use Rattle.pim_base.specs.declared.steps.Op.{Op}
 use Rattle.pim_base.specs.declared.steps.Step.{Step}
 use Rattle.pim_base.specs.declared.steps.Refusal.{Refusal}
+use Rattle.pim_base.specs.declared.steps.Reply.{Reply}
 
 -- each change of one fact that a step makes keeps P
 pub record IsKeptBySteps (P : State → Type 0) : Type 0 where
@@ -23,6 +24,7 @@ pub record IsKeptBySteps (P : State → Type 0) : Type 0 where
   pub hand : (S : State) (m : ℕ) → P S → P (hand_over S m)
   pub withdraw : (S : State) (t : ℕ) → P S → P (with_wait S t None)
   pub set_base : (S : State) (t p : ℕ) → P S → P (with_base S t p)
+  pub set_ceiling : (S : State) (m p : ℕ) → P S → not_protect S m ≡ false → P (with_ceiling S m p)
 
 hands_kept : (P : State → Type 0) → IsKeptBySteps P → (ms : List ℕ) (S : State) → P S → P (fold hand_over S ms)
 hands_kept P kept [] S ok = ok
@@ -49,5 +51,20 @@ served_kept P S a op kept task h ok f = grind (arith, idle_from_tests, hands_kep
 pub known_from_tests : (S : State) (a : ℕ) → unknown_task S a ≡ false → IsTask S a
 known_from_tests S a h = grind (arith, nat_tests)
 
+-- a refused step changes nothing
+unless_kept :
+    (P : State → Type 0) (S : State) (a : ℕ) (op : Op) (tests : List (Bool × Refusal)) (r : Reply)
+    → P S
+    → (AllFail tests → P (after_reply S a op r))
+    → P (after_reply S a op (unless tests r))
+unless_kept P S a op [] r ok last = last tt
+unless_kept P S a op ((true, e) ∷ tests) r ok last = ok
+unless_kept P S a op ((false, e) ∷ tests) r ok last = unless_kept P S a op tests r ok (λ f. last (refl, f))
+
 pub kept_by_step : (P : State → Type 0) → IsKeptBySteps P → (S : State) (step : Step) → P S → P (after S step)
-kept_by_step P kept S step ok = grind (arith, served_kept, known_from_tests)
+kept_by_step P kept S step ok =
+    let a = step.actor in
+    let op = step.op in
+    unless_kept P S a op (first_checks S step) (answer S a op) ok
+    (λ may. unless_kept P S a op (checks S a op) (served S a op) ok
+    (λ open'. served_kept P S a op kept (known_from_tests S a may.0) may.1.0 ok open'))

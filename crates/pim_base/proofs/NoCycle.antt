@@ -3,11 +3,12 @@ use Rattle.std.proofs.lemmas.Grind.{common_steps}
 use Rattle.std.proofs.Common.{◌≡◌, ℕ, zero, suc, false, ◌⊎◌, inl, inr, List, [], ◌∷◌, length, Option, Some, None, refl, sym, ◌∙◌, ap, arith, option_and_then, unwrap_or, set, slice_get, true≢false, rules}
 use Rattle.std.proofs.lemmas.Bool.Decides.{eqb_tells}
 use Rattle.pim_base.specs.Lists.{nth, put}
-use Rattle.pim_base.specs.State.{State, IsTask, owner_of, wait_of, with_owner, with_wait, with_base, queued}
+use Rattle.pim_base.specs.State.{State, IsTask, owner_of, wait_of, with_owner, with_wait, with_base, with_ceiling, queued}
 use Rattle.pim_base.specs.Chains.{blocker, HasCycle, closes_cycle}
 use Rattle.pim_base.specs.Queues.{first_of}
 use Rattle.pim_base.specs.Steps.{hand_over, hand_over_to}
 use Rattle.pim_base.specs.Laws.{IsSound, NoCycleLaw}
+use Rattle.pim_base.specs.declared.steps.Protocol.{Protocol}
 use Rattle.pim_base.specs.declared.steps.Wait.{Wait}
 use Rattle.pim_base.specs.declared.steps.Waiter.{Waiter}
 use Rattle.pim_base.proofs.Hops.{hops, first_hop, hops_front, NoneReturns}
@@ -124,6 +125,12 @@ idle_sound S t ok = record {
 pub base_sound : (S : State) (t p : ℕ) → IsSound S → IsSound (with_base S t p)
 base_sound S t p ok = search rules
 
+pub ceiling_sound : (S : State) (m p : ℕ) → IsSound S → IsSound (with_ceiling S m p)
+ceiling_sound S m p ok = record {
+  lists = record { waits = ok.lists.waits; owners = ok.lists.owners ∙ sym (length-put S.protocol m (Protocol.Protect p)) };
+  no_cycle = ok.no_cycle;
+}
+
 pub queued_sound : (S : State) (t m : ℕ) → IsTask S t → wait_of S t ≡ None → closes_cycle S t m ≡ false → IsSound S → IsSound (queued S t m)
 queued_sound S t m task idle open' ok = record {
   lists = record { waits = length-put S.wait t (Some (record { mutex = m; ticket = S.next })) ∙ ok.lists.waits; owners = ok.lists.owners };
@@ -141,7 +148,7 @@ hand_sound S m ok = go (first_of S m)
         (idle_sound S w.task ok)
 
 pub sound_kept : IsKeptBySteps IsSound
-sound_kept = grind (arith, common_steps, owner_sound, queued_sound, hand_sound, idle_sound)
+sound_kept = grind (arith, common_steps, owner_sound, queued_sound, hand_sound, idle_sound, ceiling_sound)
 
 pub no_cycle_law : NoCycleLaw
 no_cycle_law S step ok = kept_by_step IsSound sound_kept S step ok

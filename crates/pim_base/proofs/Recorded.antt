@@ -102,7 +102,7 @@ module _ {X : Type 0} (task : X → ℕ) where
 
 -- ---- the entries of a run
 
-each_script : (t : Trace) (a : ℕ) → 1 ≤ a → a ≤ length t.bases → nth (scripts_of t) a ≡ Some (script_of t.steps a)
+pub each_script : (t : Trace) (a : ℕ) → 1 ≤ a → a ≤ length t.bases → nth (scripts_of t) a ≡ Some (script_of t.steps a)
 each_script t zero low high = absurd (omega arith)
 each_script t (suc i) low high =
     let n = length t.bases in
@@ -110,7 +110,7 @@ each_script t (suc i) low high =
     nth-get_or (scripts_of t) (suc i) i [] (omega arith) (omega (arith, length-map-range_with_len (script_of t.steps) 1 n))
     ∙ ap Some (get_or-map-range_with_len (script_of t.steps) 1 n i (suc i) [] inside (omega arith))
 
-last_part : {X : Type 0} (P : X → Type 0) (xs ys : List X) → AllByRecursion P (xs ++ ys) → AllByRecursion P ys
+pub last_part : {X : Type 0} (P : X → Type 0) (xs ys : List X) → AllByRecursion P (xs ++ ys) → AllByRecursion P ys
 last_part P [] ys all = all
 last_part P (x ∷ xs) ys all = last_part P xs ys all.1
 

@@ -9,7 +9,7 @@ use Rattle.pim_base.specs.Reasons.{reason_of}
 use Rattle.pim_base.specs.declared.limits.TheConstants.{LAST_TICKET}
 use Rattle.pim_base.specs.declared.steps.Protocol.{Protocol}
 use Rattle.pim_base.specs.declared.steps.Op.{Op}
-use Rattle.pim_base.specs.declared.steps.Op.TheVariants.{Lock, Unlock, Try, Cancel, SetBase, ReleaseAll}
+use Rattle.pim_base.specs.declared.steps.Op.TheVariants.{Lock, Unlock, Try, Cancel, SetBase, SetCeiling, ReleaseAll}
 use Rattle.pim_base.specs.declared.steps.Step.{Step}
 use Rattle.pim_base.specs.declared.steps.Refusal.{Refusal}
 use Rattle.pim_base.specs.declared.steps.Reply.{Reply}
@@ -167,6 +167,28 @@ hand_over_ignores_the_ceiling :
     ≡ says Granted ∷ at 1 40 (Ceiling 1) ∷ says Queued ∷ says Queued ∷ says Set ∷ at 3 50 Base
     ∷ says Set ∷ at 2 50 Base ∷ says (Handed 2) ∷ at 1 10 Base ∷ says (Handed 3) ∷ []
 hand_over_ignores_the_ceiling = refl
+
+-- the ceiling of an owned mutex is lowered and raised by its owner alone, and that of a free one by any task; it may be
+-- below the owner's base
+ceilings_that_change :
+    report (start (20 ∷ 40 ∷ []) (protect 50 ∷ none ∷ []) 1)
+    ((1, Lock 1) ∷ (1, SetCeiling 1 30) ∷ (2, SetCeiling 1 60) ∷ (2, Lock 1) ∷ (1, SetCeiling 1 10) ∷ (1, SetCeiling 2 30)
+    ∷ (1, SetCeiling 1 100) ∷ (1, Unlock 1) ∷ (2, SetCeiling 1 45) ∷ (2, Lock 1) ∷ [])
+    ≡ says Granted ∷ at 1 50 (Ceiling 1) ∷ says Set ∷ at 1 30 (Ceiling 1) ∷ says (Refused Refusal.Busy)
+    ∷ says (Refused Refusal.Ceiling) ∷ says Set ∷ at 1 20 Base ∷ says (Refused Refusal.NotProtect)
+    ∷ says (Refused Refusal.Priority) ∷ says Freed ∷ says Set ∷ says Granted ∷ at 2 45 (Ceiling 1) ∷ []
+ceilings_that_change = refl
+
+-- unknown task, a task that waits, unknown mutex, no PROTECT mutex, no priority, another's mutex: in this order
+what_refuses_a_ceiling :
+    report (start (10 ∷ 20 ∷ []) (protect 30 ∷ inherit ∷ none ∷ []) 1)
+    ((1, Lock 1) ∷ (2, SetCeiling 9 0) ∷ (2, SetCeiling 2 0) ∷ (2, SetCeiling 3 0) ∷ (2, SetCeiling 1 0) ∷ (2, SetCeiling 1 99)
+    ∷ (2, Lock 1) ∷ (2, SetCeiling 9 0) ∷ (3, SetCeiling 9 0) ∷ (1, SetCeiling 1 15) ∷ (1, Unlock 1) ∷ [])
+    ≡ says Granted ∷ at 1 30 (Ceiling 1) ∷ says (Refused Refusal.NoMutex) ∷ says (Refused Refusal.NotProtect)
+    ∷ says (Refused Refusal.NotProtect) ∷ says (Refused Refusal.Priority) ∷ says (Refused Refusal.Busy)
+    ∷ says Queued ∷ says (Refused Refusal.Waiting) ∷ says (Refused Refusal.NoTask)
+    ∷ says Set ∷ at 1 15 (Ceiling 1) ∷ says (Handed 2) ∷ at 1 10 Base ∷ []
+what_refuses_a_ceiling = refl
 
 -- a task with a ceiling of 50, and a waiter that lends 50
 abbrev ceiling_and_waiter : State

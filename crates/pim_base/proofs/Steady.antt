@@ -112,6 +112,11 @@ steady_kept = record {
     tickets = tickets_kept.set_base S t p ok.tickets;
     owned = λ u w e. ok.owned u w e;
   };
+  set_ceiling = λ S m p ok protect. record {
+    sound = sound_kept.set_ceiling S m p ok.sound protect;
+    tickets = tickets_kept.set_ceiling S m p ok.tickets protect;
+    owned = λ u w e. ok.owned u w e;
+  };
 }
 
 pub steady_step_law : SteadyStepLaw

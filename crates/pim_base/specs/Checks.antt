@@ -1,6 +1,6 @@
 -- What refuses a step: the tests, and their order. (POSIX.1-2017: the errors of pthread_mutex_lock,
--- pthread_mutex_trylock, pthread_mutex_unlock and pthread_setschedprio)
-use Rattle.std.specs.Prelude.{ℕ, ◌+◌, ◌==◌, nat_lt, nat_le, ◌&&◌, ◌||◌, not, is_some, Bool, false, List, [], ◌∷◌, length}
+-- pthread_mutex_trylock, pthread_mutex_unlock, pthread_setschedprio and pthread_mutex_setprioceiling)
+use Rattle.std.specs.Prelude.{ℕ, ◌+◌, ◌==◌, nat_lt, nat_le, ◌&&◌, ◌||◌, not, is_some, is_none, Bool, false, List, [], ◌∷◌, length}
 use Rattle.std.specs.Option.{option_map_or}
 use Rattle.pim_base.specs.Lists.{holds}
 use Rattle.pim_base.specs.State.{State, base_of, owner_of, wait_of, protocol_of}
@@ -32,6 +32,18 @@ is_owned S m = is_some (owner_of S m)
 abbrev pub above_ceiling : State → ℕ → ℕ → Bool
 above_ceiling S t m = option_map_or (λ c. nat_lt c (base_of S t)) (ceiling (protocol_of S m)) false
 
+-- a task other than t owns the mutex
+abbrev pub owned_by_another : State → ℕ → ℕ → Bool
+owned_by_another S t m = option_map_or (λ u. not (u == t)) (owner_of S m) false
+
+-- m isn't a PROTECT mutex, and so has no ceiling
+abbrev pub not_protect : State → ℕ → Bool
+not_protect S m = is_none (ceiling (protocol_of S m))
+
+-- the number is no priority: it isn't 1 to 99
+abbrev pub no_priority : ℕ → Bool
+no_priority p = not (nat_le 1 p && nat_le p 99)
+
 -- no ticket is left: the last one has been given out
 abbrev pub no_tickets : State → Bool
 no_tickets S = S.next == LAST_TICKET + 1
@@ -44,6 +56,7 @@ withdraws_itself a (Op.Unlock m) = false
 withdraws_itself a Op.ReleaseAll = false
 withdraws_itself a (Op.Cancel t) = t == a
 withdraws_itself a (Op.SetBase t p) = false
+withdraws_itself a (Op.SetCeiling m p) = false
 
 -- what refuses any step, in order
 abbrev pub first_checks : State → Step → List (Bool × Refusal)
@@ -76,5 +89,11 @@ checks S a (Op.Cancel t) =
     ∷ []
 checks S a (Op.SetBase t p) =
     (unknown_task S t, Refusal.NoTask)
-    ∷ (not (nat_le 1 p && nat_le p 99), Refusal.Priority)
+    ∷ (no_priority p, Refusal.Priority)
+    ∷ []
+checks S a (Op.SetCeiling m p) =
+    (unknown_mutex S m, Refusal.NoMutex)
+    ∷ (not_protect S m, Refusal.NotProtect)
+    ∷ (no_priority p, Refusal.Priority)
+    ∷ (owned_by_another S a m, Refusal.Busy)
     ∷ []

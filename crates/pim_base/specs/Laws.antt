@@ -31,6 +31,16 @@ ClosingLaw =
 abbrev pub NoCycleLaw : Type 0
 NoCycleLaw = (S : State) (step : Step) → IsSound S → IsSound (after S step)
 
+-- the kind of a protocol, whatever its ceiling, by a number of its own
+abbrev pub kind : Protocol → ℕ
+kind Protocol.None = 0
+kind Protocol.Inherit = 1
+kind (Protocol.Protect c) = 2
+
+-- Whatever the step, each mutex is of the kind that it was: a step may change a ceiling, and nothing else of a protocol.
+abbrev pub KindLaw : Type 0
+KindLaw = (S : State) (step : Step) (m : ℕ) → kind (protocol_of (after S step) m) ≡ kind (protocol_of S m)
+
 -- Where no cycle stands, priorities that agree with their neighbours are the effective ones, and the other way round.
 -- (It is why a walk along one chain may stop where nothing changes: the Linux rt-mutex design.)
 abbrev pub StoredLaw : Type 0

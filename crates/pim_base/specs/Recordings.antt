@@ -18,9 +18,14 @@ pub record IsRunOf (script : Trace) (es : List Entry) : Type 0 where
 abbrev pub entry_line : Entry → StepLine
 entry_line e = record { step = e.step; recorded = Some e.reply }
 
--- what the script declares, and then the entries
+-- the version of the script, what it declares, and then the entries
 abbrev pub recording : Trace → List Entry → Trace
-recording script es = record { bases = script.bases; protocols = script.protocols; steps = map entry_line es }
+recording script es = record {
+  version = script.version;
+  bases = script.bases;
+  protocols = script.protocols;
+  steps = map entry_line es;
+}
 
 -- the line and a newline
 abbrev pub ended : List ℕ → List ℕ

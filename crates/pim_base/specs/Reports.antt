@@ -64,6 +64,7 @@ refusal_number Refusal.NotOwner = 7
 refusal_number Refusal.NotWaiting = 8
 refusal_number Refusal.Priority = 9
 refusal_number Refusal.Tickets = 10
+refusal_number Refusal.NotProtect = 11
 
 -- each kind of reply has a number of its own
 abbrev pub reply_kind : Reply → ℕ

@@ -1,5 +1,5 @@
 -- What holds of steps and of whole runs.
-use Rattle.std.specs.Prelude.{◌≡◌, ◌+◌, ◌-◌, ◌^◌, ◌↔◌, ℕ, List, length, map, IsTrue}
+use Rattle.std.specs.Prelude.{◌≡◌, ◌≤◌, ◌+◌, ◌-◌, ◌^◌, ◌↔◌, ℕ, List, length, map, IsTrue}
 use Rattle.pim_base.specs.State.{State, start}
 use Rattle.pim_base.specs.Steps.{reply_of, after}
 use Rattle.pim_base.specs.Counts.{changed_task_count}
@@ -11,7 +11,7 @@ use Rattle.pim_base.specs.Runs.{IsRun}
 use Rattle.pim_base.specs.Steady.{IsSteady}
 use Rattle.pim_base.specs.declared.lines.Verdict.{Verdict}
 use Rattle.pim_base.specs.declared.steps.Entry.{Entry}
-use Rattle.pim_base.specs.declared.limits.TheConstants.{MAX_TASKS, MAX_MUTEXES, MAX_STEPS, MAX_WORKERS, MAX_LOOKERS, LAST_TICKET}
+use Rattle.pim_base.specs.declared.limits.TheConstants.{MAX_TASKS, MAX_MUTEXES, MAX_STEPS, MAX_WORKERS, MAX_LOOKERS, LAST_TICKET, LAST_VERSION}
 use Rattle.pim_base.specs.declared.steps.Protocol.{Protocol}
 use Rattle.pim_base.specs.declared.steps.Reply.{Reply}
 use Rattle.pim_base.specs.declared.steps.Step.{Step}
@@ -28,6 +28,7 @@ pub record LimitsLaw : Type 0 where
   pub workers : MAX_WORKERS ≡ 16
   pub lookers : MAX_LOOKERS ≡ 8
   pub tickets : LAST_TICKET ≡ 2 ^ 64 - 2
+  pub versions : LAST_VERSION ≡ 2
 
 -- Two replies are taken for the same exactly where they are equal.
 abbrev pub SameReplyLaw : Type 0
@@ -68,3 +69,13 @@ RecordingLaw =
     → KeepsScriptRules script
     → IsRunOf script es
     → (length es ≡ length script.steps + length script.bases) × (verdict_of (recording script es) ≡ Verdict.Accepted (length es))
+
+-- The trace of a run of a script is within the limits of a text, and has no line that the script's version hasn't, wherever
+-- it has no more steps than a text may have.
+abbrev pub RecordedTraceLaw : Type 0
+RecordedTraceLaw =
+    (script : Trace) (es : List Entry)
+    → IsWithinLimits script
+    → IsRunOf script es
+    → length es ≤ MAX_STEPS
+    → IsWithinLimits (recording script es)

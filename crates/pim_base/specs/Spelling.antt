@@ -1,6 +1,7 @@
 -- How each line of a text is spelled: its words, with one space between.
-use Rattle.std.specs.Prelude.{ℕ, ◌^◌, ◌<◌, ◌≤◌, List, [], ◌∷◌, ◌++◌, Option, Some, None, codes, decimal}
+use Rattle.std.specs.Prelude.{ℕ, max, ◌^◌, ◌<◌, ◌≤◌, List, [], ◌∷◌, ◌++◌, Option, Some, None, codes, decimal}
 use Rattle.std.specs.List.{join_with_byte}
+use Rattle.std.specs.Option.{option_map_or}
 use Rattle.pim_base.specs.declared.steps.Protocol.{Protocol}
 use Rattle.pim_base.specs.declared.steps.Op.{Op}
 use Rattle.pim_base.specs.declared.steps.Refusal.{Refusal}
@@ -37,6 +38,7 @@ op_words (Op.Unlock m) = codes "unlock" ∷ decimal m ∷ []
 op_words Op.ReleaseAll = codes "release" ∷ []
 op_words (Op.Cancel t) = codes "cancel" ∷ decimal t ∷ []
 op_words (Op.SetBase t p) = codes "base" ∷ decimal t ∷ decimal p ∷ []
+op_words (Op.SetCeiling m p) = codes "ceil" ∷ decimal m ∷ decimal p ∷ []
 
 abbrev pub refusal_word : Refusal → List ℕ
 refusal_word Refusal.NoTask = codes "no-task"
@@ -49,6 +51,7 @@ refusal_word Refusal.NotOwner = codes "not-owner"
 refusal_word Refusal.NotWaiting = codes "not-waiting"
 refusal_word Refusal.Priority = codes "priority"
 refusal_word Refusal.Tickets = codes "tickets"
+refusal_word Refusal.NotProtect = codes "not-protect"
 
 abbrev pub reply_words : Reply → List (List ℕ)
 reply_words Reply.Granted = codes "granted" ∷ []
@@ -74,8 +77,8 @@ words_of (lines.Mutex n protocol) = codes "mutex" ∷ decimal n ∷ protocol_wor
 words_of (lines.Step line) = step_words line
 
 -- the first line of a text names the version of the format
-abbrev pub version_line : List ℕ
-version_line = codes "pim 1"
+abbrev pub version_line : ℕ → List ℕ
+version_line version = codes "pim " ++ decimal version
 
 -- the one spelling of a line below it
 abbrev pub spelled : Line → List ℕ
@@ -95,6 +98,7 @@ IsOp (Op.Unlock m) = IsNumber m
 IsOp Op.ReleaseAll = Unit {0}
 IsOp (Op.Cancel t) = IsNumber t
 IsOp (Op.SetBase t p) = IsNumber t × IsNumber p
+IsOp (Op.SetCeiling m p) = IsNumber m × IsNumber p
 
 -- the count of a release may be 0
 abbrev pub IsReply : Reply → Type 0
@@ -116,3 +120,47 @@ abbrev pub IsLine : Line → Type 0
 IsLine (lines.Task n p) = IsNumber n × IsPrio p
 IsLine (lines.Mutex n protocol) = IsNumber n × IsProtocol protocol
 IsLine (lines.Step line) = IsNumber line.step.actor × IsOp line.step.op × IsRecorded line.recorded
+
+-- ---- the first version of the text that has it
+
+abbrev pub op_since : Op → ℕ
+op_since (Op.Lock m) = 1
+op_since (Op.Try m) = 1
+op_since (Op.Unlock m) = 1
+op_since Op.ReleaseAll = 1
+op_since (Op.Cancel t) = 1
+op_since (Op.SetBase t p) = 1
+op_since (Op.SetCeiling m p) = 2
+
+abbrev pub refusal_since : Refusal → ℕ
+refusal_since Refusal.NoTask = 1
+refusal_since Refusal.Waiting = 1
+refusal_since Refusal.NoMutex = 1
+refusal_since Refusal.Deadlock = 1
+refusal_since Refusal.Ceiling = 1
+refusal_since Refusal.Busy = 1
+refusal_since Refusal.NotOwner = 1
+refusal_since Refusal.NotWaiting = 1
+refusal_since Refusal.Priority = 1
+refusal_since Refusal.Tickets = 1
+refusal_since Refusal.NotProtect = 2
+
+abbrev pub reply_since : Reply → ℕ
+reply_since Reply.Granted = 1
+reply_since Reply.Queued = 1
+reply_since Reply.Freed = 1
+reply_since (Reply.Handed t) = 1
+reply_since (Reply.Released k) = 1
+reply_since Reply.Withdrawn = 1
+reply_since Reply.Set = 1
+reply_since (Reply.Refused r) = refusal_since r
+
+-- a line came with the latest of its words
+abbrev pub since : Line → ℕ
+since (lines.Task n p) = 1
+since (lines.Mutex n protocol) = 1
+since (lines.Step line) = max (op_since line.step.op) (option_map_or reply_since line.recorded 1)
+
+-- the line stands in texts of this version: it came with that one, or with an earlier one
+abbrev pub BelongsTo : ℕ → Line → Type 0
+BelongsTo version line = since line ≤ version

@@ -80,6 +80,10 @@ with_wait S t w = record S { wait = put S.wait t w }
 abbrev pub with_base : State → ℕ → ℕ → State
 with_base S t p = record S { base = put S.base t p }
 
+-- m is a PROTECT mutex with this ceiling (POSIX.1-2017, pthread_mutex_setprioceiling)
+abbrev pub with_ceiling : State → ℕ → ℕ → State
+with_ceiling S m c = record S { protocol = put S.protocol m (Protocol.Protect c) }
+
 -- t waits for m with the next ticket, which is then one more
 abbrev pub queued : State → ℕ → ℕ → State
 queued S t m = record S {

@@ -1,7 +1,7 @@
 -- One step: the reply to it, and the state after it.
 use Rattle.std.specs.Prelude.{ℕ, Bool, List, [], ◌∷◌, length, Option, Some, None, if◌then◌else◌}
 use Rattle.std.specs.List.{fold}
-use Rattle.pim_base.specs.State.{State, owned, with_owner, with_wait, with_base, queued}
+use Rattle.pim_base.specs.State.{State, owned, with_owner, with_wait, with_base, with_ceiling, queued}
 use Rattle.pim_base.specs.Checks.{is_owned, first_checks, checks}
 use Rattle.pim_base.specs.Queues.{first_of}
 use Rattle.pim_base.specs.declared.steps.Op.{Op}
@@ -28,6 +28,7 @@ served S a (Op.Unlock m) = handed (first_of S m)
 served S a Op.ReleaseAll = Reply.Released (length (owned S a))
 served S a (Op.Cancel t) = Reply.Withdrawn
 served S a (Op.SetBase t p) = Reply.Set
+served S a (Op.SetCeiling m p) = Reply.Set
 
 -- the answer to a known task that may ask
 abbrev pub answer : State → ℕ → Op → Reply
@@ -54,6 +55,7 @@ mutex_of (Op.Unlock m) = m
 mutex_of Op.ReleaseAll = 0
 mutex_of (Op.Cancel t) = 0
 mutex_of (Op.SetBase t p) = 0
+mutex_of (Op.SetCeiling m p) = m
 
 -- the task that the operation is to change, or 0, which is the number of none
 abbrev pub target_of : Op → ℕ
@@ -63,15 +65,17 @@ target_of (Op.Unlock m) = 0
 target_of Op.ReleaseAll = 0
 target_of (Op.Cancel t) = t
 target_of (Op.SetBase t p) = t
+target_of (Op.SetCeiling m p) = 0
 
--- the base that the operation sets, or 0
-abbrev pub new_base_of : Op → ℕ
-new_base_of (Op.Lock m) = 0
-new_base_of (Op.Try m) = 0
-new_base_of (Op.Unlock m) = 0
-new_base_of Op.ReleaseAll = 0
-new_base_of (Op.Cancel t) = 0
-new_base_of (Op.SetBase t p) = p
+-- the state with the base or the ceiling that the operation sets, if it sets one
+abbrev pub with_setting : State → Op → State
+with_setting S (Op.Lock m) = S
+with_setting S (Op.Try m) = S
+with_setting S (Op.Unlock m) = S
+with_setting S Op.ReleaseAll = S
+with_setting S (Op.Cancel t) = S
+with_setting S (Op.SetBase t p) = with_base S t p
+with_setting S (Op.SetCeiling m p) = with_ceiling S m p
 
 -- what the operation of this actor does when it is given this reply
 abbrev pub after_reply : State → ℕ → Op → Reply → State
@@ -81,7 +85,7 @@ after_reply S a op Reply.Freed = hand_over S (mutex_of op)
 after_reply S a op (Reply.Handed t) = hand_over S (mutex_of op)
 after_reply S a op (Reply.Released k) = fold hand_over S (owned S a)
 after_reply S a op Reply.Withdrawn = with_wait S (target_of op) None
-after_reply S a op Reply.Set = with_base S (target_of op) (new_base_of op)
+after_reply S a op Reply.Set = with_setting S op
 after_reply S a op (Reply.Refused r) = S
 
 -- the state after the step

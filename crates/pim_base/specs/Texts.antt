@@ -1,15 +1,16 @@
 -- Which lists of lines are traces, and which line is the first invalid one.
 use Rattle.std.specs.Prelude.{ℕ, ◌≡◌, ◌+◌, ◌-◌, ◌≤◌, ◌<◌, List, [], ◌∷◌, ◌++◌, map, length, take, ◌⊎◌, ◌==◌}
 use Rattle.std.specs.List.{AllByRecursion, slice_split}
-use Rattle.pim_base.specs.declared.limits.TheConstants.{MAX_TASKS, MAX_MUTEXES, MAX_STEPS}
+use Rattle.pim_base.specs.declared.limits.TheConstants.{MAX_TASKS, MAX_MUTEXES, MAX_STEPS, LAST_VERSION}
 use Rattle.pim_base.specs.declared.steps.Protocol.{Protocol}
 use Rattle.pim_base.specs.declared.lines.StepLine.{StepLine}
 use Rattle.pim_base.specs.declared.lines.Line.{Line}
 use Rattle.pim_base.specs.declared.lines.Line.TheVariants as lines
-use Rattle.pim_base.specs.Spelling.{NEWLINE, version_line, IsLine, spelled}
+use Rattle.pim_base.specs.Spelling.{NEWLINE, version_line, IsLine, BelongsTo, spelled}
 
--- what a text declares, and its step lines, in order
+-- the version of a text, what it declares, and its step lines, in order
 pub record Trace : Type 0 where
+  pub version : ℕ
   pub bases : List ℕ
   pub protocols : List Protocol
   pub steps : List StepLine
@@ -28,16 +29,19 @@ mutex_lines n (protocol ∷ protocols) = lines.Mutex n protocol ∷ mutex_lines 
 abbrev pub declared : Trace → List Line
 declared t = task_lines 1 t.bases ++ (mutex_lines 1 t.protocols ++ map lines.Step t.steps)
 
--- a text within the limits on numbers and on how many lines each part has
+-- a text of a known version, within the limits on numbers and on how many lines each part has, of lines that its version
+-- has
 pub record IsWithinLimits (t : Trace) : Type 0 where
+  pub version : (1 ≤ t.version) × (t.version ≤ LAST_VERSION)
   pub tasks : length t.bases ≤ MAX_TASKS
   pub mutexes : length t.protocols ≤ MAX_MUTEXES
   pub steps : length t.steps ≤ MAX_STEPS
   pub each : AllByRecursion IsLine (declared t)
+  pub belongs : AllByRecursion (BelongsTo t.version) (declared t)
 
 -- the one spelling of the text, line by line
 abbrev pub spelled_lines : Trace → List (List ℕ)
-spelled_lines t = version_line ∷ map spelled (declared t)
+spelled_lines t = version_line t.version ∷ map spelled (declared t)
 
 -- the lines are the one spelling of the text
 abbrev pub Spells : List (List ℕ) → Trace → Type 0

@@ -15,5 +15,8 @@ pub const MAX_WORKERS: usize = 16;
 /// The most lookers of a shared manager.
 pub const MAX_LOOKERS: u16 = 8;
 
+/// The last version of the text; the first is 1.
+pub const LAST_VERSION: u8 = 2;
+
 /// The last ticket that is given out; where the next one would be above it, none is left.
 pub const LAST_TICKET: u64 = u64::MAX - 1;

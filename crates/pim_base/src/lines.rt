@@ -1,5 +1,8 @@
 //! The lines of a text, and the verdict of a report.
 
+ghost use Rattle.std.specs.Prelude.{◌≡◌};
+ghost use Rattle.pim_base.specs.Spelling.{since};
+
 use crate::numbers::{MutexNo, Prio, TaskNo};
 use crate::steps::{Protocol, Reply, Step};
 
@@ -12,6 +15,21 @@ pub enum Line {
     Mutex { number: MutexNo, protocol: Protocol },
     /// A step, with the recorded reply if there is one.
     Step(StepLine),
+}
+
+impl Line {
+    /// Returns the first version of the text that has this line.
+    pub fn since(&self) -> u8
+        ensures { result ≡ since self.now }
+    {
+        match self {
+            Line::Task { .. } | Line::Mutex { .. } => 1,
+            Line::Step(line) => {
+                let recorded = line.recorded.map_or(1, |reply| reply.since());
+                line.step.op.since().max(recorded)
+            }
+        }
+    }
 }
 
 /// A step of a text, with the reply that was recorded for it, if there is one.
@@ -28,4 +46,33 @@ pub enum Verdict {
     Accepted(u32),
     /// The number of the first step, counted from 1, whose recorded reply differs from the model's.
     Rejected(u32),
+}
+
+#[cfg(test)]
+mod tests {
+    use super::*;
+    use crate::steps::{Op, Refusal};
+
+    #[test]
+    fn a_ceil_line_and_its_own_refusal_came_with_version_2(rt: HostRuntime) {
+        let step = |op: Op, recorded: Option<Reply>| {
+            let actor = TaskNo(1);
+            Line::Step(StepLine {
+                step: Step { actor, op },
+                recorded,
+            })
+        };
+        let not_protect = Some(Reply::Refused(Refusal::NotProtect));
+        assert_eq!(rt;
+            Line::Mutex {
+                number: MutexNo(1),
+                protocol: Protocol::Inherit
+            }
+            .since(),
+            1
+        );
+        assert_eq!(rt; step(Op::Lock(MutexNo(1)), Some(Reply::Granted)).since(), 1);
+        assert_eq!(rt; step(Op::Lock(MutexNo(1)), not_protect).since(), 2);
+        assert_eq!(rt; step(Op::SetCeiling(MutexNo(1), 10), None).since(), 2);
+    }
 }

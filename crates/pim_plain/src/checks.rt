@@ -1,7 +1,7 @@
 //! The tests that refuse a step.
 
 ghost use Rattle.std.specs.Prelude.{◌≡◌};
-ghost use Rattle.pim_base.specs.Checks.{unknown_task, unknown_mutex, is_owned, is_waiting, above_ceiling};
+ghost use Rattle.pim_base.specs.Checks.{unknown_task, unknown_mutex, is_owned, owned_by_another, is_waiting, above_ceiling};
 
 use crate::plain_manager::PlainManager;
 use pim_base::{MutexNo, TaskNo};
@@ -26,6 +26,13 @@ impl PlainManager {
         ensures { result ≡ is_owned self.now mutex }
     {
         self.owner_of(mutex).is_some()
+    }
+
+    /// Returns whether a task other than this one owns the mutex.
+    pub fn is_owned_by_another(&self, task: TaskNo, mutex: MutexNo) -> bool
+        ensures { result ≡ owned_by_another self.now task mutex }
+    {
+        self.owner_of(mutex).is_some_and(|owner| owner != task)
     }
 
     /// Returns whether the task waits.

@@ -2,7 +2,7 @@
 
 ghost use Rattle.std.specs.Prelude.{◌≡◌, ◌≤◌, ◌<◌, length, IfOk};
 ghost use Rattle.pim_base.specs.Lists.{nth, put, holds};
-ghost use Rattle.pim_base.specs.State.{start, IsTask, base_of, owner_of, wait_of, protocol_of, with_owner, with_wait, with_base, queued};
+ghost use Rattle.pim_base.specs.State.{start, IsTask, base_of, owner_of, wait_of, protocol_of, with_owner, with_wait, with_base, with_ceiling, queued};
 ghost use Rattle.pim_base.specs.Priorities.{ceiling};
 ghost use Rattle.pim_base.specs.declared.limits.TheConstants.{MAX_TASKS, MAX_MUTEXES, LAST_TICKET};
 
@@ -150,6 +150,13 @@ impl PlainManager {
         ensures { self.new ≡ with_base self.old task prio }
     {
         put(&mut self.base, task.get(), prio);
+    }
+
+    /// Makes the mutex a PROTECT mutex with this ceiling; an unknown mutex changes nothing.
+    pub(crate) fn put_ceiling(&mut self, mutex: MutexNo, ceiling: Prio)
+        ensures { self.new ≡ with_ceiling self.old mutex ceiling }
+    {
+        put(&mut self.protocol, mutex.get(), Protocol::Protect(ceiling));
     }
 
     /// Lets the task wait for the mutex with the next ticket, which rises by one; an unknown task doesn't wait.

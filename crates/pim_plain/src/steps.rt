@@ -29,6 +29,7 @@ impl PlainManager {
             Op::ReleaseAll => self.release_all(actor),
             Op::Cancel(task) => self.cancel(actor, task),
             Op::SetBase(task, level) => self.set_base(actor, task, level),
+            Op::SetCeiling(mutex, level) => self.set_ceiling(actor, mutex, level),
         }
     }
 
@@ -138,6 +139,27 @@ impl PlainManager {
             }
             None => Reply::Refused(Refusal::Priority),
         }
+    }
+
+    /// Gives the PROTECT mutex this ceiling where it is a priority and no other task owns the mutex.
+    fn set_ceiling(&mut self, actor: TaskNo, mutex: MutexNo, level: u16) -> Reply
+        ensures reply { result ≡ answer self.old actor (Op.SetCeiling mutex level) }
+        ensures state { self.new ≡ after_reply self.old actor (Op.SetCeiling mutex level) result }
+    {
+        if self.is_unknown_mutex(mutex) {
+            return Reply::Refused(Refusal::NoMutex);
+        }
+        if self.ceiling(mutex).is_none() {
+            return Reply::Refused(Refusal::NotProtect);
+        }
+        let Some(ceiling) = Prio::new(level) else {
+            return Reply::Refused(Refusal::Priority);
+        };
+        if self.is_owned_by_another(actor, mutex) {
+            return Reply::Refused(Refusal::Busy);
+        }
+        self.put_ceiling(mutex, ceiling);
+        Reply::Set
     }
 
     /// Gives the mutex to its first waiter, who stops waiting, or frees it; returns that waiter.
