@@ -44,7 +44,7 @@ impl Manager {
     }
 
     /// Returns the task with its effective priority and the reason, None for an unknown one. It looks at the mutexes
-    /// that the task owns, twice at most.
+    /// that the task owns.
     pub fn changed_task(&self, task: TaskNo) -> Option<ChangedTask>
         ensures { result ≡ of_task self.now task (changed_task self.now task) }
     {
