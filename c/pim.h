@@ -60,9 +60,9 @@
  *   pim_release_all      512   that for each mutex that the task owns
  *   pim_cancel           512   a queue, and the walk
  *   pim_set_base         512   the walk
- *   pim_changed          384   the mutexes of each task that is listed, twice at most
+ *   pim_changed          384   the mutexes of each task that is listed
  *   pim_waiters          256   what it copies
- *   pim_task_reason      256   the mutexes that the task owns, twice at most
+ *   pim_task_reason      256   the mutexes that the task owns
  *   pim_effective_prio    64   a few loads
  *   pim_base_prio         64   a few loads
  *   pim_waits_for         64   a few loads

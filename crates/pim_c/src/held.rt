@@ -69,6 +69,7 @@ impl Held {
     }
 
     /// Makes one step, and notes the tasks that it changes.
+    #[inline(always)]
     pub fn step(&mut self, step: Step) -> CAnswer
         ensures answer { IsAnswer self.old.manager step result }
         ensures state { self.new ≡ stepped self.old step }

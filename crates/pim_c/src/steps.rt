@@ -70,6 +70,9 @@ pub extern "C" fn pim_set_base(
 }
 
 /// Makes the step, if there is a manager.
+///
+/// It goes into each call above, of which each is then left with its own kind of step.
+#[inline(always)]
 fn make_step(alloc: Global, handle: &mut Handle, task: u16, op: Op) -> CAnswer
     ensures answer { IsAnswered handle.old.held (record { actor = task; op = op }) result }
     ensures state { handle.new.held ≡ after_step handle.old.held (record { actor = task; op = op }) }

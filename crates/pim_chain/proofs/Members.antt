@@ -1,11 +1,12 @@
 -- The numbers of a set, in ascending order.
-use Rattle.std.proofs.Common.{◌≡◌, ℕ, zero, suc, ◌+◌, ◌*◌, ◌-◌, ◌/◌, ◌%◌, ◌<◌, ◌≤◌, ◌==◌, ◌&&◌, Bool, true, false, not, cond, ◌⊎◌, inl, inr, refl, sym, ◌∙◌, ap, subst, arith, List, [], ◌∷◌, filter, slice_index}
+use Rattle.std.proofs.Common.{◌≡◌, ℕ, zero, suc, ◌+◌, ◌*◌, ◌-◌, ◌/◌, ◌%◌, ◌<◌, ◌≤◌, ◌==◌, ◌&&◌, Bool, true, false, not, cond, ◌⊎◌, inl, inr, refl, sym, ◌∙◌, ap, subst, arith, List, [], ◌∷◌, filter, length, Option, Some, None, slice_index}
 use Rattle.std.specs.Int.{bit_at}
 use Rattle.std.specs.List.{range_with_len}
-use Rattle.std.proofs.lemmas.Bool.{and_right, cases_eq, cases_lt, eq-eqb, ne_eqb}
+use Rattle.std.proofs.lemmas.Bool.{and_right, both_ways, cases_eq, cases_lt, eq-eqb, eqb-true, ne_eqb, not-false}
+use Rattle.std.proofs.lemmas.List.{get_or_past}
 use Rattle.std.proofs.lemmas.Nat.Bits.{bit_at-zero}
 use Rattle.pim_base.specs.Lists.{numbers}
-use Rattle.pim_chain.specs.Numbers.{bit_of, has, members, NoneBelow}
+use Rattle.pim_chain.specs.Numbers.{bit_of, has, members, AreTold, IsLeast}
 
 -- ---- the numbers of a range that pass a test
 pub filter_none : (p : ℕ → Bool) (a n : ℕ) → ((k : ℕ) → a ≤ k → k < a + n → p k ≡ false) → filter p (range_with_len a n) ≡ []
@@ -118,56 +119,78 @@ has_there words index k low high =
     let is : 64 * index + (k - 64 * index) ≡ k = omega (arith, low) in
     ap (λ b. b == 1) (ap (bit_of words) (sym is) ∙ bit_there words index (k - 64 * index) (omega (arith, low, high)))
 
--- no number is in an empty word either
-pub none_in_word :
-    (words : List ℕ) (index next : ℕ)
-    → NoneBelow words index
-    → slice_index words index ≡ 0
-    → next ≡ index + 1
-    → NoneBelow words next
-none_in_word words index next none empty is k high = go (cases_lt k (64 * index))
+-- a word that isn't told has no number
+none_untold : (words : List ℕ) (filled index k : ℕ) → AreTold words filled → index < 64 → bit_at filled index ≡ 0 → 64 * index ≤ k → k < 64 * index + 64 → has words k ≡ false
+none_untold words filled index k told within clear low high =
+    let empty : slice_index words index ≡ 0 =
+    eqb-true (slice_index words index) 0 (not-false _ (sym (told index within) ∙ ap (λ b. b == 1) clear)) in
+    has_there words index k low high
+    ∙ ap (λ b. b == 1) (ap (λ w. bit_at w (k - 64 * index)) empty ∙ bit_at-zero (k - 64 * index))
+
+-- no number is in a word behind the last
+none_past : (words : List ℕ) (k : ℕ) → length words ≡ 5 → 320 ≤ k → has words k ≡ false
+none_past words k len far =
+    ap (λ b. b == 1) (ap (λ w. bit_at w (k % 64)) (get_or_past words (k / 64) 0 (omega (arith, len, far))) ∙ bit_at-zero (k % 64))
+
+-- where no word is told, the set is empty
+pub none_told : (words : List ℕ) → length words ≡ 5 → AreTold words 0 → (k : ℕ) → has words k ≡ false
+none_told words len told k = go (cases_lt k 320)
   where
-    go : (k < 64 * index) ⊎ (64 * index ≤ k) → has words k ≡ false
-    go (inl before) = none k before
-    go (inr low) =
-        has_there words index k low (omega (arith, high, is))
-        ∙ ap (λ b. b == 1) (ap (λ w. bit_at w (k - 64 * index)) empty ∙ bit_at-zero (k - 64 * index))
+    go : (k < 320) ⊎ (320 ≤ k) → has words k ≡ false
+    go (inl near) = none_untold words 0 (k / 64) k told (omega (arith, near)) (bit_at-zero (k / 64)) (omega arith) (omega arith)
+    go (inr far) = none_past words k len far
 
-pub none_in_all : (words : List ℕ) (index : ℕ) → NoneBelow words index → 5 ≤ index → members words ≡ []
-unfolding members
-none_in_all words index none past = filter_none (has words) 0 320 (λ k _ high. none k (omega (arith, high, past)))
+-- the first number of the first word that is told is the least of all
+pub least_told :
+    (words : List ℕ) (filled index place x : ℕ)
+    → length words ≡ 5
+    → AreTold words filled
+    → index < 64
+    → bit_at filled index ≡ 1
+    → ((i : ℕ) → i < index → bit_at filled i ≡ 0)
+    → place < 64
+    → bit_at (slice_index words index) place ≡ 1
+    → ((i : ℕ) → i < place → bit_at (slice_index words index) i ≡ 0)
+    → index * 64 + place ≡ x
+    → IsLeast words (Some x)
+least_told words filled index place x len told far is_told none small is_set none_below is = (
+  omega (arith, within, small, is),
+  ap (has words) (sym at) ∙ ap (λ b. b == 1) (bit_there words index place small ∙ is_set),
+  λ k less. go k less (cases_lt k (64 * index)),
+)
+  where
+    within : index < 5
+    within = there (cases_lt index 5)
+      where
+        there : (index < 5) ⊎ (5 ≤ index) → index < 5
+        there (inl near) = near
+        there (inr past) =
+            absurd (both_ways (bit_at filled index == 1) (told index far ∙ ap (λ w. not (w == 0)) (get_or_past words index 0 (omega (arith, len, past)))) (ap (λ b. b == 1) is_told))
 
--- the first number of the first word that isn't empty is the least of all
-module _ (words : List ℕ) (index place : ℕ) (none : NoneBelow words index) (within : index < 5) (small : place < 64)
-    (is_set : bit_at (slice_index words index) place ≡ 1)
-    (none_below : (i : ℕ) → i < place → bit_at (slice_index words index) i ≡ 0) where
-  none_before : (k : ℕ) → k < 64 * index + place → has words k ≡ false
-  none_before k less = go (cases_lt k (64 * index))
-    where
-      go : (k < 64 * index) ⊎ (64 * index ≤ k) → has words k ≡ false
-      go (inl before) = none k before
-      go (inr low) =
-          has_there words index k low (omega (arith, less, small))
-          ∙ ap (λ b. b == 1) (none_below (k - 64 * index) (omega (arith, less, low)))
+    at : 64 * index + place ≡ x
+    at = omega (arith, is)
 
-  pub least_first :
-      (x : ℕ) (after : List ℕ)
-      → 64 * index + place ≡ x
-      → ((k : ℕ) → has after k ≡ (not (k == x) && has words k))
-      → members words ≡ x ∷ members after
-  unfolding members
-  least_first x after is removed =
-      filter_least (has words) (has after) 0 320 x (omega arith) (omega (arith, is, small, within))
-      (ap (has words) (sym is) ∙ ap (λ b. b == 1) (bit_there words index place small ∙ is_set))
-      (λ k less. none_before k (omega (arith, is, less))) removed
+    go : (k : ℕ) → k < x → (k < 64 * index) ⊎ (64 * index ≤ k) → has words k ≡ false
+    go k less (inl before) =
+        none_untold words filled (k / 64) k told (omega (arith, before, within)) (none (k / 64) (omega (arith, before))) (omega arith) (omega arith)
+    go k less (inr low) =
+        has_there words index k low (omega (arith, less, small, at))
+        ∙ ap (λ b. b == 1) (none_below (k - 64 * index) (omega (arith, less, low, at)))
 
--- what is none before the least was taken is none still
-pub none_still :
-    (words after : List ℕ) (index x : ℕ)
-    → NoneBelow words index
+-- the least number is the first, and the others are those of the set without it
+pub least_first :
+    (words after : List ℕ) (x : ℕ)
+    → IsLeast words (Some x)
     → ((k : ℕ) → has after k ≡ (not (k == x) && has words k))
-    → NoneBelow after index
-none_still words after index x none removed k high = removed k ∙ and_right _ _ (none k high)
+    → members words ≡ x ∷ members after
+unfolding members
+least_first words after x least removed =
+    filter_least (has words) (has after) 0 320 x (omega arith) least.0 least.1 least.2 removed
+
+-- an empty set has no number
+pub least_none : (words : List ℕ) → IsLeast words None → members words ≡ []
+unfolding members
+least_none words none = filter_none (has words) 0 320 (λ k _ _. none k)
 
 -- ---- which numbers a set has
 -- no words, no numbers

@@ -1,7 +1,7 @@
 -- The reason of a settled priority.
 use Rattle.std.proofs.Common.{◌≡◌, ℕ, ◌<◌, ◌≤◌, ◌==◌, Bool, true, false, ◌&&◌, ◌⊎◌, inl, inr, refl, sym, ◌∙◌, ap, subst, arith, Option, Some, None, List, [], ◌∷◌, eqb, cond, filter, if◌then◌else◌}
 use Rattle.std.specs.List.{find, list_any, AllByRecursion}
-use Rattle.std.specs.Option.{option_map, option_map_or}
+use Rattle.std.specs.Option.{option_map_or}
 use Rattle.std.proofs.lemmas.Bool.{both_ways, cases_eq, eq-eqb, ne_eqb, or_left, or_from}
 use Rattle.std.proofs.lemmas.Option.{none-some, same_Some}
 use Rattle.pim_base.specs.Lists.{first_item, holds}
@@ -18,16 +18,12 @@ use Rattle.pim_queue.specs.Waiters.{IsOrdered}
 use Rattle.pim_queue.proofs.Order.{before_prio}
 use Rattle.pim_chain.specs.Views.{View, stored_at, queue_at, first_prio, Shows}
 use Rattle.pim_chain.specs.Settled.{Calm}
-use Rattle.pim_chain.specs.Owned.{lends_now, first_reason}
+use Rattle.pim_chain.specs.Owned.{lends_now, first_reason, owned_reason}
 use Rattle.pim_chain.proofs.Local.{heir_at, waits_for_from}
 use Rattle.pim_chain.proofs.Lent.{owned_known}
 use Rattle.pim_chain.proofs.Waiting.{waiting_known}
 use Rattle.pim_chain.proofs.Walking.{settled_effective}
 use Rattle.pim_chain.proofs.Models.{queue_is}
-
-pub option_map-same : (o : Option ℕ) → option_map (λ x. x) o ≡ o
-option_map-same None = refl
-option_map-same (Some x) = refl
 
 -- tests that agree on what passes another find the same
 find_same :
@@ -65,7 +61,7 @@ find_passes p r (x ∷ xs) m is = go (r x) refl (find_passes p r xs m) is
         here false is = rest is
 
 -- what is found among the mutexes of a task is a mutex
-pub found_known : (v : View) → IsState v.state → (t m : ℕ) (p : ℕ → Bool) → find p (owned v.state t) ≡ Some m → IsMutex v.state m
+found_known : (v : View) → IsState v.state → (t m : ℕ) (p : ℕ → Bool) → find p (owned v.state t) ≡ Some m → IsMutex v.state m
 found_known v lists t m p is =
     owned_known v.state lists m t (find_passes p (λ k. holds (owner_of v.state k) t) (mutex_numbers v.state) m is)
 
@@ -101,6 +97,11 @@ inherits S m t owns h = go (protocol_of S m) h
     go Protocol.Inherit e = owns
     go Protocol.None e = absurd (both_ways false refl e)
     go (Protocol.Protect c) e = absurd (both_ways false refl e)
+
+-- the first waiter of the tables is the definitions'
+waiter_here : (v : View) (m : ℕ) → Calm v → IsMutex v.state m → first_reason v m ≡ waiter_reason v.state (Some m)
+waiter_here v m calm isk =
+    ap (λ ws. option_map_or (λ (w : Waiter). Reason.Waiter w.task m) (first_item ws) Reason.Base) (queue_is v m calm isk)
 
 module _ (v : View) (t : ℕ) (calm : Calm v) (known : IsTask v.state t) where
   -- no waiter lends more than the task has
@@ -151,11 +152,11 @@ module _ (v : View) (t : ℕ) (calm : Calm v) (known : IsTask v.state t) where
         ∙ ap (λ p. owning_reason v.state t (find (λ m. ceiling_of v.state m == p) (owned v.state t))) now
         ∙ ap (owning_reason v.state t) is
 
-    pub reason_ceiling :
+    reason_ceiling :
         (m : ℕ) → find (λ k. ceiling_of v.state k == stored_at v t) (owned v.state t) ≡ Some m → Reason.Ceiling m ≡ reason_of v.state t
     reason_ceiling m is = sym (from_owned (Some m) is)
 
-    pub reason_waiter :
+    reason_waiter :
         (o : Option ℕ)
         → find (λ k. ceiling_of v.state k == stored_at v t) (owned v.state t) ≡ None
         → find (lends_now v (stored_at v t)) (owned v.state t) ≡ o
@@ -167,7 +168,22 @@ module _ (v : View) (t : ℕ) (calm : Calm v) (known : IsTask v.state t) where
         ∙ ap (waiter_reason v.state) (sym (find_same (lends_now v (stored_at v t)) (lends v.state (stored_at v t))
         (λ k. holds (owner_of v.state k) t) (same_lends low) (mutex_numbers v.state)) ∙ is))
 
--- the first waiter of the tables is the definitions'
-pub waiter_here : (v : View) (m : ℕ) → Calm v → IsMutex v.state m → first_reason v m ≡ waiter_reason v.state (Some m)
-waiter_here v m calm isk =
-    ap (λ ws. option_map_or (λ (w : Waiter). Reason.Waiter w.task m) (first_item ws) Reason.Base) (queue_is v m calm isk)
+    -- what the owned mutexes tell is the reason
+    pub reason_owned : 1 ≤ stored_at v t → owned_reason v (stored_at v t) None (owned v.state t) ≡ reason_of v.state t
+    reason_owned low = go (find (λ k. ceiling_of v.state k == stored_at v t) (owned v.state t)) refl
+      where
+        lender : Option ℕ
+        lender = find (lends_now v (stored_at v t)) (owned v.state t)
+
+        go :
+            (o : Option ℕ)
+            → find (λ k. ceiling_of v.state k == stored_at v t) (owned v.state t) ≡ o
+            → option_map_or Reason.Ceiling o (option_map_or (first_reason v) lender Reason.Base) ≡ reason_of v.state t
+        go (Some m) is = reason_ceiling m is
+        go None none = last lender refl
+          where
+            last : (o : Option ℕ) → lender ≡ o → option_map_or (first_reason v) o Reason.Base ≡ reason_of v.state t
+            last None is = reason_waiter None none is low
+            last (Some m) is =
+                waiter_here v m calm (found_known v calm.ready.sound.lists t m (lends_now v (stored_at v t)) is)
+                ∙ reason_waiter (Some m) none is low

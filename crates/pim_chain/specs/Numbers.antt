@@ -1,5 +1,5 @@
 -- Sets of numbers below 320, a bit for each.
-use Rattle.std.specs.Prelude.{◌≡◌, ◌<◌, ◌==◌, ◌*◌, ◌/◌, ◌%◌, ℕ, Bool, false, List, slice_index}
+use Rattle.std.specs.Prelude.{◌≡◌, ◌<◌, ◌==◌, ◌/◌, ◌%◌, ℕ, Bool, true, false, not, List, Option, Some, None, slice_index}
 use Rattle.std.specs.Int.{bit_at}
 use Rattle.std.specs.List.{filter, range_with_len}
 
@@ -15,6 +15,11 @@ has words n = bit_of words n == 1
 unfoldable pub members : List ℕ → List ℕ
 members words = filter (has words) (range_with_len 0 320)
 
--- no number is in the words before this one
-abbrev pub NoneBelow : List ℕ → ℕ → Type 0
-NoneBelow words index = (k : ℕ) → k < 64 * index → has words k ≡ false
+-- the bits tell which of the words aren't empty
+abbrev pub AreTold : List ℕ → ℕ → Type 0
+AreTold words filled = (i : ℕ) → i < 64 → (bit_at filled i == 1) ≡ not (slice_index words i == 0)
+
+-- the least number of the set, or none of an empty one
+abbrev pub IsLeast : List ℕ → Option ℕ → Type 0
+IsLeast words None = (k : ℕ) → has words k ≡ false
+IsLeast words (Some n) = (n < 320) × (has words n ≡ true) × ((k : ℕ) → k < n → has words k ≡ false)

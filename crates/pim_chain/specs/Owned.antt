@@ -1,5 +1,6 @@
 -- What a task owns.
-use Rattle.std.specs.Prelude.{◌==◌, ◌&&◌, ℕ, max, Bool, cond, is_some}
+use Rattle.std.specs.Prelude.{◌==◌, ◌&&◌, ℕ, max, Bool, cond, is_some, List, Option, Some}
+use Rattle.std.specs.List.{find}
 use Rattle.std.specs.Option.{option_map_or}
 use Rattle.pim_base.specs.Lists.{first_item}
 use Rattle.pim_base.specs.State.{protocol_of}
@@ -21,3 +22,10 @@ lends_now v p m = is_inherit (protocol_of v.state m) && (first_prio (queue_at v 
 -- the first of those who wait for the mutex, as a reason
 abbrev pub first_reason : View → ℕ → Reason
 first_reason v m = option_map_or (λ (w : Waiter). Reason.Waiter w.task m) (first_item (queue_at v m)) Reason.Base
+
+-- of these mutexes the least with the ceiling, else the first waiter for the lender, or for the least that lends the
+-- priority where no lender is known
+abbrev pub owned_reason : View → ℕ → Option ℕ → List ℕ → Reason
+owned_reason v p lender ms =
+    option_map_or Reason.Ceiling (find (λ m. ceiling_of v.state m == p) ms)
+    (option_map_or (first_reason v) (option_map_or Some lender (find (lends_now v p) ms)) Reason.Base)

@@ -1,16 +1,21 @@
 //! Sets of the numbers of tasks or mutexes.
 
-ghost use Rattle.std.specs.Prelude.{◌≡◌, ◌==◌, ◌<◌, ◌&&◌, ◌||◌, ℕ, not, false};
+ghost use Rattle.std.specs.Prelude.{◌≡◌, ◌==◌, ◌<◌, ◌&&◌, ◌||◌, ℕ, not, false, set};
 ghost use Rattle.std.specs.Iterator.{YieldsFirst, item_count};
-ghost use Rattle.pim_chain.specs.Numbers.{has, members};
+ghost use Rattle.pim_chain.specs.Numbers.{has, members, AreTold, IsLeast};
 
 use crate::bits::{has_bit, lowest_bit, with_bit, without_bit};
 use std::marker::Model;
 
 /// A set of numbers below 320, a bit for each.
+///
+/// It has a bit for each of its words, too, that tells whether the word has a number: so an empty set is seen at once,
+/// and the least number is found without a look at empty words.
 #[derive(Clone, Copy, Debug)]
 pub struct NumberSet {
     words: [u64; 5],
+    filled: u64,
+    ghost told: { AreTold words filled },
 }
 
 impl NumberSet {
@@ -18,7 +23,10 @@ impl NumberSet {
     pub fn new() -> NumberSet
         ensures { (k : ℕ) → has result.words k ≡ false }
     {
-        NumberSet { words: [0; 5] }
+        NumberSet {
+            words: [0; 5],
+            filled: 0,
+        }
     }
 
     /// Returns whether the number is in the set.
@@ -35,7 +43,7 @@ impl NumberSet {
         ensures { (k : ℕ) → has self.new.words k ≡ (k == number || has self.old.words k) }
     {
         let index = (number / 64) as usize;
-        self.words[index] = with_bit(self.words[index], (number % 64) as u32);
+        self.put_word(index, with_bit(self.words[index], (number % 64) as u32));
     }
 
     /// Takes the number out.
@@ -44,39 +52,58 @@ impl NumberSet {
         ensures { (k : ℕ) → has self.new.words k ≡ (not (k == number) && has self.old.words k) }
     {
         let index = (number / 64) as usize;
-        self.words[index] = without_bit(self.words[index], (number % 64) as u32);
+        self.put_word(index, without_bit(self.words[index], (number % 64) as u32));
+    }
+
+    // puts the word there, and tells whether it has a number
+    fn put_word(&mut self, index: usize, word: u64)
+        requires { index < 5 }
+        ensures { self.new.words ≡ set self.old.words index word }
+    {
+        self.words[index] = word;
+        self.filled = if word == 0 {
+            without_bit(self.filled, index as u32)
+        } else {
+            with_bit(self.filled, index as u32)
+        };
+    }
+
+    /// Returns the least number of the set, `None` of an empty one.
+    pub fn least(&self) -> Option<u16>
+        ensures { IsLeast self.now.words result }
+    {
+        if self.filled == 0 {
+            return None;
+        }
+        let index = lowest_bit(self.filled);
+        let place = lowest_bit(self.words[index as usize]);
+        Some(index as u16 * 64 + place as u16)
     }
 
     /// Returns the numbers of the set, in ascending order.
     pub fn iter(&self) -> Numbers
         ensures { result ≡ members self.now.words }
     {
-        Numbers {
-            left: *self,
-            index: 0,
-        }
+        Numbers { left: *self }
     }
 }
 
 /// The numbers of a set, in ascending order.
 ///
 /// Its value in contracts is the list of those that are left. It has a copy of the set, so that the set may change
-/// meanwhile, and goes through it word by word.
+/// meanwhile, and takes the least number out of it at each call.
 #[derive(Drop)]
 pub struct Numbers {
     left: NumberSet,
-    index: usize,
 }
 
 impl Model for Numbers {
     ghost use Rattle.std.specs.Prelude.{List, ℕ};
-    ghost use Rattle.pim_chain.specs.Numbers.{members, NoneBelow};
+    ghost use Rattle.pim_chain.specs.Numbers.{members};
 
     ghost Value = { List ℕ };
 
     ghost view = { λ n. members n.left.words };
-
-    ghost invariant = { λ n. NoneBelow n.left.words n.index };
 }
 
 impl Iterator for Numbers {
@@ -87,16 +114,10 @@ impl Iterator for Numbers {
     ghost remaining = { item_count (λ rest. rest) };
 
     fn next(&mut self) -> Option<u16> {
-        for index in self.index..5 {
-            let word = self.left.words[index];
-            if word != 0 {
-                let number = index as u16 * 64 + lowest_bit(word) as u16;
-                self.index = index;
-                self.left.remove(number);
-                return Some(number);
-            }
+        let least = self.left.least();
+        if let Some(number) = least {
+            self.left.remove(number);
         }
-        self.index = 5;
-        None
+        least
     }
 }

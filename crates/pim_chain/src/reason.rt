@@ -1,13 +1,12 @@
 //! Why a task has its priority.
 
-ghost use Rattle.std.specs.Prelude.{◌≡◌, ◌==◌, None};
-ghost use Rattle.std.specs.List.{find};
+ghost use Rattle.std.specs.Prelude.{◌≡◌, None};
 ghost use Rattle.pim_base.specs.State.{IsTask, owned, protocol_of};
 ghost use Rattle.pim_base.specs.Priorities.{ceiling_of};
 ghost use Rattle.pim_base.specs.Reasons.{is_inherit, reason_of};
 ghost use Rattle.pim_chain.specs.Views.{stored_at};
 ghost use Rattle.pim_chain.specs.Settled.{SettledBut};
-ghost use Rattle.pim_chain.specs.Owned.{lends_now, first_reason};
+ghost use Rattle.pim_chain.specs.Owned.{lends_now, first_reason, owned_reason};
 
 use crate::tables::Tables;
 use pim_base::{MutexNo, Reason, TaskNo};
@@ -16,8 +15,8 @@ impl Tables {
     /// Returns why the known task has its effective priority. The stored priorities must be settled.
     ///
     /// The reason is the base, where that is the priority; else the least owned PROTECT mutex with this ceiling; else the
-    /// least owned INHERIT mutex with a waiter of this priority, and its first waiter. Looks twice at most at each mutex
-    /// that the task owns.
+    /// least owned INHERIT mutex with a waiter of this priority, and its first waiter. Looks once at each mutex that the
+    /// task owns.
     pub fn reason(&self, task: TaskNo) -> Reason
         requires settled { SettledBut self.now.state (stored_at self.now) None }
         requires known { IsTask self.now.state task }
@@ -29,10 +28,25 @@ impl Tables {
         if level == self.known_base(task).get() {
             return Reason::Base;
         }
-        if let Some(mutex) = self.ceiling_at(task, level) {
-            return Reason::Ceiling(mutex);
+        self.owned_reason(task, level)
+    }
+
+    // the least mutex of the task with this ceiling, else the first waiter for the least INHERIT one that lends this
+    // priority, as a reason; one look at each mutex finds both
+    fn owned_reason(&self, task: TaskNo, level: u16) -> Reason
+        requires { IsTask self.now.state task }
+        ensures { result ≡ owned_reason self.now level None (owned self.now.state task) }
+    {
+        let mut lender = None;
+        for mutex in self.owned(task) {
+            if self.ceiling_level(mutex) == level {
+                return Reason::Ceiling(mutex);
+            }
+            if lender.is_none() && self.lends(mutex, level) {
+                lender = Some(mutex);
+            }
         }
-        match self.lender_at(task, level) {
+        match lender {
             Some(mutex) => self.waiter_reason(mutex),
             None => Reason::Base,
         }
@@ -44,23 +58,6 @@ impl Tables {
     {
         let first = self.first_waiter(mutex);
         first.map_or(Reason::Base, |first| Reason::Waiter(first.task, mutex))
-    }
-
-    // the least mutex of the task with this ceiling
-    fn ceiling_at(&self, task: TaskNo, level: u16) -> Option<MutexNo>
-        requires { IsTask self.now.state task }
-        ensures { result ≡ find (λ m. ceiling_of self.now.state m == level) (owned self.now.state task) }
-    {
-        self.owned(task)
-            .find(|mutex| self.ceiling_level(*mutex) == level)
-    }
-
-    // the least INHERIT mutex of the task whose first waiter has this priority
-    fn lender_at(&self, task: TaskNo, level: u16) -> Option<MutexNo>
-        requires { IsTask self.now.state task }
-        ensures { result ≡ find (lends_now self.now level) (owned self.now.state task) }
-    {
-        self.owned(task).find(|mutex| self.lends(*mutex, level))
     }
 
     // whether it is an INHERIT mutex whose first waiter has this priority

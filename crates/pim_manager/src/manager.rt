@@ -152,7 +152,7 @@ impl Manager {
     }
 
     /// Returns why the task has its effective priority, `None` for an unknown one. It looks at the
-    /// mutexes that the task owns, twice at most.
+    /// mutexes that the task owns.
     pub fn reason(&self, task: TaskNo) -> Option<Reason>
         ensures { result ≡ of_task self.now task (reason_of self.now task) }
     {
@@ -231,8 +231,8 @@ impl Manager {
 
     /// Makes one step as `step` does, and lists the tasks whose effective priority differs then,
     /// in ascending order, each with that priority and the reason. This takes no memory either.
-    /// Beyond the step it looks at each task whose priority was stored, and for a reason twice at
-    /// most at each mutex that a listed task owns.
+    /// Beyond the step it looks at each task whose priority was stored, and for a reason at each
+    /// mutex that a listed task owns.
     pub fn step_with_changes(&mut self, step: Step, changed: &mut ChangedTasks) -> Done
         ensures reply { result.reply ≡ reply_of self.old step }
         ensures state { self.new ≡ after self.old step }

@@ -12,6 +12,7 @@ use pim_chain::Visits;
 
 impl Manager {
     /// Makes the step with these visits, of which there were none, and returns the reply.
+    #[inline(always)]
     pub(crate) fn reply_to(&mut self, step: Step, visits: &mut Visits) -> Reply
         requires { visits.old.count ≡ 0 }
         ensures reply { result ≡ reply_of self.old step }
