@@ -1,11 +1,11 @@
 // The report of a trace by a plain judge in C++, written for speed and not proved: what `pim` is
 // compared with.
 //
-//   g++ -O2 -std=c++17 judge.cpp -o judge
+//   g++ -O3 -march=x86-64-v2 -std=c++17 judge.cpp -o judge
 //
 // One pass over the bytes finds the first invalid line; one pass over the steps mends the
-// priorities that each of them changes, by a walk along the chain of waiting tasks that ends where
-// nothing changes, and writes the report by pages.
+// priorities that each of them changes, by a walk along the chain of waiting tasks that begins only
+// where something can change and ends where nothing does, and writes the report by pages.
 
 #include <sys/stat.h>
 #include <unistd.h>
@@ -435,6 +435,17 @@ protected:
         }
     }
 
+    // Settles a task to which a mutex lends something from now on: no more than the task has already
+    // raises nothing.
+    void raise(uint16_t t, uint8_t lent) {
+        if (lent > tasks[t].stored) settle_from(t);
+    }
+
+    // Settles a task to which a mutex lent this until now: less than the task has takes nothing away.
+    void lower(uint16_t t, uint8_t lent) {
+        if (lent == tasks[t].stored) settle_from(t);
+    }
+
     void touch(uint16_t t) {
         Task& task = tasks[t];
         if (task.is_touched) return;
@@ -481,7 +492,7 @@ protected:
 
     Reply grant(uint16_t actor, uint16_t m) {
         bind(m, actor);
-        settle_from(actor);
+        raise(actor, mutexes[m].lends());
         return {Answer::Granted};
     }
 
@@ -498,7 +509,7 @@ protected:
         const Waiter waiter{task.ticket, actor, task.stored};
         mutex.queue.insert(
             std::lower_bound(mutex.queue.begin(), mutex.queue.end(), waiter, precedes), waiter);
-        settle_from(mutex.owner);
+        raise(mutex.owner, mutex.lends());
         return {Answer::Queued};
     }
 
@@ -514,13 +525,13 @@ protected:
         Mutex& mutex = mutexes[m];
         const uint16_t owner = mutex.owner;
         unbind(m);
-        settle_from(owner);
+        lower(owner, mutex.lends());
         if (mutex.queue.empty()) return 0;
         const uint16_t t = mutex.queue.front().task;
         mutex.queue.erase(mutex.queue.begin());
         tasks[t].waits_for = 0;
         bind(m, t);
-        settle_from(t);
+        raise(t, mutex.lends());
         return t;
     }
 
@@ -551,7 +562,7 @@ protected:
         mutex.queue.erase(
             std::lower_bound(mutex.queue.begin(), mutex.queue.end(), waiter, precedes));
         task.waits_for = 0;
-        settle_from(mutex.owner);
+        if (mutex.inherits()) lower(mutex.owner, task.stored);
         return {Answer::Withdrawn};
     }
 
