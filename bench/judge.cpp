@@ -1,11 +1,11 @@
 // The report of a trace by a plain judge in C++, written for speed and not proved: what `pim` is
 // compared with.
 //
-//   g++ -O3 -march=x86-64-v2 -std=c++17 judge.cpp -o judge
+//   g++ -O3 -march=x86-64-v2 -std=c++17 -static-libstdc++ -static-libgcc judge.cpp -o judge
 //
 // One pass over the bytes finds the first invalid line; one pass over the steps mends the
-// priorities that each of them changes, by a walk along the chain of waiting tasks that begins only
-// where something can change and ends where nothing does, and writes the report by pages.
+// priorities that each of them changes, by a walk along the chain of waiting tasks that begins
+// only where something can change and ends where nothing does, and writes the report by pages.
 
 #include <sys/stat.h>
 #include <unistd.h>
@@ -311,6 +311,12 @@ struct Task {
     std::array<uint64_t, MOST_MUTEXES / 64> owned = {};  // a bit for each mutex
 };
 
+// Why a task has its priority: a mutex, or 0 for the base, and the task that waits for it, or 0
+// for a ceiling.
+struct Cause {
+    uint16_t mutex = 0, waiter = 0;
+};
+
 struct Mutex {
     Protocol protocol = Protocol::None;
     uint8_t ceiling = 0;
@@ -397,17 +403,6 @@ protected:
                 if (!f(uint16_t(word * 64 + size_t(__builtin_ctzll(bits)) + 1))) return;
     }
 
-    // Returns the first owned mutex that passes the test, or 0.
-    template <class F>
-    static uint16_t first_owned(const Task& task, F passes) {
-        uint16_t found = 0;
-        each_owned(task, [&](uint16_t m) {
-            if (passes(m)) found = m;
-            return found == 0;
-        });
-        return found;
-    }
-
     uint8_t priority(const Task& task) const {
         uint8_t highest = task.base;
         each_owned(task, [&](uint16_t m) {
@@ -435,13 +430,13 @@ protected:
         }
     }
 
-    // Settles a task to which a mutex lends something from now on: no more than the task has already
+    // Settles a task to which a mutex lends something from now on: no more than the task has
     // raises nothing.
     void raise(uint16_t t, uint8_t lent) {
         if (lent > tasks[t].stored) settle_from(t);
     }
 
-    // Settles a task to which a mutex lent this until now: less than the task has takes nothing away.
+    // Settles a task to which a mutex lent this until now: less than the task has takes nothing.
     void lower(uint16_t t, uint8_t lent) {
         if (lent == tasks[t].stored) settle_from(t);
     }
@@ -585,22 +580,31 @@ protected:
         return {Answer::Set};
     }
 
-    void write_reason(Output& out, const Task& task) const {
-        if (task.stored == task.base) return out.text(" base\n");
-        uint16_t m = first_owned(task, [&](uint16_t m) {
-            return mutexes[m].protects() && mutexes[m].ceiling == task.stored;
+    // Returns why the task has its priority: the mutex that gives it and, if it is an INHERIT one,
+    // its first waiter.
+    Cause cause(const Task& task) const {
+        if (task.stored == task.base) return {};
+        uint16_t lender = 0, ceiling = 0;
+        each_owned(task, [&](uint16_t m) {
+            if (mutexes[m].lends() != task.stored) return true;
+            if (mutexes[m].protects()) ceiling = m;
+            else if (!lender) lender = m;
+            return ceiling == 0;
         });
-        if (m) {
-            out.text(" ceiling ");
-        } else {
-            m = first_owned(task, [&](uint16_t m) {
-                return mutexes[m].inherits() && mutexes[m].first_prio() == task.stored;
-            });
+        return ceiling ? Cause{ceiling, 0} : Cause{lender, mutexes[lender].queue.front().task};
+    }
+
+    void write_reason(Output& out, const Task& task) const {
+        const Cause from = cause(task);
+        if (!from.mutex) return out.text(" base\n");
+        if (from.waiter) {
             out.text(" waiter ");
-            out.number(mutexes[m].queue.front().task);
+            out.number(from.waiter);
             out.text(" mutex ");
+        } else {
+            out.text(" ceiling ");
         }
-        out.number(m);
+        out.number(from.mutex);
         out.text("\n");
     }
 };

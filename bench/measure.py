@@ -1,95 +1,86 @@
 #!/usr/bin/env python3
-"""bench/measure.py [--repeat 7] [--only NAME] [--beside PROGRAM] [PROGRAM]: how fast traces are judged.
+"""How fast traces are judged: time, memory and instructions, beside a judge in plain C++.
 
-Times the repository's program, built by ./pim, or another one, beside a judge in C++ (judge.cpp, by
-g++ -O2), or beside the program of --beside. Each trace of texts.py, of 65,536 steps, is judged by both,
-which must write the same bytes; then they run by turns, the trace from a file and the report to
-/dev/null. Prints the least time of each and their ratio, the peak memory of each where there is GNU
-time to tell it, and how long the report is. 'its' are the columns of the other one.
+Measures the repository's program, which ./pim builds, or PROGRAM, beside bench/judge.cpp, by g++
+-O3, or beside the program of --beside. Each trace of bench/texts.py is judged by both, which must
+write the same bytes and end with the same status. Then they run by turns, the trace from a file
+and the report to /dev/null, and the least time of each counts: what else runs makes a run longer,
+and never shorter.
+
+Prints a table in Markdown: milliseconds of processor time, the kernel's share included; the peak
+memory, where there is GNU time to tell it; and how long the report is. --instructions adds how
+many instructions are executed, which doesn't depend on what else runs, by perf or valgrind.
+
+examples:
+  bench/measure.py                                the table of README.md
+  bench/measure.py --only chain --repeat 15       one trace, more often
+  bench/measure.py --instructions --steps 4096    short traces, counted
+  bench/measure.py --beside /tmp/older/pim        this build beside an older one
 """
 import argparse
-import hashlib
-import os
 import pathlib
-import subprocess
-import sys
 import tempfile
-import time
 
+import runs
 from texts import TEXTS
 
-HERE = pathlib.Path(__file__).resolve().parent
-PIM = HERE.parent / "crates/pim/out/pim"
-TASKS, STEPS = 256, 65536
-TIME = "/usr/bin/time"
+
+def columns(numbers, digits):
+    """Returns a number for each program and their ratio, where they are known."""
+    told = ["-" if number is None else f"{number:,.{digits}f}" for number in numbers]
+    return [*told, "-" if None in numbers else runs.ratio(*numbers)]
 
 
-def judge(folder):
-    """Returns the path of the judge in C++, built."""
-    built = f"{folder}/judge"
-    subprocess.run(["g++", "-O2", "-std=c++17", HERE / "judge.cpp", "-o", built], check=True)
-    return built
+def row(name, commands, trace, options):
+    """Returns the row of a trace. A program that doesn't know its version has no figures."""
+    known = [command for command in commands if runs.knows(command, trace)]
+    if commands[0] not in known:
+        runs.give_up(2, f"{commands[0][0]} doesn't read the text {name}")
 
+    def both(figures):
+        return [*figures, *[None] * (len(commands) - len(known))]
 
-def answer(program, trace):
-    """Returns a digest of what the program writes, how many bytes that is, and its status."""
-    digest, length = hashlib.sha256(), 0
-    with open(trace, "rb") as stdin:
-        run = subprocess.Popen([program], stdin=stdin, stdout=subprocess.PIPE)
-    with run:
-        while block := run.stdout.read(1 << 20):
-            digest.update(block)
-            length += len(block)
-    return digest.hexdigest(), length, run.returncode
-
-
-def seconds(program, trace):
-    with open(trace, "rb") as stdin, open(os.devnull, "wb") as out:
-        begin = time.perf_counter()
-        streams = [(os.POSIX_SPAWN_DUP2, stdin.fileno(), 0), (os.POSIX_SPAWN_DUP2, out.fileno(), 1)]
-        os.waitpid(os.posix_spawn(program, [program], os.environ, file_actions=streams), 0)
-        return time.perf_counter() - begin
-
-
-def megabytes(program, trace):
-    if not os.path.exists(TIME):
-        return float("nan")
-    with open(trace, "rb") as stdin:
-        how = {"stdin": stdin, "stdout": subprocess.DEVNULL, "stderr": subprocess.PIPE}
-        run = subprocess.run([TIME, "-f", "%M", program], **how)
-    return int(run.stderr.split()[-1]) / 1024
-
-
-def measure(name, programs, trace, repeat):
-    """Prints the row of a trace."""
-    answers = {answer(program, trace) for program in programs}
-    if len(answers) > 1:
-        sys.exit(f"{name}: the reports differ")
-    runs = [[seconds(program, trace) for program in programs] for _ in range(repeat)]
-    ours, theirs = (min(column) for column in zip(*runs))
-    memory = "".join(f"{megabytes(program, trace):8.1f}" for program in programs)
-    times = f"{ours * 1000:10.2f}{theirs * 1000:10.2f}{ours / theirs:8.2f}"
-    print(f"{name:8}{times}{memory}{answers.pop()[1] / 1e6:12.2f}", flush=True)
+    length = runs.compare(known, trace)
+    times = both(runs.least_seconds(known, trace, options.repeat))
+    memory = both([runs.megabytes(command, trace) for command in known])
+    cells = [name, *columns([time and time * 1000 for time in times], 2), *columns(memory, 1)[:2]]
+    if options.instructions:
+        counts = both([runs.instructions(command, trace) / 1e6 for command in known])
+        cells += columns(counts, 2)
+    return [*cells, f"{length / 1e6:.2f}"]
 
 
 def main():
-    as_written = argparse.RawDescriptionHelpFormatter
-    parser = argparse.ArgumentParser(description=__doc__, formatter_class=as_written)
-    parser.add_argument("program", nargs="?", default=PIM)
-    parser.add_argument("--beside", metavar="PROGRAM")
-    parser.add_argument("--repeat", type=int, default=7)
-    parser.add_argument("--only", choices=TEXTS)
-    options = parser.parse_args()
-    if options.program == PIM:
-        subprocess.run([HERE.parent / "pim", "--version"], check=True, stdout=subprocess.DEVNULL)
+    options = words()
     with tempfile.TemporaryDirectory() as folder:
-        beside = os.path.abspath(options.beside) if options.beside else judge(folder)
-        programs = [os.path.abspath(options.program), beside]
-        print("trace           ms    its ms   ratio      MB  its MB   report MB")
-        for name in [options.only] if options.only else TEXTS:
+        ours = runs.program(options.program) if options.program else runs.own_program()
+        theirs = runs.program(options.beside) if options.beside else runs.judge(folder)
+        its = "its" if options.beside else "C++"
+        head = ["Trace", "ms", f"{its} ms", "ratio", "MB", f"{its} MB"]
+        head += ["M instr.", f"{its} M instr.", "ratio"] if options.instructions else []
+        rows = []
+        for name in options.only or TEXTS:
             trace = pathlib.Path(folder, f"{name}.pim")
-            trace.write_text(TEXTS[name](TASKS, STEPS))
-            measure(name, programs, trace, options.repeat)
+            trace.write_text(TEXTS[name](options.tasks, options.steps))
+            rows.append(row(name, [[ours], [theirs]], trace, options))
+    lines = runs.table([*head, "report MB"], rows)
+    size = f"{options.steps:,} steps over {options.tasks} tasks"
+    told = [f"{size}, least of {options.repeat}.", *runs.machine()]
+    print("\n".join([*told, "", *lines]))
+    if options.docs:
+        runs.publish("bench/measure.py", [" ".join(told), "", *lines])
+
+
+def words():
+    """Returns the options of the command line."""
+    parser = runs.parser(__doc__, list(TEXTS), "the repository's own")
+    parser.add_argument("--beside", metavar="PROGRAM", help="in place of the judge in C++")
+    parser.add_argument("--repeat", type=int, default=7, help="how often each is timed (7)")
+    parser.add_argument("--tasks", type=int, default=runs.MOST_TASKS, help="2 to 256 (256)")
+    parser.add_argument("--steps", type=int, default=runs.MOST_STEPS, help="1 to 65,536 (65,536)")
+    counted = "count instructions, too: minutes at full length"
+    parser.add_argument("--instructions", action="store_true", help=counted)
+    return runs.within_limits(parser)
 
 
 main()

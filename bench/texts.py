@@ -1,7 +1,7 @@
 """Traces of any size, the same at each run, for the scripts that measure and for tests/judge.
 
-Each is made of a number of tasks (2 to 256) and of steps. A trace of more steps begins with those of a
-shorter one: so the difference of two is what the steps between them take.
+Each is made of a number of tasks (2 to 256) and of steps. A trace of more steps begins with those
+of a shorter one: so the difference of two is what the steps between them take.
 """
 import random
 

@@ -1,15 +1,28 @@
-// How long a step with its list of changed tasks takes, beside the manager of bench/judge.cpp, in plain C++.
+// What a step takes by itself, without text: libpim beside the manager of bench/judge.cpp.
 //
-//   steps [REPEAT] < TRACE
+//   steps check < TRACE            compares all answers and lists; status 1 where one differs
+//   steps time REPEAT < TRACE      prints the least nanoseconds of a step: libpim's and the plain
+//                                  manager's, then those of a step with its list
+//   steps last REPEAT < TRACE      makes all steps but the last, and prints the least nanoseconds
+//                                  of that one with its list, libpim's and the plain manager's,
+//                                  how many priorities it computed and how many tasks it lists
 //
-// Both make the same steps and list the same tasks into the same kind of array; they run by turns, and the least time of
-// each counts. Prints nanoseconds a step of libpim and of the plain manager, and their ratio. Status 1 where an answer or
-// a list differs.
+// For those who count instructions, with libpim or plain as WHO:
+//
+//   steps WHO step COUNT < TRACE   makes the first COUNT steps
+//   steps WHO list COUNT < TRACE   the same, and the list of each
+//   steps WHO last COUNT < TRACE   makes all steps but the last and, where COUNT is 1, that one
+//                                  with its list
+//
+// Both make the same checks in the same order, note the tasks whose priority a step changes, and
+// list them into the same kind of array, in ascending order, with priorities and reasons. libpim
+// is called as C calls it; the plain manager is compiled into the loop.
 #define main judge_main
 #include "../../bench/judge.cpp"
 #undef main
 
-#include <chrono>
+#include <cstdlib>
+#include <ctime>
 
 #include "../pim.h"
 
@@ -17,130 +30,183 @@ namespace {
 
 using Changes = std::array<pim_changed_task, PIM_MAX_TASKS>;
 
-// The plain manager, which lists what a step changed as pim_changed does.
+class Libpim {
+public:
+    explicit Libpim(const Text& text) {
+        std::vector<uint16_t> bases(text.bases.begin(), text.bases.end());
+        std::vector<pim_protocol> protocols;
+        for (const Declared& d : text.mutexes)
+            protocols.push_back({uint16_t(d.protocol), d.ceiling});
+        bases.reserve(1);
+        protocols.reserve(1);
+        const size_t tasks = bases.size(), mutexes = protocols.size();
+        if (pim_make(&h, bases.data(), tasks, protocols.data(), mutexes) != PIM_MADE) std::exit(2);
+    }
+    Libpim(const Libpim&) = delete;
+    ~Libpim() { pim_drop(&h); }
+
+    pim_answer step(const Step& step) {
+        switch (step.op) {
+            case Op::Lock: return pim_lock(&h, step.actor, step.first);
+            case Op::Try: return pim_try(&h, step.actor, step.first);
+            case Op::Unlock: return pim_unlock(&h, step.actor, step.first);
+            case Op::Release: return pim_release_all(&h, step.actor);
+            case Op::Cancel: return pim_cancel(&h, step.actor, step.first);
+            case Op::Base: return pim_set_base(&h, step.actor, step.first, step.second);
+        }
+        std::exit(2);
+    }
+
+    size_t list(Changes& to) { return pim_changed(&h, to.data(), to.size()); }
+
+private:
+    pim_handle h = PIM_HANDLE_INIT;
+};
+
 class Plain : public Manager {
 public:
     using Manager::Manager;
 
-    size_t list_changes(Changes& to) {
+    // Forgets what the step before changed, as libpim does.
+    Reply step(const Step& step) {
+        for (uint16_t t : touched) tasks[t].is_touched = false;
+        touched.clear();
+        return Manager::step(step);
+    }
+
+    size_t list(Changes& to) {
         size_t count = 0;
         sort_touched();
         for (uint16_t t : touched) {
-            Task& task = tasks[t];
-            task.is_touched = false;
-            if (task.stored != task.stored_before)
-                to[count++] = {t, task.stored, reason(task)};
+            const Task& task = tasks[t];
+            if (task.stored == task.stored_before) continue;
+            to[count++] = {t, task.stored, reason(cause(task))};
         }
-        touched.clear();
         return count;
     }
 
 private:
-    struct pim_reason reason(const Task& task) const {
-        if (task.stored == task.base) return {PIM_OF_BASE, 0, 0};
-        uint16_t m = first_owned(task, [&](uint16_t m) {
-            return mutexes[m].protects() && mutexes[m].declared.ceiling == task.stored;
-        });
-        if (m) return {PIM_OF_CEILING, 0, m};
-        m = first_owned(task, [&](uint16_t m) {
-            return mutexes[m].inherits() && mutexes[m].first_prio() == task.stored;
-        });
-        return {PIM_OF_WAITER, mutexes[m].queue.front().task, m};
+    static pim_reason reason(Cause from) {
+        if (!from.mutex) return {PIM_OF_BASE, 0, 0};
+        return {uint16_t(from.waiter ? PIM_OF_WAITER : PIM_OF_CEILING), from.waiter, from.mutex};
     }
 };
 
-pim_answer step(pim_handle& h, const Step& step) {
-    switch (step.op) {
-        case Op::Lock: return pim_lock(&h, step.actor, step.first);
-        case Op::Try: return pim_try(&h, step.actor, step.first);
-        case Op::Unlock: return pim_unlock(&h, step.actor, step.first);
-        case Op::Release: return pim_release_all(&h, step.actor);
-        case Op::Cancel: return pim_cancel(&h, step.actor, step.first);
-        case Op::Base: return pim_set_base(&h, step.actor, step.first, step.second);
+Reply reply_of(const pim_answer& answer) {
+    constexpr Answer KINDS[] = {Answer::NoTask, Answer::Granted,  Answer::Queued,    Answer::Freed,
+                                Answer::Handed, Answer::Released, Answer::Withdrawn, Answer::Set};
+    if (answer.kind != PIM_REFUSED) return {KINDS[answer.kind], answer.number};
+    return {Answer(unsigned(Answer::NoTask) + answer.refusal - 1u), answer.number};
+}
+
+bool is_same(const pim_changed_task& one, const pim_changed_task& other) {
+    const pim_reason &why = one.reason, &its = other.reason;
+    return one.task == other.task && one.prio == other.prio && why.kind == its.kind &&
+           why.task == its.task && why.mutex == its.mutex;
+}
+
+// Compares all answers and lists, and returns the status of the program.
+int check(const Text& text) {
+    static Changes ours, theirs;
+    Libpim pim(text);
+    Plain plain(text);
+    for (const Step& step : text.steps) {
+        bool is_equal = reply_of(pim.step(step)) == plain.step(step);
+        const size_t count = pim.list(ours);
+        is_equal &= count == plain.list(theirs);
+        if (is_equal && std::equal(&ours[0], &ours[count], &theirs[0], is_same)) continue;
+        std::printf("they differ in step %zu\n", size_t(&step - &text.steps[0]) + 1);
+        return 1;
     }
-    __builtin_unreachable();
+    return 0;
 }
 
-// A sum over answers and lists, the same for both where these are.
-struct Sum {
-    uint64_t value = 0;
-
-    void add(uint64_t word) { value = (value + word) * 0x9e3779b97f4a7c15u; }
-
-    void add(const Changes& changes, size_t count) {
-        add(count);
-        for (size_t i = 0; i < count; ++i)
-            add(changes[i].task + 1000u * changes[i].prio + 1000000u * changes[i].reason.kind +
-                (uint64_t(changes[i].reason.task) << 32) + (uint64_t(changes[i].reason.mutex) << 48));
-    }
-};
-
-uint64_t number_of(const pim_answer& answer) {
-    constexpr Answer KINDS[] = {Answer::NoTask,   Answer::Granted, Answer::Queued,    Answer::Freed, Answer::Handed,
-                                Answer::Released, Answer::Withdrawn, Answer::Set};
-    const Answer kind = answer.kind == PIM_REFUSED ? Answer(unsigned(Answer::NoTask) + answer.refusal - 1u) : KINDS[answer.kind];
-    return uint64_t(kind) << 16 | answer.number;
-}
-
-uint64_t number_of(const Reply& reply) {
-    return uint64_t(reply.answer) << 16 | reply.number;
-}
-
-using Clock = std::chrono::steady_clock;
-
-double nanoseconds(Clock::time_point begin, size_t steps) {
-    return std::chrono::duration<double, std::nano>(Clock::now() - begin).count() / double(steps);
-}
-
-// Makes all steps by libpim, and returns the nanoseconds of one. The sum is made where it is asked for.
-double run_pim(const Text& text, Sum* sum) {
+// Makes a step and, where it is asked for, its list, which the compiler takes to be read.
+template <class Who>
+size_t make(Who& who, const Step& step, bool lists) {
     static Changes changes;
-    std::vector<uint16_t> bases(text.bases.begin(), text.bases.end());
-    std::vector<pim_protocol> protocols;
-    for (const Declared& d : text.mutexes) protocols.push_back({uint16_t(d.protocol), d.ceiling});
-    bases.reserve(1);
-    protocols.reserve(1);
-    pim_handle h = PIM_HANDLE_INIT;
-    if (pim_make(&h, bases.data(), bases.size(), protocols.data(), protocols.size()) != PIM_MADE) std::exit(2);
-    const auto begin = Clock::now();
-    for (const Step& s : text.steps) {
-        const pim_answer answer = step(h, s);
-        const size_t count = pim_changed(&h, changes.data(), changes.size());
-        if (sum) sum->add(number_of(answer)), sum->add(changes, count);
-    }
-    const double time = nanoseconds(begin, text.steps.size());
-    pim_drop(&h);
-    return time;
+    who.step(step);
+    const size_t count = lists ? who.list(changes) : 0;
+    asm volatile("" : : "r"(&changes) : "memory");
+    return count;
 }
 
-double run_plain(const Text& text, Sum* sum) {
-    static Changes changes;
-    Plain manager(text);
-    const auto begin = Clock::now();
-    for (const Step& s : text.steps) {
-        const Reply reply = manager.step(s);
-        const size_t count = manager.list_changes(changes);
-        if (sum) sum->add(number_of(reply)), sum->add(changes, count);
+// Returns the nanoseconds of a clock: that of the process doesn't count what else runs meanwhile,
+// and that of the machine takes less to be asked.
+double nanoseconds(clockid_t clock) {
+    timespec now{};
+    clock_gettime(clock, &now);
+    return double(now.tv_sec) * 1e9 + double(now.tv_nsec);
+}
+
+// Makes the first steps, and returns the nanoseconds of one.
+template <class Who>
+double steps(const Text& text, size_t count, bool lists) {
+    Who who(text);
+    const double begin = nanoseconds(CLOCK_PROCESS_CPUTIME_ID);
+    for (size_t i = 0; i < count; ++i) make(who, text.steps[i], lists);
+    return (nanoseconds(CLOCK_PROCESS_CPUTIME_ID) - begin) / double(count);
+}
+
+// Makes all steps but the last, and returns the nanoseconds of that one with its list, or of none.
+template <class Who>
+double last(const Text& text, bool makes_it) {
+    Who who(text);
+    for (size_t i = 0; i + 1 < text.steps.size(); ++i) make(who, text.steps[i], false);
+    const double begin = nanoseconds(CLOCK_MONOTONIC);
+    if (makes_it) make(who, text.steps.back(), true);
+    return nanoseconds(CLOCK_MONOTONIC) - begin;
+}
+
+// Calls both by turns, and prints the least that each of them returns.
+template <class Ours, class Theirs>
+void least(int repeat, Ours ours, Theirs theirs) {
+    double least_ours = 1e99, least_theirs = 1e99;
+    for (int i = 0; i < repeat; ++i) {
+        least_ours = std::min(least_ours, ours());
+        least_theirs = std::min(least_theirs, theirs());
     }
-    return nanoseconds(begin, text.steps.size());
+    std::printf("%.1f %.1f\n", least_ours, least_theirs);
+}
+
+void time_steps(const Text& text, int repeat) {
+    const size_t count = text.steps.size();
+    for (const bool lists : {false, true})
+        least(repeat, [&] { return steps<Libpim>(text, count, lists); },
+              [&] { return steps<Plain>(text, count, lists); });
+}
+
+void time_last(const Text& text, int repeat) {
+    static Changes changes;
+    least(repeat, [&] { return last<Libpim>(text, true); },
+          [&] { return last<Plain>(text, true); });
+    Libpim pim(text);
+    pim_answer answer{};
+    for (const Step& step : text.steps) answer = pim.step(step);
+    std::printf("%u %zu\n", unsigned(answer.visits), pim.list(changes));
+}
+
+// Makes the first steps, or the last, by one of the two. Returns the status of the program.
+template <class Who>
+int count(const Text& text, std::string_view how, size_t count) {
+    if (how == "last") return last<Who>(text, count > 0), 0;
+    if (how != "step" && how != "list") return 2;
+    return steps<Who>(text, std::min(count, text.steps.size()), how == "list"), 0;
 }
 
 }  // namespace
 
 int main(int argc, char** argv) {
-    const int repeat = argc > 1 ? std::atoi(argv[1]) : 15;
     std::vector<char> data;
     size_t size = 0;
     Text text;
     if (!read_all(data, size) || parse(data.data(), size, text) || text.steps.empty()) return 2;
-    Sum pim, plain;
-    run_pim(text, &pim);
-    run_plain(text, &plain);
-    if (pim.value != plain.value) return std::puts("they differ"), 1;
-    double least_pim = 1e99, least_plain = 1e99;
-    for (int i = 0; i < repeat; ++i) {
-        least_pim = std::min(least_pim, run_pim(text, nullptr));
-        least_plain = std::min(least_plain, run_plain(text, nullptr));
-    }
-    std::printf("%.1f %.1f %.2f\n", least_pim, least_plain, least_pim / least_plain);
+    const std::string_view word = argc > 1 ? argv[1] : "";
+    if (argc == 2 && word == "check") return check(text);
+    if (argc == 3 && word == "time") return time_steps(text, std::atoi(argv[2])), 0;
+    if (argc == 3 && word == "last") return time_last(text, std::atoi(argv[2])), 0;
+    if (argc != 4) return 2;
+    const size_t steps = size_t(std::atoi(argv[3]));
+    if (word == "libpim") return count<Libpim>(text, argv[2], steps);
+    return word == "plain" ? count<Plain>(text, argv[2], steps) : 2;
 }

@@ -1,0 +1,249 @@
+"""What the scripts that measure share: the programs, what a run of one takes, and tables."""
+import argparse
+import functools
+import os
+import pathlib
+import re
+import shutil
+import subprocess
+import sys
+
+ROOT = pathlib.Path(__file__).resolve().parent.parent
+JUDGE = ROOT / "bench/judge.cpp"
+# As rt compiles pim: at that level, for that processor, with the C library as the only shared one.
+FLAGS = ["-std=c++17", "-O3", "-march=x86-64-v2", "-static-libstdc++", "-static-libgcc"]
+PAGE = ROOT / "docs/SPEED.md"
+PIM = ROOT / "crates/pim/out/pim"
+MOST_TASKS, MOST_STEPS = 256, 65536
+TIME = "/usr/bin/time"
+STATUSES = """exit status:
+  0  measured
+  1  the two answer differently: what they take can't be compared
+  2  wrong words, or a tool or a program is missing"""
+
+
+def give_up(status, why):
+    """Ends the script: with status 1 where two programs differ, 2 where it can't measure."""
+    print(f"{pathlib.Path(sys.argv[0]).name}: {why}", file=sys.stderr)
+    sys.exit(status)
+
+
+def need(*tools):
+    for tool in tools:
+        if not shutil.which(tool):
+            give_up(2, f"it needs {tool}")
+
+
+# ---- words
+
+
+def parser(doc, names, program):
+    """Returns a parser of a command line, with what all scripts take. Its help is the script's."""
+    as_written = argparse.RawDescriptionHelpFormatter
+    made = argparse.ArgumentParser(description=doc, epilog=STATUSES, formatter_class=as_written)
+    made.add_argument("program", nargs="?", metavar="PROGRAM", help=f"in place of {program}")
+    only = f"one of {', '.join(names)}; again for more"
+    made.add_argument("--only", metavar="NAME", choices=names, action="append", help=only)
+    made.add_argument("--docs", action="store_true", help="put what is found into docs/, too")
+    return made
+
+
+def within_limits(parser, **least):
+    """Returns the options of the command line, or gives up where a number is out of its limits."""
+    options = parser.parse_args()
+    if options.docs and options.only:
+        parser.error("--docs is for all of it, without --only")
+    limits = {"tasks": (2, MOST_TASKS), "steps": (1, MOST_STEPS), "repeat": (1, 10**6)}
+    for name, (low, high) in limits.items():
+        number = getattr(options, name, None)
+        if number is not None and not least.get(name, low) <= number <= high:
+            parser.error(f"--{name} is {least.get(name, low):,} to {high:,}")
+    return options
+
+
+# ---- programs
+
+
+def own_program():
+    """Returns the path of the repository's program, built where it is older than the code."""
+    if PIM.exists() or shutil.which("rt"):
+        if not subprocess.run([ROOT / "pim", "--version"], stdout=subprocess.DEVNULL).returncode:
+            return str(PIM)
+    return give_up(2, "./pim wasn't built")
+
+
+def program(path):
+    """Returns the path of a program that was named."""
+    if not os.access(path, os.X_OK) or os.path.isdir(path):
+        give_up(2, f"{path} is no program")
+    return os.path.abspath(path)
+
+
+def judge(folder):
+    """Returns the path of the judge in C++, built in the folder."""
+    need("g++")
+    built = f"{folder}/judge"
+    if subprocess.run(["g++", *FLAGS, JUDGE, "-o", built]).returncode:
+        give_up(2, f"{JUDGE} wasn't built")
+    return built
+
+
+def stepper():
+    """Returns the path of c/bench/steps.cpp, built with libpim."""
+    need("make", "g++")
+    made = ROOT / "c/out/steps"
+    command = ["make", "-s", "-C", ROOT / "c", "out/steps"]
+    if subprocess.run(command, stdout=subprocess.DEVNULL).returncode:
+        give_up(2, "c/out/steps wasn't built")
+    return str(made)
+
+
+def knows(command, trace):
+    """Returns whether the program reads texts of this one's version."""
+    with open(trace, "rb") as file:
+        return subprocess.run(command, input=file.readline(), capture_output=True).returncode != 2
+
+
+def compare(commands, trace):
+    """Has two programs judge a trace, and returns how many bytes they write, both the same."""
+    runs = []
+    for command in commands:
+        with open(trace, "rb") as stdin:
+            runs.append(subprocess.Popen(command, stdin=stdin, stdout=subprocess.PIPE))
+    length = line = 0
+    while any(blocks := [run.stdout.read(1 << 20) for run in runs]):
+        if len(set(blocks)) > 1:
+            line += os.path.commonprefix(blocks).count(b"\n") + 1
+            [run.kill() for run in runs]
+            give_up(1, f"{pathlib.Path(trace).name}: the reports differ in line {line}")
+        length += len(blocks[0])
+        line += blocks[0].count(b"\n")
+    statuses = {run.wait() for run in runs}
+    if len(statuses) > 1 or statuses & {2, *range(-64, 0)}:
+        give_up(1, f"{pathlib.Path(trace).name}: the programs ended with status {statuses}")
+    return length
+
+
+# ---- what a run takes
+
+
+def seconds(command, trace):
+    """Returns the processor time of a run with this trace as its input."""
+    with open(trace, "rb") as stdin, open(os.devnull, "wb") as out:
+        streams = [(os.POSIX_SPAWN_DUP2, file.fileno(), to) for to, file in enumerate((stdin, out))]
+        run = os.posix_spawn(command[0], command, os.environ, file_actions=streams)
+        used = os.wait4(run, 0)[2]
+        return used.ru_utime + used.ru_stime
+
+
+def least_seconds(commands, trace, repeat):
+    """Returns the least processor time of each command, which run by turns."""
+    runs = [[seconds(command, trace) for command in commands] for _ in range(repeat)]
+    return [min(column) for column in zip(*runs)]
+
+
+def megabytes(command, trace):
+    """Returns the peak memory of a run, or None where there is no GNU time to tell it."""
+    if not os.path.exists(TIME):
+        return None
+    return int(said([TIME, "-f", "%M", *command], trace).split()[-1]) / 1024
+
+
+@functools.lru_cache(maxsize=None)
+def counter():
+    """Returns what counts instructions here: perf, where the machine lets it, valgrind, or None."""
+    if shutil.which("perf"):
+        counts = ["perf", "stat", "-x", ",", "-e", "instructions:u", "true"]
+        done = subprocess.run(counts, stderr=subprocess.PIPE, text=True)
+        if done.stderr.split(",")[0].isdigit():
+            return "perf"
+    return "valgrind" if shutil.which("valgrind") else None
+
+
+def instructions(command, trace):
+    """Returns how many instructions a run takes, without those of the kernel."""
+    if counter() == "perf":
+        tool, shown = ["perf", "stat", "-x", ",", "-e", "instructions:u"], r"(\d+),.*instructions"
+    else:
+        need("valgrind")
+        # callgrind counts the same, and takes three times as long.
+        tool = ["valgrind", "--tool=cachegrind", "--cache-sim=no"]
+        tool += ["--cachegrind-out-file=/dev/null"]
+        shown = r"I +refs: +([\d,]+)"
+    told = re.search(shown, said([*tool, *command], trace))
+    if not told:
+        give_up(2, f"{tool[0]} doesn't tell what {command[0]} takes")
+    return int(told[1].replace(",", ""))
+
+
+def step_instructions(program, how, trace, steps):
+    """Returns what a step of c/bench/steps.cpp takes by libpim and by the plain manager."""
+    found = []
+    for who in ("libpim", "plain"):
+        commands = [[program, who, how, str(count)] for count in (steps, 2 * steps)]
+        short, long = (instructions(command, trace) for command in commands)
+        found.append((long - short) / steps)
+    return found
+
+
+def numbers(program, how, repeat, trace):
+    """Returns the numbers that c/bench/steps.cpp prints."""
+    with open(trace, "rb") as stdin:
+        how = {"args": [program, how, str(repeat)], "stdin": stdin, "stdout": subprocess.PIPE}
+        return [float(word) for word in subprocess.run(**how, check=True).stdout.split()]
+
+
+def said(command, trace):
+    """Returns what a run says on standard error."""
+    with open(trace, "rb") as stdin:
+        how = {"stdin": stdin, "stdout": subprocess.DEVNULL, "stderr": subprocess.PIPE}
+        return subprocess.run(command, text=True, **how).stderr
+
+
+# ---- what is told
+
+
+def machine():
+    """Returns lines that name the machine and what was built with what."""
+    with open("/proc/cpuinfo") as file:
+        told = dict(re.findall(r"^(model name|cpu family|model)\s*: (.*)$", file.read(), re.M))
+    kernel = os.uname()
+    cores, load = len(os.sched_getaffinity(0)), os.getloadavg()[0]
+    versions = [first_line("g++", "--version"), first_line("rt", "version")]
+    return [
+        f"{told.get('model name', kernel.machine)} (family {told.get('cpu family', '?')}, model "
+        f"{told.get('model', '?')}), {cores} cores, load {load:.1f}",
+        "; ".join([f"{kernel.sysname} {kernel.release}", *filter(None, versions)]),
+    ]
+
+
+def first_line(*command):
+    if shutil.which(command[0]):
+        return subprocess.run(command, capture_output=True, text=True).stdout.partition("\n")[0]
+
+
+def ratio(ours, theirs):
+    """Returns the ratio as it is told: none to what was too little to be measured."""
+    return f"{ours / theirs:.2f}" if theirs > 0 else "-"
+
+
+def table(head, rows):
+    """Returns the lines of a Markdown table, whose columns are as wide as what stands in them."""
+    wide = [max(map(len, column)) for column in zip(head, *rows)]
+
+    def line(row):
+        cells = [row[0].ljust(wide[0]), *map(str.rjust, row[1:], wide[1:])]
+        return f"| {' | '.join(cells)} |"
+
+    dashes = "|".join("-" * (width + 2) for width in wide)
+    return [line(head), f"|{dashes}|", *map(line, rows)]
+
+
+def publish(part, lines):
+    """Puts the lines into docs/SPEED.md, in place of what stands there of that part."""
+    begin, end = f"<!-- by {part} -->\n", "<!-- end -->\n"
+    before, found, rest = PAGE.read_text().partition(begin)
+    if not found:
+        give_up(2, f"{PAGE} has no line {begin!r}")
+    after = rest.partition(end)[2]
+    PAGE.write_text(before + begin + "\n" + "\n".join(lines) + "\n\n" + end + after)
