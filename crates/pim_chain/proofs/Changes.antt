@@ -63,7 +63,7 @@ owner_now S m o x at t e = go (unwrap_or-put_same S.owner m o)
     go (inl is) = at t (sym is ∙ e)
     go (inr none) = absurd (none-some t (sym none ∙ e))
 
-owner_other : (S : State) (m : ℕ) (o : Option ℕ) (k : ℕ) → (k ≡ m → ⊥) → owner_of (with_owner S m o) k ≡ owner_of S k
+pub owner_other : (S : State) (m : ℕ) (o : Option ℕ) (k : ℕ) → (k ≡ m → ⊥) → owner_of (with_owner S m o) k ≡ owner_of S k
 owner_other S m o k ne = ap (λ v. unwrap_or v None) (nth-put_other S.owner m k o (λ e. ne (sym e)))
 
 -- who owns another mutex, or owns it and isn't x, owns it still

@@ -1,9 +1,9 @@
 -- The numbers of a set, in ascending order.
-use Rattle.std.proofs.Common.{◌≡◌, ℕ, zero, suc, ◌+◌, ◌*◌, ◌-◌, ◌/◌, ◌%◌, ◌<◌, ◌≤◌, ◌==◌, ◌&&◌, Bool, true, false, not, cond, ◌⊎◌, inl, inr, refl, sym, ◌∙◌, ap, subst, arith, List, [], ◌∷◌, filter, length, Option, Some, None, slice_index}
+use Rattle.std.proofs.Common.{◌≡◌, ◌≢◌, ℕ, zero, suc, ◌+◌, ◌*◌, ◌-◌, ◌/◌, ◌%◌, ◌<◌, ◌≤◌, ◌==◌, ◌&&◌, Bool, true, false, not, cond, ◌⊎◌, inl, inr, refl, sym, ◌∙◌, ap, subst, arith, List, [], ◌∷◌, filter, length, set, Some, None, slice_index}
 use Rattle.std.specs.Int.{bit_at}
 use Rattle.std.specs.List.{range_with_len}
-use Rattle.std.proofs.lemmas.Bool.{and_right, both_ways, cases_eq, cases_lt, eq-eqb, eqb-true, ne_eqb, not-false}
-use Rattle.std.proofs.lemmas.List.{get_or_past}
+use Rattle.std.proofs.lemmas.Bool.{both_ways, cases_eq, cases_lt, eq-eqb, eqb-true, ne_eqb, not-false}
+use Rattle.std.proofs.lemmas.List.{get_or_past, get_or-set_same, get_or-set_other}
 use Rattle.std.proofs.lemmas.Nat.Bits.{bit_at-zero}
 use Rattle.pim_base.specs.Lists.{numbers}
 use Rattle.pim_chain.specs.Numbers.{bit_of, has, members, AreTold, IsLeast}
@@ -140,6 +140,15 @@ none_told words len told k = go (cases_lt k 320)
     go (inl near) = none_untold words 0 (k / 64) k told (omega (arith, near)) (bit_at-zero (k / 64)) (omega arith) (omega arith)
     go (inr far) = none_past words k len far
 
+-- a word that is told is one of the five
+pub told_within : (words : List ℕ) (filled index : ℕ) → length words ≡ 5 → AreTold words filled → index < 64 → bit_at filled index ≡ 1 → index < 5
+told_within words filled index len told far is_told = there (cases_lt index 5)
+  where
+    there : (index < 5) ⊎ (5 ≤ index) → index < 5
+    there (inl near) = near
+    there (inr past) =
+        absurd (both_ways (bit_at filled index == 1) (told index far ∙ ap (λ w. not (w == 0)) (get_or_past words index 0 (omega (arith, len, past)))) (ap (λ b. b == 1) is_told))
+
 -- the first number of the first word that is told is the least of all
 pub least_told :
     (words : List ℕ) (filled index place x : ℕ)
@@ -160,12 +169,7 @@ least_told words filled index place x len told far is_told none small is_set non
 )
   where
     within : index < 5
-    within = there (cases_lt index 5)
-      where
-        there : (index < 5) ⊎ (5 ≤ index) → index < 5
-        there (inl near) = near
-        there (inr past) =
-            absurd (both_ways (bit_at filled index == 1) (told index far ∙ ap (λ w. not (w == 0)) (get_or_past words index 0 (omega (arith, len, past)))) (ap (λ b. b == 1) is_told))
+    within = told_within words filled index len told far is_told
 
     at : 64 * index + place ≡ x
     at = omega (arith, is)
@@ -176,6 +180,37 @@ least_told words filled index place x len told far is_told none small is_set non
     go k less (inr low) =
         has_there words index k low (omega (arith, less, small, at))
         ∙ ap (λ b. b == 1) (none_below (k - 64 * index) (omega (arith, less, low, at)))
+
+-- what is left when one number was taken out of its word
+pub taken :
+    (words : List ℕ) (index place rest x k : ℕ)
+    → length words ≡ 5
+    → index < 5
+    → place < 64
+    → index * 64 + place ≡ x
+    → bit_at rest place ≡ 0
+    → ((i : ℕ) → i < 64 → i ≢ place → bit_at rest i ≡ bit_at (slice_index words index) i)
+    → has (set words index rest) k ≡ (not (k == x) && has words k)
+taken words index place rest x k len within small is clear others = go (cases_eq (k / 64) index) (cases_eq k x)
+  where
+    there : k / 64 ≡ index → has (set words index rest) k ≡ (bit_at rest (k % 64) == 1)
+    there e =
+        ap (λ w. bit_at w (k % 64) == 1)
+        (ap (slice_index (set words index rest)) e ∙ get_or-set_same words index rest 0 (omega (arith, len, within)))
+
+    go : (k / 64 ≡ index) ⊎ (k / 64 ≡ index → ⊥) → (k ≡ x) ⊎ (k ≡ x → ⊥) → has (set words index rest) k ≡ (not (k == x) && has words k)
+    go (inr other) (inl same) = absurd (other (omega (arith, same, is, small)))
+    go (inr other) (inr ne) =
+        ap (λ w. bit_at w (k % 64) == 1) (get_or-set_other words index (k / 64) rest 0 other)
+        ∙ sym (ap (λ b. not b && has words k) (ne_eqb k x ne))
+    go (inl e) (inl same) =
+        let at : k % 64 ≡ place = omega (arith, same, is, small) in
+        there e ∙ ap (λ b. b == 1) (ap (bit_at rest) at ∙ clear) ∙ sym (ap (λ b. not b && has words k) (eq-eqb k x same))
+    go (inl e) (inr ne) =
+        there e
+        ∙ ap (λ b. b == 1) (others (k % 64) (omega arith) (λ p. ne (omega (arith, e, is, p))))
+        ∙ sym (ap (λ i. bit_at (slice_index words i) (k % 64) == 1) e)
+        ∙ sym (ap (λ b. not b && has words k) (ne_eqb k x ne))
 
 -- the least number is the first, and the others are those of the set without it
 pub least_first :

@@ -64,6 +64,14 @@ tells-same n f g a same = record {
 pub tells-refl : (n : ℕ) (f : ℕ → ℕ) (a : Work) → Tells n f a f a
 tells-refl n f a = tells-same n f f a (λ t low high. refl)
 
+-- one visit that changes nothing
+pub tells-counted : (n : ℕ) (f : ℕ → ℕ) (a b : Work) → b ≡ record a { count = a.count + 1 } → Tells n f a f b
+tells-counted n f a b is =
+    subst (Tells n f a f) (sym is) (record {
+      counted = (let none = differing_none n f f (λ t low high. refl) in omega (arith, none));
+      noted = (refl, λ some t low high. refl);
+    })
+
 pub tells-trans : (n : ℕ) (f g h : ℕ → ℕ) (a b d : Work) → Tells n f a g b → Tells n g b h d → Tells n f a h d
 tells-trans n f g h a b d one two = record {
   counted =

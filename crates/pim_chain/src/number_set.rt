@@ -1,6 +1,6 @@
 //! Sets of the numbers of tasks or mutexes.
 
-ghost use Rattle.std.specs.Prelude.{◌≡◌, ◌==◌, ◌<◌, ◌&&◌, ◌||◌, ℕ, not, false, set};
+ghost use Rattle.std.specs.Prelude.{◌≡◌, ◌==◌, ◌<◌, ◌&&◌, ◌||◌, ℕ, None, IfSome, not, false, set};
 ghost use Rattle.std.specs.Iterator.{YieldsFirst, item_count};
 ghost use Rattle.pim_chain.specs.Numbers.{has, members, AreTold, IsLeast};
 
@@ -68,15 +68,23 @@ impl NumberSet {
         };
     }
 
-    /// Returns the least number of the set, `None` of an empty one.
-    pub fn least(&self) -> Option<u16>
-        ensures { IsLeast self.now.words result }
+    /// Takes out the least number, and returns it; `None` of an empty set.
+    pub fn take_least(&mut self) -> Option<u16>
+        ensures least { IsLeast self.old.words result }
+        ensures others { IfSome result (λ n. (k : ℕ) → has self.new.words k ≡ (not (k == n) && has self.old.words k)) }
+        ensures none { result ≡ None → self.new.words ≡ self.old.words }
     {
         if self.filled == 0 {
             return None;
         }
         let index = lowest_bit(self.filled);
-        let place = lowest_bit(self.words[index as usize]);
+        let word = self.words[index as usize];
+        let place = lowest_bit(word);
+        let rest = without_bit(word, place);
+        self.words[index as usize] = rest;
+        if rest == 0 {
+            self.filled = without_bit(self.filled, index);
+        }
         Some(index as u16 * 64 + place as u16)
     }
 
@@ -91,7 +99,7 @@ impl NumberSet {
 /// The numbers of a set, in ascending order.
 ///
 /// Its value in contracts is the list of those that are left. It has a copy of the set, so that the set may change
-/// meanwhile, and takes the least number out of it at each call.
+/// meanwhile, and takes the least number out of that at each call.
 #[derive(Drop)]
 pub struct Numbers {
     left: NumberSet,
@@ -114,10 +122,6 @@ impl Iterator for Numbers {
     ghost remaining = { item_count (λ rest. rest) };
 
     fn next(&mut self) -> Option<u16> {
-        let least = self.left.least();
-        if let Some(number) = least {
-            self.left.remove(number);
-        }
-        least
+        self.left.take_least()
     }
 }

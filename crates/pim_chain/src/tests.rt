@@ -75,8 +75,8 @@ fn lock(
     assert!(rt; !tables.is_waiting(task));
     match tables.owner(mutex) {
         None => {
-            tables.bind(mutex, task);
-            settle(rt, tables, task, visits);
+            assert!(rt; visits.get() < 1000);
+            tables.gain(mutex, task, visits);
         }
         Some(owner) => {
             assert!(rt; !tables.closes_cycle(task, mutex));
@@ -95,8 +95,9 @@ fn free(rt: &impl Abort, tables: &mut Tables, mutex: MutexNo, visits: &mut Visit
     let owner = tables.owner(mutex);
     assert!(rt; owner.is_some());
     if let Some(owner) = owner {
-        tables.unbind(mutex);
-        settle(rt, tables, owner, visits);
+        assert!(rt; !tables.is_waiting(owner));
+        assert!(rt; visits.get() < 1000);
+        tables.lose(mutex, owner, visits);
     }
 }
 
@@ -112,8 +113,8 @@ fn take(rt: &impl Abort, tables: &mut Tables, mutex: MutexNo, task: TaskNo, visi
     assert!(rt; !tables.is_unknown_mutex(mutex));
     assert!(rt; !tables.is_waiting(task));
     assert!(rt; !tables.is_owned(mutex));
-    tables.bind(mutex, task);
-    settle(rt, tables, task, visits);
+    assert!(rt; visits.get() < 1000);
+    tables.gain(mutex, task, visits);
 }
 
 fn unlock(rt: &impl Abort, tables: &mut Tables, mutex: MutexNo, visits: &mut Visits)

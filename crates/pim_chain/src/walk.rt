@@ -1,9 +1,9 @@
 //! The walk that restores the stored priorities, and stops early.
 
-ghost use Rattle.std.specs.Prelude.{◌≡◌, ◌≤◌, ◌<◌, ◌+◌, ◌-◌, ◌^◌, None, length, unwrap_or, ℕ};
+ghost use Rattle.std.specs.Prelude.{◌≡◌, ◌≤◌, ◌<◌, ◌+◌, ◌-◌, ◌^◌, None, Some, length, unwrap_or, ℕ};
 ghost use Rattle.std.specs.Option.{option_and_then};
 ghost use Rattle.pim_base.specs.declared.limits.TheConstants.{MAX_TASKS};
-ghost use Rattle.pim_base.specs.State.{IsTask, IsMutex, wait_of};
+ghost use Rattle.pim_base.specs.State.{IsTask, IsMutex, owner_of, wait_of, with_owner};
 ghost use Rattle.pim_base.specs.Chains.{heir};
 ghost use Rattle.pim_base.specs.Priorities.{local_priority, effective_priority};
 ghost use Rattle.pim_base.specs.Queues.{queue_of};
@@ -42,6 +42,13 @@ impl Tables {
         }
     }
 
+    // this priority as a number, 0 where it lends none
+    fn lent_level(&self, mutex: MutexNo) -> u16
+        ensures { result ≡ worth self.now mutex }
+    {
+        self.lent(mutex).map_or(0, |prio| prio.get())
+    }
+
     /// Computes the local priority of the task: the greatest of its base and what its mutexes lend it, the ceilings of
     /// the PROTECT mutexes and the priorities of the first waiters for the INHERIT mutexes.
     ///
@@ -53,7 +60,7 @@ impl Tables {
         ensures counted { visits.new ≡ record visits.old { count = visits.old.count + 1 } }
         ensures ready { Ready self.now }
     {
-        visits.add();
+        visits.add(); // this one
         // Its contract tells the proof what always holds of the tables.
         let _tasks = self.tasks();
         let mut prio = self.known_base(task);
@@ -154,6 +161,61 @@ impl Tables {
         let mut next = Some(task);
         while let Some(current) = next {
             next = self.visit(current, visits);
+        }
+    }
+
+    /// Makes the task, which must wait for nothing, the owner of the mutex, which must be free, and restores all stored
+    /// priorities. They must be settled before.
+    ///
+    /// This is one visit. Where the mutex lends no more than the task has, one look at the mutex shows that nothing else
+    /// changes; else the visit looks at each mutex that the task owns.
+    pub fn gain(&mut self, mutex: MutexNo, task: TaskNo, visits: &mut Visits)
+        requires settled { SettledBut self.old.state (stored_at self.old) None }
+        requires mutex { IsMutex self.old.state mutex }
+        requires free { owner_of self.old.state mutex ≡ None }
+        requires known { IsTask self.old.state task }
+        requires idle { wait_of self.old.state task ≡ None }
+        requires room { visits.old.count ≤ 2 ^ 32 - 1 - MAX_TASKS }
+        ensures state { self.new.state ≡ with_owner self.old.state mutex (Some task) }
+        ensures settled { SettledBut self.new.state (stored_at self.new) None }
+        ensures ready { Ready self.new }
+        ensures single { visits.new.count ≡ visits.old.count + 1 }
+        ensures work { Tells (length self.old.state.base) (stored_at self.old) visits.old (stored_at self.new) visits.new }
+    {
+        // Its contract tells the proof what always holds of the tables.
+        let _tasks = self.tasks();
+        self.bind(mutex, task);
+        if self.lent_level(mutex) <= self.known_stored(task).get() {
+            visits.add();
+        } else {
+            self.settle_from(task, visits);
+        }
+    }
+
+    /// Makes the mutex free, whose owner must be this task, which must wait for nothing, and restores all stored
+    /// priorities. They must be settled before.
+    ///
+    /// This is one visit. Where the mutex lent less than the owner has, one look at the mutex shows that nothing else
+    /// changes; else the visit looks at each mutex that the owner still has.
+    pub fn lose(&mut self, mutex: MutexNo, owner: TaskNo, visits: &mut Visits)
+        requires settled { SettledBut self.old.state (stored_at self.old) None }
+        requires owned { owner_of self.old.state mutex ≡ Some owner }
+        requires idle { wait_of self.old.state owner ≡ None }
+        requires room { visits.old.count ≤ 2 ^ 32 - 1 - MAX_TASKS }
+        ensures state { self.new.state ≡ with_owner self.old.state mutex None }
+        ensures settled { SettledBut self.new.state (stored_at self.new) None }
+        ensures ready { Ready self.new }
+        ensures single { visits.new.count ≡ visits.old.count + 1 }
+        ensures work { Tells (length self.old.state.base) (stored_at self.old) visits.old (stored_at self.new) visits.new }
+    {
+        // Its contract tells the proof what always holds of the tables.
+        let _tasks = self.tasks();
+        let lent = self.lent_level(mutex);
+        self.unbind(mutex);
+        if lent < self.known_stored(owner).get() {
+            visits.add();
+        } else {
+            self.settle_from(owner, visits);
         }
     }
 }

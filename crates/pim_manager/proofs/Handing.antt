@@ -3,7 +3,7 @@ use Rattle.std.proofs.Common.{◌≡◌, ℕ, zero, suc, inl, inr, refl, sym, �
 use Rattle.std.proofs.lemmas.Option.{none-some, same_Some}
 use Rattle.pim_base.specs.Lists.{put, first_item}
 use Rattle.pim_base.specs.State.{State, IsTask, IsMutex, owner_of, wait_of, with_owner, with_wait}
-use Rattle.pim_base.specs.Chains.{heir, heir_of, blocker}
+use Rattle.pim_base.specs.Chains.{blocker}
 use Rattle.pim_base.specs.Checks.{is_waiting}
 use Rattle.pim_base.specs.Steady.{IsSteady}
 use Rattle.pim_base.specs.Queues.{first_of}
@@ -49,19 +49,6 @@ is_waiting-blocker S t steady = go (wait_of S t) refl
     go (Some w) e = sym (steady.owned t w e)
 
 -- ---- a mutex that goes to the first waiter
-pub heir_idle : (S : State) (t : ℕ) → wait_of S t ≡ None → heir S t ≡ None
-heir_idle S t e = ap (option_and_then (λ (w : Wait). heir_of S w.mutex)) e
-
--- whoever doesn't wait has no heir either once the mutex is free
-pub freed_idle :
-    {v r : View} {S : State} (m a : ℕ)
-    → r ≡ with_state v (with_owner v.state m None)
-    → v.state ≡ S
-    → wait_of S a ≡ None
-    → heir r.state a ≡ None
-freed_idle {v} {r} {S} m a freed shown idle =
-    heir_idle r.state a (ap (λ (w : View). wait_of w.state a) freed ∙ ap (λ (U : State). wait_of U a) shown ∙ idle)
-
 set-set : {X : Type 0} (xs : List X) (i : ℕ) (x y : X) → set (set xs i x) i y ≡ set xs i y
 set-set [] i x y = refl
 set-set (z ∷ zs) zero x y = refl

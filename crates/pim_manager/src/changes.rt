@@ -26,8 +26,7 @@ impl Manager {
         ensures work { Worked self.old visits.old self.new visits.new }
         ensures most { visits.new.count ≤ visits.old.count + 1 }
     {
-        self.tables.bind(mutex, task);
-        self.tables.settle_from(task, visits);
+        self.tables.gain(mutex, task, visits);
     }
 
     /// Lets the task, which doesn't wait, wait with the next ticket for the mutex, which has this
@@ -99,12 +98,10 @@ impl Manager {
         ensures handed { 1 ≤ handed_mutex_count self.old self.new }
     {
         let first = self.first_of(mutex);
-        self.tables.unbind(mutex);
-        self.tables.settle_from(owner, visits);
+        self.tables.lose(mutex, owner, visits);
         if let Some(waiter) = &first {
             self.tables.leave(waiter.task);
-            self.tables.bind(mutex, waiter.task);
-            self.tables.settle_from(waiter.task, visits);
+            self.tables.gain(mutex, waiter.task, visits);
         }
         first
     }

@@ -1,28 +1,37 @@
-use Rattle.std.proofs.Common.{◌≡◌, List, [], ◌∷◌, ℕ, Some, length, rules, sym, ◌∙◌, ap, arith}
-use Rattle.std.specs.Iterator.{MakesProgress, item_count}
-use Rattle.pim_chain.specs.Numbers.{members}
+use Rattle.std.proofs.Common.{◌≡◌, ◌==◌, ◌&&◌, not, List, ◌∷◌, ℕ, Option, Some, None, IfSome, length, rules, refl, subst, ◌∙◌, ap, arith}
+use Rattle.std.specs.Iterator.{MakesProgress, YieldsFirst, item_count}
+use Rattle.pim_chain.specs.Numbers.{has, members, IsLeast}
 use Rattle.pim_chain.proofs.Members.{least_first, least_none}
 use Rattle.pim_chain.proofs.number_set.NumbersIterator.next.Goals as goal
 
-goes_first :
-    (s t : List ℕ) (x : ℕ)
-    → s ≡ x ∷ t
-    → MakesProgress {S = List ℕ} {A = ℕ} (λ _. Unit {0}) (item_count (λ rest. rest)) s (Some x) t
-goes_first s t x is = let longer : length s ≡ length (x ∷ t) = ap length is in search (rules, arith)
+module _ (words after : List ℕ) where
+  steps :
+      (r : Option ℕ)
+      → IsLeast words r
+      → IfSome r (λ n. (k : ℕ) → has after k ≡ (not (k == n) && has words k))
+      → (r ≡ None → after ≡ words)
+      → YieldsFirst {S = List ℕ} {A = ℕ} (λ rest. rest) (members words) r (members after)
+  steps None least _ same = (least_none words least, ap members (same refl) ∙ least_none words least)
+  steps (Some n) least others _ = least_first words after n least others
 
-first : (c : goal.After-remove) → c.args.self.now ≡ c.in-Some.number ∷ members c.remove.new.self.words
-first c =
-    sym c.self.view_is
-    ∙ least_first c.self.inside.left.words c.remove.new.self.words c.in-Some.number
-    c.in-Some.ensures c.remove.ensures
+  goes :
+      (r : Option ℕ)
+      → IsLeast words r
+      → IfSome r (λ n. (k : ℕ) → has after k ≡ (not (k == n) && has words k))
+      → MakesProgress {S = List ℕ} {A = ℕ} (λ _. Unit {0}) (item_count (λ rest. rest)) (members words) r (members after)
+  goes None least _ = search (rules, arith)
+  goes (Some n) least others =
+      let longer : length (members words) ≡ length (n ∷ members after) = ap length (least_first words after n least others) in
+      search (rules, arith)
 
-pub returns-in-Some-clause-steps : goal.returns-in-Some-clause-steps
-returns-in-Some-clause-steps c = first c
+pub returns-clause-steps : goal.returns-clause-steps
+returns-clause-steps c =
+    let after = c.take_least.new.self.words in
+    subst (λ s. YieldsFirst {S = List ℕ} {A = ℕ} (λ rest. rest) s c.take_least.result (members after)) c.self.view_is
+    (steps c.self.inside.left.words after c.take_least.result c.take_least.ensures.least c.take_least.ensures.others c.take_least.ensures.none)
 
-pub returns-in-Some-clause-goes : goal.returns-in-Some-clause-goes
-returns-in-Some-clause-goes c = goes_first _ _ _ (first c)
-
-pub returns-in_default-clause-steps : goal.returns-in_default-clause-steps
-returns-in_default-clause-steps c =
-    let none : c.args.self.now ≡ [] = sym c.self.view_is ∙ least_none c.self.inside.left.words c.in_default.ensures in
-    rw c.in_default.is (none, none)
+pub returns-clause-goes : goal.returns-clause-goes
+returns-clause-goes c =
+    let after = c.take_least.new.self.words in
+    subst (λ s. MakesProgress {S = List ℕ} {A = ℕ} (λ _. Unit {0}) (item_count (λ rest. rest)) s c.take_least.result (members after)) c.self.view_is
+    (goes c.self.inside.left.words after c.take_least.result c.take_least.ensures.least c.take_least.ensures.others)
