@@ -1,5 +1,6 @@
 -- Words that begin with no operation.
-use Rattle.std.proofs.Common.{◌≡◌, ℕ, List, ◌∷◌, ◌++◌, codes, rules}
+use Rattle.std.proofs.lemmas.Grind.{common_steps}
+use Rattle.std.proofs.Common.{◌≡◌, ◌⊎◌, ℕ, List, ◌∷◌, ◌++◌, codes, arith, rules}
 use Rattle.std.specs.Fmt.{decimal}
 use Rattle.pim_base.specs.declared.steps.Op.{Op}
 use Rattle.pim_base.specs.Spelling.{IsNumber, IsOp, op_words}
@@ -16,6 +17,6 @@ NoOp ws = (op : Op) (vs : List (List ℕ)) → IsOp op → ws ≡ op_words op ++
 pub no_target : (w : List ℕ) (ws : List (List ℕ)) → (w ≡ codes "release" → ⊥) → NoNumber ws → NoOp (w ∷ ws)
 no_target w ws release none h vs is e = search rules
 
--- a new base has two
-pub no_level : (w first : List ℕ) (ws tail : List (List ℕ)) → w ≡ codes "base" → ws ≡ first ∷ tail → NoNumber tail → NoOp (w ∷ ws)
-no_level w first ws tail base cut none h vs is e = search rules
+-- a new base has two, and so has a new ceiling
+pub no_level : (w first : List ℕ) (ws tail : List (List ℕ)) → (w ≡ codes "base") ⊎ (w ≡ codes "ceil") → ws ≡ first ∷ tail → NoNumber tail → NoOp (w ∷ ws)
+no_level w first ws tail two cut none h vs is e = grind (arith, common_steps)

@@ -1,15 +1,16 @@
 -- The lines of the bytes, one after another, and the first that can't stand.
 use Rattle.std.proofs.lemmas.Grind.{common_steps}
-use Rattle.std.proofs.Common.{◌≡◌, ℕ, ◌+◌, ◌-◌, ◌<◌, ◌≤◌, List, [], ◌∷◌, ◌++◌, arith, refl, ap, sym, ◌∙◌, subst, length, length-append, append_assoc, take, Bool, true, false, Option, Some, None, IfSome, Bor, eqb, inr, unwrap_or, rules}
+use Rattle.std.proofs.Common.{◌≡◌, ℕ, zero, suc, ◌+◌, ◌-◌, ◌<◌, ◌≤◌, List, [], ◌∷◌, ◌++◌, arith, refl, ap, sym, ◌∙◌, subst, length, length-append, append_assoc, take, Bool, true, false, Option, Some, None, IfSome, Bor, eqb, inl, inr, unwrap_or, codes, rules}
 use Rattle.std.specs.Bool.{MatchBool}
 use Rattle.std.specs.List.{slice_split, join_with_byte}
 use Rattle.std.proofs.lemmas.List.Splits.{length-slice_split, join_with_byte-slice_split}
 use Rattle.pim_base.specs.declared.limits.TheConstants.{MAX_TASKS, MAX_MUTEXES, MAX_STEPS}
 use Rattle.pim_base.specs.Spelling.{NEWLINE, version_line}
-use Rattle.pim_base.specs.Texts.{Trace, FirstBad, without_empty_last, lines_of}
-use Rattle.pim_text.specs.Reading.{pieces}
+use Rattle.pim_base.specs.Texts.{Trace, FirstBad, spelled_lines, without_empty_last, lines_of}
+use Rattle.pim_text.specs.Reading.{pieces, ReadsAs, IsVersion, empty_of}
 use Rattle.pim_text.specs.declared.kind.TextKind.{TextKind}
 use Rattle.pim_text.specs.Kinds.{SpellsAs, IsOf}
+use Rattle.pim_base.proofs.Versions.{first_version, second_version}
 use Rattle.pim_text.proofs.TraceLemmas.{length_valid}
 
 abbrev parts : List ℕ → List (List ℕ)
@@ -103,5 +104,34 @@ pub count_small : {kind : TextKind} {all rest : List (List ℕ)} {t : Trace} {co
 count_small {kind} {all} {rest} {t} {count} half = omega (arith, half.many, length_valid half.done t half.spells.0)
 
 -- the first line is the version
-pub begins : (kind : TextKind) (all : List (List ℕ)) (first : List ℕ) (rest : List (List ℕ)) (t : Trace) → all ≡ first ∷ rest → first ≡ version_line → t ≡ record { bases = []; protocols = []; steps = [] } → Halfway kind all rest t 1
-begins kind all first rest t e version new = search rules
+pub begins :
+    (kind : TextKind) (all : List (List ℕ)) (first : List ℕ) (rest : List (List ℕ)) (v : ℕ) (t : Trace)
+    → all ≡ first ∷ rest
+    → IsVersion v × (first ≡ version_line v)
+    → t ≡ empty_of v
+    → Halfway kind all rest t 1
+begins kind all first rest v t e version new = search rules
+
+-- bytes that name neither version name none
+pub other_version :
+    (line : List ℕ)
+    → (line ≡ codes "pim 1" → ⊥)
+    → (line ≡ codes "pim 2" → ⊥)
+    → ReadsAs IsVersion version_line line None
+other_version line first second zero is e = omega (arith, is.0)
+other_version line first second (suc zero) is e = first (e ∙ first_version)
+other_version line first second (suc (suc zero)) is e = second (e ∙ second_version)
+other_version line first second (suc (suc (suc v))) is e = omega (arith, is.1)
+
+-- a line that names none is no first line
+pub no_version :
+    (kind : TextKind) (all : List (List ℕ)) (first : List ℕ) (rest : List (List ℕ))
+    → all ≡ first ∷ rest
+    → ReadsAs IsVersion version_line first None
+    → FirstBad (IsOf kind) all 1
+no_version kind all first rest e none = (
+  inl refl,
+  omega arith,
+  λ valid. none valid.0.version valid.1.0.0.version
+      (let same : first ∷ [] ≡ spelled_lines valid.0 = sym (ap (take 1) e) ∙ valid.1.0.1 in cc),
+)

@@ -97,6 +97,7 @@ op_in (w ∷ ws) =
     else if bytes_eq w (codes "unlock") then Op.Unlock (number_at ws)
     else if bytes_eq w (codes "cancel") then Op.Cancel (number_at ws)
     else if bytes_eq w (codes "base") then Op.SetBase (number_at ws) (number_at (rest_of ws))
+    else if bytes_eq w (codes "ceil") then Op.SetCeiling (number_at ws) (number_at (rest_of ws))
     else Op.ReleaseAll
 
 op_in-words : (op : Op) (ws : List (List ℕ)) → IsOp op → op_in (op_words op ++ ws) ≡ op
@@ -109,6 +110,7 @@ behind [] = []
 behind (w ∷ ws) =
     if bytes_eq w (codes "release") then ws
     else if bytes_eq w (codes "base") then rest_of (rest_of ws)
+    else if bytes_eq w (codes "ceil") then rest_of (rest_of ws)
     else rest_of ws
 
 behind-words : (op : Op) (ws : List (List ℕ)) → behind (op_words op ++ ws) ≡ ws

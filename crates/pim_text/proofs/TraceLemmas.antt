@@ -1,17 +1,19 @@
 -- The lines of a text tell it, and how they grow with it.
 use Rattle.std.proofs.lemmas.Grind.{common_steps}
-use Rattle.std.proofs.Common.{◌≡◌, ℕ, ◌+◌, ◌≤◌, List, [], ◌∷◌, ◌++◌, arith, refl, ap, sym, ◌∙◌, length, map, append_assoc, length-append}
+use Rattle.std.proofs.Common.{◌≡◌, ℕ, ◌+◌, ◌≤◌, List, [], ◌∷◌, ◌++◌, arith, refl, ap, ap₂, sym, ◌∙◌, length, map, append_assoc, length-append}
+use Rattle.std.specs.Fmt.{decimal}
 use Rattle.std.specs.List.{AllByRecursion}
+use Rattle.std.specs.Str.Parse.{digits_value}
 use Rattle.std.proofs.lemmas.List.{length-map, append-nil}
 use Rattle.pim_base.specs.declared.steps.Protocol.{Protocol}
 use Rattle.pim_base.specs.declared.lines.StepLine.{StepLine}
 use Rattle.pim_base.specs.declared.lines.Line.{Line}
 use Rattle.pim_base.specs.declared.lines.Line.TheVariants as lines
 use Rattle.pim_base.specs.declared.limits.TheConstants.{MAX_TASKS, MAX_MUTEXES, MAX_STEPS}
-use Rattle.pim_base.specs.Spelling.{IsLine, spelled}
-use Rattle.pim_base.specs.Texts.{Trace, declared, task_lines, mutex_lines, IsWithinLimits, Spells}
-use Rattle.pim_text.specs.Reading.{with_line, MayFollow}
-use Rattle.pim_text.proofs.SpellingLemmas.{spelled_same}
+use Rattle.pim_base.specs.Spelling.{version_line, IsLine, spelled}
+use Rattle.pim_base.specs.Texts.{Trace, declared, task_lines, mutex_lines, IsWithinLimits, spelled_lines, Spells}
+use Rattle.pim_text.specs.Reading.{empty_of, with_line, MayFollow}
+use Rattle.pim_text.proofs.SpellingLemmas.{spelled_same, value-decimal}
 
 -- ---- the lines of a text tell it
 
@@ -21,30 +23,27 @@ onto (lines.Task n p) t = record t { bases = p ∷ t.bases }
 onto (lines.Mutex n p) t = record t { protocols = p ∷ t.protocols }
 onto (lines.Step s) t = record t { steps = s ∷ t.steps }
 
-abbrev pub empty : Trace
-empty = record { bases = []; protocols = []; steps = [] }
-
--- the text whose lines these are, in whatever order they stand
-abbrev collect : List Line → Trace
-collect [] = empty
-collect (l ∷ ls) = onto l (collect ls)
+-- the text of this version whose lines these are, in whatever order they stand
+abbrev collect : ℕ → List Line → Trace
+collect v [] = empty_of v
+collect v (l ∷ ls) = onto l (collect v ls)
 
 abbrev joined : List ℕ → List Protocol → List StepLine → Trace → Trace
-joined bs ps ss t = record { bases = bs ++ t.bases; protocols = ps ++ t.protocols; steps = ss ++ t.steps }
+joined bs ps ss t = record { version = t.version; bases = bs ++ t.bases; protocols = ps ++ t.protocols; steps = ss ++ t.steps }
 
-collect-task_lines : (n : ℕ) (bs : List ℕ) (rest : List Line) → collect (task_lines n bs ++ rest) ≡ joined bs [] [] (collect rest)
-collect-task_lines n [] rest = refl
-collect-task_lines n (b ∷ bs) rest = ap (onto (lines.Task n b)) (collect-task_lines (n + 1) bs rest)
+collect-task_lines : (v n : ℕ) (bs : List ℕ) (rest : List Line) → collect v (task_lines n bs ++ rest) ≡ joined bs [] [] (collect v rest)
+collect-task_lines v n [] rest = refl
+collect-task_lines v n (b ∷ bs) rest = ap (onto (lines.Task n b)) (collect-task_lines v (n + 1) bs rest)
 
-collect-mutex_lines : (n : ℕ) (ps : List Protocol) (rest : List Line) → collect (mutex_lines n ps ++ rest) ≡ joined [] ps [] (collect rest)
-collect-mutex_lines n [] rest = refl
-collect-mutex_lines n (p ∷ ps) rest = ap (onto (lines.Mutex n p)) (collect-mutex_lines (n + 1) ps rest)
+collect-mutex_lines : (v n : ℕ) (ps : List Protocol) (rest : List Line) → collect v (mutex_lines n ps ++ rest) ≡ joined [] ps [] (collect v rest)
+collect-mutex_lines v n [] rest = refl
+collect-mutex_lines v n (p ∷ ps) rest = ap (onto (lines.Mutex n p)) (collect-mutex_lines v (n + 1) ps rest)
 
-collect-steps : (ss : List StepLine) → collect (map lines.Step ss) ≡ joined [] [] ss empty
-collect-steps [] = refl
-collect-steps (s ∷ ss) = ap (onto (lines.Step s)) (collect-steps ss)
+collect-steps : (v : ℕ) (ss : List StepLine) → collect v (map lines.Step ss) ≡ joined [] [] ss (empty_of v)
+collect-steps v [] = refl
+collect-steps v (s ∷ ss) = ap (onto (lines.Step s)) (collect-steps v ss)
 
-collect-declared : (t : Trace) → collect (declared t) ≡ t
+collect-declared : (t : Trace) → collect t.version (declared t) ≡ t
 collect-declared t = grind (arith, collect-task_lines, collect-mutex_lines, collect-steps, append-nil)
 
 -- lines that are spelled alike are the same
@@ -56,9 +55,22 @@ map-spelled_same (l ∷ ls) (m ∷ ms) hl hm e =
     let a : l ≡ m = spelled_same l m hl.0 hm.0 (cc) in
     let b : ls ≡ ms = map-spelled_same ls ms hl.1 hm.1 (cc) in cc
 
--- a trace is known by the spelled lines below its first
-pub spelled_once : (t u : Trace) → IsWithinLimits t → IsWithinLimits u → map spelled (declared t) ≡ map spelled (declared u) → t ≡ u
-spelled_once t u it iu e = sym (collect-declared t) ∙ ap collect (map-spelled_same (declared t) (declared u) it.each iu.each e) ∙ collect-declared u
+-- the first line tells the version
+version_same : (t u : Trace) → IsWithinLimits t → IsWithinLimits u → version_line t.version ≡ version_line u.version → t.version ≡ u.version
+version_same t u it iu e =
+    let same : decimal t.version ≡ decimal u.version = cc in
+    sym (value-decimal t.version (omega (arith, it.version.1)))
+    ∙ ap (digits_value 10) same
+    ∙ value-decimal u.version (omega (arith, iu.version.1))
+
+-- a trace is known by its spelled lines
+pub spelled_once : (t u : Trace) → IsWithinLimits t → IsWithinLimits u → spelled_lines t ≡ spelled_lines u → t ≡ u
+spelled_once t u it iu e =
+    let first : version_line t.version ≡ version_line u.version = cc in
+    let below : map spelled (declared t) ≡ map spelled (declared u) = cc in
+    sym (collect-declared t)
+    ∙ ap₂ collect (version_same t u it iu first) (map-spelled_same (declared t) (declared u) it.each iu.each below)
+    ∙ collect-declared u
 
 -- ---- one more line of each part
 

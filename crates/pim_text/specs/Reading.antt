@@ -1,18 +1,23 @@
 -- What the reading of a text comes to, one line after another.
-use Rattle.std.specs.Prelude.{ℕ, ◌≡◌, ◌+◌, ◌<◌, ◌==◌, List, [], ◌∷◌, ◌++◌, length, Option, Some, None, MatchOption, Bool}
+use Rattle.std.specs.Prelude.{ℕ, ◌≡◌, ◌+◌, ◌<◌, ◌≤◌, ◌==◌, List, [], ◌∷◌, ◌++◌, length, Option, Some, None, MatchOption, Bool}
 use Rattle.std.specs.Bool.{MatchBool}
 use Rattle.std.specs.List.{slice_split}
 use Rattle.std.specs.Borrow.{Bor}
 use Rattle.pim_base.specs.Spelling.{SPACE, IsLine, words_of, spelled}
-use Rattle.pim_base.specs.declared.limits.TheConstants.{MAX_TASKS, MAX_MUTEXES, MAX_STEPS}
+use Rattle.pim_base.specs.declared.limits.TheConstants.{MAX_TASKS, MAX_MUTEXES, MAX_STEPS, LAST_VERSION}
 use Rattle.pim_base.specs.Texts.{Trace}
 use Rattle.pim_base.specs.declared.lines.Line.{Line}
 use Rattle.pim_base.specs.declared.lines.Line.TheVariants as lines
 use Rattle.pim_text.specs.declared.text.Text.{Text}
 
--- what a text declares, and its steps, wherever they lie in memory
+-- the version of a text, what it declares, and its steps, wherever they lie in memory
 abbrev pub trace_of : Text → Trace
-trace_of text = record { bases = text.bases.items; protocols = text.protocols.items; steps = text.lines.items }
+trace_of text = record {
+  version = text.version;
+  bases = text.bases.items;
+  protocols = text.protocols.items;
+  steps = text.lines.items;
+}
 
 -- the parts of what follows a separator: none where there was none
 abbrev pub pieces : ℕ → Option (Bor (List ℕ)) → List (List ℕ)
@@ -35,13 +40,21 @@ Reads ws result = ReadsAs IsLine words_of ws result
 abbrev pub ReadsBytes : List ℕ → Option Line → Type 0
 ReadsBytes bytes result = ReadsAs IsLine spelled bytes result
 
+-- a version that there is
+abbrev pub IsVersion : ℕ → Type 0
+IsVersion version = (1 ≤ version) × (version ≤ LAST_VERSION)
+
+-- the text of the version line alone
+abbrev pub empty_of : ℕ → Trace
+empty_of version = record { version = version; bases = []; protocols = []; steps = [] }
+
 -- one more line at the end of a text
 abbrev pub with_line : Trace → Line → Trace
 with_line t (lines.Task n base) = record t { bases = t.bases ++ base ∷ [] }
 with_line t (lines.Mutex n protocol) = record t { protocols = t.protocols ++ protocol ∷ [] }
 with_line t (lines.Step step) = record t { steps = t.steps ++ step ∷ [] }
 
--- the line may follow those of the text
+-- the line may follow those of the text, in a version that has it
 abbrev pub MayFollow : Trace → Line → Type 0
 MayFollow t (lines.Task n base) = (length t.bases < MAX_TASKS) × (n ≡ length t.bases + 1) × (t.protocols ≡ []) × (t.steps ≡ [])
 MayFollow t (lines.Mutex n protocol) = (length t.protocols < MAX_MUTEXES) × (n ≡ length t.protocols + 1) × (t.steps ≡ [])

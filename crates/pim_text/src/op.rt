@@ -28,6 +28,9 @@ pub(crate) fn read_op<'a>(word: &[u8], tail: Option<&'a [u8]>) -> Option<(Op, Op
     } else if is(word, "base") {
         let (level, tail) = read_target(tail)?;
         Some((Op::SetBase(TaskNo(number), level), tail))
+    } else if is(word, "ceil") {
+        let (level, tail) = read_target(tail)?;
+        Some((Op::SetCeiling(MutexNo(number), level), tail))
     } else {
         None
     }

@@ -3,7 +3,8 @@ ghost use Rattle.std.specs.Prelude.{◌≡◌, ◌<◌, List, ℕ, ◌∷◌, []
 ghost use Rattle.std.specs.Bool.{MatchBool};
 ghost use Rattle.pim_base.specs.Texts.{lines_of, Spells, IsTrace};
 ghost use Rattle.pim_base.specs.Scripts.{SpellsScript, IsScript};
-ghost use Rattle.pim_text.specs.Reading.{trace_of};
+ghost use Rattle.pim_base.specs.Spelling.{version_line};
+ghost use Rattle.pim_text.specs.Reading.{trace_of, ReadsAs, IsVersion};
 ghost use Rattle.pim_text.specs.Kinds.{SpellsAs, IsOf, IsTextFault};
 
 use crate::fault::TextFault;
@@ -54,10 +55,10 @@ fn read(alloc: Global, bytes: &[u8], kind: TextKind) -> Result<Text, TextFault>
         return Err(TextFault::Line(1));
     }
     let (first, mut rest) = next_line(bytes);
-    if !is(first, "pim 1") {
+    let Some(version) = version_of(first) else {
         return Err(TextFault::Line(1));
-    }
-    let mut text = Text::new(alloc);
+    };
+    let mut text = Text::new(alloc, version);
     let mut number = 1;
     while !rest.is_empty() {
         let (line, after) = next_line(rest);
@@ -68,6 +69,19 @@ fn read(alloc: Global, bytes: &[u8], kind: TextKind) -> Result<Text, TextFault>
         rest = after;
     }
     Ok(text)
+}
+
+/// Returns the version that the first line names, or `None` where it names none that there is.
+fn version_of(line: &[u8]) -> Option<u8>
+    ensures { ReadsAs IsVersion version_line line.now result }
+{
+    if is(line, "pim 1") {
+        Some(1)
+    } else if is(line, "pim 2") {
+        Some(2)
+    } else {
+        None
+    }
 }
 
 /// Returns the first line, and the bytes below it.
@@ -90,6 +104,9 @@ fn add_line(text: &mut Text, bytes: &[u8], kind: TextKind) -> Result<bool, Alloc
     let Some(line) = read_line(bytes) else {
         return Ok(false);
     };
+    if !text.version_has(&line) {
+        return Ok(false);
+    }
     if !text.allows(&line, kind) {
         return Ok(false);
     }

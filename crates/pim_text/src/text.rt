@@ -1,7 +1,8 @@
 //! A whole text: what it declares, and its steps.
-ghost use Rattle.std.specs.Prelude.{◌≡◌, [], IfOk};
+ghost use Rattle.std.specs.Prelude.{◌≡◌, IfOk};
 ghost use Rattle.std.specs.Bool.{MatchBool};
-ghost use Rattle.pim_text.specs.Reading.{trace_of, IsAddedTo};
+ghost use Rattle.pim_base.specs.Spelling.{BelongsTo};
+ghost use Rattle.pim_text.specs.Reading.{trace_of, empty_of, IsAddedTo};
 ghost use Rattle.pim_text.specs.Kinds.{Allows};
 
 use crate::kind::TextKind;
@@ -11,6 +12,8 @@ use std::alloc::{AllocError, Global};
 /// What a valid text says: what it declares, and its steps.
 #[derive(Debug, Drop)]
 pub struct Text {
+    /// The version of the format, 1 or 2.
+    pub version: u8,
     /// The base priority of each task, that of task 1 first.
     pub bases: Vec<Prio>,
     /// The protocol of each mutex, that of mutex 1 first.
@@ -21,10 +24,11 @@ pub struct Text {
 
 impl Text {
     /// Returns the text of the version line alone. It takes no memory.
-    pub(crate) fn new(alloc: Global) -> Text
-        ensures { trace_of result ≡ record { bases = []; protocols = []; steps = [] } }
+    pub(crate) fn new(alloc: Global, version: u8) -> Text
+        ensures { trace_of result ≡ empty_of version }
     {
         Text {
+            version,
             bases: Vec::new(alloc),
             protocols: Vec::new(alloc),
             lines: Vec::new(alloc),
@@ -61,6 +65,13 @@ impl Text {
             }
             Line::Step(line) => self.add_step(line),
         }
+    }
+
+    /// Returns whether the version of this text has the line.
+    pub(crate) fn version_has(&self, line: &Line) -> bool
+        ensures { MatchBool result (BelongsTo self.now.version line.now) (BelongsTo self.now.version line.now → ⊥) }
+    {
+        line.since() <= self.version
     }
 
     /// Returns whether the kind lets the line stand below those of this text.

@@ -28,6 +28,7 @@ named name Found None has h = none
     none Refusal.NotWaiting = h 7 Refusal.NoTask (omega arith) (omega arith)
     none Refusal.Priority = h 8 Refusal.NoTask (omega arith) (omega arith)
     none Refusal.Tickets = h 9 Refusal.NoTask (omega arith) (omega arith)
+    none Refusal.NotProtect = h 10 Refusal.NoTask (omega arith) (omega arith)
 
 pub returns : goal.returns
 returns c =
