@@ -4,10 +4,7 @@
 use crate::{ChangedTask, ChangedTasks, Done, MakeFault, Manager};
 use Op::{Cancel, Lock, ReleaseAll, SetBase, Try, Unlock};
 use Protocol::Inherit;
-use pim_base::{
-    MAX_MUTEXES, MAX_TASKS, MutexNo, Op, Prio, Protocol, Reason, Refusal, Reply, Step, TaskNo,
-    Waiter,
-};
+use pim_base::{MutexNo, Op, Prio, Protocol, Reason, Refusal, Reply, Step, TaskNo, Waiter};
 use pim_chain::Visits;
 use std::alloc::Global;
 use std::process::Abort;
@@ -40,70 +37,116 @@ fn made(alloc: Global, bases: &[u16], protocols: &[Protocol]) -> Result<Manager,
     Ok(Manager::new(alloc, &prios, protocols)?)
 }
 
-#[test]
-fn what_is_shown_of_an_owner_and_a_waiter(rt: HostRuntime) -> Result<(), Fail> {
-    let (low, high) = (prio(&rt, 10), prio(&rt, 90));
-    let mut manager = made(rt.alloc(), &[10, 90], &[Inherit, Protocol::None])?;
+/// Task 1 owns mutex 1, and task 2 waits for it.
+fn contended(alloc: Global) -> Result<Manager, Fail> {
+    let mut manager = made(alloc, &[10, 90], &[Inherit, Protocol::None])?;
     manager.run(&[by(1, Lock(FIRST)), by(2, Lock(FIRST))]);
+    Ok(manager)
+}
+
+#[test]
+fn counts_and_the_next_ticket_are_shown(rt: HostRuntime) -> Result<(), Fail> {
+    let manager = contended(rt.alloc())?;
     assert_eq!(rt; manager.tasks(), 2);
     assert_eq!(rt; manager.mutexes(), 2);
     assert_eq!(rt; manager.next_ticket(), 2);
-    assert_eq!(rt; manager.effective(TaskNo(1)), Some(high));
-    assert_eq!(rt; manager.base(TaskNo(1)), Some(low));
-    assert_eq!(rt; manager.reason(TaskNo(1)), Some(reason(2, 1)));
-    assert_eq!(rt; manager.reason(TaskNo(2)), Some(Reason::Base));
-    assert_eq!(rt; manager.waits_for(TaskNo(1)), Some(None));
-    assert_eq!(rt; manager.waits_for(TaskNo(2)), Some(Some(FIRST)));
-    assert_eq!(rt; manager.waits_for(TaskNo(3)), None);
-    assert_eq!(rt; manager.owner(FIRST), Some(Some(TaskNo(1))));
-    assert_eq!(rt; manager.owner(MutexNo(2)), Some(None));
-    assert_eq!(rt; manager.owner(MutexNo(3)), None);
+    Ok(())
+}
+
+#[test]
+fn priorities_and_reasons_are_shown(rt: HostRuntime) -> Result<(), Fail> {
+    let manager = contended(rt.alloc())?;
+    assert_eq!(rt; manager.effective(TaskNo(1)), Prio::new(90));
+    assert_eq!(rt; manager.base(TaskNo(1)), Prio::new(10));
+    let reasons = [manager.reason(TaskNo(1)), manager.reason(TaskNo(2))];
+    assert_eq!(rt; reasons, [Some(reason(2, 1)), Some(Reason::Base)]);
+    Ok(())
+}
+
+#[test]
+fn waits_and_owners_are_shown(rt: HostRuntime) -> Result<(), Fail> {
+    let manager = contended(rt.alloc())?;
+    let waits = [1, 2, 3].map(|task| manager.waits_for(TaskNo(task)));
+    assert_eq!(rt; waits, [Some(None), Some(Some(FIRST)), None]);
+    let owners = [1, 2, 3].map(|mutex| manager.owner(MutexNo(mutex)));
+    assert_eq!(rt; owners, [Some(Some(TaskNo(1))), Some(None), None]);
     assert_eq!(rt; manager.protocol(FIRST), Some(Inherit));
+    Ok(())
+}
+
+#[test]
+fn waiters_are_shown(rt: HostRuntime) -> Result<(), Fail> {
+    let manager = contended(rt.alloc())?;
     let waiters = manager.waiters(FIRST).ok_or("a known mutex")?;
     let second = Waiter {
         task: TaskNo(2),
-        prio: high,
+        prio: prio(&rt, 90),
         ticket: 1,
     };
     assert!(rt; waiters == &[second][..]);
     Ok(())
 }
 
+const SECOND: MutexNo = MutexNo(2);
+
+/// Steps with their replies, and how many priorities each computes.
+const ROWS: [(u16, Op, Reply, u32); 10] = [
+    (1, Lock(FIRST), Reply::Granted, 1),
+    (2, Lock(SECOND), Reply::Granted, 1),
+    (2, Lock(FIRST), Reply::Queued, 1),
+    (3, Try(SECOND), Reply::Refused(Refusal::Busy), 0),
+    (3, Lock(SECOND), Reply::Queued, 2),
+    (1, Lock(SECOND), Reply::Refused(Refusal::Deadlock), 0),
+    (3, Cancel(TaskNo(3)), Reply::Withdrawn, 2),
+    (1, Unlock(FIRST), Reply::Handed(TaskNo(2)), 2),
+    (1, SetBase(TaskNo(2), 30), Reply::Set, 1),
+    (2, ReleaseAll, Reply::Released(2), 2),
+];
+
 #[test]
 fn step_tells_its_visits(rt: HostRuntime) -> Result<(), Fail> {
     let mut manager = made(rt.alloc(), &[10, 20, 90], &[Inherit, Inherit])?;
-    let second = MutexNo(2);
-    for (step, reply, visits) in [
-        (by(1, Lock(FIRST)), Reply::Granted, 1),
-        (by(2, Lock(second)), Reply::Granted, 1),
-        (by(2, Lock(FIRST)), Reply::Queued, 1),
-        (by(3, Try(second)), Reply::Refused(Refusal::Busy), 0),
-        (by(3, Lock(second)), Reply::Queued, 2),
-        (by(1, Lock(second)), Reply::Refused(Refusal::Deadlock), 0),
-        (by(3, Cancel(TaskNo(3))), Reply::Withdrawn, 2),
-        (by(1, Unlock(FIRST)), Reply::Handed(TaskNo(2)), 2),
-        (by(1, SetBase(TaskNo(2), 30)), Reply::Set, 1),
-        (by(2, ReleaseAll), Reply::Released(2), 2),
-    ] {
-        assert_eq!(rt; manager.step(step), Done { reply, visits }, "{step:?}");
+    for (actor, op, reply, visits) in ROWS {
+        let done = manager.step(by(actor, op));
+        assert_eq!(rt; done, Done { reply, visits }, "{actor} {op:?}");
     }
     Ok(())
 }
 
+/// What is made of so many tasks, and of so many INHERIT mutexes.
+fn sized(
+    rt: &impl Abort,
+    alloc: Global,
+    tasks: u16,
+    mutexes: u16,
+) -> Result<Result<Manager, MakeFault>, Fail> {
+    let mut bases = Vec::new(alloc);
+    for _task in 0..tasks {
+        bases.push(prio(rt, 1))?;
+    }
+    let mut protocols = Vec::new(alloc);
+    for _mutex in 0..mutexes {
+        protocols.push(Inherit)?;
+    }
+    Ok(Manager::with_next_ticket(alloc, &bases, &protocols, 7))
+}
+
 #[test]
 fn most_tasks_and_mutexes(rt: HostRuntime) -> Result<(), Fail> {
-    let low = prio(&rt, 1);
-    let most = [low; MAX_TASKS];
-    let made = Manager::new(rt.alloc(), &[low; 257], &[Inherit; 257]);
-    assert!(rt; matches!(made, Err(MakeFault::TooManyTasks)));
-    let made = Manager::new(rt.alloc(), &most, &[Inherit; 257]);
-    assert!(rt; matches!(made, Err(MakeFault::TooManyMutexes)));
-    let made = Manager::with_next_ticket(rt.alloc(), &most, &[Inherit; MAX_MUTEXES], 7)?;
-    assert_eq!(rt; made.tasks(), 256);
-    assert_eq!(rt; made.mutexes(), 256);
-    assert_eq!(rt; made.next_ticket(), 7);
+    let most = sized(&rt, rt.alloc(), 256, 256)??;
+    assert_eq!(rt; (most.tasks(), most.mutexes()), (256, 256));
+    assert_eq!(rt; most.next_ticket(), 7);
     let none = Manager::new(rt.alloc(), &[], &[])?;
     assert_eq!(rt; none.tasks(), 0);
+    Ok(())
+}
+
+#[test]
+fn more_than_the_most(rt: HostRuntime) -> Result<(), Fail> {
+    let made = sized(&rt, rt.alloc(), 257, 257)?;
+    assert!(rt; matches!(made, Err(MakeFault::TooManyTasks)));
+    let made = sized(&rt, rt.alloc(), 256, 257)?;
+    assert!(rt; matches!(made, Err(MakeFault::TooManyMutexes)));
     Ok(())
 }
 
@@ -174,7 +217,7 @@ fn equal_managers_have_the_same_state(rt: HostRuntime) -> Result<(), Fail> {
 }
 
 #[test]
-fn managers_of_other_facts_have_other_states(rt: HostRuntime) -> Result<(), Fail> {
+fn managers_of_other_tasks_or_mutexes_have_other_states(rt: HostRuntime) -> Result<(), Fail> {
     let start = made(rt.alloc(), &[10, 90], &[Inherit, Inherit])?;
     for bases in [&[10, 91][..], &[10], &[10, 90, 90]] {
         let other = made(rt.alloc(), bases, &[Inherit, Inherit])?;
@@ -184,6 +227,12 @@ fn managers_of_other_facts_have_other_states(rt: HostRuntime) -> Result<(), Fail
         let other = made(rt.alloc(), &[10, 90], protocols)?;
         assert!(rt; !other.has_state_of(&start));
     }
+    Ok(())
+}
+
+#[test]
+fn waits_and_tickets_are_of_the_state(rt: HostRuntime) -> Result<(), Fail> {
+    let start = made(rt.alloc(), &[10, 90], &[Inherit, Inherit])?;
     let mut waits = start.try_clone(rt.alloc())?;
     waits.run(&[by(1, Lock(FIRST)), by(2, Lock(FIRST))]);
     let mut withdrawn = waits.try_clone(rt.alloc())?;
@@ -199,59 +248,83 @@ fn managers_of_other_facts_have_other_states(rt: HostRuntime) -> Result<(), Fail
 fn noted_changes_are_those_of_the_last_step(rt: HostRuntime) -> Result<(), Fail> {
     let mut manager = made(rt.alloc(), &[10, 20, 90], &[Inherit])?;
     let mut visits = Visits::with_notes(rt.alloc())?;
-    let boosted = ChangedTask {
-        task: TaskNo(1),
-        prio: prio(&rt, 90),
-        reason: reason(3, 1),
-    };
     manager.step_with_notes(by(1, Lock(FIRST)), &mut visits);
     assert_eq!(rt; manager.changed(&visits).next(), None);
     let done = manager.step_with_notes(by(3, Lock(FIRST)), &mut visits);
     assert_eq!(rt; (done.reply, done.visits), (Reply::Queued, 1));
     let mut changed = manager.changed(&visits);
-    assert_eq!(rt; changed.next(), Some(TaskNo(1)));
-    assert_eq!(rt; changed.next(), None);
-    assert_eq!(rt; manager.changed_task(TaskNo(1)), Some(boosted));
-    assert_eq!(rt; manager.changed_task(TaskNo(4)), None);
+    assert_eq!(rt; [changed.next(), changed.next()], [Some(TaskNo(1)), None]);
     manager.step_with_notes(by(2, Lock(FIRST)), &mut visits);
     assert_eq!(rt; manager.changed(&visits).next(), None);
     Ok(())
 }
 
 #[test]
-fn changed_tasks_in_ascending_order(rt: HostRuntime) -> Result<(), Fail> {
-    let mut manager = made(rt.alloc(), &[10, 20, 30, 90], &[Inherit; 3])?;
+fn a_changed_task_is_shown_with_its_reason(rt: HostRuntime) -> Result<(), Fail> {
+    let manager = contended(rt.alloc())?;
+    let boosted = changed_task(&rt, 1, 90, reason(2, 1));
+    let shown = [
+        manager.changed_task(TaskNo(1)),
+        manager.changed_task(TaskNo(4)),
+    ];
+    assert_eq!(rt; shown, [Some(boosted), None]);
+    Ok(())
+}
+
+fn changed_task(rt: &impl Abort, task: u16, level: u16, reason: Reason) -> ChangedTask {
+    ChangedTask {
+        task: TaskNo(task),
+        prio: prio(rt, level),
+        reason,
+    }
+}
+
+/// Each of tasks 2, 3 and 4 waits for a mutex of the one before, and the last one's step lists what it changed.
+fn chained(alloc: Global, changed: &mut ChangedTasks) -> Result<Manager, Fail> {
+    let mut manager = made(alloc, &[10, 20, 30, 90], &[Inherit; 3])?;
     for number in 1..4 {
         manager.step(by(number, Lock(MutexNo(number))));
     }
-    let mut changed = ChangedTasks::new(rt.alloc())?;
-    assert!(rt; changed.as_slice().is_empty());
-    // each task waits for the mutex of the one before
     for number in 2..5 {
         let step = by(number, Lock(MutexNo(number - 1)));
-        manager.step_with_changes(step, &mut changed);
+        manager.step_with_changes(step, changed);
     }
-    for (listed, number) in changed.as_slice().iter().zip(1u16..) {
-        let raised = ChangedTask {
-            task: TaskNo(number),
-            prio: prio(&rt, 90),
-            reason: reason(number + 1, number),
-        };
-        assert_eq!(rt; *listed, raised);
-    }
-    assert_eq!(rt; changed.as_slice().len(), 3);
+    Ok(manager)
+}
+
+#[test]
+fn changed_tasks_in_ascending_order(rt: HostRuntime) -> Result<(), Fail> {
+    let mut changed = ChangedTasks::new(rt.alloc())?;
+    assert!(rt; changed.as_slice().is_empty());
+    chained(rt.alloc(), &mut changed)?;
+    let raised = [
+        changed_task(&rt, 1, 90, reason(2, 1)),
+        changed_task(&rt, 2, 90, reason(3, 2)),
+        changed_task(&rt, 3, 90, reason(4, 3)),
+    ];
+    assert!(rt; changed.as_slice() == &raised[..]);
+    Ok(())
+}
+
+#[test]
+fn lowered_tasks_are_changed_ones(rt: HostRuntime) -> Result<(), Fail> {
+    let mut changed = ChangedTasks::new(rt.alloc())?;
+    let mut manager = chained(rt.alloc(), &mut changed)?;
     let done = manager.step_with_changes(by(4, Cancel(TaskNo(4))), &mut changed);
     assert_eq!(rt; done.visits, 3);
     let lowered = [
-        (1, 30, reason(2, 1)),
-        (2, 30, reason(3, 2)),
-        (3, 30, Reason::Base),
+        changed_task(&rt, 1, 30, reason(2, 1)),
+        changed_task(&rt, 2, 30, reason(3, 2)),
+        changed_task(&rt, 3, 30, Reason::Base),
     ];
-    for (listed, (task, level, reason)) in changed.as_slice().iter().zip(lowered) {
-        let task = TaskNo(task);
-        let prio = prio(&rt, level);
-        assert_eq!(rt; *listed, ChangedTask { task, prio, reason });
-    }
+    assert!(rt; changed.as_slice() == &lowered[..]);
+    Ok(())
+}
+
+#[test]
+fn refused_step_lists_nothing(rt: HostRuntime) -> Result<(), Fail> {
+    let mut changed = ChangedTasks::new(rt.alloc())?;
+    let mut manager = chained(rt.alloc(), &mut changed)?;
     manager.step_with_changes(by(1, Lock(FIRST)), &mut changed);
     assert!(rt; changed.as_slice().is_empty());
     Ok(())
