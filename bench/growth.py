@@ -28,10 +28,10 @@ from texts import TEXTS
 # A kind of text that grows: its title, what is counted, and how many tasks make so many of it.
 Panel = namedtuple("Panel", "kind title across tasks")
 PANELS = [
-    Panel("free", "free: no task waits", "tasks, and as many mutexes", lambda size: size),
-    Panel("mixed", "mixed: all kinds of steps", "tasks, and as many mutexes", lambda size: size),
-    Panel("wide", "wide: a single queue", "waiters in the queue", lambda size: size + 1),
-    Panel("chain", "chain: each waits for the one before", "tasks in it", lambda size: size),
+    Panel("free", "free: no task waits", "tasks, and as many mutexes", lambda n: n),
+    Panel("mixed", "mixed: all kinds of steps", "tasks, and as many mutexes", lambda n: n),
+    Panel("wide", "wide: a single queue", "waiters in the queue", lambda n: n + 1),
+    Panel("chain", "chain: each waits for the one before", "tasks in the chain", lambda n: n),
 ]
 SIZES = [4, 16, 64, 128, 192, 256]
 STEPS, STEPS_TIMED = 8192, 32768
@@ -76,7 +76,7 @@ def main():
         ours = runs.program(options.program) if options.program else runs.own_program()
         commands = [[ours], [runs.judge(folder)]]
         steps = f"of the steps {options.steps + 1:,} to {2 * options.steps:,}"
-        told = [f"{unit.capitalize()} a step, {steps}.", *runs.machine()]
+        told = [f"{unit.capitalize()} a step, {steps}", *runs.machine()]
         print("\n".join([*told, ""]))
         for panel in PANELS:
             if options.only and panel.kind not in options.only:
@@ -88,7 +88,7 @@ def main():
     drawn = plot.figure("What a step takes", ["pim, proved", "plain C++"], panels)
     if options.docs:
         FIGURE.write_text(drawn)
-        runs.publish("bench/growth.py", [" ".join(told), "", *lines[:-1]])
+        runs.publish("bench/growth.py", told, lines[:-1])
     if options.plot:
         pathlib.Path(options.plot).write_text(drawn)
 

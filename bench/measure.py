@@ -65,10 +65,10 @@ def main():
             rows.append(row(name, [[ours], [theirs]], trace, options))
     lines = runs.table([*head, "report MB"], rows)
     size = f"{options.steps:,} steps over {options.tasks} tasks"
-    told = [f"{size}, least of {options.repeat}.", *runs.machine()]
+    told = [f"{size}, least of {options.repeat}", *runs.machine()]
     print("\n".join([*told, "", *lines]))
     if options.docs:
-        runs.publish("bench/measure.py", [" ".join(told), "", *lines])
+        runs.publish("bench/measure.py", told, lines)
 
 
 def words():

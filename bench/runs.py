@@ -7,6 +7,7 @@ import re
 import shutil
 import subprocess
 import sys
+import textwrap
 
 ROOT = pathlib.Path(__file__).resolve().parent.parent
 JUDGE = ROOT / "bench/judge.cpp"
@@ -239,11 +240,12 @@ def table(head, rows):
     return [line(head), f"|{dashes}|", *map(line, rows)]
 
 
-def publish(part, lines):
-    """Puts the lines into docs/SPEED.md, in place of what stands there of that part."""
+def publish(part, told, lines):
+    """Puts what is told and the lines into docs/SPEED.md, in place of what stands there of that part."""
+    sentences = textwrap.fill(". ".join([*told, ""]).rstrip(), 120)
     begin, end = f"<!-- by {part} -->\n", "<!-- end -->\n"
     before, found, rest = PAGE.read_text().partition(begin)
     if not found:
         give_up(2, f"{PAGE} has no line {begin!r}")
     after = rest.partition(end)[2]
-    PAGE.write_text(before + begin + "\n" + "\n".join(lines) + "\n\n" + end + after)
+    PAGE.write_text("\n".join([before + begin, sentences, "", *lines, "", end + after]))

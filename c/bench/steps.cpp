@@ -114,7 +114,8 @@ int check(const Text& text) {
         bool is_equal = reply_of(pim.step(step)) == plain.step(step);
         const size_t count = pim.list(ours);
         is_equal &= count == plain.list(theirs);
-        if (is_equal && std::equal(&ours[0], &ours[count], &theirs[0], is_same)) continue;
+        if (is_equal && std::equal(ours.begin(), ours.begin() + count, theirs.begin(), is_same))
+            continue;
         std::printf("they differ in step %zu\n", size_t(&step - &text.steps[0]) + 1);
         return 1;
     }
@@ -133,19 +134,19 @@ size_t make(Who& who, const Step& step, bool lists) {
 
 // Returns the nanoseconds of a clock: that of the process doesn't count what else runs meanwhile,
 // and that of the machine takes less to be asked.
-double nanoseconds(clockid_t clock) {
+int64_t nanoseconds(clockid_t clock) {
     timespec now{};
     clock_gettime(clock, &now);
-    return double(now.tv_sec) * 1e9 + double(now.tv_nsec);
+    return int64_t(now.tv_sec) * 1000000000 + now.tv_nsec;
 }
 
 // Makes the first steps, and returns the nanoseconds of one.
 template <class Who>
 double steps(const Text& text, size_t count, bool lists) {
     Who who(text);
-    const double begin = nanoseconds(CLOCK_PROCESS_CPUTIME_ID);
+    const int64_t begin = nanoseconds(CLOCK_PROCESS_CPUTIME_ID);
     for (size_t i = 0; i < count; ++i) make(who, text.steps[i], lists);
-    return (nanoseconds(CLOCK_PROCESS_CPUTIME_ID) - begin) / double(count);
+    return double(nanoseconds(CLOCK_PROCESS_CPUTIME_ID) - begin) / double(count);
 }
 
 // Makes all steps but the last, and returns the nanoseconds of that one with its list, or of none.
@@ -153,9 +154,9 @@ template <class Who>
 double last(const Text& text, bool makes_it) {
     Who who(text);
     for (size_t i = 0; i + 1 < text.steps.size(); ++i) make(who, text.steps[i], false);
-    const double begin = nanoseconds(CLOCK_MONOTONIC);
+    const int64_t begin = nanoseconds(CLOCK_MONOTONIC);
     if (makes_it) make(who, text.steps.back(), true);
-    return nanoseconds(CLOCK_MONOTONIC) - begin;
+    return double(nanoseconds(CLOCK_MONOTONIC) - begin);
 }
 
 // Calls both by turns, and prints the least that each of them returns.
