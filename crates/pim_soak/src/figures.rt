@@ -13,9 +13,9 @@ pub struct Figures {
     pub queued: u64,
     pub deadlocks: u64,
     pub ceilings: u64,
-    /// How often a looker looked, and how many of these looks were compared.
+    /// How often a looker looked, and how many of these looks told something else than its last one at that task.
     pub looks: u64,
-    pub compared: u64,
+    pub distinct: u64,
     /// How often a reply, a look or the manager at the end wasn't what the plain manager says.
     pub differences: u64,
 }
@@ -29,7 +29,7 @@ impl Figures {
         count(&mut self.deadlocks, other.deadlocks);
         count(&mut self.ceilings, other.ceilings);
         count(&mut self.looks, other.looks);
-        count(&mut self.compared, other.compared);
+        count(&mut self.distinct, other.distinct);
         count(&mut self.differences, other.differences);
     }
 
@@ -60,13 +60,13 @@ impl fmt::Display for Figures {
             ..
         } = *self;
         let Figures {
-            compared,
+            distinct,
             differences,
             ..
         } = *self;
         write!(
             f,
-            "{scripts} scripts, {steps} steps ({queued} queued, {deadlocks} deadlocks, {ceilings} ceilings), {looks} looks ({compared} compared), {differences} differences"
+            "{scripts} scripts, {steps} steps ({queued} queued, {deadlocks} deadlocks, {ceilings} ceilings), {looks} looks ({distinct} distinct), {differences} differences"
         )
     }
 }

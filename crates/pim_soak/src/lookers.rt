@@ -1,4 +1,4 @@
-//! Lookers that look all the time, each in a thread of its own, and keep a sample of what they saw.
+//! Lookers that look all the time, each in a thread of its own, and keep what they saw.
 
 ghost use Rattle.std.specs.Prelude.{◌≤◌, length};
 ghost use Rattle.pim_base.specs.declared.limits.TheConstants.{MAX_WORKERS};
@@ -7,17 +7,14 @@ use crate::crowd::Crowd;
 use crate::figures::count;
 use pim_base::{Op, Prio, Reason, TaskNo};
 use pim_shared::{Looker, SharedFault, run_scripts};
-use std::alloc::{AllocError, Global};
+use std::alloc::Global;
 use std::sync::Wait;
 use std::sync::atomic::{AtomicBool, Ordering};
 use std::thread;
 use std::thread::Threads;
 
-/// How many looks are kept at most, of each looker.
-const SAMPLE: u64 = 64;
-
-/// A look that was kept: a task, and what was seen of it.
-#[derive(Clone, Copy)]
+/// A task, and what was seen of it after so many entries.
+#[derive(Clone, Copy, PartialEq, Eq)]
 pub struct Look {
     pub task: TaskNo,
     pub steps: u64,
@@ -28,33 +25,25 @@ pub struct Look {
 /// What one looker saw.
 #[derive(Drop)]
 pub struct Record {
-    /// A sample, in order: looks at different tasks after different numbers of entries.
-    pub sample: Vec<Look>,
+    /// Each look at a known task, in order, without those that told the same as the one before at that task.
+    pub told: Vec<Look>,
     /// How often it looked.
     pub looks: u64,
-    /// How often a look went back, told of an unknown task, told nothing of a known one, or was refused.
+    /// How often a look went back, told of an unknown task, told nothing of a known one, was refused or was lost.
     pub wrong: u64,
-    /// After how many entries the last look was, and after how many the next one is kept.
+    /// After how many entries the last look was.
     pub steps: u64,
-    next: u64,
-    stride: u64,
 }
 
 impl Record {
-    /// Returns the record of a looker that hasn't looked yet, for a log of so many entries.
-    ///
-    /// # Errors
-    ///
-    /// Returns `AllocError` if out of memory.
-    pub fn new(alloc: Global, entries: usize) -> Result<Record, AllocError> {
-        Ok(Record {
-            sample: Vec::with_capacity(alloc, SAMPLE as usize)?,
+    /// Returns the record of a looker that hasn't looked yet.
+    pub fn new(alloc: Global) -> Record {
+        Record {
+            told: Vec::new(alloc),
             looks: 0,
             wrong: 0,
             steps: 0,
-            next: 0,
-            stride: entries as u64 / SAMPLE + 1,
-        })
+        }
     }
 
     /// Looks at each of the tasks 1 to `tasks`, and at the number behind the last.
@@ -80,24 +69,34 @@ impl Record {
         count(&mut self.looks, 1);
         match looker.look(task) {
             Ok(Some(seen)) if seen.steps >= self.steps => {
-                self.steps = seen.steps;
                 self.keep(task, seen.steps, seen.prio, seen.reason);
             }
             _ => count(&mut self.wrong, 1),
         }
     }
 
-    /// Keeps what was seen of the task, where it is time for that.
+    /// Keeps what was seen of the task, unless the last look at it told the same.
     pub fn keep(&mut self, task: TaskNo, steps: u64, prio: Prio, reason: Reason) {
+        self.steps = steps;
         let look = Look {
             task,
             steps,
             prio,
             reason,
         };
-        if steps >= self.next && self.sample.push(look).is_ok() {
-            self.next = steps.saturating_add(self.stride);
+        if !self.has_told(&look) && self.told.push(look).is_err() {
+            count(&mut self.wrong, 1);
         }
+    }
+
+    /// Returns whether the last look at the same task told the same.
+    fn has_told(&self, look: &Look) -> bool {
+        for last in self.told.iter().rev() {
+            if last.task == look.task {
+                return last == look;
+            }
+        }
+        false
     }
 }
 

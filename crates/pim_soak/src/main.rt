@@ -2,7 +2,7 @@
 //!
 //! `pim_soak SECONDS [SEED]` draws tasks, mutexes and a script for each task; runs the scripts, each by a worker in a
 //! thread of its own, while 8 lookers look all the time; makes the steps of the log again on the plain manager; and
-//! compares each reply, a sample of what the lookers saw, and the manager at the end. Then it draws the next ones. Once a
+//! compares each reply, each look, and the manager at the end. Then it draws the next ones. Once a
 //! second it tells on standard error how far it is, and at the end it prints one line: how many scripts, steps and looks
 //! there were, and how many differences. The status is 0 where there was none, else 1.
 //!

@@ -7,8 +7,8 @@ use pim_manager::Manager;
 use pim_plain::PlainManager;
 use std::alloc::{AllocError, Global};
 
-/// Makes the steps of the log on the plain manager, whose replies must be those of the log, and compares each look that
-/// was kept with what the plain manager says after so many of them.
+/// Makes the steps of the log on the plain manager, whose replies must be those of the log, and compares each look with
+/// what the plain manager says after so many of them.
 pub fn replay(
     figures: &mut Figures,
     plain: &mut PlainManager,
@@ -47,9 +47,9 @@ fn count_reply(figures: &mut Figures, reply: Reply) {
 /// Compares the looks after so many entries.
 fn compare_looks(figures: &mut Figures, plain: &PlainManager, steps: u64, records: &[Record]) {
     for record in records {
-        for look in &record.sample {
+        for look in &record.told {
             if look.steps == steps {
-                count(&mut figures.compared, 1);
+                count(&mut figures.distinct, 1);
                 figures.expect(is_right(plain, look));
             }
         }

@@ -36,17 +36,17 @@ pub fn trial<R: Threads + Wait + Sync>(
         return Err(SharedFault::NoPlace);
     }
     let start = Manager::new(alloc, bases, protocols).map_err(|_fault| SharedFault::Memory)?;
-    let mut records = records(alloc, lookers, entries_of(scripts))?;
+    let mut records = records(alloc, lookers)?;
     let (manager, log) = run_watched(rt, alloc, &start, scripts, &mut records, least)?;
     let log = gather(log, &start, scripts)?;
     Ok(compared(alloc, bases, protocols, &manager, &log, &records)?)
 }
 
 /// Returns the records of so many lookers that haven't looked yet.
-fn records(alloc: Global, lookers: u16, entries: usize) -> Result<Vec<Record>, AllocError> {
+fn records(alloc: Global, lookers: u16) -> Result<Vec<Record>, AllocError> {
     let mut records = Vec::new(alloc);
     for _ in 0..lookers {
-        records.push(Record::new(alloc, entries)?)?;
+        records.push(Record::new(alloc))?;
     }
     Ok(records)
 }
