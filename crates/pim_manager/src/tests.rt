@@ -2,7 +2,7 @@
 //! pim_agreement.
 
 use crate::{ChangedTask, ChangedTasks, Done, MakeFault, Manager};
-use Op::{Cancel, Lock, ReleaseAll, SetBase, Try, Unlock};
+use Op::{Cancel, Lock, ReleaseAll, SetBase, SetCeiling, Try, Unlock};
 use Protocol::Inherit;
 use pim_base::{MutexNo, Op, Prio, Protocol, Reason, Refusal, Reply, Step, TaskNo, Waiter};
 use pim_chain::Visits;
@@ -110,6 +110,73 @@ fn step_tells_its_visits(rt: HostRuntime) -> Result<(), Fail> {
         let done = manager.step(by(actor, op));
         assert_eq!(rt; done, Done { reply, visits }, "{actor} {op:?}");
     }
+    Ok(())
+}
+
+/// What a step changes: a task, its priority then, and why.
+type Listed = Option<(u16, u16, Reason)>;
+
+const BY_CEILING: Reason = Reason::Ceiling(FIRST);
+
+/// Steps over a mutex with ceiling 50, at first, and a NONE one.
+const CEILINGS: [(u16, Op, Reply, u32, Listed); 10] = [
+    (1, Lock(FIRST), Reply::Granted, 1, Some((1, 50, BY_CEILING))),
+    (
+        1,
+        SetCeiling(FIRST, 30),
+        Reply::Set,
+        1,
+        Some((1, 30, BY_CEILING)),
+    ),
+    (
+        2,
+        SetCeiling(FIRST, 60),
+        Reply::Refused(Refusal::Busy),
+        0,
+        None,
+    ),
+    (2, Lock(FIRST), Reply::Refused(Refusal::Ceiling), 0, None),
+    (
+        1,
+        SetCeiling(FIRST, 10),
+        Reply::Set,
+        1,
+        Some((1, 20, Reason::Base)),
+    ),
+    (
+        1,
+        SetCeiling(SECOND, 30),
+        Reply::Refused(Refusal::NotProtect),
+        0,
+        None,
+    ),
+    (
+        1,
+        SetCeiling(FIRST, 100),
+        Reply::Refused(Refusal::Priority),
+        0,
+        None,
+    ),
+    (1, Unlock(FIRST), Reply::Freed, 1, None),
+    (2, SetCeiling(FIRST, 45), Reply::Set, 0, None),
+    (2, Lock(FIRST), Reply::Granted, 1, Some((2, 45, BY_CEILING))),
+];
+
+#[test]
+fn ceilings_that_change(rt: HostRuntime) -> Result<(), Fail> {
+    let protocols = [Protocol::Protect(prio(&rt, 50)), Protocol::None];
+    let mut manager = made(rt.alloc(), &[20, 40], &protocols)?;
+    let mut changed = ChangedTasks::new(rt.alloc())?;
+    for (actor, op, reply, visits, listed) in CEILINGS {
+        let done = manager.step_with_changes(by(actor, op), &mut changed);
+        assert_eq!(rt; done, Done { reply, visits }, "{actor} {op:?}");
+        let shown = changed.as_slice().first();
+        let shown = shown.map(|one| (one.task.get(), one.prio.get(), one.reason));
+        assert_eq!(rt; shown, listed, "{actor} {op:?}");
+        assert!(rt; changed.as_slice().len() <= 1);
+    }
+    let set = Prio::new(45).map(Protocol::Protect);
+    assert_eq!(rt; manager.protocol(FIRST), set);
     Ok(())
 }
 
