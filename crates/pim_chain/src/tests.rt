@@ -434,6 +434,7 @@ fn lists_what_changed_since_the_notes_began(rt: HostRuntime) -> Result<(), Fail>
     // visits that keep no notes tell nothing
     assert_eq!(rt; tables.changed(&Visits::new()).next(), None);
     let mut visits = Visits::with_notes(rt.alloc())?;
+    assert!(rt; visits.is_unnoted());
     assert_eq!(rt; tables.changed(&visits).next(), None);
     lock(&rt, &mut tables, TaskNo(5), MutexNo(4), 8, &mut visits);
     assert_eq!(rt; visits.get(), 3);
@@ -442,11 +443,13 @@ fn lists_what_changed_since_the_notes_began(rt: HostRuntime) -> Result<(), Fail>
         changed.as_slice(),
         [TaskNo(1), TaskNo(2), TaskNo(3)].as_slice()
     );
-    // what is again as it was hasn't changed
+    // what is again as it was hasn't changed, but is noted
     cancel(&rt, &mut tables, TaskNo(5), &mut visits);
+    assert!(rt; !visits.is_unnoted());
     assert_eq!(rt; visits.get(), 6);
     assert_eq!(rt; tables.changed(&visits).next(), None);
     visits.restart();
+    assert!(rt; visits.is_unnoted());
     assert_eq!(rt; visits.get(), 0);
     set_base(&rt, &mut tables, TaskNo(4), 61, &mut visits);
     let changed: Vec<TaskNo> = tables.changed(&visits).collect(rt.alloc())?;
