@@ -93,6 +93,10 @@ fn copy_noted(manager: &Manager, visits: &Visits, to: &mut [CChangedTask]) -> us
     ensures count { result ≡ length (noted_changes manager.now visits.now) }
     ensures copied { to.new ≡ copied (map c_changed_task (map (changed_task manager.now) (noted_changes manager.now visits.now))) to.old }
 {
+    // Most steps change no priority: then there is nothing to go through.
+    if visits.is_unnoted() {
+        return 0;
+    }
     // Its contract tells the proof how many tasks there are at most.
     let _tasks = manager.tasks();
     let mut count = 0;

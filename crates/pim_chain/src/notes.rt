@@ -1,6 +1,6 @@
 //! Notes of what tasks had.
 
-ghost use Rattle.std.specs.Prelude.{◌≡◌, ◌≢◌, ◌≤◌, ℕ, Some, None, IfOk, unwrap_or};
+ghost use Rattle.std.specs.Prelude.{◌≡◌, ◌≢◌, ◌≤◌, ◌↔◌, IsTrue, ℕ, Some, None, IfOk, unwrap_or};
 ghost use Rattle.pim_base.specs.declared.limits.TheConstants.{MAX_TASKS};
 ghost use Rattle.pim_chain.specs.Work.{noted_in};
 
@@ -59,6 +59,13 @@ impl Notes {
             self.tasks.insert(task.get());
             put(&mut self.had, task.get(), had.get());
         }
+    }
+
+    /// Returns whether no task is noted.
+    pub fn is_empty(&self) -> bool
+        ensures { IsTrue result ↔ ((t : ℕ) → noted_in self.now t ≡ None) }
+    {
+        self.tasks.is_empty()
     }
 
     /// Returns the noted tasks.

@@ -1,6 +1,6 @@
 //! Sets of the numbers of tasks or mutexes.
 
-ghost use Rattle.std.specs.Prelude.{◌≡◌, ◌==◌, ◌<◌, ◌&&◌, ◌||◌, ℕ, None, IfSome, not, false, set};
+ghost use Rattle.std.specs.Prelude.{◌≡◌, ◌==◌, ◌<◌, ◌&&◌, ◌||◌, ◌↔◌, IsTrue, ℕ, None, IfSome, not, false, set};
 ghost use Rattle.std.specs.Iterator.{YieldsFirst, item_count};
 ghost use Rattle.pim_chain.specs.Numbers.{has, members, AreTold, IsLeast};
 
@@ -26,6 +26,17 @@ impl NumberSet {
         NumberSet {
             words: [0; 5],
             filled: 0,
+        }
+    }
+
+    /// Returns whether no number is in the set.
+    pub fn is_empty(&self) -> bool
+        ensures { IsTrue result ↔ ((k : ℕ) → has self.now.words k ≡ false) }
+    {
+        let mut rest = *self;
+        match rest.take_least() {
+            Some(_least) => false,
+            None => true,
         }
     }
 

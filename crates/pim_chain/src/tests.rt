@@ -510,6 +510,7 @@ fn visits_without_notes_tell_of_no_change(rt: HostRuntime) -> Result<(), Fail> {
     let tables = chain(&rt, rt.alloc())?;
     assert_eq!(rt; tables.changed(&Visits::new()).next(), None);
     let visits = Visits::with_notes(rt.alloc())?;
+    assert!(rt; visits.is_unnoted());
     assert_eq!(rt; tables.changed(&visits).next(), None);
     Ok(())
 }
@@ -523,8 +524,9 @@ fn lists_what_changed_since_the_notes_began(rt: HostRuntime) -> Result<(), Fail>
     let changed: Vec<TaskNo> = tables.changed(&visits).collect(rt.alloc())?;
     let raised = [TaskNo(1), TaskNo(2), TaskNo(3)];
     assert_eq!(rt; changed.as_slice(), raised.as_slice());
-    // what is again as it was hasn't changed
+    // what is again as it was hasn't changed, but is noted
     cancel(&rt, &mut tables, TaskNo(5), &mut visits);
+    assert!(rt; !visits.is_unnoted());
     assert_eq!(rt; visits.get(), 6);
     assert_eq!(rt; tables.changed(&visits).next(), None);
     Ok(())
@@ -536,6 +538,7 @@ fn notes_begin_anew(rt: HostRuntime) -> Result<(), Fail> {
     let mut visits = Visits::with_notes(rt.alloc())?;
     lock(&rt, &mut tables, TaskNo(5), MutexNo(4), 8, &mut visits);
     visits.restart();
+    assert!(rt; visits.is_unnoted());
     assert_eq!(rt; visits.get(), 0);
     set_base(&rt, &mut tables, TaskNo(4), 61, &mut visits);
     let changed: Vec<TaskNo> = tables.changed(&visits).collect(rt.alloc())?;

@@ -1,6 +1,7 @@
 -- The tasks that are listed are those whose priority a step changed.
 use Rattle.std.proofs.Common.{◌≡◌, ◌<◌, ◌≤◌, ◌+◌, ℕ, zero, suc, Bool, true, false, not, cond, eqb, List, [], ◌∷◌, ◌++◌, filter, map, length, length-append, append_assoc, append-nil, unwrap_or, refl, sym, ◌∙◌, ap, subst, arith, None, IsSome}
 use Rattle.std.specs.List.{AllByRecursion, range_with_len}
+use Rattle.std.proofs.lemmas.Bool.{eq-eqb}
 use Rattle.pim_base.specs.Lists.{numbers}
 use Rattle.pim_base.specs.State.{State, IsTask, task_numbers}
 use Rattle.pim_base.specs.Priorities.{effective_priority}
@@ -11,7 +12,7 @@ use Rattle.pim_base.proofs.Kept.{kept_by_step}
 use Rattle.pim_base.proofs.Places.{length-put}
 use Rattle.pim_chain.specs.Views.{View, stored_at}
 use Rattle.pim_chain.specs.Work.{Work, noted_of, has_changed}
-use Rattle.pim_chain.proofs.Members.{filter_same}
+use Rattle.pim_chain.proofs.Members.{filter_none, filter_same}
 use Rattle.pim_chain.proofs.Walking.{settled_effective}
 use Rattle.pim_manager.specs.declared.changed_tasks.ChangedTask.{ChangedTask}
 use Rattle.pim_manager.specs.Changed.{changed_task, noted_changes}
@@ -45,6 +46,13 @@ noted_changes_of_step S T a b bases work kept none =
     (λ t. not (eqb (effective_priority S t) (effective_priority T t))) 1 (length S.base)
     (λ t low high. ap (λ p. not (eqb p (effective_priority T t)))
     (work.noted.1 kept t low (omega (arith, high)) ∙ ap (λ o. unwrap_or o (effective_priority S t)) (none t)))
+
+-- where nothing is noted, nothing differs
+pub unnoted_changes : (S : State) (w : Work) → ((t : ℕ) → noted_of w t ≡ None) → noted_changes S w ≡ []
+unnoted_changes S w none =
+    filter_none (has_changed (effective_priority S) w) 1 (length S.base)
+    (λ t low high. ap (λ o. not (eqb (unwrap_or o (effective_priority S t)) (effective_priority S t))) (none t)
+    ∙ ap not (eq-eqb (effective_priority S t) (effective_priority S t) refl))
 
 -- what the settled tables find differs
 pub noted_changes_shown :

@@ -252,6 +252,10 @@ impl Manager {
         ensures room { MAX_TASKS ≤ vec_capacity tasks.new }
     {
         tasks.clear();
+        // Most steps change no priority: then there is nothing to go through.
+        if visits.is_unnoted() {
+            return;
+        }
         for task in self.tables.changed(visits) {
             let prio = self.tables.known_stored(task);
             let reason = self.tables.reason(task);

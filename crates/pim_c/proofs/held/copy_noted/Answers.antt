@@ -1,14 +1,23 @@
-use Rattle.std.proofs.Common.{◌≡◌, ◌∷◌, ◌++◌, [], ◌∙◌, List, ℕ, ap, ap₂, arith, length, length-append, refl, slice_set}
+use Rattle.std.proofs.Common.{◌≡◌, ◌∷◌, ◌++◌, [], ◌∙◌, List, ℕ, ap, ap₂, arith, length, length-append, map, refl, sym, slice_set}
 use Rattle.std.proofs.lemmas.Option.{same_Some}
 use Rattle.pim_base.specs.State.{State}
 use Rattle.pim_manager.specs.Changed.{changed_task}
 use Rattle.pim_manager.specs.declared.changed_tasks.ChangedTask.{ChangedTask}
-use Rattle.pim_manager.proofs.Listing.{listing_none, listing_next, listing_has_next}
-use Rattle.pim_c.specs.Shapes.{c_changed_task}
+use Rattle.pim_manager.proofs.Listing.{listing_none, listing_next, listing_has_next, unnoted_changes}
+use Rattle.pim_c.specs.Shapes.{c_changed_task, copied}
 use Rattle.pim_c.proofs.Changes.{shown_of_known}
 use Rattle.pim_c.proofs.Copies.{copied_more, copied_past}
 use Rattle.pim_c.proofs.held.copy_noted.Goals as goal
 use Rattle.pim_c.proofs.held.copy_noted.Goals.{then-count-to, else-count-to}
+
+-- nothing is noted
+pub returns-then-is_unnoted : goal.returns-then-is_unnoted
+returns-then-is_unnoted c =
+    let none = unnoted_changes c.args.manager.now c.args.visits.now (c.is_unnoted.ensures.0 c.if-is_unnoted.true) in
+    record {
+      count = sym (ap length none);
+      copied = ap (λ ts. copied (map c_changed_task (map (changed_task c.args.manager.now) ts)) c.args.to.now) (sym none);
+    }
 
 pub loop-task-init : goal.loop-task-init
 loop-task-init c = (

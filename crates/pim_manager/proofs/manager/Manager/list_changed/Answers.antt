@@ -1,4 +1,4 @@
-use Rattle.std.proofs.Common.{◌≡◌, ◌++◌, ◌∷◌, [], ◌∙◌, ℕ, ap, ap₂, sym, subst, arith, cond, is_ok}
+use Rattle.std.proofs.Common.{◌≡◌, ◌++◌, ◌∷◌, [], ◌∙◌, ℕ, ap, ap₂, sym, subst, arith, cond, is_ok, map}
 use Rattle.pim_base.specs.State.{State, IsTask}
 use Rattle.pim_base.specs.Priorities.{effective_priority}
 use Rattle.pim_base.specs.Reasons.{reason_of}
@@ -6,8 +6,13 @@ use Rattle.pim_base.specs.declared.steps.Reason.{Reason}
 use Rattle.pim_chain.specs.Views.{View, stored_at}
 use Rattle.pim_chain.proofs.Walking.{settled_effective}
 use Rattle.pim_manager.specs.Changed.{changed_task, noted_changes}
-use Rattle.pim_manager.proofs.Listing.{Listing, noted_changes_shown, listing_none, listing_next, listing_all, listing_has_next}
+use Rattle.pim_manager.proofs.Listing.{Listing, noted_changes_shown, listing_none, listing_next, listing_all, listing_has_next, unnoted_changes}
 use Rattle.pim_manager.proofs.manager.Manager.list_changed.Goals as goal
+
+pub returns-then-is_unnoted-clause-listed : goal.returns-then-is_unnoted-clause-listed
+returns-then-is_unnoted-clause-listed c =
+    c.clear.ensures.items
+    ∙ ap (map (changed_task c.args.self.now)) (sym (unnoted_changes c.args.self.now c.args.visits.now (c.is_unnoted.ensures.0 c.if-is_unnoted.true)))
 
 pub loop-task-init : goal.loop-task-init
 loop-task-init c = record {
