@@ -113,6 +113,14 @@ pub one_published :
     → r ≡ one_more start es S step
 one_published p q r start es S step published appended is = is ∙ ap all_published (appended ∙ ap (λ z. with_pending z step) published)
 
+-- the step that was taken in is the one that is pending
+pub one_pending :
+    (p q : Published) (start : State) (es : List Entry) (S : State) (step : Step)
+    → p ≡ record { start = start; entries = es; state = S; pending = [] }
+    → q ≡ with_pending p step
+    → (s : Step) × (q.pending ≡ s ∷ [])
+one_pending p q start es S step published appended = (step, ap (λ z. z.pending) (appended ∙ ap (λ z. with_pending z step) published))
+
 pub last_published : (r : Published) (start : State) (es : List Entry) (S : State) (step : Step) → r ≡ one_more start es S step → last_of r.entries ≡ Some (entry_of S step)
 last_published r start es S step is = ap (λ z. last_of z.entries) is ∙ last_of-append es (entry_of S step)
 

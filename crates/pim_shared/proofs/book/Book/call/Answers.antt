@@ -1,8 +1,13 @@
 use Rattle.std.proofs.Common.{◌≡◌, ◌∙◌, sym, arith, rules}
 use Rattle.std.proofs.lemmas.Option.{same_Some}
 use Rattle.std.specs.Prelude.{is_err, false}
-use Rattle.pim_shared.proofs.Publishing.{one_published, last_published, book_more, ok_part}
+use Rattle.pim_shared.proofs.Publishing.{one_pending, one_published, last_published, book_more, ok_part}
 use Rattle.pim_shared.proofs.book.Book.call.Goals as goal
+
+pub publish-requires-clause-one : goal.publish-requires-clause-one
+publish-requires-clause-one g c =
+    let made : is_err c.append.result ≡ false = search rules in
+    one_pending _ _ _ _ _ _ c.self.invariant.published (ok_part c.append.result _ _ made c.append.ensures)
 
 pub unreachable-requires : goal.unreachable-requires
 unreachable-requires g c =
