@@ -359,23 +359,23 @@ fn one_of_two_equal_waiters_may_go(rt: HostRuntime) -> Result<(), Fail> {
 // what the owner of a PROTECT mutex hands on, as its ceiling changes
 #[test]
 fn another_ceiling_reaches_the_owner_and_its_heir(rt: HostRuntime) -> Result<(), Fail> {
+    const ROWS: &[Row] = &[
+        Row(Event::Ceiling(1, 45), 0, &[20, 40, 10]),
+        Row(Event::Lock(3, 2), 1, &[20, 40, 10]),
+        Row(Event::Lock(1, 1), 1, &[45, 40, 10]),
+        Row(Event::Lock(1, 2), 1, &[45, 40, 45]),
+        Row(Event::Ceiling(1, 30), 2, &[30, 40, 30]),
+        Row(Event::Ceiling(1, 30), 1, &[30, 40, 30]),
+        Row(Event::Ceiling(1, 60), 2, &[60, 40, 60]),
+        Row(Event::Ceiling(1, 15), 2, &[20, 40, 20]),
+    ];
     let protocols = [Protocol::Protect(prio(&rt, 50)), INHERIT];
     let mut tables = tables(&rt, rt.alloc(), &[20, 40, 10], &protocols)?;
-    let rows = [
-        step(Event::Ceiling(1, 45), 0, &[20, 40, 10]),
-        step(Event::Lock(3, 2), 1, &[20, 40, 10]),
-        step(Event::Lock(1, 1), 1, &[45, 40, 10]),
-        step(Event::Lock(1, 2), 1, &[45, 40, 45]),
-        step(Event::Ceiling(1, 30), 2, &[30, 40, 30]),
-        step(Event::Ceiling(1, 30), 1, &[30, 40, 30]),
-        step(Event::Ceiling(1, 60), 2, &[60, 40, 60]),
-        step(Event::Ceiling(1, 15), 2, &[20, 40, 20]),
-    ];
-    play(&rt, &mut tables, &rows);
+    play(&rt, &mut tables, ROWS);
     assert_eq!(rt; tables.ceiling(MutexNo(1)), Prio::new(15));
     assert_eq!(rt; tables.ceiling(MutexNo(2)), None);
-    assert_eq!(rt; tables.is_owned_by_another(TaskNo(2), MutexNo(1)), true);
-    assert_eq!(rt; tables.is_owned_by_another(TaskNo(1), MutexNo(1)), false);
+    assert!(rt; tables.is_owned_by_another(TaskNo(2), MutexNo(1)));
+    assert!(rt; !tables.is_owned_by_another(TaskNo(1), MutexNo(1)));
     Ok(())
 }
 
@@ -390,14 +390,14 @@ fn reason(rt: &impl Abort, tables: &Tables, task: u16) -> Reason
 fn scene(rt: &impl Abort, alloc: Global) -> Result<Tables, AllocError>
     ensures { IfOk result (λ tables. SettledBut tables.state (stored_at tables) None) }
 {
-    let ceiling = Protocol::Protect(prio(rt, 50));
-    let mut tables = tables(rt, alloc, &[10, 20, 90], &[INHERIT, ceiling, INHERIT])?;
     const ROWS: &[Row] = &[
         Row(Event::Lock(1, 1), 1, &[10, 20, 90]),
         Row(Event::Lock(1, 2), 1, &[50, 20, 90]),
         Row(Event::Lock(2, 1), 1, &[50, 20, 90]),
     ];
-    play(&rt, &mut tables, ROWS);
+    let ceiling = Protocol::Protect(prio(rt, 50));
+    let mut tables = tables(rt, alloc, &[10, 20, 90], &[INHERIT, ceiling, INHERIT])?;
+    play(rt, &mut tables, ROWS);
     Ok(tables)
 }
 
