@@ -1,4 +1,5 @@
 pub mod CutLemmas
+pub mod SeparatorLemmas
 pub mod NumberLemmas
 pub mod SpellingLemmas
 pub mod WordLemmas

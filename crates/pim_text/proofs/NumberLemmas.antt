@@ -1,12 +1,12 @@
 -- Words that spell numbers.
-use Rattle.std.proofs.Common.{◌≡◌, ◌≢◌, ◌∙◌, ℕ, ◌<◌, ◌≤◌, ◌^◌, List, [], ◌∷◌, length, get_or, arith, sym, ap, Result, Ok, Err, Some, None, MatchResult, rules}
-use Rattle.std.specs.Result.{result_ok}
+use Rattle.std.proofs.Common.{◌≡◌, ◌≢◌, ◌∙◌, ℕ, ◌+◌, ◌*◌, ◌<◌, ◌≤◌, ◌^◌, List, [], ◌∷◌, length, take, get_or, arith, sym, ap, Option, Some, None, MatchOption}
+use Rattle.std.specs.Char.{digit_value}
 use Rattle.std.specs.Fmt.{decimal}
-use Rattle.std.specs.Str.{IsUtf8}
-use Rattle.std.specs.Str.Parse.{digits_value, AllDigits, ParsesUnsigned}
-use Rattle.std.proofs.lemmas.Str.{IsUtf8-from_ascii}
-use Rattle.std.proofs.lemmas.Str.Parse.{IsNumeralModel, numerals_by_value, tells_digits, digit_at, parse_plain}
-use Rattle.std.proofs.lemmas.Fmt.{digits_decimal, decimal_nonempty, first_decimal, decimal-digits_value, decimal_digit, IsAscii-decimal, parse-decimal}
+use Rattle.std.specs.Int.{IsInRange}
+use Rattle.std.specs.Str.Parse.{digits_value, AllDigits}
+use Rattle.std.proofs.lemmas.Int.Digits.{digits_value_more}
+use Rattle.std.proofs.lemmas.Str.Parse.{IsNumeralModel, numerals_by_value, tells_digits, tells_by_index, digit_at, digits_value-take-le}
+use Rattle.std.proofs.lemmas.Fmt.{digits_decimal, digits_value-decimal, decimal_nonempty, first_decimal, decimal-digits_value, decimal_digit}
 use Rattle.pim_base.specs.Spelling.{IsNumber}
 use Rattle.pim_text.specs.Reading.{ReadsAs}
 
@@ -21,26 +21,48 @@ first_of_number n word is e =
     let digit = digit_at (decimal n) 0 (digits_decimal numerals n small) long in
     rw e (long, first_decimal n is.0 small, digit.1)
 
-pub utf8_of_number : (n : ℕ) (word : List ℕ) → IsNumber n → word ≡ decimal n → IsUtf8 word
-utf8_of_number n word is e = rw e (IsUtf8-from_ascii _ (IsAscii-decimal n (omega arith)))
+-- each byte of a number is a digit
+pub digit_of_number : (n : ℕ) (word : List ℕ) (i : ℕ) → n < 2 ^ 16 → word ≡ decimal n → i < length word → IsInRange 48 57 (get_or word i 0)
+digit_of_number n word i small e inside =
+    let long : i < length (decimal n) = omega (arith, inside, ap length e) in
+    let digit = digit_at (decimal n) i (digits_decimal numerals n (omega arith)) long in
+    rw e digit
 
--- what parse gives is the number that is spelled
-pub number_parsed : {E : Type 0} (word : List ℕ) (r : Result ℕ E) → 0 < length word → 49 ≤ get_or word 0 0 → ParsesUnsigned 16 10 word r → ReadsAs IsNumber decimal word (result_ok r)
-number_parsed {E = E} word (Err e) long first parses = λ n is spells. let bad : Err e ≡ Ok n = parse-decimal 16 n word (Err e) is.1 (omega arith) spells parses in cc
-number_parsed {E = E} word (Ok n) long first parses =
-    let plain : (AllDigits 10 word × (0 < length word) × (digits_value 10 word < 2 ^ 16)) × (n ≡ digits_value 10 word) = parse_plain numerals {E = E} 16 word (Ok n) parses (omega arith) in
-    let spells : decimal (digits_value 10 word) ≡ word = decimal-digits_value numerals word plain.0.0 long (λ zero. absurd (omega arith)) (omega (arith, plain.0.2)) in
-    let spelled : word ≡ decimal n = sym spells ∙ ap decimal (sym plain.1) in
+-- the digits of a number that come first are no larger number
+pub front_of_number : (n : ℕ) (word : List ℕ) (i : ℕ) → n < 2 ^ 16 → word ≡ decimal n → digits_value 10 (take i word) ≤ n
+front_of_number n word i small e =
+    let front = digits_value-take-le 10 word i (omega arith) in
+    let whole : digits_value 10 word ≡ n = ap (digits_value 10) e ∙ digits_value-decimal numerals n (omega arith) in
+    omega (arith, front, whole)
+
+-- one digit more
+pub value_more :
+    (word : List ℕ) (i value digit : ℕ)
+    → i < length word
+    → value ≡ digits_value 10 (take i word)
+    → digit ≡ digit_value (get_or word i 0)
+    → value * 10 + digit ≡ digits_value 10 (take (i + 1) word)
+value_more word i value digit inside before more =
+    ap (λ v. v * 10 + digit) before ∙ ap (λ d. digits_value 10 (take i word) * 10 + d) more ∙ sym (digits_value_more 10 word i inside)
+
+-- the bytes are digits, one by one
+pub all_digits : (word : List ℕ) → ((k : ℕ) → k < length word → IsInRange 48 57 (get_or word k 0)) → AllDigits 10 word
+all_digits word each = (numerals_by_value _ tells_by_index).to word each
+
+-- the value of a word of digits is the number that is spelled
+pub number_valued :
+    (word : List ℕ) (r : Option ℕ)
+    → 0 < length word
+    → 49 ≤ get_or word 0 0
+    → MatchOption r ((n : ℕ) → n < 2 ^ 16 → word ≡ decimal n → ⊥) (λ n. (n < 2 ^ 16) × AllDigits 10 word × (n ≡ digits_value 10 word))
+    → ReadsAs IsNumber decimal word r
+number_valued word None long first none = λ n is spells. none n is.1 spells
+number_valued word (Some n) long first (small, digits, value) =
+    let spells : decimal (digits_value 10 word) ≡ word = decimal-digits_value numerals word digits long (λ zero. absurd (omega arith)) (omega (arith, small, value)) in
+    let spelled : word ≡ decimal n = sym spells ∙ ap decimal (sym value) in
     let positive : n ≢ 0 = λ zero. let short : word ≡ 48 ∷ [] = spelled ∙ ap decimal zero ∙ decimal_digit 0 (omega arith) in
     let bad : get_or word 0 0 ≡ 48 = ap (λ w. get_or w 0 0) short in omega arith in
-    ((omega arith, omega (arith, plain.0.2, plain.1)), spelled)
-
--- of a result behind `ok`
-pub at_some : {T E : Type 0} (r : Result T E) (P : T → Type 0) (Q : E → Type 0) (x : T) → Some x ≡ result_ok r → MatchResult r P Q → P x
-at_some r P Q x e h = search rules
-
-pub at_none : {T E : Type 0} (r : Result T E) (P : T → Type 0) (Q : Type 0) (R : E → Type 0) → None ≡ result_ok r → MatchResult r P (λ e. Q × R e) → Q
-at_none r P Q R e h = search rules
+    ((omega arith, small), spelled)
 
 pub no_number : (n : ℕ) (word : List ℕ) → IsNumber n → word ≡ decimal n → 57 < get_or word 0 0 → ⊥
 no_number n word is e high = let first = first_of_number n word is e in omega arith

@@ -7,6 +7,7 @@ pub use Rattle.pim_base.specs.Recordings
 pub mod Faults
 pub mod Ends
 pub mod Printed
+pub mod Numerals
 pub mod Taken
 pub mod Running
 pub mod Status

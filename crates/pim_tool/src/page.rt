@@ -1,10 +1,12 @@
 //! The bytes of a report that are not yet written.
-ghost use Rattle.std.specs.Prelude.{◌≡◌, ◌++◌, ◌<◌, ◌≤◌, ◌+◌, List, ℕ, [], decimal, flat_map, OnOk, IfOk};
+ghost use Rattle.std.specs.Prelude.{◌≡◌, ◌++◌, ◌≤◌, ◌+◌, [], length, take, flat_map, OnOk, IfOk};
 ghost use Rattle.pim_base.specs.Spelling.{refusal_word};
 ghost use Rattle.pim_base.specs.Reports.{reply_text, reply_line, differing_line, rejected, accepted};
 ghost use Rattle.pim_tool.specs.Printed.{reason_text, line_of};
 
-use pim_base::{Reason, Refusal, Reply};
+use crate::numerals::Numerals;
+use crate::puts::{put, put_number, put_slice};
+use pim_base::{Reason, Reply};
 use pim_manager::ChangedTask;
 use std::alloc::{AllocError, Global};
 use std::marker::Model;
@@ -15,18 +17,27 @@ const FULL: usize = 65_536;
 /// More than one step adds: the line of its reply, and 256 of at most 38 bytes.
 const STEP: usize = 10_240;
 
-/// The bytes of whole lines, in the order in which they are to be written.
+/// More than any line has.
+const LINE: usize = 128;
+
+/// The bytes of whole lines, in the order in which they are to be written: the first of a row, which is longer.
 ///
 /// In contracts its value is the list of these bytes. Each call that adds a line fails only where memory was refused.
 #[derive(Drop)]
 pub(crate) struct Page {
-    bytes: Vec<u8>,
+    pub(crate) row: Vec<u8>,
+    pub(crate) used: usize,
+    pub(crate) numerals: Numerals,
 }
 
 impl Model for Page {
+    ghost use Rattle.std.specs.Prelude.{List, ℕ, ◌≤◌, length, take};
+
     ghost Value = { List ℕ };
 
-    ghost view = { λ page. page.bytes.items };
+    ghost view = { λ page. take page.used page.row.items };
+
+    ghost invariant = { λ page. page.used ≤ length page.row.items };
 }
 
 impl Page {
@@ -34,27 +45,32 @@ impl Page {
     pub fn new(alloc: Global) -> Result<Page, AllocError>
         ensures { IfOk result (λ page. page ≡ []) }
     {
-        let bytes = Vec::with_capacity(alloc, FULL + STEP)?;
-        Ok(Page { bytes })
+        let row = Vec::with_capacity(alloc, FULL + STEP)?;
+        let numerals = Numerals::new(alloc)?;
+        Ok(Page {
+            row,
+            used: 0,
+            numerals,
+        })
     }
 
     /// Returns whether so much was gathered that it is to be written.
     pub fn is_full(&self) -> bool {
-        self.bytes.len() >= FULL
+        self.used >= FULL
     }
 
     /// Returns the bytes.
     pub fn as_slice(&self) -> &[u8]
         ensures { result.now ≡ self.now }
     {
-        self.bytes.as_slice()
+        &self.row[..self.used]
     }
 
     /// Removes all bytes. The room stays.
     pub fn clear(&mut self)
         ensures { self.new ≡ [] }
     {
-        self.bytes.clear();
+        self.used = 0;
     }
 
     /// Adds the line of a step's reply, and one for each task whose priority the step changed.
@@ -91,9 +107,12 @@ impl Page {
     pub fn accepted(&mut self, count: u32) -> Result<(), AllocError>
         ensures { OnOk result (self.new ≡ self.old ++ accepted count) }
     {
-        self.word(b"accepted ")?;
-        self.number(count)?;
-        self.word(b"\n")
+        make_room(&mut self.row, self.used)?;
+        let row = self.row.as_mut_slice();
+        let at = put(row, self.used, b"accepted ");
+        let at = put_number(&self.numerals, row, at, count);
+        self.used = put(row, at, b"\n");
+        Ok(())
     }
 
     /// Adds the line of a step's reply.
@@ -101,10 +120,13 @@ impl Page {
     fn reply_line(&mut self, number: u32, reply: &Reply) -> Result<(), AllocError>
         ensures { OnOk result (self.new ≡ self.old ++ reply_line number reply.now) }
     {
-        self.number(number)?;
-        self.word(b" ")?;
-        self.reply(reply)?;
-        self.word(b"\n")
+        make_room(&mut self.row, self.used)?;
+        let row = self.row.as_mut_slice();
+        let at = put_number(&self.numerals, row, self.used, number);
+        let at = put(row, at, b" ");
+        let at = put_reply(&self.numerals, row, at, reply);
+        self.used = put(row, at, b"\n");
+        Ok(())
     }
 
     /// Adds the line of a task: the priority that it has after the step, and why.
@@ -112,13 +134,16 @@ impl Page {
     fn changed_line(&mut self, changed: &ChangedTask) -> Result<(), AllocError>
         ensures { OnOk result (self.new ≡ self.old ++ line_of changed.now) }
     {
-        self.word(b"  task ")?;
-        self.number(u32::from(changed.task.get()))?;
-        self.word(b" at ")?;
-        self.number(u32::from(changed.prio.get()))?;
-        self.word(b" ")?;
-        self.reason(changed.reason)?;
-        self.word(b"\n")
+        make_room(&mut self.row, self.used)?;
+        let row = self.row.as_mut_slice();
+        let at = put(row, self.used, b"  task ");
+        let at = put_number(&self.numerals, row, at, u32::from(changed.task.get()));
+        let at = put(row, at, b" at ");
+        let at = put_number(&self.numerals, row, at, u32::from(changed.prio.get()));
+        let at = put(row, at, b" ");
+        let at = put_reason(&self.numerals, row, at, changed.reason);
+        self.used = put(row, at, b"\n");
+        Ok(())
     }
 
     /// Adds the line of a step's reply beside the recorded one.
@@ -131,12 +156,15 @@ impl Page {
     ) -> Result<(), AllocError>
         ensures { OnOk result (self.new ≡ self.old ++ differing_line number reply.now recorded.now) }
     {
-        self.number(number)?;
-        self.word(b" ")?;
-        self.reply(reply)?;
-        self.word(b" but recorded ")?;
-        self.reply(recorded)?;
-        self.word(b"\n")
+        make_room(&mut self.row, self.used)?;
+        let row = self.row.as_mut_slice();
+        let at = put_number(&self.numerals, row, self.used, number);
+        let at = put(row, at, b" ");
+        let at = put_reply(&self.numerals, row, at, reply);
+        let at = put(row, at, b" but recorded ");
+        let at = put_reply(&self.numerals, row, at, recorded);
+        self.used = put(row, at, b"\n");
+        Ok(())
     }
 
     /// Adds the last line of a report in which a recorded reply differs.
@@ -144,126 +172,75 @@ impl Page {
     pub fn rejected(&mut self, number: u32) -> Result<(), AllocError>
         ensures { OnOk result (self.new ≡ self.old ++ rejected number) }
     {
-        self.word(b"rejected ")?;
-        self.number(number)?;
-        self.word(b"\n")
+        make_room(&mut self.row, self.used)?;
+        let row = self.row.as_mut_slice();
+        let at = put(row, self.used, b"rejected ");
+        let at = put_number(&self.numerals, row, at, number);
+        self.used = put(row, at, b"\n");
+        Ok(())
     }
+}
 
-    /// Adds the text of a reply.
-    pub(crate) fn reply(&mut self, reply: &Reply) -> Result<(), AllocError>
-        ensures { OnOk result (self.new ≡ self.old ++ reply_text reply.now) }
-    {
-        match reply {
-            Reply::Granted => self.word(b"granted"),
-            Reply::Queued => self.word(b"queued"),
-            Reply::Freed => self.word(b"freed"),
-            Reply::Handed(task) => {
-                self.word(b"handed ")?;
-                self.number(u32::from(task.get()))
-            }
-            Reply::Released(count) => {
-                self.word(b"released ")?;
-                self.number(u32::from(*count))
-            }
-            Reply::Withdrawn => self.word(b"withdrawn"),
-            Reply::Set => self.word(b"set"),
-            Reply::Refused(refusal) => {
-                self.word(b"refused ")?;
-                self.refusal(*refusal)
-            }
+/// Makes the row long enough for one more line behind the bytes that are used.
+#[inline(always)]
+pub(crate) fn make_room(row: &mut Vec<u8>, used: usize) -> Result<(), AllocError>
+    requires { used ≤ length row.old.items }
+    ensures longer { used ≤ length row.new.items }
+    ensures same { take used row.new.items ≡ take used row.old.items }
+    ensures room { OnOk result (used + 128 ≤ length row.new.items) }
+{
+    if row.len() - used < LINE {
+        row.extend_from_slice(&[0; LINE])?;
+    }
+    Ok(())
+}
+
+/// Puts the text of a reply.
+#[inline(always)]
+pub(crate) fn put_reply(numerals: &Numerals, row: &mut [u8], at: usize, reply: &Reply) -> usize
+    requires { at + 19 ≤ length row.old }
+    ensures end { result ≤ at + 19 }
+    ensures text { take result row.new ≡ take at row.old ++ reply_text reply.now }
+{
+    match reply {
+        Reply::Granted => put(row, at, b"granted"),
+        Reply::Queued => put(row, at, b"queued"),
+        Reply::Freed => put(row, at, b"freed"),
+        Reply::Handed(task) => {
+            let at = put(row, at, b"handed ");
+            put_number(numerals, row, at, u32::from(task.get()))
         }
-    }
-
-    /// Adds the name of a refusal. A function of its own, so that the other replies pay nothing for it.
-    #[inline(never)]
-    fn refusal(&mut self, refusal: Refusal) -> Result<(), AllocError>
-        ensures { OnOk result (self.new ≡ self.old ++ refusal_word refusal) }
-    {
-        self.word(refusal.name().as_bytes())
-    }
-
-    /// Adds the text of a reason.
-    fn reason(&mut self, reason: Reason) -> Result<(), AllocError>
-        ensures { OnOk result (self.new ≡ self.old ++ reason_text reason) }
-    {
-        match reason {
-            Reason::Base => self.word(b"base"),
-            Reason::Ceiling(mutex) => {
-                self.word(b"ceiling ")?;
-                self.number(u32::from(mutex.get()))
-            }
-            Reason::Waiter(task, mutex) => {
-                self.word(b"waiter ")?;
-                self.number(u32::from(task.get()))?;
-                self.word(b" mutex ")?;
-                self.number(u32::from(mutex.get()))
-            }
+        Reply::Released(count) => {
+            let at = put(row, at, b"released ");
+            put_number(numerals, row, at, u32::from(*count))
         }
-    }
-
-    /// Adds these bytes.
-    #[inline]
-    pub(crate) fn word(&mut self, word: &[u8]) -> Result<(), AllocError>
-        ensures { OnOk result (self.new ≡ self.old ++ word.now) }
-    {
-        self.bytes.extend_from_slice(word)
-    }
-
-    /// Adds a number in decimal digits. Most have at most three, and those are put without a call.
-    #[inline(always)]
-    #[tactic(auto, using(std::proofs::lemmas::Fmt::decimal_digit, crate::proofs::DecimalLemmas::two_digits, crate::proofs::DecimalLemmas::three_digits))]
-    pub(crate) fn number(&mut self, number: u32) -> Result<(), AllocError>
-        ensures { OnOk result (self.new ≡ self.old ++ decimal number) }
-    {
-        if number < 10 {
-            self.word(&[digit(number)])
-        } else if number < 100 {
-            self.word(&[digit(number / 10), digit(number % 10)])
-        } else if number < 1000 {
-            self.word(&[
-                digit(number / 100),
-                digit(number / 10 % 10),
-                digit(number % 10),
-            ])
-        } else {
-            self.long_number(number)
-        }
-    }
-
-    /// Adds a number of four digits or more.
-    #[inline(never)]
-    #[tactic(auto, using(crate::proofs::DecimalLemmas::four_digits, crate::proofs::DecimalLemmas::five_digits))]
-    fn long_number(&mut self, number: u32) -> Result<(), AllocError>
-        requires { 1000 ≤ number }
-        ensures { OnOk result (self.new ≡ self.old ++ decimal number) }
-    {
-        if number < 10_000 {
-            self.word(&[
-                digit(number / 1000),
-                digit(number / 100 % 10),
-                digit(number / 10 % 10),
-                digit(number % 10),
-            ])
-        } else if number < 100_000 {
-            self.word(&[
-                digit(number / 10_000),
-                digit(number / 1000 % 10),
-                digit(number / 100 % 10),
-                digit(number / 10 % 10),
-                digit(number % 10),
-            ])
-        } else {
-            let mut digits = itoa::Buffer::new();
-            self.word(digits.format(number).as_bytes())
+        Reply::Withdrawn => put(row, at, b"withdrawn"),
+        Reply::Set => put(row, at, b"set"),
+        Reply::Refused(refusal) => {
+            let at = put(row, at, b"refused ");
+            put_slice(row, at, refusal.name().as_bytes())
         }
     }
 }
 
-/// Returns the character of a digit.
-#[inline]
-fn digit(value: u32) -> u8
-    requires { value < 10 }
-    ensures { result ≡ 48 + value }
+/// Puts the text of a reason.
+#[inline(always)]
+fn put_reason(numerals: &Numerals, row: &mut [u8], at: usize, reason: Reason) -> usize
+    requires { at + 34 ≤ length row.old }
+    ensures end { result ≤ at + 34 }
+    ensures text { take result row.new ≡ take at row.old ++ reason_text reason }
 {
-    b'0' + value as u8
+    match reason {
+        Reason::Base => put(row, at, b"base"),
+        Reason::Ceiling(mutex) => {
+            let at = put(row, at, b"ceiling ");
+            put_number(numerals, row, at, u32::from(mutex.get()))
+        }
+        Reason::Waiter(task, mutex) => {
+            let at = put(row, at, b"waiter ");
+            let at = put_number(numerals, row, at, u32::from(task.get()));
+            let at = put(row, at, b" mutex ");
+            put_number(numerals, row, at, u32::from(mutex.get()))
+        }
+    }
 }

@@ -1,5 +1,5 @@
 //! The trace of a run, and its lines.
-ghost use Rattle.std.specs.Prelude.{◌≡◌, ◌<◌, ◌^◌, ◌++◌, [], length, flat_map, decimal, IfOk, OnOk};
+ghost use Rattle.std.specs.Prelude.{◌≡◌, ◌<◌, ◌≤◌, ◌+◌, ◌^◌, ◌++◌, [], length, take, flat_map, decimal, IfOk, OnOk};
 ghost use Rattle.pim_base.specs.Spelling.{version_line, spelled};
 ghost use Rattle.pim_base.specs.Texts.{IsWithinLimits};
 ghost use Rattle.pim_base.specs.Recordings.{ended, recording, text_of};
@@ -10,8 +10,10 @@ ghost use Rattle.pim_tool.specs.Printed.{op_text, tasks_text, mutexes_text, decl
 
 use crate::ends::Sink;
 use crate::fault::Fault;
-use crate::page::Page;
+use crate::numerals::Numerals;
+use crate::page::{Page, make_room, put_reply};
 use crate::printer::Printer;
+use crate::puts::{put, put_number};
 use pim_base::{Entry, Op, Prio, Protocol};
 use pim_text::Text;
 use std::alloc::{AllocError, Global};
@@ -72,7 +74,9 @@ impl Page {
     fn version(&mut self) -> Result<(), AllocError>
         ensures { OnOk result (self.new ≡ self.old ++ ended version_line) }
     {
-        self.word(b"pim 1\n")
+        make_room(&mut self.row, self.used)?;
+        self.used = put(self.row.as_mut_slice(), self.used, b"pim 1\n");
+        Ok(())
     }
 
     /// Adds the lines that declare the tasks with these bases.
@@ -101,64 +105,88 @@ impl Page {
     fn task(&mut self, number: u32, base: Prio) -> Result<(), AllocError>
         ensures { OnOk result (self.new ≡ self.old ++ ended (spelled (lines.Task number base))) }
     {
-        self.word(b"task ")?;
-        self.number(number)?;
-        self.word(b" ")?;
-        self.number(u32::from(base.get()))?;
-        self.word(b"\n")
+        make_room(&mut self.row, self.used)?;
+        let row = self.row.as_mut_slice();
+        let at = put(row, self.used, b"task ");
+        let at = put_number(&self.numerals, row, at, number);
+        let at = put(row, at, b" ");
+        let at = put_number(&self.numerals, row, at, u32::from(base.get()));
+        self.used = put(row, at, b"\n");
+        Ok(())
     }
 
     /// Adds the line that declares a mutex.
     fn mutex(&mut self, number: u32, protocol: Protocol) -> Result<(), AllocError>
         ensures { OnOk result (self.new ≡ self.old ++ ended (spelled (lines.Mutex number protocol))) }
     {
-        self.word(b"mutex ")?;
-        self.number(number)?;
-        match protocol {
-            Protocol::None => self.word(b" none\n"),
-            Protocol::Inherit => self.word(b" inherit\n"),
+        make_room(&mut self.row, self.used)?;
+        let row = self.row.as_mut_slice();
+        let at = put(row, self.used, b"mutex ");
+        let at = put_number(&self.numerals, row, at, number);
+        self.used = match protocol {
+            Protocol::None => put(row, at, b" none\n"),
+            Protocol::Inherit => put(row, at, b" inherit\n"),
             Protocol::Protect(ceiling) => {
-                self.word(b" protect ")?;
-                self.number(u32::from(ceiling.get()))?;
-                self.word(b"\n")
+                let at = put(row, at, b" protect ");
+                let at = put_number(&self.numerals, row, at, u32::from(ceiling.get()));
+                put(row, at, b"\n")
             }
-        }
+        };
+        Ok(())
     }
 
     /// Adds the line of a step, with its reply as the recorded one.
     fn entry(&mut self, entry: &Entry) -> Result<(), AllocError>
         ensures { OnOk result (self.new ≡ self.old ++ entry_text entry.now) }
     {
-        self.number(u32::from(entry.step.actor.get()))?;
-        self.word(b" ")?;
-        self.op(&entry.step.op)?;
-        self.word(b" = ")?;
-        self.reply(&entry.reply)?;
-        self.word(b"\n")
+        make_room(&mut self.row, self.used)?;
+        let row = self.row.as_mut_slice();
+        let at = put_number(
+            &self.numerals,
+            row,
+            self.used,
+            u32::from(entry.step.actor.get()),
+        );
+        let at = put(row, at, b" ");
+        let at = put_op(&self.numerals, row, at, &entry.step.op);
+        let at = put(row, at, b" = ");
+        let at = put_reply(&self.numerals, row, at, &entry.reply);
+        self.used = put(row, at, b"\n");
+        Ok(())
     }
+}
 
-    /// Adds the words of an operation.
-    fn op(&mut self, op: &Op) -> Result<(), AllocError>
-        ensures { OnOk result (self.new ≡ self.old ++ op_text op.now) }
-    {
-        match op {
-            Op::Lock(mutex) => self.word_with(b"lock ", mutex.get()),
-            Op::Try(mutex) => self.word_with(b"try ", mutex.get()),
-            Op::Unlock(mutex) => self.word_with(b"unlock ", mutex.get()),
-            Op::ReleaseAll => self.word(b"release"),
-            Op::Cancel(task) => self.word_with(b"cancel ", task.get()),
-            Op::SetBase(task, level) => {
-                self.word_with(b"base ", task.get())?;
-                self.word_with(b" ", *level)
-            }
+/// Puts the words of an operation.
+fn put_op(numerals: &Numerals, row: &mut [u8], at: usize, op: &Op) -> usize
+    requires { at + 26 ≤ length row.old }
+    ensures end { result ≤ at + 26 }
+    ensures text { take result row.new ≡ take at row.old ++ op_text op.now }
+{
+    match op {
+        Op::Lock(mutex) => put_with(numerals, row, at, b"lock ", mutex.get()),
+        Op::Try(mutex) => put_with(numerals, row, at, b"try ", mutex.get()),
+        Op::Unlock(mutex) => put_with(numerals, row, at, b"unlock ", mutex.get()),
+        Op::ReleaseAll => put(row, at, b"release"),
+        Op::Cancel(task) => put_with(numerals, row, at, b"cancel ", task.get()),
+        Op::SetBase(task, level) => {
+            let at = put_with(numerals, row, at, b"base ", task.get());
+            put_with(numerals, row, at, b" ", *level)
         }
     }
+}
 
-    /// Adds these bytes, and a number.
-    fn word_with(&mut self, word: &[u8], number: u16) -> Result<(), AllocError>
-        ensures { OnOk result (self.new ≡ self.old ++ (word.now ++ decimal number)) }
-    {
-        self.word(word)?;
-        self.number(u32::from(number))
-    }
+/// Puts a word, and a number.
+fn put_with<const N: usize>(
+    numerals: &Numerals,
+    row: &mut [u8],
+    at: usize,
+    word: &[u8; N],
+    number: u16,
+) -> usize
+    requires { at + N + 10 ≤ length row.old }
+    ensures end { result ≤ at + N + 10 }
+    ensures text { take result row.new ≡ take at row.old ++ (word.now ++ decimal number) }
+{
+    let at = put(row, at, word);
+    put_number(numerals, row, at, u32::from(number))
 }
