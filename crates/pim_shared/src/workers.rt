@@ -53,7 +53,12 @@ pub fn worker<G: Gate, R: Wait>(
 fn mutex_to_wait_for(op: &Op) -> Option<MutexNo> {
     match op {
         Op::Lock(mutex) => Some(*mutex),
-        Op::Try(_) | Op::Unlock(_) | Op::ReleaseAll | Op::Cancel(_) | Op::SetBase(..) => None,
+        Op::Try(_)
+        | Op::Unlock(_)
+        | Op::ReleaseAll
+        | Op::Cancel(_)
+        | Op::SetBase(..)
+        | Op::SetCeiling(..) => None,
     }
 }
 

@@ -2,7 +2,7 @@
 
 use super::{FIRST, by, scripts_of};
 use crate::{Gate, Settled, SharedFault, run_scripts, worker};
-use Op::{Cancel, Lock, ReleaseAll, SetBase, Try, Unlock};
+use Op::{Cancel, Lock, ReleaseAll, SetBase, SetCeiling, Try, Unlock};
 use pim_base::{MAX_WORKERS, MutexNo, Op, Reply, Step, TaskNo};
 use std::alloc::Global;
 use std::process::Abort;
@@ -74,7 +74,7 @@ impl Gate for Recorder {
         let Step { actor, op } = step;
         let reply = match op {
             Lock(_) | Try(_) => Reply::Queued,
-            Unlock(_) | ReleaseAll | Cancel(_) | SetBase(..) => Reply::Freed,
+            Unlock(_) | ReleaseAll | Cancel(_) | SetBase(..) | SetCeiling(..) => Reply::Freed,
         };
         self.keep(rt, Call::Step(Step { actor, op }))?;
         Ok(reply)

@@ -2,8 +2,8 @@
 
 use super::{FIRST, by, made, scripts_of};
 use crate::{Log, SharedFault, gather};
-use Op::{Lock, ReleaseAll, Unlock};
-use pim_base::{Entry, MutexNo, Op, Protocol, Reply};
+use Op::{Lock, ReleaseAll, SetBase, SetCeiling, Unlock};
+use pim_base::{Entry, MutexNo, Op, Protocol, Reply, TaskNo};
 use std::alloc::Global;
 use std::process::Abort;
 
@@ -45,6 +45,15 @@ fn each_line_and_one_release(rt: HostRuntime) {
     assert!(rt; !gathers(&rt, rt.alloc(), &steps, &[&[Lock(FIRST), Unlock(FIRST)]]));
     assert!(rt; !gathers(&rt, rt.alloc(), &steps, &[&[Lock(FIRST), ReleaseAll]]));
     assert!(rt; !gathers(&rt, rt.alloc(), &steps, &[&[]]));
+}
+
+#[test]
+fn a_ceiling_that_is_set(rt: HostRuntime) {
+    let steps = [(1, SetCeiling(FIRST, 30)), (1, ReleaseAll)];
+    assert!(rt; gathers(&rt, rt.alloc(), &steps, &[&[SetCeiling(FIRST, 30)]]));
+    assert!(rt; !gathers(&rt, rt.alloc(), &steps, &[&[SetCeiling(FIRST, 31)]]));
+    assert!(rt; !gathers(&rt, rt.alloc(), &steps, &[&[SetCeiling(SECOND, 30)]]));
+    assert!(rt; !gathers(&rt, rt.alloc(), &steps, &[&[SetBase(TaskNo(1), 30)]]));
 }
 
 #[test]

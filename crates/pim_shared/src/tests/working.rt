@@ -5,7 +5,7 @@ ghost use Rattle.pim_base.specs.declared.limits.TheConstants.{MAX_WORKERS};
 
 use super::*;
 use crate::{gather, run_scripts};
-use Op::{Lock, Unlock};
+use Op::{Lock, SetCeiling, Unlock};
 use pim_base::{MAX_WORKERS, Refusal, Reply};
 use std::thread::join;
 
@@ -44,6 +44,36 @@ fn every_run_of_two_scripts_is_gathered(rt: HostRuntime) {
         }
         assert_eq!(rt; manager.owner(FIRST), Some(None));
         assert_eq!(rt; manager.owner(SECOND), Some(None));
+    }
+}
+
+#[test]
+fn runs_in_which_an_owner_lowers_a_ceiling_are_gathered(rt: HostRuntime) {
+    let protocols = [Protocol::Protect(prio(&rt, 50))];
+    let start = made(&rt, rt.alloc(), &[10, 20], &protocols);
+    let scripts = scripts_of(
+        &rt,
+        rt.alloc(),
+        &[
+            &[Lock(FIRST), SetCeiling(FIRST, 30), Unlock(FIRST)],
+            &[Lock(FIRST), Unlock(FIRST)],
+        ],
+    );
+    assert!(rt; scripts.len() <= MAX_WORKERS);
+    for _run in 0..100 {
+        let (shared, _) = shared(&rt, rt.alloc(), &protocols, 7, 0);
+        let answer = run_scripts(&rt, rt.alloc(), &shared, &scripts);
+        let (manager, log) = shared.finish(&rt);
+        assert_eq!(rt; answer, Ok(()));
+        let log = gather(log, &start, &scripts).expect(&rt, "a log of the scripts");
+        assert_eq!(rt; log.entries().len(), 7);
+        for entry in log.entries() {
+            assert!(rt; entry.step.op != SetCeiling(FIRST, 30) || entry.reply == Reply::Set);
+        }
+        assert_eq!(rt;
+            manager.protocol(FIRST),
+            Some(Protocol::Protect(prio(&rt, 30)))
+        );
     }
 }
 
