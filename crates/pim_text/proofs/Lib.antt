@@ -1,6 +1,7 @@
 pub mod CutLemmas
 pub mod SeparatorLemmas
 pub mod NumberLemmas
+pub mod FirstNumberLemmas
 pub mod SpellingLemmas
 pub mod WordLemmas
 pub mod LineLemmas

@@ -2,8 +2,9 @@
 use Rattle.std.proofs.Common.{◌≡◌, ℕ, List, [], ◌∷◌, codes, arith, sym, ◌∙◌, None, rules}
 use Rattle.std.specs.Fmt.{decimal}
 use Rattle.pim_base.specs.declared.steps.Protocol.{Protocol}
+use Rattle.pim_base.specs.declared.lines.StepLine.{StepLine}
 use Rattle.pim_base.specs.declared.lines.Line.TheVariants as lines
-use Rattle.pim_base.specs.Spelling.{IsNumber, IsPrio, IsProtocol, protocol_words}
+use Rattle.pim_base.specs.Spelling.{IsNumber, IsPrio, IsProtocol, IsLine, protocol_words, step_words}
 use Rattle.pim_text.specs.Reading.{words, Reads, ReadsAs}
 use Rattle.pim_text.proofs.NumberLemmas.{no_number}
 use Rattle.pim_text.proofs.WordLemmas.{only_word}
@@ -68,6 +69,16 @@ pub no_word_protocol : ReadsAs IsProtocol protocol_words [] None
 no_word_protocol h is e = search rules
 
 -- ---- step lines
+
+-- words that begin with a number are no declaration
+pub no_step :
+    (actor : ℕ) (ws : List (List ℕ))
+    → IsNumber actor
+    → ((line : StepLine) → IsLine (lines.Step line) → decimal actor ∷ ws ≡ step_words line → ⊥)
+    → Reads (decimal actor ∷ ws) None
+no_step actor ws is none (lines.Task n p) h e = no_number actor (codes "task") is (cc) (omega arith)
+no_step actor ws is none (lines.Mutex n p) h e = no_number actor (codes "mutex") is (cc) (omega arith)
+no_step actor ws is none (lines.Step line) h e = none line h e
 
 -- no line is one word
 pub no_single : (first : List ℕ) → Reads (first ∷ []) None

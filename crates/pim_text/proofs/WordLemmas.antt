@@ -1,10 +1,14 @@
 -- Words cut off the front of a line, and what single words spell.
-use Rattle.std.proofs.Common.{◌≡◌, ◌<◌, ◌≤◌, ◌^◌, ℕ, List, [], ◌∷◌, codes, arith, sym, ◌∙◌, ap, Option, Some, None, Bor, eqb, length}
+use Rattle.std.proofs.Common.{◌≡◌, ◌<◌, ◌≤◌, ◌^◌, ℕ, List, [], ◌∷◌, codes, arith, sym, ◌∙◌, ap, Option, Some, None, Bor, Bool, true, false, eqb, length, ◌++◌, ◌≢◌, refl}
 use Rattle.std.specs.Fmt.{decimal}
-use Rattle.std.specs.List.{join_with_byte}
+use Rattle.std.specs.Bool.{MatchBool}
+use Rattle.std.specs.List.{join_with_byte, starts_with}
 use Rattle.std.specs.Option.{SomeIff}
 use Rattle.std.specs.Str.Parse.{digits_value}
 use Rattle.std.proofs.lemmas.Fmt.{decimal_digit}
+use Rattle.std.proofs.lemmas.Bool.Decides.{Decides-eqb}
+use Rattle.std.proofs.lemmas.Slice.Eq.{starts_is}
+use Rattle.std.proofs.lemmas.List.{append-nil, drop_all}
 use Rattle.std.proofs.lemmas.List.Splits.{join_with_byte-slice_split, slice_split_none, length-slice_split}
 use Rattle.std.proofs.lemmas.List.Elements.{All-from_recursion}
 use Rattle.pim_base.specs.Spelling.{SPACE, IsNumber, IsPrio}
@@ -70,3 +74,10 @@ pub count_read :
     → ReadsAs IsNumber decimal word r
     → ReadsAs (λ n. n < 2 ^ 16) decimal word r
 count_read word r other h = grind (arith, decimal_digit)
+
+-- ---- comparing
+
+-- a word that begins with one as long is that one
+pub same_word : (word name : List ℕ) (r : Bool) → length word ≡ length name → r ≡ starts_with eqb word name → MatchBool r (word ≡ name) (word ≢ name)
+same_word word name true long e = (starts_is Decides-eqb word name true e).0 refl ∙ ap (λ t. name ++ t) (drop_all (length name) word (omega arith)) ∙ append-nil name
+same_word word name false long e = λ same. let bad : false ≡ true = (starts_is Decides-eqb word name false e).1 [] (same ∙ sym (append-nil name)) in cc

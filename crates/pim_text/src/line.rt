@@ -1,23 +1,27 @@
 //! One line of a text, below the first.
-ghost use Rattle.std.specs.Prelude.{◌≢◌, codes, ◌∷◌};
-ghost use Rattle.pim_base.specs.Spelling.{IsProtocol, protocol_words};
+ghost use Rattle.std.specs.Prelude.{◌≢◌, ℕ, codes, decimal, ◌∷◌};
+ghost use Rattle.pim_base.specs.Spelling.{IsNumber, IsProtocol, protocol_words};
 ghost use Rattle.pim_text.specs.Reading.{words, Reads, ReadsBytes, ReadsAs};
 
 use crate::op::read_op;
 use crate::reply::read_recorded;
-use crate::word::{cut, is, number_of, prio_of};
+use crate::word::{cut, cut_number, is, number_of, prio_of};
 use pim_base::{Line, MutexNo, Protocol, Step, StepLine, TaskNo};
 
 /// Returns the line below the first that the bytes spell, or `None` where they spell none.
 pub(crate) fn read_line(bytes: &[u8]) -> Option<Line>
     ensures { ReadsBytes bytes.now result }
 {
+    if let Some((actor, rest)) = cut_number(bytes) {
+        return read_step(actor, rest?);
+    }
     let (first, rest) = cut(bytes, b' ');
-    read_words(first, rest?)
+    read_declaration(first, rest?)
 }
 
-/// Returns the line that the words spell, of which the first was cut off, or `None` where they spell none.
-fn read_words(first: &[u8], rest: &[u8]) -> Option<Line>
+/// Returns the declaration that the words spell, of which the first was cut off, or `None` where they spell none.
+fn read_declaration(first: &[u8], rest: &[u8]) -> Option<Line>
+    requires no_number { (n : ℕ) → IsNumber n → first.now ≢ decimal n }
     ensures { Reads (first.now ∷ words rest.now) result }
 {
     if is(first, "task") {
@@ -25,7 +29,7 @@ fn read_words(first: &[u8], rest: &[u8]) -> Option<Line>
     } else if is(first, "mutex") {
         read_mutex(rest)
     } else {
-        read_step(first, rest)
+        None
     }
 }
 
@@ -75,19 +79,20 @@ fn read_protocol(rest: &[u8]) -> Option<Protocol>
 }
 
 /// Reads `<a> <operation>`, perhaps with ` = <reply>` behind it, from the operation on, or returns `None`.
-fn read_step(first: &[u8], rest: &[u8]) -> Option<Line>
-    requires no_task { first.now ≢ codes "task" }
-    requires no_mutex { first.now ≢ codes "mutex" }
-    ensures { Reads (first.now ∷ words rest.now) result }
+fn read_step(actor: u16, rest: &[u8]) -> Option<Line>
+    requires number { IsNumber actor }
+    ensures { Reads (decimal actor ∷ words rest.now) result }
 {
-    let actor = TaskNo(number_of(first)?);
     let (word, tail) = cut(rest, b' ');
     let Some((op, tail)) = read_op(word, tail) else {
         return None;
     };
     let recorded = read_recorded(tail)?;
     Some(Line::Step(StepLine {
-        step: Step { actor, op },
+        step: Step {
+            actor: TaskNo(actor),
+            op,
+        },
         recorded,
     }))
 }

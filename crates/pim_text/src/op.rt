@@ -3,7 +3,7 @@ ghost use Rattle.std.specs.Prelude.{◌≡◌, ℕ, ◌∷◌, ◌++◌, List, M
 ghost use Rattle.pim_base.specs.Spelling.{SPACE, IsNumber, IsOp, op_words};
 ghost use Rattle.pim_text.specs.Reading.{pieces};
 
-use crate::word::{cut, is, number_of};
+use crate::word::{cut_number, is};
 use pim_base::{MutexNo, Op, TaskNo};
 
 /// Returns the operation that the words begin with, of which the first was cut off, and the words behind it, or `None`
@@ -42,6 +42,5 @@ fn read_target(tail: Option<&[u8]>) -> Option<(u16, Option<&[u8]>)>
         ((n : ℕ) (ws : List (List ℕ)) → IsNumber n → pieces SPACE tail.entry ≡ decimal n ∷ ws → ⊥)
         (λ read. IsNumber read.0 × (pieces SPACE tail.entry ≡ decimal read.0 ∷ pieces SPACE read.1)) }
 {
-    let (word, rest) = cut(tail?, b' ');
-    Some((number_of(word)?, rest))
+    cut_number(tail?)
 }

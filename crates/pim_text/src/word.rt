@@ -1,13 +1,13 @@
 //! The words of a line, and the numbers that they spell.
-ghost use Rattle.std.specs.Prelude.{◌≡◌, ◌≢◌, ℕ, ◌∷◌, ◌==◌, ◌<◌, ◌≤◌, ◌+◌, ◌^◌, length, map, IfSome, MatchOption, decimal, position};
+ghost use Rattle.std.specs.Prelude.{◌≡◌, ◌≢◌, ℕ, List, ◌∷◌, ◌==◌, ◌<◌, ◌≤◌, ◌+◌, ◌^◌, length, map, IfSome, MatchOption, decimal, position};
 ghost use Rattle.std.specs.Bool.{MatchBool};
 ghost use Rattle.std.specs.Char.{digit_value};
 ghost use Rattle.std.specs.Int.{IsInRange};
 ghost use Rattle.std.specs.List.{slice_split};
 ghost use Rattle.std.specs.Simd.Lanes.{mask_l, chunk};
 ghost use Rattle.std.specs.Str.Parse.{AllDigits, digits_value};
-ghost use Rattle.pim_base.specs.Spelling.{IsNumber, IsPrio};
-ghost use Rattle.pim_text.specs.Reading.{pieces, ReadsAs};
+ghost use Rattle.pim_base.specs.Spelling.{SPACE, IsNumber, IsPrio};
+ghost use Rattle.pim_text.specs.Reading.{pieces, words, ReadsAs};
 
 use pim_base::Prio;
 use std::simd::prelude::*;
@@ -63,11 +63,15 @@ fn marks_at(bytes: &[u8], place: usize, separator: u8) -> u64
 }
 
 /// Returns whether the word is this one.
+///
+/// By `starts_with`: it is compared in place where the length of the name is known, and `==` calls a function.
 #[inline(always)]
+#[tactic(auto, using(crate::proofs::WordLemmas::same_word))]
 pub(crate) fn is(word: &[u8], name: &str) -> bool
     ensures { MatchBool result (word.now ≡ name.now) (word.now ≢ name.now) }
 {
-    word == name.as_bytes()
+    let name = name.as_bytes();
+    word.len() == name.len() && word.starts_with(name)
 }
 
 /// Returns the priority, 1 to 99, that the word spells, or `None` where it spells none.
@@ -85,6 +89,35 @@ pub(crate) fn number_of(word: &[u8]) -> Option<u16>
         [b'1'..=b'9', ..] => value_of(word),
         _ => None,
     }
+}
+
+/// Cuts off the first word, and returns the number, 1 to 65535, that it spells, and the bytes behind its separator; or `None`
+/// where it spells none.
+///
+/// The number is read on the way to the separator, so that each of its digits is looked at once.
+pub(crate) fn cut_number(bytes: &[u8]) -> Option<(u16, Option<&[u8]>)>
+    ensures { MatchOption result
+        ((n : ℕ) (ws : List (List ℕ)) → IsNumber n → words bytes.now ≡ decimal n ∷ ws → ⊥)
+        (λ read. IsNumber read.0 × (words bytes.now ≡ decimal read.0 ∷ pieces SPACE read.1)) }
+{
+    if bytes.is_empty() {
+        return None;
+    }
+    if bytes[0] < b'1' {
+        return None;
+    }
+    let mut value = 0;
+    for place in 0..bytes.len() {
+        if bytes[place] == b' ' {
+            return Some((value as u16, Some(&bytes[place + 1..])));
+        }
+        let digit = digit_of(bytes[place])?;
+        value = value * 10 + u32::from(digit);
+        if value > 65_535 {
+            return None;
+        }
+    }
+    Some((value as u16, None))
 }
 
 /// Returns the value of a word of digits, where it is at most 65535, or `None`.
