@@ -1,12 +1,14 @@
 -- Whose local priority alone a single change may change.
-use Rattle.std.proofs.Common.{◌≡◌, ℕ, sym, ◌∙◌, ap, arith, Option, Some, None, option_and_then}
+use Rattle.std.proofs.Common.{◌≡◌, ℕ, sym, ◌∙◌, ap, arith, Option, Some, None, false, option_and_then}
 use Rattle.std.proofs.lemmas.Option.{none-some, same_Some}
-use Rattle.pim_base.specs.State.{State, IsState, IsTask, owner_of, wait_of, protocol_of, with_owner, with_wait, with_base}
+use Rattle.pim_base.specs.State.{State, IsState, IsTask, owner_of, wait_of, protocol_of, with_owner, with_wait, with_base, with_ceiling}
 use Rattle.pim_base.specs.Chains.{blocker, heir_of}
+use Rattle.pim_base.specs.Checks.{not_protect}
 use Rattle.pim_base.specs.declared.steps.Wait.{Wait}
 use Rattle.pim_base.proofs.Stored.{heir_in-owner, heir-blocker}
 use Rattle.pim_chain.specs.Settled.{SettledBut}
 use Rattle.pim_chain.proofs.Changes.{AtMost, DiffersAt, differs_settled, differs_owner, differs_wait, differs_base}
+use Rattle.pim_chain.proofs.Ceilings.{differs_ceiling}
 
 -- no task is number 0
 settled_all : (S : State) (stored : ℕ → ℕ) → SettledBut S stored (Some 0) → SettledBut S stored None
@@ -60,3 +62,11 @@ left_unsettles S stored t lists known settled =
 
 pub based_unsettles : (S : State) (stored : ℕ → ℕ) (t p : ℕ) → SettledBut S stored None → SettledBut (with_base S t p) stored (Some t)
 based_unsettles S stored t p settled = differs_settled S (with_base S t p) stored t (differs_base S t p) settled
+
+pub ceiling_unsettles :
+    (S : State) (stored : ℕ → ℕ) (m c : ℕ)
+    → not_protect S m ≡ false
+    → SettledBut S stored None
+    → SettledBut (with_ceiling S m c) stored (owner_of S m)
+ceiling_unsettles S stored m c protect settled =
+    but S (with_ceiling S m c) stored settled (owner_of S m) (λ x owner. differs_ceiling S m c x protect owner)

@@ -3,7 +3,7 @@
 ghost use Rattle.std.specs.Prelude.{◌≡◌, ◌↔◌, IsTrue, ℕ, Some};
 ghost use Rattle.pim_base.specs.Lists.{holds};
 ghost use Rattle.pim_base.specs.State.{owner_of, wait_of};
-ghost use Rattle.pim_base.specs.Checks.{unknown_task, unknown_mutex, is_waiting, is_owned, above_ceiling};
+ghost use Rattle.pim_base.specs.Checks.{unknown_task, unknown_mutex, is_waiting, is_owned, owned_by_another, above_ceiling};
 
 use crate::tables::Tables;
 use pim_base::{MutexNo, TaskNo};
@@ -35,6 +35,13 @@ impl Tables {
         ensures { result ≡ is_owned self.now.state mutex }
     {
         self.owner(mutex).is_some()
+    }
+
+    /// Returns whether a task other than this one owns the mutex.
+    pub fn is_owned_by_another(&self, task: TaskNo, mutex: MutexNo) -> bool
+        ensures { result ≡ owned_by_another self.now.state task mutex }
+    {
+        self.owner(mutex).is_some_and(|owner| owner != task)
     }
 
     /// Returns whether the task owns the mutex.

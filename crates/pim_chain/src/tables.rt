@@ -5,8 +5,9 @@ ghost use Rattle.std.specs.List.{filter};
 ghost use Rattle.std.specs.Option.{option_copied};
 ghost use Rattle.pim_base.specs.declared.limits.TheConstants.{MAX_TASKS, MAX_MUTEXES};
 ghost use Rattle.pim_base.specs.Lists.{nth, first_item};
-ghost use Rattle.pim_base.specs.State.{IsTask, IsMutex, task_numbers, base_of, protocol_of, owner_of, owned, wait_of, with_owner, with_base};
+ghost use Rattle.pim_base.specs.State.{IsTask, IsMutex, task_numbers, base_of, protocol_of, owner_of, owned, wait_of, with_owner, with_base, with_ceiling};
 ghost use Rattle.pim_base.specs.Chains.{blocker, heir_of, closes_cycle};
+ghost use Rattle.pim_base.specs.Checks.{not_protect};
 ghost use Rattle.pim_base.specs.Priorities.{ceiling};
 ghost use Rattle.pim_base.specs.declared.steps.Wait.{Wait};
 ghost use Rattle.pim_chain.specs.Views.{Ready, fresh, with_state, queue_at, stored_at, waiter_at};
@@ -298,6 +299,16 @@ impl Tables {
         ensures ready { Ready self.new }
     {
         put(&mut self.base, task.get(), prio);
+    }
+
+    /// Gives the mutex, which must be a PROTECT one, this ceiling.
+    pub fn put_ceiling(&mut self, mutex: MutexNo, ceiling: Prio)
+        requires { not_protect self.old.state mutex ≡ false }
+        ensures state { self.new ≡ with_state self.old (with_ceiling self.old.state mutex ceiling) }
+        ensures unsettles { Unsettles self.old self.new (owner_of self.old.state mutex) }
+        ensures ready { Ready self.new }
+    {
+        put(&mut self.protocol, mutex.get(), Protocol::Protect(ceiling));
     }
 
     /// Lets the task, which must wait for nothing, wait for the mutex with this ticket, which no task there must have. The

@@ -23,6 +23,8 @@ enum Event {
     Cancel(u16),
     // the task has another base
     Base(u16, u16),
+    // the mutex has another ceiling
+    Ceiling(u16, u16),
 }
 
 // what happens, how many visits that takes, and the stored priorities of all tasks then
@@ -160,6 +162,24 @@ fn set_base(rt: &impl Abort, tables: &mut Tables, task: TaskNo, level: u16, visi
     settle(rt, tables, task, visits);
 }
 
+fn set_ceiling(
+    rt: &impl Abort,
+    tables: &mut Tables,
+    mutex: MutexNo,
+    level: u16,
+    visits: &mut Visits,
+)
+    requires { SettledBut tables.old.state (stored_at tables.old) None }
+    ensures { SettledBut tables.new.state (stored_at tables.new) None }
+{
+    assert!(rt; tables.ceiling(mutex).is_some());
+    let owner = tables.owner(mutex);
+    tables.put_ceiling(mutex, prio(rt, level));
+    if let Some(owner) = owner {
+        settle(rt, tables, owner, visits);
+    }
+}
+
 fn happen(rt: &impl Abort, tables: &mut Tables, event: Event, ticket: u64, visits: &mut Visits)
     requires { SettledBut tables.old.state (stored_at tables.old) None }
     ensures { SettledBut tables.new.state (stored_at tables.new) None }
@@ -174,6 +194,7 @@ fn happen(rt: &impl Abort, tables: &mut Tables, event: Event, ticket: u64, visit
         Event::Unlock(mutex) => unlock(rt, tables, MutexNo(mutex), visits),
         Event::Cancel(task) => cancel(rt, tables, TaskNo(task), visits),
         Event::Base(task, level) => set_base(rt, tables, TaskNo(task), level, visits),
+        Event::Ceiling(mutex, level) => set_ceiling(rt, tables, MutexNo(mutex), level, visits),
     }
 }
 
@@ -336,6 +357,29 @@ fn walks_stop_early(rt: HostRuntime) -> Result<(), Fail> {
         step(Event::Cancel(3), 1, &[10, 50, 50]),
     ];
     play(&rt, &mut equal, &rows);
+    Ok(())
+}
+
+// what the owner of a PROTECT mutex hands on, as its ceiling changes
+#[test]
+fn another_ceiling_reaches_the_owner_and_its_heir(rt: HostRuntime) -> Result<(), Fail> {
+    let protocols = [Protocol::Protect(prio(&rt, 50)), INHERIT];
+    let mut tables = tables(&rt, rt.alloc(), &[20, 40, 10], &protocols)?;
+    let rows = [
+        step(Event::Ceiling(1, 45), 0, &[20, 40, 10]),
+        step(Event::Lock(3, 2), 1, &[20, 40, 10]),
+        step(Event::Lock(1, 1), 1, &[45, 40, 10]),
+        step(Event::Lock(1, 2), 1, &[45, 40, 45]),
+        step(Event::Ceiling(1, 30), 2, &[30, 40, 30]),
+        step(Event::Ceiling(1, 30), 1, &[30, 40, 30]),
+        step(Event::Ceiling(1, 60), 2, &[60, 40, 60]),
+        step(Event::Ceiling(1, 15), 2, &[20, 40, 20]),
+    ];
+    play(&rt, &mut tables, &rows);
+    assert_eq!(rt; tables.ceiling(MutexNo(1)), Prio::new(15));
+    assert_eq!(rt; tables.ceiling(MutexNo(2)), None);
+    assert_eq!(rt; tables.is_owned_by_another(TaskNo(2), MutexNo(1)), true);
+    assert_eq!(rt; tables.is_owned_by_another(TaskNo(1), MutexNo(1)), false);
     Ok(())
 }
 

@@ -28,6 +28,7 @@ bases_after S step =
       hand = λ T m same. ap length (base-hand_over T m) ∙ same;
       withdraw = λ T t same. same;
       set_base = λ T t p same. length-put T.base t p ∙ same;
+      set_ceiling = λ T m p same _. same;
     }) S step refl
 
 -- where nothing was noted before, the tasks that differ from the notes are those that changed

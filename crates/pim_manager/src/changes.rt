@@ -2,8 +2,9 @@
 //! changed.
 
 ghost use Rattle.std.specs.Prelude.{◌≡◌, ◌≤◌, ◌<◌, ◌+◌, ◌-◌, ◌^◌, Some, None, false};
-ghost use Rattle.pim_base.specs.State.{IsTask, IsMutex, owner_of, wait_of, with_owner, with_wait, with_base, queued};
+ghost use Rattle.pim_base.specs.State.{IsTask, IsMutex, owner_of, wait_of, with_owner, with_wait, with_base, with_ceiling, queued};
 ghost use Rattle.pim_base.specs.Chains.{blocker, closes_cycle};
+ghost use Rattle.pim_base.specs.Checks.{not_protect};
 ghost use Rattle.pim_base.specs.Counts.{changed_task_count, handed_mutex_count};
 ghost use Rattle.pim_base.specs.Queues.{first_of};
 ghost use Rattle.pim_base.specs.Steps.{hand_over};
@@ -78,6 +79,20 @@ impl Manager {
     {
         self.tables.put_base(task, prio);
         self.tables.settle_from(task, visits);
+    }
+
+    /// Gives the PROTECT mutex this ceiling.
+    pub(crate) fn set_ceiling(&mut self, mutex: MutexNo, ceiling: Prio, visits: &mut Visits)
+        requires protect { not_protect self.old mutex ≡ false }
+        requires room { visits.old.count ≤ 2 ^ 32 - 1 - MAX_TASKS }
+        ensures state { self.new ≡ with_ceiling self.old mutex ceiling }
+        ensures work { Worked self.old visits.old self.new visits.new }
+        ensures most { visits.new.count ≤ visits.old.count + 1 + changed_task_count self.old self.new }
+    {
+        self.tables.put_ceiling(mutex, ceiling);
+        if let Some(owner) = self.tables.owner(mutex) {
+            self.tables.settle_from(owner, visits);
+        }
     }
 
     /// Takes the mutex from its owner, who doesn't wait, and hands it to the first waiter, if

@@ -33,6 +33,7 @@ impl Manager {
             Op::ReleaseAll => self.answer_release_all(actor, visits),
             Op::Cancel(task) => self.answer_cancel(actor, task, visits),
             Op::SetBase(task, level) => self.answer_set_base(actor, task, level, visits),
+            Op::SetCeiling(mutex, level) => self.answer_set_ceiling(actor, mutex, level, visits),
         }
     }
 
@@ -175,5 +176,35 @@ impl Manager {
             }
             None => Reply::Refused(Refusal::Priority),
         }
+    }
+
+    /// Answers the change of a ceiling, which the owner may ask for, too.
+    fn answer_set_ceiling(
+        &mut self,
+        actor: TaskNo,
+        mutex: MutexNo,
+        level: u16,
+        visits: &mut Visits,
+    ) -> Reply
+        requires { visits.old.count ≡ 0 }
+        ensures reply { result ≡ answer self.old actor (Op.SetCeiling mutex level) }
+        ensures state { self.new ≡ after_reply self.old actor (Op.SetCeiling mutex level) result }
+        ensures work { Worked self.old visits.old self.new visits.new }
+        ensures most { visits.new.count ≤ 1 + changed_task_count self.old self.new }
+    {
+        if self.tables.is_unknown_mutex(mutex) {
+            return Reply::Refused(Refusal::NoMutex);
+        }
+        if self.tables.ceiling(mutex).is_none() {
+            return Reply::Refused(Refusal::NotProtect);
+        }
+        let Some(ceiling) = Prio::new(level) else {
+            return Reply::Refused(Refusal::Priority);
+        };
+        if self.tables.is_owned_by_another(actor, mutex) {
+            return Reply::Refused(Refusal::Busy);
+        }
+        self.set_ceiling(mutex, ceiling, visits);
+        Reply::Set
     }
 }

@@ -2,7 +2,7 @@
 //! pim_agreement.
 
 use crate::{ChangedTask, ChangedTasks, Done, MakeFault, Manager};
-use Op::{Cancel, Lock, ReleaseAll, SetBase, Try, Unlock};
+use Op::{Cancel, Lock, ReleaseAll, SetBase, SetCeiling, Try, Unlock};
 use Protocol::Inherit;
 use pim_base::{
     MAX_MUTEXES, MAX_TASKS, MutexNo, Op, Prio, Protocol, Reason, Refusal, Reply, Step, TaskNo,
@@ -87,6 +87,68 @@ fn step_tells_its_visits(rt: HostRuntime) -> Result<(), Fail> {
     ] {
         assert_eq!(rt; manager.step(step), Done { reply, visits }, "{step:?}");
     }
+    Ok(())
+}
+
+/// The task at this priority, because of the ceiling of the first mutex.
+fn at_ceiling(task: u16, level: u16) -> Option<(u16, u16, Reason)> {
+    Some((task, level, Reason::Ceiling(FIRST)))
+}
+
+#[test]
+fn ceilings_that_change(rt: HostRuntime) -> Result<(), Fail> {
+    let protocols = [Protocol::Protect(prio(&rt, 50)), Protocol::None];
+    let mut manager = made(rt.alloc(), &[20, 40], &protocols)?;
+    let mut changed = ChangedTasks::new(rt.alloc())?;
+    let refused = Reply::Refused;
+    for (step, reply, visits, listed) in [
+        (by(1, Lock(FIRST)), Reply::Granted, 1, at_ceiling(1, 50)),
+        (
+            by(1, SetCeiling(FIRST, 30)),
+            Reply::Set,
+            1,
+            at_ceiling(1, 30),
+        ),
+        (
+            by(2, SetCeiling(FIRST, 60)),
+            refused(Refusal::Busy),
+            0,
+            None,
+        ),
+        (by(2, Lock(FIRST)), refused(Refusal::Ceiling), 0, None),
+        (
+            by(1, SetCeiling(FIRST, 10)),
+            Reply::Set,
+            1,
+            Some((1, 20, Reason::Base)),
+        ),
+        (
+            by(1, SetCeiling(MutexNo(2), 30)),
+            refused(Refusal::NotProtect),
+            0,
+            None,
+        ),
+        (
+            by(1, SetCeiling(FIRST, 100)),
+            refused(Refusal::Priority),
+            0,
+            None,
+        ),
+        (by(1, Unlock(FIRST)), Reply::Freed, 1, None),
+        (by(2, SetCeiling(FIRST, 45)), Reply::Set, 0, None),
+        (by(2, Lock(FIRST)), Reply::Granted, 1, at_ceiling(2, 45)),
+    ] {
+        let done = manager.step_with_changes(step, &mut changed);
+        assert_eq!(rt; done, Done { reply, visits }, "{step:?}");
+        let shown = changed.as_slice().first();
+        let shown = shown.map(|one| (one.task.get(), one.prio.get(), one.reason));
+        assert_eq!(rt; shown, listed, "{step:?}");
+        assert!(rt; changed.as_slice().len() <= 1);
+    }
+    assert_eq!(rt;
+        manager.protocol(FIRST),
+        Prio::new(45).map(Protocol::Protect)
+    );
     Ok(())
 }
 
