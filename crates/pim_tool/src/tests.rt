@@ -7,6 +7,7 @@ mod command_words;
 mod expected;
 mod failing_ends;
 mod odd_sizes;
+mod pages;
 mod refusals;
 mod running;
 mod running_ends;
