@@ -2,8 +2,11 @@
 import re
 
 NUMBER = rb"(?:[1-9][0-9]{0,4})"
-STEP = rb"(%N) (?:(?:lock|try|unlock|cancel) %N|release|base %N %N)".replace(b"%N", NUMBER)
-NAMES = rb"no-task|waiting|no-mutex|deadlock|ceiling|busy|not-owner|not-waiting|priority|tickets"
+STEP = rb"(%N) (?:(?:lock|try|unlock|cancel) %N|release|(?:base|ceil) %N %N)".replace(b"%N", NUMBER)
+NAMES = (
+    rb"no-task|waiting|no-mutex|deadlock|ceiling|busy|not-owner|not-waiting|priority|tickets"
+    rb"|not-protect"
+)
 REPLY = (
     rb"granted|queued|freed|withdrawn|set|handed %N|released (?:0|%N)|refused (?:%R)"
 ).replace(b"%N", NUMBER).replace(b"%R", NAMES)
@@ -11,6 +14,8 @@ REPLY = (
 TASK = re.compile(rb"task (%N) (%N)".replace(b"%N", NUMBER))
 MUTEX = re.compile(rb"mutex (%N) (?:none|inherit|protect (%N))".replace(b"%N", NUMBER))
 STEP_LINE = re.compile(rb"%S( = (?:%R))?".replace(b"%S", STEP).replace(b"%R", REPLY))
+# What has come with version 2.
+LATER = re.compile(rb"[0-9]+ ceil .*|.* = refused not-protect")
 LIMITS = {"task": 256, "mutex": 256, "step": 65_536}
 PARTS = ["task", "mutex", "step"]
 
@@ -24,11 +29,13 @@ def lines_of(text):
 def first_bad_line(text, script=False):
     """Returns the number of the first invalid line, or None where the text is valid."""
     lines = lines_of(text)
-    if not lines or lines[0] != b"pim 1":
+    if not lines or lines[0] not in (b"pim 1", b"pim 2"):
         return 1
     counts, reached = dict.fromkeys(PARTS, 0), 0
     for number, line in enumerate(lines[1:], 2):
         part = part_of(line, counts, script)
+        if lines[0] == b"pim 1" and LATER.fullmatch(line):
+            return number
         if part is None or PARTS.index(part) < reached or counts[part] == LIMITS[part]:
             return number
         reached = PARTS.index(part)

@@ -11,8 +11,9 @@ use std::fs::File;
 use std::{fs, io};
 
 /// The names of the traces in data/, each with its report beside it.
-const EXAMPLES: [&str; 6] = [
+const EXAMPLES: [&str; 7] = [
     "boost_through_a_chain",
+    "ceiling_lowered",
     "ceilings",
     "deadlock_refused",
     "inversion_avoided",

@@ -140,7 +140,7 @@ impl Draw {
 
     /// Draws what a task asks for: mostly a lock, or to unlock what it locked last.
     fn op(&mut self, actor: TaskNo) -> Op {
-        match self.below(20) {
+        match self.below(22) {
             0..9 => {
                 self.last = self.mutex();
                 Op::Lock(self.last)
@@ -151,7 +151,8 @@ impl Draw {
             16 => Op::ReleaseAll,
             17 => Op::Cancel(self.task()),
             18 => Op::SetBase(self.task(), self.below(110)),
-            _ => Op::SetBase(actor, 1 + self.below(99)),
+            19 => Op::SetBase(actor, 1 + self.below(99)),
+            _ => Op::SetCeiling(self.mutex(), 40 + self.below(70)),
         }
     }
 }

@@ -61,6 +61,10 @@ pub puts_page : {a b c : Told} {whole left : List ℕ} (page : List ℕ) → Put
 puts_page {a} {b} {c} {whole} {left} page first second =
     puts_last page [] [] refl (subst (λ (t : List ℕ). Puts a b whole t) (sym (append-nil page)) first) second
 
+-- and then nothing is left
+pub puts_all : {a b c : Told} {whole left : List ℕ} (page : List ℕ) → left ≡ [] → Puts a b whole page → Puts b c (page ++ []) left → Puts a c whole []
+puts_all {a} {b} {c} {whole} {left} page none first second = subst (λ (l : List ℕ). Puts a c whole l) none (puts_page page first second)
+
 pub stops_page : {a b c : Told} {whole : List ℕ} {fault : Fault} (page : List ℕ) → Puts a b whole page → Stops b c (page ++ []) fault → Stops a c whole fault
 stops_page {a} {b} {c} {whole} {fault} page first second =
     stops_next page [] [] [] refl (subst (λ (t : List ℕ). Puts a b whole t) (sym (append-nil page)) first) second

@@ -36,6 +36,7 @@ before_op w (Op.Unlock m) = refl
 before_op w Op.ReleaseAll = refl
 before_op w (Op.Cancel t) = refl
 before_op w (Op.SetBase t p) = refl
+before_op w (Op.SetCeiling m p) = refl
 
 -- words before other words
 join-append : (v : List ℕ) (vs : List (List ℕ)) (w : List ℕ) (ws : List (List ℕ))
@@ -60,18 +61,23 @@ entries_are : (es : List Entry) → flat_map ended (map spelled (map lines.Step 
 entries_are [] = refl
 entries_are (e ∷ es) = ap (λ bs. entry_text e ++ bs) (entries_are es)
 
+-- four texts, one after another
+in_front : (first tasks mutexes entries : List ℕ) → first ++ (tasks ++ (mutexes ++ entries)) ≡ (first ++ (tasks ++ mutexes)) ++ entries
+in_front first tasks mutexes entries = simp append_assoc
+
 -- what is declared, and the entries
 pub text_is : (t : Trace) (es : List Entry) → text_of (recording t es) ≡ declarations_text t ++ flat_map entry_text es
 text_is t es =
+    let first : List ℕ = ended (version_line t.version) in
     let tasks : List Line = task_lines 1 t.bases in
     let mutexes : List Line = mutex_lines 1 t.protocols in
     let steps : List Line = map lines.Step (map entry_line es) in
-    ap (λ ls. ended version_line ++ flat_map ended ls)
+    ap (λ ls. first ++ flat_map ended ls)
     (map-append spelled tasks (mutexes ++ steps) ∙ ap (λ ls. map spelled tasks ++ ls) (map-append spelled mutexes steps))
-    ∙ ap (λ bs. ended version_line ++ bs)
+    ∙ ap (λ bs. first ++ bs)
     (flat_map-append ended (map spelled tasks) (map spelled mutexes ++ map spelled steps)
     ∙ ap (λ bs. tasks_text 1 t.bases ++ bs) (flat_map-append ended (map spelled mutexes) (map spelled steps) ∙ ap (λ bs. mutexes_text 1 t.protocols ++ bs) (entries_are es)))
-    ∙ simp append_assoc
+    ∙ in_front first (tasks_text 1 t.bases) (mutexes_text 1 t.protocols) (flat_map entry_text es)
 
 -- the entries from one on
 pub entries_next : (es : List Entry) (i : ℕ) (e : Entry) → i < length es → e ≡ get_or es i e

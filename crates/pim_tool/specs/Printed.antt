@@ -49,7 +49,7 @@ mutexes_text n protocols = flat_map ended (map spelled (mutex_lines n protocols)
 
 -- the lines above the steps: the version, and what the text declares
 abbrev pub declarations_text : Trace → List ℕ
-declarations_text t = ended version_line ++ (tasks_text 1 t.bases ++ mutexes_text 1 t.protocols)
+declarations_text t = ended (version_line t.version) ++ (tasks_text 1 t.bases ++ mutexes_text 1 t.protocols)
 
 -- the line of the entry
 abbrev pub entry_text : Entry → List ℕ

@@ -27,17 +27,19 @@ To judge a trace: pim < TRACE
       task 1 at 50 waiter 2 mutex 1
     accepted 2
 
-Line 1 is 'pim 1'. Then come the tasks with their base priorities, then the mutexes with their protocols, then the
-steps, one a line. Tasks are numbered from 1 without a gap, and so are mutexes. Words are one space apart; there
-is no blank line, no comment and no carriage return.
+Line 1 is 'pim 1' or 'pim 2', the version of the text. Then come the tasks with their base priorities, then the
+mutexes with their protocols, then the steps, one a line. Tasks are numbered from 1 without a gap, and so are
+mutexes. Words are one space apart; there is no blank line, no comment and no carriage return.
 
 Lines: task <n> <base>; mutex <n> none | inherit | protect <ceiling>; <task> lock | try | unlock <mutex>;
-<task> release; <task> cancel <task>; <task> base <task> <priority>.
+<task> release; <task> cancel <task>; <task> base <task> <priority>; and where line 1 is 'pim 2',
+<task> ceil <mutex> <ceiling>.
 Limits: priorities and ceilings 1 to 99, 99 the highest; 256 tasks, 256 mutexes, 65536 steps.
 
 A step may end with ' = <reply>', the reply that was recorded; the report ends at the first that differs.
 Replies: granted, queued, freed, handed <task>, released <count>, withdrawn, set, refused <name>. The names:
-no-task, waiting, no-mutex, deadlock, ceiling, busy, not-owner, not-waiting, priority, tickets.
+no-task, waiting, no-mutex, deadlock, ceiling, busy, not-owner, not-waiting, priority, tickets; and where line 1 is
+'pim 2', not-protect.
 
 To run a script, with a thread for each of its tasks, of which there are at most 16: pim run < SCRIPT
 
@@ -49,8 +51,9 @@ To run a script, with a thread for each of its tasks, of which there are at most
     1 release = released 1
 
 A script has the lines of a trace, but no recorded reply, and each step is that of a declared task. Each task makes
-its steps in their order, and then a release; the trace has the steps of all tasks as they came. To judge it:
-pim run < SCRIPT | pim judge, or for the last line of that report alone: pim check < SCRIPT
+its steps in their order, and then a release; the trace has the version and the declarations of the script, and the
+steps of all tasks as they came. To judge it: pim run < SCRIPT | pim judge, or for the last line of that report alone:
+pim check < SCRIPT
 
 Input is standard input, results go to standard output, faults to standard error.
 Exit status: 0 accepted, 1 rejected, 2 any fault: 'pim: line <n>' where line n is the first that is invalid,

@@ -64,18 +64,21 @@ impl Page {
         ensures { IfOk result (λ page. page ≡ declarations_text (trace_of text.now)) }
     {
         let mut page = Page::new(alloc)?;
-        page.version()?;
+        page.version(text.version)?;
         page.tasks(&text.bases)?;
         page.mutexes(&text.protocols)?;
         Ok(page)
     }
 
     /// Adds the first line, which names the version of the format.
-    fn version(&mut self) -> Result<(), AllocError>
-        ensures { OnOk result (self.new ≡ self.old ++ ended version_line) }
+    fn version(&mut self, version: u8) -> Result<(), AllocError>
+        ensures { OnOk result (self.new ≡ self.old ++ ended (version_line version)) }
     {
         make_room(&mut self.row, self.used)?;
-        self.used = put(self.row.as_mut_slice(), self.used, b"pim 1\n");
+        let row = self.row.as_mut_slice();
+        let at = put(row, self.used, b"pim ");
+        let at = put_number(&self.numerals, row, at, u32::from(version));
+        self.used = put(row, at, b"\n");
         Ok(())
     }
 
@@ -170,6 +173,10 @@ fn put_op(numerals: &Numerals, row: &mut [u8], at: usize, op: &Op) -> usize
         Op::Cancel(task) => put_with(numerals, row, at, b"cancel ", task.get()),
         Op::SetBase(task, level) => {
             let at = put_with(numerals, row, at, b"base ", task.get());
+            put_with(numerals, row, at, b" ", *level)
+        }
+        Op::SetCeiling(mutex, level) => {
+            let at = put_with(numerals, row, at, b"ceil ", mutex.get());
             put_with(numerals, row, at, b" ", *level)
         }
     }

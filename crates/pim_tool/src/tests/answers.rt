@@ -83,6 +83,23 @@ fn version_alone_is_accepted_and_no_line_is_not(rt: HostRuntime) {
     expect_report(&rt, "pim 1", "accepted 0\n", Accepted(0));
     expect_report(&rt, "pim 1\n", "accepted 0\n", Accepted(0));
     expect_line(&rt, b"pim 1\n\n", 2);
+    expect_report(&rt, "pim 2", "accepted 0\n", Accepted(0));
+    expect_line(&rt, b"pim 3", 1);
+}
+
+#[test]
+fn lines_of_version_2_are_invalid_in_version_1(rt: HostRuntime) {
+    let report = "1 refused no-task\naccepted 1\n";
+    expect_line(&rt, b"pim 1\n1 ceil 1 10", 2);
+    expect_report(&rt, "pim 2\n1 ceil 1 10", report, Accepted(1));
+    let report = "1 refused no-task but recorded refused not-protect\nrejected 1\n";
+    expect_line(&rt, b"pim 1\n1 lock 1 = refused not-protect", 2);
+    expect_report(
+        &rt,
+        "pim 2\n1 lock 1 = refused not-protect",
+        report,
+        Rejected(1),
+    );
 }
 
 #[test]

@@ -157,6 +157,45 @@ accepted 7
 }
 
 #[test]
+fn ceiling_is_set_while_the_mutex_is_free_or_ones_own(rt: HostRuntime) {
+    let text = "\
+pim 2
+task 1 20
+task 2 40
+mutex 1 protect 50
+mutex 2 none
+1 lock 1
+1 ceil 1 30
+2 ceil 1 60
+2 lock 1
+1 ceil 1 10
+1 ceil 2 30
+1 ceil 1 100
+1 unlock 1
+2 ceil 1 45
+2 lock 1
+";
+    let report = "\
+1 granted
+  task 1 at 50 ceiling 1
+2 set
+  task 1 at 30 ceiling 1
+3 refused busy
+4 refused ceiling
+5 set
+  task 1 at 20 base
+6 refused not-protect
+7 refused priority
+8 freed
+9 set
+10 granted
+  task 2 at 45 ceiling 1
+accepted 10
+";
+    expect_report(&rt, text, report, Accepted(10));
+}
+
+#[test]
 fn task_whose_reason_alone_changed_has_no_line(rt: HostRuntime) {
     let text = "\
 pim 1

@@ -50,6 +50,8 @@ fn help_teaches_the_text_and_the_statuses(rt: HostRuntime) -> Result<(), Fail> {
         "run",
         "check",
         "task <n> <base>; mutex <n> none | inherit | protect <ceiling>",
+        "where line 1 is 'pim 2',\n<task> ceil <mutex> <ceiling>.\n",
+        "where line 1 is\n'pim 2', not-protect.\n",
         "    $ printf 'pim 1\\ntask 1 10\\ntask 2 50\\nmutex 1 inherit\\n1 lock 1\\n2 lock 1\\n' | pim\n",
         "    2 queued\n      task 1 at 50 waiter 2 mutex 1\n    accepted 2\n",
         "    $ printf 'pim 1\\ntask 1 10\\nmutex 1 protect 40\\n1 lock 1\\n' | pim run\n    pim 1\n",

@@ -90,6 +90,69 @@ mutex 3 protect 40
 }
 
 #[test]
+fn trace_has_the_version_of_its_script(rt: HostRuntime) -> Result<(), Fail> {
+    // A mutex line says the ceiling that the script declares, and not the one that was set last.
+    let trace = "\
+pim 2
+task 1 20
+mutex 1 protect 50
+mutex 2 none
+1 ceil 1 60 = set
+1 lock 1 = granted
+1 ceil 1 10 = set
+1 ceil 2 30 = refused not-protect
+1 ceil 1 100 = refused priority
+1 ceil 65535 65535 = refused no-mutex
+1 lock 1 = refused deadlock
+1 release = released 1
+";
+    let script = "\
+pim 2
+task 1 20
+mutex 1 protect 50
+mutex 2 none
+1 ceil 1 60
+1 lock 1
+1 ceil 1 10
+1 ceil 2 30
+1 ceil 1 100
+1 ceil 65535 65535
+1 lock 1
+";
+    let (answer, written) = ran(&rt, rt.alloc(), script.as_bytes());
+    assert_eq!(rt; answer, Ok(()));
+    assert_eq!(rt; written.text(), Some(trace));
+    let judged = judge_bytes(rt.alloc(), written.bytes())?;
+    assert_eq!(rt; judged.verdict, Accepted(8));
+    let (answer, written) = checked(&rt, rt.alloc(), script.as_bytes());
+    assert_eq!(rt; answer, Ok(Accepted(8)));
+    assert_eq!(rt; written.text(), Some("accepted 8\n"));
+    Ok(())
+}
+
+#[test]
+fn check_accepts_runs_in_which_a_task_lowers_a_ceiling(rt: HostRuntime) {
+    // Task 2 may wait for the mutex while task 1 lowers its ceiling, or find it free, and be refused or not.
+    let script = "\
+pim 2
+task 1 10
+task 2 30
+mutex 1 protect 40
+1 lock 1
+1 ceil 1 20
+1 unlock 1
+2 lock 1
+2 ceil 1 50
+2 unlock 1
+";
+    for turn in 0..100 {
+        let (answer, written) = checked(&rt, rt.alloc(), script.as_bytes());
+        assert_eq!(rt; answer, Ok(Accepted(8)), "{turn}");
+        assert_eq!(rt; written.text(), Some("accepted 8\n"), "{turn}");
+    }
+}
+
+#[test]
 fn check_accepts_the_steps_and_the_releases(rt: HostRuntime) {
     let (answer, written) = checked(&rt, rt.alloc(), SAME_ORDER.as_bytes());
     assert_eq!(rt; answer, Ok(Accepted(10)));
@@ -112,10 +175,14 @@ fn two_hundred_runs_are_accepted_and_no_waiting_task_asks(rt: HostRuntime) -> Re
 
 #[test]
 fn script_of_no_task_has_no_step(rt: HostRuntime) {
-    for script in ["pim 1", "pim 1\n"] {
+    for (script, trace) in [
+        ("pim 1", "pim 1\n"),
+        ("pim 1\n", "pim 1\n"),
+        ("pim 2", "pim 2\n"),
+    ] {
         let (answer, written) = ran(&rt, rt.alloc(), script.as_bytes());
         assert_eq!(rt; answer, Ok(()));
-        assert_eq!(rt; written.text(), Some("pim 1\n"));
+        assert_eq!(rt; written.text(), Some(trace));
         let (answer, written) = checked(&rt, rt.alloc(), script.as_bytes());
         assert_eq!(rt; answer, Ok(Accepted(0)));
         assert_eq!(rt; written.text(), Some("accepted 0\n"));
@@ -159,8 +226,10 @@ fn invalid_line_is_named_before_too_many_tasks(rt: HostRuntime) -> Result<(), Fa
 fn lines_of_a_trace_alone_are_invalid_in_a_script(rt: HostRuntime) {
     for (script, line) in [
         ("", 1),
-        ("pim 2", 1),
+        ("pim 3", 1),
         ("pim 1\ntask 2 10", 2),
+        ("pim 1\ntask 1 10\n1 ceil 1 10", 3),
+        ("pim 2\ntask 1 10\n1 ceil 1 10 = refused no-mutex", 3),
         ("pim 1\ntask 1 10\n1 release = released 0", 3),
         ("pim 1\ntask 1 10\n2 release", 3),
         ("pim 1\ntask 1 10\n1 release\n0 release", 4),

@@ -3,7 +3,7 @@ use Rattle.std.proofs.lemmas.Result.{MatchResult-weaker}
 use Rattle.pim_base.specs.Recordings.{recording, text_of}
 use Rattle.pim_text.specs.Reading.{trace_of}
 use Rattle.pim_tool.specs.Printed.{declarations_text}
-use Rattle.pim_tool.proofs.PrintingLemmas.{prints_err, stops_memory, puts_none, puts_page, stops_page}
+use Rattle.pim_tool.proofs.PrintingLemmas.{prints_err, stops_memory, puts_none, puts_all, stops_page}
 use Rattle.pim_tool.proofs.TraceLineLemmas.{puts_text, stops_text}
 use Rattle.pim_tool.proofs.trace.print_trace.Goals as goal
 
@@ -26,4 +26,4 @@ returns g c =
     let page : c.new-printer.result.page.now ≡ declarations_text (trace_of c.args.script.now) = c.new-printer.ensures.page ∙ c.in_ok-page.ensures in
     let first = puts_text (trace_of c.args.script.now) c.args.entries.now _ page c.in_ok-entries.ensures.prints in
     rw (told, begun)
-    (MatchResult-weaker c.write.result c.write.ensures.takes.prints (λ done h. rw (← c.write.ensures.all) (puts_page _ first h)) (λ fault h. stops_page _ first h))
+    (MatchResult-weaker c.write.result c.write.ensures.takes.prints (λ done h. puts_all _ c.write.ensures.all first h) (λ fault h. stops_page _ first h))
