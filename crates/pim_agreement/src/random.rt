@@ -5,6 +5,7 @@ ghost use Rattle.std.specs.Prelude.{◌≤◌, ◌<◌};
 use crate::scene::{Both, INHERIT, NONE, protect};
 use pim_base::{MutexNo, Op, Prio, Step, TaskNo};
 use pim_manager::ChangedTasks;
+use pim_plain::PlainManager;
 use rand_core::utils::NextWord;
 use rand_pcg::Pcg32;
 use std::process::Abort;
@@ -18,6 +19,7 @@ const MUTEXES: u16 = 7;
 fn below(random: &mut Pcg32, bound: u32) -> u16
     requires least { 0 < bound }
     requires most { bound ≤ 1000 }
+    ensures { result < bound }
 {
     (random.next_word() % bound) as u16
 }
@@ -32,8 +34,33 @@ fn mutex(random: &mut Pcg32) -> MutexNo {
     MutexNo(below(random, u32::from(MUTEXES) + 2))
 }
 
+// mostly one of the two PROTECT mutexes, which are the last, sometimes the one before or the number behind them
+fn protect_mutex(random: &mut Pcg32) -> MutexNo {
+    MutexNo(MUTEXES - 2 + below(random, 4))
+}
+
+// a level, sometimes 0 or above 99
+fn level(random: &mut Pcg32) -> u16 {
+    below(random, 110)
+}
+
+// another ceiling, mostly asked for by the owner where there is one
+fn ceiling_step(random: &mut Pcg32, plain: &PlainManager) -> Step {
+    let mutex = protect_mutex(random);
+    let by_owner = below(random, 4) > 0;
+    let actor = match plain.owner_of(mutex) {
+        Some(owner) if by_owner => owner,
+        _ => task(random),
+    };
+    let op = Op::SetCeiling(mutex, level(random));
+    Step { actor, op }
+}
+
 // any operation with numbers like these
-fn any_step(random: &mut Pcg32) -> Step {
+fn any_step(random: &mut Pcg32, plain: &PlainManager) -> Step {
+    if below(random, 6) == 0 {
+        return ceiling_step(random, plain);
+    }
     let actor = task(random);
     let op = match below(random, 12) {
         0..=4 => Op::Lock(mutex(random)),
@@ -41,7 +68,7 @@ fn any_step(random: &mut Pcg32) -> Step {
         6..=8 => Op::Unlock(mutex(random)),
         9 => Op::ReleaseAll,
         10 => Op::Cancel(task(random)),
-        _ => Op::SetBase(task(random), below(random, 110)),
+        _ => Op::SetBase(task(random), level(random)),
     };
     Step { actor, op }
 }
@@ -69,10 +96,15 @@ fn expect_same_tasks(
     }
 }
 
-// every mutex has the same owner and the same queue
+// every mutex has the same protocol, the same owner and the same queue
 fn expect_same_mutexes(rt: &impl Abort, both: &Both<'_, impl Abort>) -> Result<(), Fail> {
     for number in 1..MUTEXES + 1 {
         let mutex = MutexNo(number);
+        assert_eq!(rt;
+            both.manager.protocol(mutex),
+            both.plain.protocol(mutex),
+            "{mutex:?}"
+        );
         let owner = both.plain.owner_of(mutex);
         assert_eq!(rt; both.manager.owner(mutex), Some(owner), "{mutex:?}");
         both.queue(mutex)?;
@@ -89,7 +121,7 @@ fn expect_agreement(
 ) -> Result<(), Fail> {
     let mut random = Pcg32::new(seed, 54);
     for _step in 0..1000 {
-        let step = any_step(&mut random);
+        let step = any_step(&mut random, &both.plain);
         let mut before = [None; 7];
         for number in 1..TASKS + 1 {
             before[number as usize] = both.plain.effective(TaskNo(number));

@@ -2,10 +2,12 @@
 //! it, with its reason, as worked out by hand from the definitions.
 
 use crate::scene::{
-    Both, INHERIT, NONE, base, cancel, ceiling, handed, lock, protect, release, set_base, try_lock,
-    unlock, waiter,
+    Both, INHERIT, NONE, base, cancel, ceiling, handed, lock, protect, release, set_base,
+    set_ceiling, try_lock, unlock, waiter,
 };
-use Refusal::{Busy, Deadlock, NoMutex, NoTask, NotOwner, NotWaiting, Priority, Tickets, Waiting};
+use Refusal::{
+    Busy, Deadlock, NoMutex, NoTask, NotOwner, NotProtect, NotWaiting, Priority, Tickets, Waiting,
+};
 use Reply::{Freed, Granted, Queued, Refused, Released, Set, Withdrawn};
 use pim_base::{MutexNo, Prio, Refusal, Reply, TaskNo};
 use std::test::Fail;
@@ -21,6 +23,7 @@ fn unknown_numbers_are_refused(rt: HostRuntime) -> Result<(), Fail> {
         (unlock(1, 0), Refused(NoMutex), 0, [base(10)]),
         (cancel(1, 2), Refused(NoTask), 0, [base(10)]),
         (set_base(1, 2, 50), Refused(NoTask), 0, [base(10)]),
+        (set_ceiling(1, 2, 0), Refused(NoMutex), 0, [base(10)]),
     ] {
         both.expect_step(step, reply, visits, &tasks);
     }
@@ -189,6 +192,46 @@ fn ceiling_is_compared_with_the_base_at_the_lock_alone(rt: HostRuntime) -> Resul
 }
 
 #[test]
+fn ceiling_is_set_by_the_owner_or_of_a_free_mutex(rt: HostRuntime) -> Result<(), Fail> {
+    let mut both = Both::new(&rt, rt.alloc(), &[20, 40], &[protect(&rt, 50), NONE])?;
+    let lowered = [ceiling(30, 1), base(40)];
+    let bases = [base(20), base(40)];
+    for (step, reply, visits, tasks) in [
+        (lock(1, 1), Granted, 1, [ceiling(50, 1), base(40)]),
+        (set_ceiling(1, 1, 30), Set, 1, lowered),
+        (set_ceiling(2, 1, 60), Refused(Busy), 0, lowered),
+        (lock(2, 1), Refused(Refusal::Ceiling), 0, lowered),
+        (set_ceiling(1, 1, 10), Set, 1, bases),
+        (set_ceiling(1, 2, 30), Refused(NotProtect), 0, bases),
+        (set_ceiling(1, 1, 100), Refused(Priority), 0, bases),
+        (unlock(1, 1), Freed, 1, bases),
+        (set_ceiling(2, 1, 45), Set, 0, bases),
+        (lock(2, 1), Granted, 1, [base(20), ceiling(45, 1)]),
+    ] {
+        both.expect_step(step, reply, visits, &tasks);
+    }
+    Ok(())
+}
+
+#[test]
+fn lowered_ceiling_leaves_what_a_waiter_lends(rt: HostRuntime) -> Result<(), Fail> {
+    let protocols = [protect(&rt, 70), INHERIT];
+    let mut both = Both::new(&rt, rt.alloc(), &[10, 60], &protocols)?;
+    for (step, reply, visits, tasks) in [
+        (lock(1, 1), Granted, 1, [ceiling(70, 1), base(60)]),
+        (lock(1, 2), Granted, 1, [ceiling(70, 1), base(60)]),
+        (lock(2, 2), Queued, 1, [ceiling(70, 1), base(60)]),
+        (set_ceiling(1, 1, 40), Set, 1, [waiter(60, 2, 2), base(60)]),
+        (set_ceiling(1, 1, 60), Set, 1, [ceiling(60, 1), base(60)]),
+        (set_ceiling(1, 1, 65), Set, 1, [ceiling(65, 1), base(60)]),
+        (unlock(1, 1), Freed, 1, [waiter(60, 2, 2), base(60)]),
+    ] {
+        both.expect_step(step, reply, visits, &tasks);
+    }
+    Ok(())
+}
+
+#[test]
 fn owner_executes_at_the_highest_of_ceilings_and_waiters(rt: HostRuntime) -> Result<(), Fail> {
     let protocols = [protect(&rt, 30), protect(&rt, 50), INHERIT];
     let mut both = Both::new(&rt, rt.alloc(), &[10, 40], &protocols)?;
@@ -324,6 +367,8 @@ fn plain_manager_shows_each_fact(rt: HostRuntime) -> Result<(), Fail> {
     assert!(rt; !plain.is_unknown_task(three));
     assert!(rt; !plain.is_unknown_mutex(inherited));
     assert!(rt; plain.is_owned(protected));
+    assert!(rt; plain.is_owned_by_another(two, protected));
+    assert!(rt; !plain.is_owned_by_another(one, protected));
     assert!(rt; plain.is_waiting(two));
     assert!(rt; plain.is_above_ceiling(three, protected));
     assert_eq!(rt; plain.blocker(two), Some(one));

@@ -52,6 +52,11 @@ pub fn set_base(actor: u16, task: u16, level: u16) -> Step {
     step_of(actor, Op::SetBase(TaskNo(task), level))
 }
 
+/// Returns the step in which the actor gives the mutex this ceiling.
+pub fn set_ceiling(actor: u16, mutex: u16, level: u16) -> Step {
+    step_of(actor, Op::SetCeiling(MutexNo(mutex), level))
+}
+
 /// Returns the step in which the actor asks for this.
 fn step_of(actor: u16, op: Op) -> Step {
     Step {
