@@ -16,7 +16,7 @@ use std::cmp::Ordering;
 /// of each task, in order, are its script and then one release of all, and no other task has a step. The first script is
 /// that of task 1, and so on.
 ///
-/// Looks at each entry at most once for each script. It takes no memory, and waits for nobody.
+/// Looks at each entry at most once for each script. It takes no memory, and never waits.
 ///
 /// # Errors
 ///
