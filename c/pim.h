@@ -60,6 +60,7 @@
  *   pim_release_all      512   that for each mutex that the task owns
  *   pim_cancel           512   a queue, and the walk
  *   pim_set_base         512   the walk
+ *   pim_set_ceiling      512   the walk
  *   pim_changed          384   the mutexes of each task that is listed
  *   pim_waiters          256   what it copies
  *   pim_task_reason      256   the mutexes that the task owns
@@ -149,7 +150,7 @@ enum {
     PIM_HANDED = 4,     /* task `number` was the first waiter, and owns the mutex: it is to run on */
     PIM_RELEASED = 5,   /* `number` mutexes were unlocked; pim_owner says who owns one that had waiters */
     PIM_WITHDRAWN = 6,  /* the target waits no more: it is to run on, without the mutex */
-    PIM_SET = 7,        /* the target has the new base priority */
+    PIM_SET = 7,        /* the target has the new base priority, or the mutex the new ceiling */
     PIM_REFUSED = 8     /* nothing changed at all; `refusal` says why */
 };
 
@@ -161,11 +162,12 @@ enum {
     PIM_NO_MUTEX = 3,    /* the mutex is unknown (EINVAL) */
     PIM_DEADLOCK = 4,    /* the request would close a cycle of waits, its own mutex included (EDEADLK) */
     PIM_CEILING = 5,     /* the task's base priority is above the ceiling of a PROTECT mutex (EINVAL) */
-    PIM_BUSY = 6,        /* a try on a mutex that is owned (EBUSY) */
+    PIM_BUSY = 6,        /* a try on an owned mutex (EBUSY); a new ceiling of one that another owns */
     PIM_NOT_OWNER = 7,   /* the task doesn't own the mutex (EPERM) */
     PIM_NOT_WAITING = 8, /* the target of a cancel doesn't wait */
-    PIM_PRIORITY = 9,    /* the new base priority isn't 1 to 99 (EINVAL) */
-    PIM_TICKETS = 10     /* 2^64 - 2 waits were queued */
+    PIM_PRIORITY = 9,    /* the new base priority or the new ceiling isn't 1 to 99 (EINVAL) */
+    PIM_TICKETS = 10,    /* 2^64 - 2 waits were queued */
+    PIM_NOT_PROTECT = 11 /* a new ceiling of a mutex that isn't a PROTECT one (EINVAL) */
 };
 
 /* Why a task has its effective priority: the first of these that gives it. */
@@ -185,7 +187,7 @@ struct pim_protocol {
 
 struct pim_answer {
     uint8_t kind;    /* PIM_NO_MANAGER .. PIM_REFUSED */
-    uint8_t refusal; /* PIM_NO_TASK .. PIM_TICKETS, or 0 */
+    uint8_t refusal; /* PIM_NO_TASK .. PIM_NOT_PROTECT, or 0 */
     uint16_t number; /* the task that was handed the mutex, or how many mutexes were released, or 0 */
     uint32_t visits; /* how many priorities were computed */
 };
@@ -249,6 +251,12 @@ struct pim_answer pim_cancel(struct pim_handle *h, uint16_t task, uint16_t targe
 /* pthread_setschedprio: sets the base priority of the target (PIM_SET). Refused: PIM_NO_TASK,
  * PIM_WAITING, PIM_PRIORITY. */
 struct pim_answer pim_set_base(struct pim_handle *h, uint16_t task, uint16_t target, uint16_t prio);
+
+/* pthread_mutex_setprioceiling: sets the ceiling of the PROTECT mutex (PIM_SET). Unlike that call it
+ * locks nothing: the mutex is free, or the task that asks owns it, and then executes at the new
+ * ceiling at once. No base priority is compared, the owner's neither, so a ceiling may be below it.
+ * Refused: PIM_NO_TASK, PIM_WAITING, PIM_NO_MUTEX, PIM_NOT_PROTECT, PIM_PRIORITY, PIM_BUSY. */
+struct pim_answer pim_set_ceiling(struct pim_handle *h, uint16_t task, uint16_t mutex, uint16_t ceiling);
 
 /* ---- what the last step changed -------------------------------------------------------------- */
 

@@ -12,7 +12,7 @@
 #include <string.h>
 
 static const char *const REPLIES[] = { "no-manager", "granted", "queued", "freed", "handed", "released", "withdrawn", "set", "refused" };
-static const char *const REFUSALS[] = { "", "no-task", "waiting", "no-mutex", "deadlock", "ceiling", "busy", "not-owner", "not-waiting", "priority", "tickets" };
+static const char *const REFUSALS[] = { "", "no-task", "waiting", "no-mutex", "deadlock", "ceiling", "busy", "not-owner", "not-waiting", "priority", "tickets", "not-protect" };
 
 static struct pim_handle locks = PIM_HANDLE_INIT;
 static uint16_t bases[PIM_MAX_TASKS + 1];
@@ -135,6 +135,18 @@ static int read_mutex(const char *line) {
     return 1;
 }
 
+static struct pim_answer set_base(uint16_t task, uint16_t target, uint16_t prio) {
+    struct pim_answer answer = pim_set_base(&locks, task, target, prio);
+    if (answer.kind == PIM_SET) bases[target - 1] = prio;
+    return answer;
+}
+
+static struct pim_answer set_ceiling(uint16_t task, uint16_t mutex, uint16_t ceiling) {
+    struct pim_answer answer = pim_set_ceiling(&locks, task, mutex, ceiling);
+    if (answer.kind == PIM_SET) protocols[mutex - 1].ceiling = ceiling;
+    return answer;
+}
+
 /* Makes the step of a line; PIM_NO_MANAGER where it is none. */
 static struct pim_answer step(const char *line) {
     struct pim_answer none = { PIM_NO_MANAGER, 0, 0, 0 };
@@ -147,10 +159,9 @@ static struct pim_answer step(const char *line) {
     if (strcmp(op, "unlock") == 0) return pim_unlock(&locks, task, target);
     if (strcmp(op, "release") == 0) return pim_release_all(&locks, task);
     if (strcmp(op, "cancel") == 0) return pim_cancel(&locks, task, target);
-    if (strcmp(op, "base") != 0) return none;
-    struct pim_answer answer = pim_set_base(&locks, task, target, (uint16_t)second);
-    if (answer.kind == PIM_SET) bases[target - 1] = (uint16_t)second;
-    return answer;
+    if (strcmp(op, "base") == 0) return set_base(task, target, (uint16_t)second);
+    if (strcmp(op, "ceil") == 0) return set_ceiling(task, target, (uint16_t)second);
+    return none;
 }
 
 /* Makes the step of a line, and prints its lines of the report. Returns 0, or the status to end
@@ -177,7 +188,7 @@ int main(int argc, char **argv) {
     static char line[256], out[1 << 16];
     int checks = argc > 1 && strcmp(argv[1], "-check") == 0, status = 0;
     setvbuf(stdout, out, _IOFBF, sizeof out);
-    if (!fgets(line, sizeof line, stdin) || strncmp(line, "pim 1", 5) != 0) return 2;
+    if (!fgets(line, sizeof line, stdin) || (strcmp(line, "pim 1\n") != 0 && strcmp(line, "pim 2\n") != 0)) return 2;
     while (status == 0 && fgets(line, sizeof line, stdin)) {
         line[strcspn(line, "\n")] = 0;
         if (line[0] == 't') status = read_task(line) ? 0 : 2;

@@ -56,12 +56,13 @@ static void step_at_random(struct pim_handle *h) {
     struct pim_waiter *waiters = malloc(2 * sizeof *waiters);
     for (int i = 0; i < TURNS; i++) {
         uint16_t task = (uint16_t)(rand() % (TASKS + 2)), other = (uint16_t)(rand() % (TASKS + 2)), mutex = (uint16_t)(rand() % (MUTEXES + 2));
-        switch (rand() % 8) {
+        switch (rand() % 9) {
         case 0: pim_try(h, task, mutex); break;
         case 1: case 2: pim_unlock(h, task, mutex); break;
         case 3: pim_release_all(h, task); break;
         case 4: pim_cancel(h, task, other); break;
         case 5: pim_set_base(h, task, other, (uint16_t)(rand() % 101)); break;
+        case 6: pim_set_ceiling(h, task, mutex, (uint16_t)(rand() % 101)); break;
         default: pim_lock(h, task, mutex);
         }
         pim_changed(h, changed, (size_t)(rand() % 3));

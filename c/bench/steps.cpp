@@ -53,6 +53,7 @@ public:
             case Op::Release: return pim_release_all(&h, step.actor);
             case Op::Cancel: return pim_cancel(&h, step.actor, step.first);
             case Op::Base: return pim_set_base(&h, step.actor, step.first, step.second);
+            case Op::Ceil: return pim_set_ceiling(&h, step.actor, step.first, step.second);
         }
         std::exit(2);
     }

@@ -33,6 +33,7 @@ pub enum Op {
     ReleaseAll,
     Cancel(u16),
     SetBase(u16, u16),
+    SetCeiling(u16, u16),
 }
 
 /// Why a step is refused.
@@ -48,6 +49,7 @@ pub enum Refusal {
     NotWaiting,
     Priority,
     Tickets,
+    NotProtect,
     /// One of a later version of libpim.
     Other(u8),
 }
@@ -148,6 +150,7 @@ impl Manager {
                 Op::ReleaseAll => c::pim_release_all(h, task),
                 Op::Cancel(target) => c::pim_cancel(h, task, target),
                 Op::SetBase(target, prio) => c::pim_set_base(h, task, target, prio),
+                Op::SetCeiling(mutex, ceiling) => c::pim_set_ceiling(h, task, mutex, ceiling),
             }
         })
     }
@@ -235,6 +238,7 @@ impl Refusal {
             8 => Refusal::NotWaiting,
             9 => Refusal::Priority,
             10 => Refusal::Tickets,
+            11 => Refusal::NotProtect,
             other => Refusal::Other(other),
         }
     }
@@ -282,6 +286,12 @@ mod tests {
         );
         assert_eq!(locks.step(1, Op::Try(2)), Reply::Granted);
         assert_eq!(locks.step(1, Op::SetBase(1, 99)), Reply::Set);
+        assert_eq!(locks.step(1, Op::SetCeiling(1, 99)), Reply::Set);
+        assert_eq!(locks.step(1, Op::Lock(1)), Reply::Granted);
+        assert_eq!(
+            locks.step(1, Op::SetCeiling(2, 99)),
+            Reply::Refused(Refusal::NotProtect)
+        );
         assert_eq!(Manager::new(&[100], &[]).err(), Some(MakeFault::BadBase));
         assert_eq!(
             Manager::new(&[1], &[Protocol::Protect(0)]).err(),

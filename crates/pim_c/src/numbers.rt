@@ -57,6 +57,8 @@ pub const PRIORITY: u8 = 9;
 
 pub const TICKETS: u8 = 10;
 
+pub const NOT_PROTECT: u8 = 11;
+
 // ---- why a task has its effective priority
 
 pub const OF_NOTHING: u16 = 0;
@@ -118,5 +120,6 @@ pub fn number_of_refusal(refusal: Refusal) -> u8
         Refusal::NotWaiting => NOT_WAITING,
         Refusal::Priority => PRIORITY,
         Refusal::Tickets => TICKETS,
+        Refusal::NotProtect => NOT_PROTECT,
     }
 }

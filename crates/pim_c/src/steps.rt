@@ -69,6 +69,22 @@ pub extern "C" fn pim_set_base(
     make_step(alloc, handle, task, Op::SetBase(TaskNo(target), level))
 }
 
+/// `pthread_mutex_setprioceiling`: sets the ceiling of the PROTECT mutex to this level, as the task asks. Unlike that call,
+/// it locks nothing, and the owner may ask.
+#[unsafe(no_mangle)]
+pub extern "C" fn pim_set_ceiling(
+    alloc: Global,
+    handle: &mut Handle,
+    task: u16,
+    mutex: u16,
+    level: u16,
+) -> CAnswer
+    ensures answer { IsAnswered handle.old.held (record { actor = task; op = Op.SetCeiling mutex level }) result }
+    ensures state { handle.new.held ≡ after_step handle.old.held (record { actor = task; op = Op.SetCeiling mutex level }) }
+{
+    make_step(alloc, handle, task, Op::SetCeiling(MutexNo(mutex), level))
+}
+
 /// Makes the step, if there is a manager.
 ///
 /// It goes into each call above, of which each is then left with its own kind of step.

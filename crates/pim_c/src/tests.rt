@@ -10,13 +10,15 @@ use crate::handle::Handle;
 use crate::lists::{pim_changed, pim_waiters};
 use crate::making::{pim_drop, pim_make};
 use crate::numbers::{
-    BAD_BASE, BAD_PROTOCOL, CEILING, FREED, GRANTED, HANDED, INHERIT, MADE, NO_MANAGER, NO_MEMORY,
-    NONE, NOT_OWNER, OCCUPIED, OF_BASE, OF_CEILING, OF_NOTHING, OF_WAITER, PROTECT, QUEUED,
-    REFUSED, RELEASED, SET, TOO_MANY_MUTEXES, TOO_MANY_TASKS, UNKNOWN, WITHDRAWN,
+    BAD_BASE, BAD_PROTOCOL, BUSY, CEILING, FREED, GRANTED, HANDED, INHERIT, MADE, NO_MANAGER,
+    NO_MEMORY, NONE, NOT_OWNER, NOT_PROTECT, OCCUPIED, OF_BASE, OF_CEILING, OF_NOTHING, OF_WAITER,
+    PROTECT, QUEUED, REFUSED, RELEASED, SET, TOO_MANY_MUTEXES, TOO_MANY_TASKS, UNKNOWN, WITHDRAWN,
 };
 use crate::protocol::CProtocol;
 use crate::reason::CReason;
-use crate::steps::{pim_cancel, pim_lock, pim_release_all, pim_set_base, pim_try, pim_unlock};
+use crate::steps::{
+    pim_cancel, pim_lock, pim_release_all, pim_set_base, pim_set_ceiling, pim_try, pim_unlock,
+};
 use crate::waiter::CWaiter;
 use std::alloc::Global;
 use std::test::Fail;
@@ -173,6 +175,31 @@ fn wait_is_withdrawn_and_base_is_set(rt: HostRuntime) -> Result<(), Fail> {
     assert!(rt; says(pim_set_base(alloc, h, 3, 1, 99), SET, 0, 0));
     assert_eq!(rt; pim_base_prio(alloc, h, 1), 99);
     assert!(rt; says(pim_release_all(alloc, h, 2), RELEASED, 0, 2));
+    pim_drop(alloc, h);
+    Ok(())
+}
+
+#[test]
+fn ceiling_is_set_while_the_mutex_is_owned(rt: HostRuntime) -> Result<(), Fail> {
+    let alloc = rt.alloc();
+    let mut handle = Handle::empty(alloc);
+    let h = &mut handle;
+    let mut changed = [NO_CHANGED_TASK; 2];
+    let why = CReason {
+        kind: OF_CEILING,
+        task: 0,
+        mutex: 2,
+    };
+    assert_eq!(rt; make(alloc, h), MADE);
+    pim_lock(alloc, h, 1, 2);
+    assert!(rt; says(pim_set_ceiling(alloc, h, 1, 2, 40), SET, 0, 0));
+    assert_eq!(rt; pim_changed(alloc, h, &mut changed), 1);
+    assert_eq!(rt; (changed[0].task, changed[0].prio), (1, 40));
+    assert_eq!(rt; changed[0].reason, why);
+    assert_eq!(rt; pim_mutex_protocol(alloc, h, 2).ceiling, 40);
+    assert!(rt; says(pim_set_ceiling(alloc, h, 2, 2, 70), REFUSED, BUSY, 0));
+    assert!(rt; says(pim_set_ceiling(alloc, h, 1, 1, 70), REFUSED, NOT_PROTECT, 0));
+    assert_eq!(rt; pim_effective_prio(alloc, h, 1), 40);
     pim_drop(alloc, h);
     Ok(())
 }
