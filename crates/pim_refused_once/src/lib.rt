@@ -8,6 +8,8 @@
 #[cfg(test)]
 mod managers;
 #[cfg(test)]
+mod runs;
+#[cfg(test)]
 mod shared;
 #[cfg(test)]
 mod texts;
@@ -15,6 +17,10 @@ mod texts;
 /// The error of a test whose call was out of memory, and left all as it was.
 #[cfg(test)]
 const REFUSED_IN_CALL: &str = "refused in the call";
+
+/// The error of a test whose call ran a script that was out of memory.
+#[cfg(test)]
+const REFUSED_IN_RUN: &str = "refused in the call, shared memory";
 
 /// The error of a test that was out of memory before its call.
 #[cfg(test)]

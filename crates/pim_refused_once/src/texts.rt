@@ -7,25 +7,32 @@ use std::test::Fail;
 const TEXT: &[u8] = b"pim 1
 task 1 20
 task 2 40
-mutex 1 inherit
+task 3 90
+mutex 1 protect 50
+mutex 2 inherit
 1 lock 1
+2 lock 2
 2 lock 1
+3 lock 2
 1 unlock 1
 ";
 
 const REPORT: &str = "\
 1 granted
-2 queued
-  task 1 at 40 waiter 2 mutex 1
-3 handed 2
+  task 1 at 50 ceiling 1
+2 granted
+3 queued
+4 queued
+  task 2 at 90 waiter 3 mutex 2
+5 handed 2
   task 1 at 20 base
-accepted 3
+accepted 5
 ";
 
 #[test]
 fn parse_refused(rt: HostRuntime) -> Result<(), Fail> {
     match parse(rt.alloc(), TEXT) {
-        Ok(text) => assert_eq!(rt; text.lines.len(), 3),
+        Ok(text) => assert_eq!(rt; text.lines.len(), 5),
         Err(fault) => {
             assert_eq!(rt; fault, Fault::Memory);
             Err(REFUSED_IN_CALL)?
@@ -37,7 +44,7 @@ fn parse_refused(rt: HostRuntime) -> Result<(), Fail> {
 #[test]
 fn parse_script_refused(rt: HostRuntime) -> Result<(), Fail> {
     match parse_script(rt.alloc(), TEXT) {
-        Ok(script) => assert_eq!(rt; script.lines.len(), 3),
+        Ok(script) => assert_eq!(rt; script.lines.len(), 5),
         Err(fault) => {
             assert_eq!(rt; fault, Fault::Memory);
             Err(REFUSED_IN_CALL)?
@@ -55,7 +62,7 @@ fn judge_refused(rt: HostRuntime) -> Result<(), Fail> {
     let written = writer.into_inner();
     match answer {
         Ok(verdict) => {
-            assert_eq!(rt; verdict, Verdict::Accepted(3));
+            assert_eq!(rt; verdict, Verdict::Accepted(5));
             assert!(rt; written.as_slice() == REPORT.as_bytes());
         }
         Err(fault) => {
