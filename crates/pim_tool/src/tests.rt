@@ -1,4 +1,5 @@
-//! Worked texts with their reports, scripts that are run, answers, words of the command line, and ends that fail.
+//! Worked texts with their reports, invalid ones, scripts that are run, answers, words of the command line, and ends
+//! that fail.
 
 mod answers;
 mod boosts;
@@ -6,6 +7,7 @@ mod ceilings;
 mod command_words;
 mod expected;
 mod failing_ends;
+mod invalid_texts;
 mod odd_sizes;
 mod pages;
 mod refusals;

@@ -1,7 +1,7 @@
 //! Scripts that are run: the traces of their runs, and the verdicts of these.
 
 use crate::Verdict::Accepted;
-use crate::tests::scripts::{checked, of_tasks, ran};
+use crate::tests::scripts::{checked, in_opposite_orders, of_tasks, ran};
 use crate::{Fault, judge_bytes, status};
 use std::alloc::AllocGlobal;
 use std::test::Fail;
@@ -267,6 +267,19 @@ mutex 2 inherit
         assert_eq!(rt; answer, Ok(Accepted(10)), "{turn}");
         assert_eq!(rt; written.text(), Some("accepted 10\n"), "{turn}");
     }
+}
+
+#[test]
+fn sixteen_tasks_in_opposite_orders_are_accepted_a_thousand_times(
+    rt: HostRuntime,
+) -> Result<(), Fail> {
+    let script = in_opposite_orders(rt.alloc())?;
+    for turn in 0..1_000 {
+        let (answer, written) = checked(&rt, rt.alloc(), &script);
+        assert_eq!(rt; answer, Ok(Accepted(80)), "{turn}");
+        assert_eq!(rt; written.text(), Some("accepted 80\n"), "{turn}");
+    }
+    Ok(())
 }
 
 #[test]

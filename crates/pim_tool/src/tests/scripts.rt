@@ -42,3 +42,26 @@ pub fn of_tasks(alloc: Global, tasks: u32, times: u32) -> Result<Vec<u8>, AllocE
     }
     Ok(script)
 }
+
+/// 16 tasks of base 10 to 25: those with odd numbers lock mutex 1 and then 2, the others 2 and then 1, and unlock both.
+pub fn in_opposite_orders(alloc: Global) -> Result<Vec<u8>, AllocError> {
+    let mut script = b"pim 1\n".to_vec(alloc)?;
+    for task in 1u32..17 {
+        let line = format!(in alloc; "task {task} {}\n", task + 9)?;
+        script.extend_from_slice(line.as_bytes())?;
+    }
+    script.extend_from_slice(b"mutex 1 inherit\nmutex 2 inherit\n")?;
+    for task in 1u32..17 {
+        let (first, second) = if task % 2 == 1 { (1, 2) } else { (2, 1) };
+        for (asked, mutex) in [
+            ("lock", first),
+            ("lock", second),
+            ("unlock", second),
+            ("unlock", first),
+        ] {
+            let line = format!(in alloc; "{task} {asked} {mutex}\n")?;
+            script.extend_from_slice(line.as_bytes())?;
+        }
+    }
+    Ok(script)
+}
