@@ -1,10 +1,10 @@
 -- The law of closing a cycle.
-use Rattle.std.proofs.Common.{◌≡◌, ◌≢◌, ◌↔◌, ℕ, zero, suc, ◌+◌, ◌-◌, ◌≤◌, true, false, ◌⊎◌, inl, inr, drop, length, Option, Some, None, refl, sym, ◌∙◌, ap, arith, option_and_then, unwrap_or, IsTrue, true≢false}
+use Rattle.std.proofs.Common.{◌≡◌, ◌≢◌, ◌↔◌, ℕ, zero, suc, ◌+◌, ◌-◌, ◌≤◌, true, false, not, ◌&&◌, ◌⊎◌, inl, inr, drop, length, Option, Some, None, refl, sym, ◌∙◌, ap, subst, arith, option_and_then, unwrap_or, IsTrue, true≢false}
 use Rattle.std.specs.Option.{option_map_or}
 use Rattle.std.proofs.lemmas.Bool.Decides.{eqb_tells}
 use Rattle.pim_base.specs.Lists.{contains}
-use Rattle.pim_base.specs.State.{State, IsState, IsTask, owner_of, with_wait}
-use Rattle.pim_base.specs.Chains.{chain, blocker, waits_chain, HasCycle}
+use Rattle.pim_base.specs.State.{State, IsState, IsTask, owner_of, wait_of, with_wait}
+use Rattle.pim_base.specs.Chains.{chain, blocker, waits_chain, HasCycle, leads_back, closes_cycle}
 use Rattle.pim_base.specs.Laws.{ClosingLaw}
 use Rattle.pim_base.specs.declared.steps.Wait.{Wait}
 use Rattle.pim_base.proofs.Hops.{hops, Reaches, reaches_from_contains, contains_from_reaches, first_hop, hops_front, hops-add, hops_rest, NoneReturns, OnlyKnownHop, chain_is_short}
@@ -176,8 +176,15 @@ cycle_for_owned S t u w valid acyclic task stays owned = (there, back)
         (blocker_other S t (Some w)) stays at_t (v, r.0, r.1, r.2) in
         contains_from_reaches (blocker S) n u t b.0 b.1 b.2
 
-pub closing_law : ClosingLaw
-closing_law S t m ticket valid acyclic task idle = go (owner_of S m) refl
+-- where no cycle stands, a wait makes one exactly where it leads back
+pub leads_back-cycle :
+    (S : State) (t m ticket : ℕ)
+    → IsState S
+    → ¬ HasCycle S
+    → IsTask S t
+    → wait_of S t ≡ None
+    → IsTrue (leads_back S t m) ↔ HasCycle (with_wait S t (Some (record { mutex = m; ticket = ticket })))
+leads_back-cycle S t m ticket valid acyclic task idle = go (owner_of S m) refl
   where
     w : Wait
     w = record { mutex = m; ticket = ticket }
@@ -194,3 +201,9 @@ closing_law S t m ticket valid acyclic task idle = go (owner_of S m) refl
       (λ h. absurd (no_cycle_for_free S t w valid acyclic task stays free h)),
     )
     go (Some u) owned = cycle_for_owned S t u w valid acyclic task stays owned
+
+pub closing_law : ClosingLaw
+closing_law S t m ticket valid acyclic task idle once =
+    let cycle : Type 0 = HasCycle (with_wait S t (Some (record { mutex = m; ticket = ticket }))) in
+    let asks : leads_back S t m ≡ closes_cycle S t m = ap (λ again. not again && leads_back S t m) (sym once) in
+    subst (λ b. IsTrue b ↔ cycle) asks (leads_back-cycle S t m ticket valid acyclic task idle)

@@ -1,10 +1,11 @@
 -- What each step keeps: it is enough to look at the changes of one fact.
-use Rattle.std.proofs.Common.{◌≡◌, ℕ, Bool, true, false, not, ◌&&◌, List, [], ◌∷◌, Some, None, refl, arith, fold, rules}
+use Rattle.std.proofs.Common.{◌≡◌, ◌==◌, ◌+◌, ◌-◌, ℕ, Bool, true, false, not, ◌&&◌, List, [], ◌∷◌, Some, None, refl, arith, fold, rules}
 use Rattle.std.proofs.lemmas.Bool.Decides.{nat_tests}
-use Rattle.pim_base.specs.State.{State, IsTask, wait_of, with_owner, with_wait, with_base, with_ceiling, queued}
-use Rattle.pim_base.specs.Chains.{closes_cycle}
+use Rattle.pim_base.specs.State.{State, IsTask, wait_of, count_of, relocks, with_owner, with_count, with_wait, with_base, with_ceiling, queued}
+use Rattle.pim_base.specs.Chains.{leads_back}
 use Rattle.pim_base.specs.Checks.{unknown_task, is_waiting, is_owned, not_protect, first_checks, checks, withdraws_itself}
-use Rattle.pim_base.specs.Steps.{hand_over, unless, served, answer, after_reply, after}
+use Rattle.pim_base.specs.Steps.{is_kept, hand_over, unless, served, answer, after_reply, after}
+use Rattle.pim_base.specs.declared.limits.TheConstants.{MAX_COUNT}
 use Rattle.pim_base.specs.declared.steps.Op.{Op}
 use Rattle.pim_base.specs.declared.steps.Step.{Step}
 use Rattle.pim_base.specs.declared.steps.Refusal.{Refusal}
@@ -13,12 +14,19 @@ use Rattle.pim_base.specs.declared.steps.Reply.{Reply}
 -- each change of one fact that a step makes keeps P
 pub record IsKeptBySteps (P : State → Type 0) : Type 0 where
   pub grant : (S : State) (a m : ℕ) → P S → wait_of S a ≡ None → P (with_owner S m (Some a))
+  pub lock_again :
+      (S : State) (a m : ℕ)
+      → P S
+      → relocks S a m ≡ true
+      → (count_of S m == MAX_COUNT) ≡ false
+      → P (with_count S m (count_of S m + 1))
+  pub keep : (S : State) (m : ℕ) → P S → is_kept S m ≡ true → P (with_count S m (count_of S m - 1))
   pub enqueue :
       (S : State) (a m : ℕ)
       → P S
       → IsTask S a
       → wait_of S a ≡ None
-      → closes_cycle S a m ≡ false
+      → leads_back S a m ≡ false
       → is_owned S m ≡ true
       → P (queued S a m)
   pub hand : (S : State) (m : ℕ) → P S → P (hand_over S m)

@@ -3,8 +3,8 @@ use Rattle.std.proofs.lemmas.Grind.{common_steps}
 use Rattle.std.proofs.Common.{◌≡◌, ℕ, zero, suc, false, ◌⊎◌, inl, inr, List, [], ◌∷◌, length, Option, Some, None, refl, sym, ◌∙◌, ap, arith, option_and_then, unwrap_or, set, slice_get, true≢false, rules}
 use Rattle.std.proofs.lemmas.Bool.Decides.{eqb_tells}
 use Rattle.pim_base.specs.Lists.{nth, put}
-use Rattle.pim_base.specs.State.{State, IsTask, owner_of, wait_of, with_owner, with_wait, with_base, with_ceiling, queued}
-use Rattle.pim_base.specs.Chains.{blocker, HasCycle, closes_cycle}
+use Rattle.pim_base.specs.State.{State, IsTask, owner_of, wait_of, first_count, with_owner, with_count, with_wait, with_base, with_ceiling, queued}
+use Rattle.pim_base.specs.Chains.{blocker, HasCycle, leads_back}
 use Rattle.pim_base.specs.Queues.{first_of}
 use Rattle.pim_base.specs.Steps.{hand_over, hand_over_to}
 use Rattle.pim_base.specs.Laws.{IsSound, NoCycleLaw}
@@ -15,7 +15,7 @@ use Rattle.pim_base.proofs.Hops.{hops, first_hop, hops_front, NoneReturns}
 pub use Rattle.pim_base.proofs.Kept.{idle_from_tests, known_from_tests}
 use Rattle.pim_base.proofs.Kept.{IsKeptBySteps, kept_by_step}
 use Rattle.pim_base.proofs.Places.{nth-put_other, length-put}
-use Rattle.pim_base.proofs.Closing.{none_returns, returns_from_cycle, closing_law}
+use Rattle.pim_base.proofs.Closing.{none_returns, returns_from_cycle, leads_back-cycle}
 
 -- the hop from x, if there is one, leads to a task that doesn't hop
 abbrev Ends : (ℕ → Option ℕ) → ℕ → Type 0
@@ -86,7 +86,11 @@ pub owner_sound :
     → IsSound S
     → IsSound (with_owner S m o)
 owner_sound S m o idle ok = record {
-  lists = record { waits = ok.lists.waits; owners = length-put S.owner m o ∙ ok.lists.owners };
+  lists = record {
+    waits = ok.lists.waits;
+    owners = length-put S.owner m o ∙ ok.lists.owners;
+    counts = length-put S.count m (first_count o) ∙ ok.lists.counts;
+  };
   no_cycle = no_cycle_still S (with_owner S m o) refl (λ x. go x (wait_of S x) refl) ok.no_cycle;
 }
   where
@@ -109,7 +113,7 @@ owner_sound S m o idle ok = record {
 -- a task stops waiting
 pub idle_sound : (S : State) (t : ℕ) → IsSound S → IsSound (with_wait S t None)
 idle_sound S t ok = record {
-  lists = record { waits = length-put S.wait t None ∙ ok.lists.waits; owners = ok.lists.owners };
+  lists = record { waits = length-put S.wait t None ∙ ok.lists.waits; owners = ok.lists.owners; counts = ok.lists.counts };
   no_cycle = no_cycle_still S (with_wait S t None) refl change ok.no_cycle;
 }
   where
@@ -127,14 +131,33 @@ base_sound S t p ok = search rules
 
 pub ceiling_sound : (S : State) (m p : ℕ) → IsSound S → IsSound (with_ceiling S m p)
 ceiling_sound S m p ok = record {
-  lists = record { waits = ok.lists.waits; owners = ok.lists.owners ∙ sym (length-put S.protocol m (Protocol.Protect p)) };
+  lists =
+      let protocols = sym (length-put S.protocol m (Protocol.Protect p)) in
+      record { waits = ok.lists.waits; owners = ok.lists.owners ∙ protocols; counts = ok.lists.counts ∙ protocols };
   no_cycle = ok.no_cycle;
 }
 
-pub queued_sound : (S : State) (t m : ℕ) → IsTask S t → wait_of S t ≡ None → closes_cycle S t m ≡ false → IsSound S → IsSound (queued S t m)
+-- a mutex is locked more or less often
+pub count_sound : (S : State) (m k : ℕ) → IsSound S → IsSound (with_count S m k)
+count_sound S m k ok = record {
+  lists = record { waits = ok.lists.waits; owners = ok.lists.owners; counts = length-put S.count m k ∙ ok.lists.counts };
+  no_cycle = ok.no_cycle;
+}
+
+pub queued_sound :
+    (S : State) (t m : ℕ)
+    → IsTask S t
+    → wait_of S t ≡ None
+    → leads_back S t m ≡ false
+    → IsSound S
+    → IsSound (queued S t m)
 queued_sound S t m task idle open' ok = record {
-  lists = record { waits = length-put S.wait t (Some (record { mutex = m; ticket = S.next })) ∙ ok.lists.waits; owners = ok.lists.owners };
-  no_cycle = λ h. true≢false (sym ((closing_law S t m S.next ok.lists ok.no_cycle task idle).1 h) ∙ open');
+  lists = record {
+    waits = length-put S.wait t (Some (record { mutex = m; ticket = S.next })) ∙ ok.lists.waits;
+    owners = ok.lists.owners;
+    counts = ok.lists.counts;
+  };
+  no_cycle = λ h. true≢false (sym ((leads_back-cycle S t m S.next ok.lists ok.no_cycle task idle).1 h) ∙ open');
 }
 
 pub hand_sound : (S : State) (m : ℕ) → IsSound S → IsSound (hand_over S m)
@@ -148,7 +171,7 @@ hand_sound S m ok = go (first_of S m)
         (idle_sound S w.task ok)
 
 pub sound_kept : IsKeptBySteps IsSound
-sound_kept = grind (arith, common_steps, owner_sound, queued_sound, hand_sound, idle_sound, ceiling_sound)
+sound_kept = grind (arith, common_steps, owner_sound, count_sound, queued_sound, hand_sound, idle_sound, ceiling_sound)
 
 pub no_cycle_law : NoCycleLaw
 no_cycle_law S step ok = kept_by_step IsSound sound_kept S step ok

@@ -35,6 +35,8 @@ kind-with_ceiling S m c k protect = elim (eqb_tells m k) [
 kinds_kept : (S : State) → IsKeptBySteps (λ T. (m : ℕ) → kind (protocol_of T m) ≡ kind (protocol_of S m))
 kinds_kept S = record {
   grant = λ T a m ok idle k. ok k;
+  lock_again = λ T a m ok again few k. ok k;
+  keep = λ T m ok kept k. ok k;
   enqueue = λ T a m ok task idle open' owned k. ok k;
   hand = λ T m ok k. ap (λ (ps : List Protocol). kind (unwrap_or (nth ps k) Protocol.None)) (protocol-hand_over T m) ∙ ok k;
   withdraw = λ T t ok k. ok k;

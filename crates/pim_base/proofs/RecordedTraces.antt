@@ -1,29 +1,31 @@
 -- The recorded run of a script is a trace, of the script's version.
-use Rattle.std.proofs.Common.{◌≡◌, ◌≤◌, ◌<◌, ◌^◌, ℕ, Bool, true, false, cond, ◌==◌, List, [], ◌∷◌, ◌++◌, length, map, filter, Option, Some, None, refl, ap, sym, subst, ◌∙◌, arith, rules}
+use Rattle.std.proofs.Common.{◌≡◌, ◌≤◌, ◌<◌, ◌+◌, ◌^◌, ◌&&◌, ℕ, zero, suc, Bool, true, false, cond, nat_lt, if◌then◌else◌, unwrap_or, slice_get, ◌==◌, List, [], ◌∷◌, ◌++◌, length, map, filter, Option, Some, None, refl, ap, sym, subst, ◌∙◌, arith, rules}
 use Rattle.std.specs.List.{AllByRecursion}
 use Rattle.std.proofs.lemmas.Bool.{eq-eqb}
 use Rattle.std.proofs.lemmas.List.{length-map}
 use Rattle.std.proofs.lemmas.List.Elements.{recursion_from_All}
 use Rattle.std.proofs.lemmas.List.FromFn.{length-range_with_len, length-map-range_with_len}
 use Rattle.pim_base.specs.Lists.{numbers, holds, first_item}
-use Rattle.pim_base.specs.State.{State, IsTask, start, owner_of, owned}
-use Rattle.pim_base.specs.Checks.{is_owned, first_checks, checks}
+use Rattle.pim_base.specs.State.{State, IsTask, start, protocol_of, owner_of, count_of, is_recursive, owned}
+use Rattle.pim_base.specs.Checks.{is_busy, locked_too_often, first_checks, checks}
 use Rattle.pim_base.specs.Queues.{waiter_of, first_of, queue_of}
-use Rattle.pim_base.specs.Steps.{unless, handed, served, answer, reply_of, after}
+use Rattle.pim_base.specs.Steps.{is_kept, unless, handed, served, answer, reply_of, after}
 use Rattle.pim_base.specs.Runs.{IsRun, IsInterleaving, asked_by}
-use Rattle.pim_base.specs.Spelling.{IsOp, IsReply, IsLine, BelongsTo, op_since, refusal_since, reply_since}
+use Rattle.pim_base.specs.Laws.{kind}
+use Rattle.pim_base.specs.Spelling.{IsOp, IsReply, IsLine, BelongsTo, protocol_since, op_since, refusal_since, reply_since}
 use Rattle.pim_base.specs.Steady.{IsSteady}
 use Rattle.pim_base.specs.Texts.{Trace, IsWithinLimits, task_lines, mutex_lines, declared}
 use Rattle.pim_base.specs.Scripts.{script_of, scripts_of}
 use Rattle.pim_base.specs.Recordings.{entry_line, recording}
 use Rattle.pim_base.specs.RunLaws.{RecordedTraceLaw}
-use Rattle.pim_base.specs.declared.limits.TheConstants.{MAX_TASKS, MAX_MUTEXES}
+use Rattle.pim_base.specs.declared.limits.TheConstants.{MAX_TASKS, MAX_MUTEXES, MAX_COUNT}
 use Rattle.pim_base.specs.declared.lines.Line.{Line}
 use Rattle.pim_base.specs.declared.lines.Line.TheVariants as lines
 use Rattle.pim_base.specs.declared.lines.StepLine.{StepLine}
 use Rattle.pim_base.specs.declared.steps.Entry.{Entry}
 use Rattle.pim_base.specs.declared.steps.Op.{Op}
 use Rattle.pim_base.specs.declared.steps.Op.TheVariants as ops
+use Rattle.pim_base.specs.declared.steps.Protocol.{Protocol}
 use Rattle.pim_base.specs.declared.steps.Refusal.{Refusal}
 use Rattle.pim_base.specs.declared.steps.Reply.{Reply}
 use Rattle.pim_base.specs.declared.steps.Step.{Step}
@@ -32,6 +34,7 @@ use Rattle.pim_base.proofs.HandOvers.{protocol-hand_over, base-hand_over}
 use Rattle.pim_base.proofs.InOrder.{queue_law}
 use Rattle.pim_base.proofs.Kept.{IsKeptBySteps, kept_by_step}
 use Rattle.pim_base.proofs.Places.{length-put}
+use Rattle.pim_base.proofs.ProtocolKinds.{kind_law}
 use Rattle.pim_base.proofs.Recorded.{each_script, last_part}
 use Rattle.pim_base.proofs.Steady.{steady_step_law, start_law}
 
@@ -41,49 +44,106 @@ all_each : {X : Type 0} (P R : X → Type 0) → ((x : X) → P x → R x) → (
 all_each P R f [] all = tt
 all_each P R f (x ∷ xs) all = (f x all.0, all_each P R f xs all.1)
 
+first_part : {X : Type 0} (P : X → Type 0) (xs ys : List X) → AllByRecursion P (xs ++ ys) → AllByRecursion P xs
+first_part P [] ys all = tt
+first_part P (x ∷ xs) ys all = (all.0, first_part P xs ys all.1)
+
 -- all of the first part, and others in place of the last
 other_last_part : {X : Type 0} (P : X → Type 0) (xs ys zs : List X) → AllByRecursion P (xs ++ ys) → AllByRecursion P zs → AllByRecursion P (xs ++ zs)
 other_last_part P [] ys zs all last = last
 other_last_part P (x ∷ xs) ys zs all last = (all.0, other_last_part P xs ys zs all.1 last)
 
--- ---- a reply came no later than the operation that it answers
+-- ---- a reply came no later than the operation that it answers, or the protocols of the mutexes
+
+-- no mutex has a protocol that came later than this version
+abbrev HasProtocolsOf : ℕ → State → Type 0
+HasProtocolsOf version S = (m : ℕ) → protocol_since (protocol_of S m) ≤ version
+
+-- a test that holds has a refusal that came no later than n
+abbrev RefusesBy : ℕ → Bool × Refusal → Type 0
+RefusesBy n test = test.0 ≡ true → refusal_since test.1 ≤ n
 
 unless_since :
     (tests : List (Bool × Refusal)) (r : Reply) (n : ℕ)
-    → AllByRecursion (λ (test : Bool × Refusal). refusal_since test.1 ≤ n) tests
+    → AllByRecursion (RefusesBy n) tests
     → reply_since r ≤ n
     → reply_since (unless tests r) ≤ n
 unless_since [] r n each last = last
-unless_since ((true, e) ∷ tests) r n each last = each.0
+unless_since ((true, e) ∷ tests) r n each last = each.0 refl
 unless_since ((false, e) ∷ tests) r n each last = unless_since tests r n each.1 last
 
-served_since : (S : State) (a : ℕ) (op : Op) → reply_since (served S a op) ≤ op_since op
-served_since S a op = grind (arith, rules)
+recursive_since : (p : Protocol) (n : ℕ) → protocol_since p ≤ n → is_recursive p ≡ true → 2 ≤ n
+recursive_since p n since recursive = grind (arith, rules)
 
-checks_since : (S : State) (a : ℕ) (op : Op) → AllByRecursion (λ (test : Bool × Refusal). refusal_since test.1 ≤ op_since op) (checks S a op)
-checks_since S a op = grind (arith, rules)
+first_of_both : (x y : Bool) → (x && y) ≡ true → x ≡ true
+first_of_both x y h = grind rules
 
-first_since : (op : Op) → 1 ≤ op_since op
-first_since op = grind (arith, rules)
+-- only a recursive mutex is locked too often, or kept
+module _ (S : State) (version : ℕ) (protocols : HasProtocolsOf version S) where
+  again_since : (a m : ℕ) → locked_too_often S a m ≡ true → 2 ≤ version
+  again_since a m h =
+      let recursive = is_recursive (protocol_of S m) in
+      let owns = holds (owner_of S m) a in
+      recursive_since (protocol_of S m) version (protocols m)
+      (first_of_both recursive owns (first_of_both (recursive && owns) (count_of S m == MAX_COUNT) h))
 
-reply_of-since : (S : State) (step : Step) → reply_since (reply_of S step) ≤ op_since step.op
-reply_of-since S step =
-    let low = first_since step.op in
-    unless_since (first_checks S step) (answer S step.actor step.op) (op_since step.op) (low, (low, tt))
-    (unless_since (checks S step.actor step.op) (served S step.actor step.op) (op_since step.op)
-    (checks_since S step.actor step.op) (served_since S step.actor step.op))
+  kept_since : (m : ℕ) → is_kept S m ≡ true → 2 ≤ version
+  kept_since m h =
+      recursive_since (protocol_of S m) version (protocols m)
+      (first_of_both (is_recursive (protocol_of S m)) (nat_lt 1 (count_of S m)) h)
+
+  served_since : (a : ℕ) (op : Op) → 1 ≤ version → op_since op ≤ version → reply_since (served S a op) ≤ version
+  served_since a (ops.Lock m) low asked = go (is_busy S a m)
+    where
+      go : (b : Bool) → reply_since (if b then Reply.Queued else Reply.Granted) ≤ version
+      go true = low
+      go false = low
+  served_since a (ops.Try m) low asked = low
+  served_since a (ops.Unlock m) low asked = go (is_kept S m) refl (first_of S m)
+    where
+      go : (b : Bool) → is_kept S m ≡ b → (o : Option Waiter) → reply_since (if b then Reply.Kept else handed o) ≤ version
+      go true h o = kept_since m h
+      go false h None = low
+      go false h (Some w) = low
+  served_since a ops.ReleaseAll low asked = low
+  served_since a (ops.Cancel t) low asked = low
+  served_since a (ops.SetBase t p) low asked = low
+  served_since a (ops.SetCeiling m p) low asked = low
+
+  checks_since : (a : ℕ) (op : Op) → 1 ≤ version → op_since op ≤ version → AllByRecursion (RefusesBy version) (checks S a op)
+  checks_since a (ops.Lock m) low asked =
+      ((λ h. low), ((λ h. again_since a m h), ((λ h. low), ((λ h. low), ((λ h. low), tt)))))
+  checks_since a (ops.Try m) low asked = ((λ h. low), ((λ h. again_since a m h), ((λ h. low), ((λ h. low), tt))))
+  checks_since a (ops.Unlock m) low asked = ((λ h. low), ((λ h. low), tt))
+  checks_since a ops.ReleaseAll low asked = tt
+  checks_since a (ops.Cancel t) low asked = ((λ h. low), ((λ h. low), tt))
+  checks_since a (ops.SetBase t p) low asked = ((λ h. low), ((λ h. low), tt))
+  checks_since a (ops.SetCeiling m p) low asked = ((λ h. low), ((λ h. asked), ((λ h. low), ((λ h. low), tt))))
+
+  reply_of-since : (step : Step) → 1 ≤ version → op_since step.op ≤ version → reply_since (reply_of S step) ≤ version
+  reply_of-since step low asked =
+      unless_since (first_checks S step) (answer S step.actor step.op) version ((λ h. low), ((λ h. low), tt))
+      (unless_since (checks S step.actor step.op) (served S step.actor step.op) version
+      (checks_since step.actor step.op low asked) (served_since step.actor step.op low asked))
+
+-- a protocol of the kind came with the kind
+since-kind : (p q : Protocol) → kind p ≡ kind q → protocol_since p ≡ protocol_since q
+since-kind p q same = grind (arith, rules)
 
 -- ---- a reply has numbers of a text
 
--- the state of a run: steady, with so many tasks and mutexes
-record Fits (n m : ℕ) (S : State) : Type 0 where
+-- the state of a run: steady, with so many tasks and mutexes, of protocols that the version has
+record Fits (n m version : ℕ) (S : State) : Type 0 where
   steady : IsSteady S
   tasks : length S.base ≡ n
   mutexes : length S.protocol ≡ m
+  protocols : HasProtocolsOf version S
 
 lengths_kept : (n m : ℕ) → IsKeptBySteps (λ S. (length S.base ≡ n) × (length S.protocol ≡ m))
 lengths_kept n m = record {
   grant = λ S a k ok idle. ok;
+  lock_again = λ S a k ok again few. ok;
+  keep = λ S k ok kept. ok;
   enqueue = λ S a k ok task idle open' owned. ok;
   hand = λ S k ok. (ap length (base-hand_over S k) ∙ ok.0, ap length (protocol-hand_over S k) ∙ ok.1);
   withdraw = λ S t ok. ok;
@@ -91,17 +151,25 @@ lengths_kept n m = record {
   set_ceiling = λ S k c ok protect. (ok.0, length-put S.protocol k _ ∙ ok.1);
 }
 
-fits_after : (n m : ℕ) (S : State) (step : Step) → Fits n m S → Fits n m (after S step)
-fits_after n m S step fits =
-    let lengths = kept_by_step (λ S. (length S.base ≡ n) × (length S.protocol ≡ m)) (lengths_kept n m) S step (fits.tasks, fits.mutexes) in
-    record { steady = steady_step_law S step fits.steady; tasks = lengths.0; mutexes = lengths.1 }
+fits_after : (n m version : ℕ) (S : State) (step : Step) → Fits n m version S → Fits n m version (after S step)
+fits_after n m version S step fits =
+    let HasLengths : State → Type 0 = λ T. (length T.base ≡ n) × (length T.protocol ≡ m) in
+    let lengths = kept_by_step HasLengths (lengths_kept n m) S step (fits.tasks, fits.mutexes) in
+    record {
+      steady = steady_step_law S step fits.steady;
+      tasks = lengths.0;
+      mutexes = lengths.1;
+      protocols = λ k.
+          let same = since-kind (protocol_of (after S step) k) (protocol_of S k) (kind_law S step k) in
+          omega (arith, same, fits.protocols k);
+    }
 
 first_is : (P : Waiter → Type 0) (q : List Waiter) (w : Waiter) → AllByRecursion P q → first_item q ≡ Some w → P w
 first_is P [] w all e = cc
 first_is P (v ∷ q) w all e = let same : v ≡ w = cc in subst P same all.0
 
-handed_is_reply : (n m k : ℕ) (S : State) → n < 2 ^ 16 → Fits n m S → IsReply (handed (first_of S k))
-handed_is_reply n m k S few fits = go (first_of S k) refl
+handed_is_reply : (n m version k : ℕ) (S : State) → n < 2 ^ 16 → Fits n m version S → IsReply (handed (first_of S k))
+handed_is_reply n m version k S few fits = go (first_of S k) refl
   where
     IsKnown : ℕ → Waiter → Type 0
     IsKnown k w = IsTask S w.task × (waiter_of S k w.task ≡ Some w)
@@ -124,18 +192,27 @@ length-filter-le p (x ∷ xs) = go (p x) (length-filter-le p xs)
 few_owned : (S : State) (a : ℕ) → length (owned S a) ≤ length S.protocol
 few_owned S a = omega (arith, length-filter-le (λ m. holds (owner_of S m) a) (numbers (length S.protocol)), length-range_with_len 1 (length S.protocol))
 
-served_is_reply : (n m : ℕ) (S : State) (a : ℕ) (op : Op) → n < 2 ^ 16 → m < 2 ^ 16 → Fits n m S → IsReply (served S a op)
-served_is_reply n m S a (ops.Lock k) few_tasks few_mutexes fits = go (is_owned S k)
+served_is_reply :
+    (n m version : ℕ) (S : State) (a : ℕ) (op : Op)
+    → n < 2 ^ 16
+    → m < 2 ^ 16
+    → Fits n m version S
+    → IsReply (served S a op)
+served_is_reply n m version S a (ops.Lock k) few_tasks few_mutexes fits = go (is_busy S a k)
   where
     go : (b : Bool) → IsReply (cond b Reply.Queued Reply.Granted)
     go true = tt
     go false = tt
-served_is_reply n m S a (ops.Try k) few_tasks few_mutexes fits = tt
-served_is_reply n m S a (ops.Unlock k) few_tasks few_mutexes fits = handed_is_reply n m k S few_tasks fits
-served_is_reply n m S a ops.ReleaseAll few_tasks few_mutexes fits = omega (arith, few_owned S a, fits.mutexes, few_mutexes)
-served_is_reply n m S a (ops.Cancel t) few_tasks few_mutexes fits = tt
-served_is_reply n m S a (ops.SetBase t p) few_tasks few_mutexes fits = tt
-served_is_reply n m S a (ops.SetCeiling k p) few_tasks few_mutexes fits = tt
+served_is_reply n m version S a (ops.Try k) few_tasks few_mutexes fits = tt
+served_is_reply n m version S a (ops.Unlock k) few_tasks few_mutexes fits = go (is_kept S k)
+  where
+    go : (b : Bool) → IsReply (cond b Reply.Kept (handed (first_of S k)))
+    go true = tt
+    go false = handed_is_reply n m version k S few_tasks fits
+served_is_reply n m version S a ops.ReleaseAll few_tasks few_mutexes fits = omega (arith, few_owned S a, fits.mutexes, few_mutexes)
+served_is_reply n m version S a (ops.Cancel t) few_tasks few_mutexes fits = tt
+served_is_reply n m version S a (ops.SetBase t p) few_tasks few_mutexes fits = tt
+served_is_reply n m version S a (ops.SetCeiling k p) few_tasks few_mutexes fits = tt
 
 unless_is_reply : (tests : List (Bool × Refusal)) (r : Reply) → IsReply r → IsReply (unless tests r)
 unless_is_reply [] r last = last
@@ -207,25 +284,41 @@ each_asks Q n (e ∷ es) known each =
 
 -- ---- the lines
 
-step_line : (n m version : ℕ) (S : State) (e : Entry) → n < 2 ^ 16 → m < 2 ^ 16 → Fits n m S → IsAskedOf version n e → e.reply ≡ reply_of S e.step
+step_line :
+    (n m version : ℕ) (S : State) (e : Entry)
+    → n < 2 ^ 16
+    → m < 2 ^ 16
+    → 1 ≤ version
+    → Fits n m version S
+    → IsAskedOf version n e
+    → e.reply ≡ reply_of S e.step
     → IsLineOf version (lines.Step (entry_line e))
-step_line n m version S e few_tasks few_mutexes fits asked reply =
+step_line n m version S e few_tasks few_mutexes low fits asked reply =
     let step = e.step in
     let is : IsReply e.reply =
     subst IsReply (sym reply)
     (unless_is_reply (first_checks S step) (answer S step.actor step.op)
     (unless_is_reply (checks S step.actor step.op) (served S step.actor step.op)
-    (served_is_reply n m S step.actor step.op few_tasks few_mutexes fits))) in
-    let since : reply_since e.reply ≤ op_since step.op = omega (arith, ap reply_since reply, reply_of-since S step) in
+    (served_is_reply n m version S step.actor step.op few_tasks few_mutexes fits))) in
+    let since : reply_since e.reply ≤ version =
+    omega (arith, ap reply_since reply, reply_of-since S version fits.protocols step low asked.2.1) in
     (((asked.0, omega (arith, asked.1, few_tasks)), asked.2.0, is), omega (arith, since, asked.2.1))
 
-step_lines : (n m version : ℕ) (S end : State) (es : List Entry) → n < 2 ^ 16 → m < 2 ^ 16 → Fits n m S → IsRun S es end
-    → AllByRecursion (IsAskedOf version n) es → AllByRecursion (IsLineOf version) (map lines.Step (map entry_line es))
-step_lines n m version S end [] few_tasks few_mutexes fits run asked = tt
-step_lines n m version S end (e ∷ es) few_tasks few_mutexes fits run asked = (
-  step_line n m version S e few_tasks few_mutexes fits asked.0 run.0,
-  step_lines n m version (after S e.step) end es few_tasks few_mutexes (fits_after n m S e.step fits) run.1 asked.1,
-)
+step_lines :
+    (n m version : ℕ) (S end : State) (es : List Entry)
+    → n < 2 ^ 16
+    → m < 2 ^ 16
+    → 1 ≤ version
+    → Fits n m version S
+    → IsRun S es end
+    → AllByRecursion (IsAskedOf version n) es
+    → AllByRecursion (IsLineOf version) (map lines.Step (map entry_line es))
+step_lines n m version S end [] few_tasks few_mutexes low fits run asked = tt
+step_lines n m version S end (e ∷ es) few_tasks few_mutexes low fits run asked =
+    let next = fits_after n m version S e.step fits in (
+      step_line n m version S e few_tasks few_mutexes low fits asked.0 run.0,
+      step_lines n m version (after S e.step) end es few_tasks few_mutexes low next run.1 asked.1,
+    )
 
 op_of_line : (version : ℕ) (ls : List StepLine) → AllByRecursion IsLine (map lines.Step ls) → AllByRecursion (BelongsTo version) (map lines.Step ls)
     → HasOpsOf version ls
@@ -255,14 +348,30 @@ run_asks t es limits mixed =
     with_release version [] all first = ((tt, first), tt)
     with_release version (op ∷ asked) all first = (all.0, with_release version asked all.1 first)
 
+-- the protocols of mutex lines of the version
+declared_since :
+    (version n : ℕ) (protocols : List Protocol) (i : ℕ)
+    → 1 ≤ version
+    → AllByRecursion (BelongsTo version) (mutex_lines n protocols)
+    → protocol_since (unwrap_or (slice_get protocols i) Protocol.None) ≤ version
+declared_since version n [] i low all = low
+declared_since version n (p ∷ ps) zero low all = all.0
+declared_since version n (p ∷ ps) (suc i) low all = declared_since version (n + 1) ps i low all.1
+
 pub recorded_trace_law : RecordedTraceLaw
 recorded_trace_law t es limits run few =
     let n = length t.bases in
     let m = length t.protocols in
     let tasks : n < 2 ^ 16 = omega (arith, limits.tasks, most_tasks) in
     let mutexes : m < 2 ^ 16 = omega (arith, limits.mutexes, most_mutexes) in
-    let begin : Fits n m (start t.bases t.protocols 1) = record { steady = start_law t.bases t.protocols 1; tasks = refl; mutexes = refl } in
-    let lines = step_lines n m t.version _ run.run.0 es tasks mutexes begin run.run.1 (run_asks t es limits run.interleaving) in
+    let begin : Fits n m t.version (start t.bases t.protocols 1) = record {
+      steady = start_law t.bases t.protocols 1;
+      tasks = refl;
+      mutexes = refl;
+      protocols = protocols_of;
+    } in
+    let asked = run_asks t es limits run.interleaving in
+    let lines = step_lines n m t.version _ run.run.0 es tasks mutexes limits.version.0 begin run.run.1 asked in
     record {
       version = limits.version;
       tasks = limits.tasks;
@@ -277,6 +386,13 @@ recorded_trace_law t es limits run few =
 
     most_mutexes : MAX_MUTEXES ≡ 256
     most_mutexes = refl
+
+    -- the declared mutexes are of protocols that the version has, and an unknown one is NONE
+    protocols_of : HasProtocolsOf t.version (start t.bases t.protocols 1)
+    protocols_of zero = limits.version.0
+    protocols_of (suc i) =
+        declared_since t.version 1 t.protocols i limits.version.0
+        (first_part (BelongsTo t.version) (mutex_lines 1 t.protocols) _ (last_part (BelongsTo t.version) (task_lines 1 t.bases) _ limits.belongs))
 
     with_steps :
         (P : Line → Type 0)

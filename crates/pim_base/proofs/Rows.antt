@@ -1,6 +1,6 @@
 -- Runs whose replies, priorities and reasons were worked out by hand, computed by the definitions alone. Nothing
 -- cites these theorems: they are checked with the crate, and show that the definitions say what is meant.
-use Rattle.std.specs.Prelude.{◌≡◌, ℕ, List, [], ◌∷◌, ◌++◌, Option, Some, None, refl, ◌==◌, if◌then◌else◌}
+use Rattle.std.specs.Prelude.{◌≡◌, ℕ, List, [], ◌∷◌, ◌++◌, replicate, Option, Some, None, refl, ◌==◌, if◌then◌else◌}
 use Rattle.std.specs.List.{filter_map}
 use Rattle.pim_base.specs.State.{State, start, task_numbers}
 use Rattle.pim_base.specs.Priorities.{effective_priority}
@@ -13,7 +13,7 @@ use Rattle.pim_base.specs.declared.steps.Op.TheVariants.{Lock, Unlock, Try, Canc
 use Rattle.pim_base.specs.declared.steps.Step.{Step}
 use Rattle.pim_base.specs.declared.steps.Refusal.{Refusal}
 use Rattle.pim_base.specs.declared.steps.Reply.{Reply}
-use Rattle.pim_base.specs.declared.steps.Reply.TheVariants.{Granted, Queued, Freed, Handed, Released, Withdrawn, Set, Refused}
+use Rattle.pim_base.specs.declared.steps.Reply.TheVariants.{Granted, Queued, Freed, Handed, Released, Withdrawn, Set, Kept, Refused}
 use Rattle.pim_base.specs.declared.steps.Reason.{Reason}
 use Rattle.pim_base.specs.declared.steps.Reason.TheVariants.{Base, Ceiling, Waiter}
 
@@ -36,6 +36,9 @@ report S (x ∷ xs) =
 
 abbrev inherit : Protocol
 inherit = Protocol.Inherit
+
+abbrev recursive : Protocol
+recursive = Protocol.InheritRecursive
 
 abbrev none : Protocol
 none = Protocol.None
@@ -189,6 +192,31 @@ what_refuses_a_ceiling :
     ∷ says Queued ∷ says (Refused Refusal.Waiting) ∷ says (Refused Refusal.NoTask)
     ∷ says Set ∷ at 1 15 (Ceiling 1) ∷ says (Handed 2) ∷ at 1 10 Base ∷ []
 what_refuses_a_ceiling = refl
+
+-- locked three times, a recursive mutex is kept at the first two unlocks, and handed over at the third; the new owner has
+-- it once, then twice, and releases both at once
+recursive_mutex_with_a_waiter :
+    report (start (10 ∷ 50 ∷ []) (recursive ∷ []) 1)
+    ((1, Lock 1) ∷ (1, Lock 1) ∷ (1, Try 1) ∷ (2, Try 1) ∷ (2, Lock 1) ∷ (1, Unlock 1) ∷ (1, Unlock 1) ∷ (1, Unlock 1)
+    ∷ (1, Unlock 1) ∷ (2, Lock 1) ∷ (2, ReleaseAll) ∷ [])
+    ≡ says Granted ∷ says Granted ∷ says Granted ∷ says (Refused Refusal.Busy) ∷ says Queued ∷ at 1 50 (Waiter 2 1)
+    ∷ says Kept ∷ says Kept ∷ says (Handed 2) ∷ at 1 10 Base
+    ∷ says (Refused Refusal.NotOwner) ∷ says Granted ∷ says (Released 1) ∷ []
+recursive_mutex_with_a_waiter = refl
+
+-- a mutex is locked 255 times at most, and unlocked as often
+as_often_as_can_be_counted :
+    report (start (10 ∷ []) (recursive ∷ []) 1) (replicate 256 (1, Lock 1) ++ replicate 255 (1, Unlock 1))
+    ≡ replicate 255 (says Granted) ++ says (Refused Refusal.Again) ∷ (replicate 254 (says Kept) ++ says Freed ∷ [])
+as_often_as_can_be_counted = refl
+
+-- what another owns is a deadlock all the same, and what isn't recursive is one for its owner; a relock takes no ticket
+what_a_relock_is_not :
+    report (start (10 ∷ 20 ∷ []) (recursive ∷ recursive ∷ inherit ∷ []) LAST_TICKET)
+    ((1, Lock 1) ∷ (2, Lock 2) ∷ (2, Lock 1) ∷ (1, Lock 2) ∷ (1, Lock 1) ∷ (1, Lock 3) ∷ (1, Lock 3) ∷ (1, Try 3) ∷ (1, Unlock 3) ∷ [])
+    ≡ says Granted ∷ says Granted ∷ says Queued ∷ at 1 20 (Waiter 2 1) ∷ says (Refused Refusal.Deadlock)
+    ∷ says Granted ∷ says Granted ∷ says (Refused Refusal.Deadlock) ∷ says (Refused Refusal.Busy) ∷ says Freed ∷ []
+what_a_relock_is_not = refl
 
 -- a task with a ceiling of 50, and a waiter that lends 50
 abbrev ceiling_and_waiter : State

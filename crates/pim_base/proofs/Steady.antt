@@ -1,22 +1,23 @@
--- What no step breaks: tickets of their own, and no free mutex with waiters.
+-- What no step breaks: tickets of their own, no free mutex with waiters, and counts that go with the owners.
 use Rattle.std.proofs.Common.{◌≡◌, ◌⊎◌, inl, inr, ℕ, zero, suc, true, List, [], ◌∷◌, length, map, replicate, Option, Some, None, is_some, IsSome, refl, sym, ◌∙◌, ap, subst, arith, unwrap_or, option_and_then, Contains, slice_get}
 use Rattle.std.proofs.lemmas.List.{length-replicate}
 use Rattle.std.proofs.lemmas.Bool.Decides.{eqb_tells}
 use Rattle.std.proofs.lemmas.Option.{none-some}
 use Rattle.pim_base.specs.Lists.{nth, put, first_item}
-use Rattle.pim_base.specs.State.{State, IsTask, start, owner_of, wait_of, with_owner, with_wait, queued}
+use Rattle.pim_base.specs.State.{State, IsTask, start, owner_of, wait_of, protocol_of, count_of, with_owner, with_wait, queued}
 use Rattle.pim_base.specs.Chains.{blocker}
 use Rattle.pim_base.specs.Priorities.{effective_priority}
 use Rattle.pim_base.specs.Queues.{first_of, queue_of}
 use Rattle.pim_base.specs.Checks.{is_owned}
 use Rattle.pim_base.specs.Steps.{hand_over, reply_of, after}
 use Rattle.pim_base.specs.Runs.{IsRun}
-use Rattle.pim_base.specs.Steady.{HasOwnTickets, WaitsAreForOwned, IsSteady}
+use Rattle.pim_base.specs.Steady.{HasOwnTickets, WaitsAreForOwned, IsCountOf, HasCounts, IsSteady}
 use Rattle.pim_base.specs.RunLaws.{SameRunLaw, SteadyStepLaw, SteadyRunLaw, StartLaw}
 use Rattle.pim_base.specs.declared.steps.Entry.{Entry}
 use Rattle.pim_base.specs.declared.steps.Protocol.{Protocol}
 use Rattle.pim_base.specs.declared.steps.Wait.{Wait}
 use Rattle.pim_base.specs.declared.steps.Waiter.{Waiter}
+use Rattle.pim_base.proofs.HasCounts.{counts-grant, counts-lock_again, counts-keep, counts-hand_over, counts-with_ceiling}
 use Rattle.pim_base.proofs.Hops.{first_hop}
 use Rattle.pim_base.proofs.Closing.{returns_from_cycle}
 use Rattle.pim_base.proofs.InOrder.{queue_law, waiter_of-waits}
@@ -91,31 +92,49 @@ steady_kept = record {
     sound = sound_kept.grant S a m ok.sound idle;
     tickets = tickets_kept.grant S a m ok.tickets idle;
     owned = λ t w e. owned-with_owner S m a w.mutex (ok.owned t w e);
+    counts = counts-grant S m a ok.sound.lists ok.counts;
+  };
+  lock_again = λ S a m ok again few. record {
+    sound = sound_kept.lock_again S a m ok.sound again few;
+    tickets = tickets_kept.lock_again S a m ok.tickets again few;
+    owned = λ t w e. ok.owned t w e;
+    counts = counts-lock_again S a m ok.sound.lists again few ok.counts;
+  };
+  keep = λ S m ok kept. record {
+    sound = sound_kept.keep S m ok.sound kept;
+    tickets = tickets_kept.keep S m ok.tickets kept;
+    owned = λ t w e. ok.owned t w e;
+    counts = counts-keep S m ok.sound.lists kept ok.counts;
   };
   enqueue = λ S a m ok task idle open' owned. record {
     sound = sound_kept.enqueue S a m ok.sound task idle open' owned;
     tickets = tickets_kept.enqueue S a m ok.tickets task idle open' owned;
     owned = owned-queued S a m owned ok.owned;
+    counts = ok.counts;
   };
   hand = λ S m ok. record {
     sound = sound_kept.hand S m ok.sound;
     tickets = tickets_kept.hand S m ok.tickets;
     owned = owned-hand_over S m ok;
+    counts = counts-hand_over S m ok.sound.lists ok.counts;
   };
   withdraw = λ S t ok. record {
     sound = sound_kept.withdraw S t ok.sound;
     tickets = tickets_kept.withdraw S t ok.tickets;
     owned = λ u w e. ok.owned u w (wait_of-ended S t u w e);
+    counts = ok.counts;
   };
   set_base = λ S t p ok. record {
     sound = sound_kept.set_base S t p ok.sound;
     tickets = tickets_kept.set_base S t p ok.tickets;
     owned = λ u w e. ok.owned u w e;
+    counts = ok.counts;
   };
   set_ceiling = λ S m p ok protect. record {
     sound = sound_kept.set_ceiling S m p ok.sound protect;
     tickets = tickets_kept.set_ceiling S m p ok.tickets protect;
     owned = λ u w e. ok.owned u w e;
+    counts = counts-with_ceiling S m p protect ok.counts;
   };
 }
 
@@ -135,10 +154,27 @@ none-replicate (suc n) (suc i) = none-replicate n i
 idle_at_start : (bases : List ℕ) (protocols : List Protocol) (next t : ℕ) → wait_of (start bases protocols next) t ≡ None
 idle_at_start bases protocols next t = grind (arith, none-replicate)
 
+zero-replicate : (n i : ℕ) → let none : ℕ = 0 in unwrap_or (slice_get (replicate n none) i) none ≡ none
+zero-replicate zero i = refl
+zero-replicate (suc n) zero = refl
+zero-replicate (suc n) (suc i) = zero-replicate n i
+
+-- nothing is locked at the start
+counts_at_start : (bases : List ℕ) (protocols : List Protocol) (next : ℕ) → HasCounts (start bases protocols next)
+counts_at_start bases protocols next zero = refl
+counts_at_start bases protocols next (suc i) =
+    let S : State = start bases protocols next in
+    let free : owner_of S (suc i) ≡ None = none-replicate (length protocols) i in
+    subst (λ o. IsCountOf (protocol_of S (suc i)) o (count_of S (suc i))) (sym free) (zero-replicate (length protocols) i)
+
 pub start_law : StartLaw
 start_law bases protocols next = record {
   sound = record {
-    lists = record { waits = length-replicate (length bases) None; owners = length-replicate (length protocols) None };
+    lists = record {
+      waits = length-replicate (length bases) None;
+      owners = length-replicate (length protocols) None;
+      counts = length-replicate (length protocols) 0;
+    };
     no_cycle = λ (t, h).
         let r = returns_from_cycle (blocker S) (length S.base) t h in
         let f = first_hop (blocker S) r.0 t t r.2 in
@@ -149,6 +185,7 @@ start_law bases protocols next = record {
     own = λ t u v w e f same. absurd (none-some v (sym (idle t) ∙ e));
   };
   owned = λ t w e. absurd (none-some w (sym (idle t) ∙ e));
+  counts = counts_at_start bases protocols next;
 }
   where
     S : State

@@ -7,11 +7,11 @@ use Rattle.pim_base.specs.Texts.{Trace, IsWithinLimits, spelled_lines}
 use Rattle.pim_base.specs.declared.lines.Line.TheVariants as lines
 use Rattle.pim_base.specs.declared.lines.StepLine.{StepLine}
 use Rattle.pim_base.specs.declared.steps.Op.{Op}
-use Rattle.pim_base.specs.declared.steps.Op.TheVariants.{Lock, SetCeiling}
+use Rattle.pim_base.specs.declared.steps.Op.TheVariants.{Lock, Unlock, SetCeiling}
 use Rattle.pim_base.specs.declared.steps.Protocol.{Protocol}
 use Rattle.pim_base.specs.declared.steps.Refusal.{Refusal}
 use Rattle.pim_base.specs.declared.steps.Reply.{Reply}
-use Rattle.pim_base.specs.declared.steps.Reply.TheVariants.{Refused}
+use Rattle.pim_base.specs.declared.steps.Reply.TheVariants.{Kept, Refused}
 
 pub first_version : version_line 1 ≡ codes "pim 1"
 unfolding digits
@@ -56,6 +56,47 @@ not_protect_in_version_2 = search rules
 
 not_protect_in_version_1 : ¬ IsWithinLimits (text 1 recorded_not_protect)
 not_protect_in_version_1 h = let late : 2 ≤ 1 = h.belongs.1.1.0 in omega (arith, late)
+
+-- a task, a recursive mutex, and one step
+abbrev recursive_text : ℕ → Trace
+recursive_text version =
+    let mutex = Protocol.InheritRecursive in
+    record { version = version; bases = 10 ∷ []; protocols = mutex ∷ []; steps = asks (Lock 1) None ∷ [] }
+
+abbrev recorded_kept : StepLine
+recorded_kept = asks (Unlock 1) (Some Kept)
+
+abbrev recorded_again : StepLine
+recorded_again = asks (Lock 1) (Some (Refused Refusal.Again))
+
+spelled_recursive :
+    spelled_lines (recursive_text 2)
+    ≡ codes "pim 2" ∷ codes "task 1 10" ∷ codes "mutex 1 inherit recursive" ∷ codes "1 lock 1" ∷ []
+unfolding digits
+spelled_recursive = refl
+
+spelled_kept : spelled (lines.Step recorded_kept) ≡ codes "1 unlock 1 = kept"
+unfolding digits
+spelled_kept = refl
+
+spelled_again : spelled (lines.Step recorded_again) ≡ codes "1 lock 1 = refused again"
+unfolding digits
+spelled_again = refl
+
+recursive_in_version_2 : IsWithinLimits (recursive_text 2)
+recursive_in_version_2 = search rules
+
+recursive_in_version_1 : ¬ IsWithinLimits (recursive_text 1)
+recursive_in_version_1 h = let late : 2 ≤ 1 = h.belongs.1.0 in omega (arith, late)
+
+kept_and_again_in_version_2 : IsWithinLimits (text 2 recorded_kept) × IsWithinLimits (text 2 recorded_again)
+kept_and_again_in_version_2 = search rules
+
+kept_in_version_1 : ¬ IsWithinLimits (text 1 recorded_kept)
+kept_in_version_1 h = let late : 2 ≤ 1 = h.belongs.1.1.0 in omega (arith, late)
+
+again_in_version_1 : ¬ IsWithinLimits (text 1 recorded_again)
+again_in_version_1 h = let late : 2 ≤ 1 = h.belongs.1.1.0 in omega (arith, late)
 
 lock_in_both_versions : IsWithinLimits (text 1 (asks (Lock 1) None)) × IsWithinLimits (text 2 (asks (Lock 1) None))
 lock_in_both_versions = search rules

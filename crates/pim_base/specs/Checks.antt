@@ -3,10 +3,10 @@
 use Rattle.std.specs.Prelude.{ℕ, ◌+◌, ◌==◌, nat_lt, nat_le, ◌&&◌, ◌||◌, not, is_some, is_none, Bool, false, List, [], ◌∷◌, length}
 use Rattle.std.specs.Option.{option_map_or}
 use Rattle.pim_base.specs.Lists.{holds}
-use Rattle.pim_base.specs.State.{State, base_of, owner_of, wait_of, protocol_of}
+use Rattle.pim_base.specs.State.{State, base_of, owner_of, wait_of, protocol_of, count_of, relocks}
 use Rattle.pim_base.specs.Chains.{closes_cycle}
 use Rattle.pim_base.specs.Priorities.{ceiling}
-use Rattle.pim_base.specs.declared.limits.TheConstants.{LAST_TICKET}
+use Rattle.pim_base.specs.declared.limits.TheConstants.{LAST_TICKET, MAX_COUNT}
 use Rattle.pim_base.specs.declared.steps.Op.{Op}
 use Rattle.pim_base.specs.declared.steps.Step.{Step}
 use Rattle.pim_base.specs.declared.steps.Refusal.{Refusal}
@@ -26,6 +26,14 @@ is_waiting S t = is_some (wait_of S t)
 -- the mutex has an owner
 abbrev pub is_owned : State → ℕ → Bool
 is_owned S m = is_some (owner_of S m)
+
+-- t can't have the mutex now: it is owned, and t doesn't lock it once more
+abbrev pub is_busy : State → ℕ → ℕ → Bool
+is_busy S t m = is_owned S m && not (relocks S t m)
+
+-- t would lock the mutex once more than can be counted. (pthread_mutex_lock, EAGAIN)
+abbrev pub locked_too_often : State → ℕ → ℕ → Bool
+locked_too_often S t m = relocks S t m && count_of S m == MAX_COUNT
 
 -- m is a PROTECT mutex, and t's base is above its ceiling. (pthread_mutex_lock, EINVAL: the caller's priority is above
 -- the ceiling; which priority that is, POSIX leaves open, and here it is the base)
@@ -69,14 +77,16 @@ first_checks S step =
 abbrev pub checks : State → ℕ → Op → List (Bool × Refusal)
 checks S a (Op.Lock m) =
     (unknown_mutex S m, Refusal.NoMutex)
+    ∷ (locked_too_often S a m, Refusal.Again)
     ∷ (closes_cycle S a m, Refusal.Deadlock)
     ∷ (above_ceiling S a m, Refusal.Ceiling)
-    ∷ (is_owned S m && no_tickets S, Refusal.Tickets)
+    ∷ (is_busy S a m && no_tickets S, Refusal.Tickets)
     ∷ []
 checks S a (Op.Try m) =
     (unknown_mutex S m, Refusal.NoMutex)
+    ∷ (locked_too_often S a m, Refusal.Again)
     ∷ (above_ceiling S a m, Refusal.Ceiling)
-    ∷ (is_owned S m, Refusal.Busy)
+    ∷ (is_busy S a m, Refusal.Busy)
     ∷ []
 checks S a (Op.Unlock m) =
     (unknown_mutex S m, Refusal.NoMutex)

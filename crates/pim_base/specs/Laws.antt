@@ -1,8 +1,8 @@
 -- What the definitions have to do with one another.
-use Rattle.std.specs.Prelude.{◌≡◌, ◌≤◌, ℕ, [], ◌↔◌, IsTrue, Some, None, All, AllPairs, Contains}
+use Rattle.std.specs.Prelude.{◌≡◌, ◌≤◌, ℕ, false, [], ◌↔◌, IsTrue, Some, None, All, AllPairs, Contains}
 use Rattle.pim_base.specs.Lists.{contains}
 use Rattle.std.specs.Option.{option_map}
-use Rattle.pim_base.specs.State.{State, IsState, IsTask, base_of, protocol_of, owner_of, wait_of, owned, with_wait}
+use Rattle.pim_base.specs.State.{State, IsState, IsTask, base_of, protocol_of, owner_of, wait_of, owned, relocks, with_wait}
 use Rattle.pim_base.specs.Chains.{HasCycle, closes_cycle, heir, inherit_chain}
 use Rattle.pim_base.specs.Priorities.{ceiling, own_priority, local_priority, effective_priority}
 use Rattle.pim_base.specs.Queues.{Precedes, waiter_of, queue_of}
@@ -16,8 +16,8 @@ use Rattle.pim_base.specs.declared.steps.Step.{Step}
 use Rattle.pim_base.specs.declared.steps.Wait.{Wait}
 use Rattle.pim_base.specs.declared.steps.Waiter.{Waiter}
 
--- Where no cycle stands, the wait of a task that doesn't wait yet makes one exactly where `closes_cycle` says so.
--- (POSIX.1-2017, pthread_mutex_lock: EDEADLK)
+-- Where no cycle stands, the wait of a task that doesn't wait yet makes one exactly where `closes_cycle` says so. It speaks
+-- of each request but a relock, which doesn't wait. (POSIX.1-2017, pthread_mutex_lock: EDEADLK)
 abbrev pub ClosingLaw : Type 0
 ClosingLaw =
     (S : State) (t m ticket : ℕ)
@@ -25,6 +25,7 @@ ClosingLaw =
     → ¬ HasCycle S
     → IsTask S t
     → wait_of S t ≡ None
+    → relocks S t m ≡ false
     → IsTrue (closes_cycle S t m) ↔ HasCycle (with_wait S t (Some (record { mutex = m; ticket = ticket })))
 
 -- Whatever the step, no cycle stands after it if none stood before.
@@ -36,6 +37,7 @@ abbrev pub kind : Protocol → ℕ
 kind Protocol.None = 0
 kind Protocol.Inherit = 1
 kind (Protocol.Protect c) = 2
+kind Protocol.InheritRecursive = 3
 
 -- Whatever the step, each mutex is of the kind that it was: a step may change a ceiling, and nothing else of a protocol.
 abbrev pub KindLaw : Type 0

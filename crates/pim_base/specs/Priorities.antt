@@ -10,6 +10,7 @@ use Rattle.pim_base.specs.declared.steps.Protocol.{Protocol}
 abbrev pub ceiling : Protocol → Option ℕ
 ceiling Protocol.None = None
 ceiling Protocol.Inherit = None
+ceiling Protocol.InheritRecursive = None
 ceiling (Protocol.Protect c) = Some c
 
 -- the ceiling of the mutex, or 0

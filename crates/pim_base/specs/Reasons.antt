@@ -9,10 +9,11 @@ use Rattle.pim_base.specs.Queues.{queue_of, first_of}
 use Rattle.pim_base.specs.declared.steps.Protocol.{Protocol}
 use Rattle.pim_base.specs.declared.steps.Reason.{Reason}
 
--- it is PTHREAD_PRIO_INHERIT
+-- it is PTHREAD_PRIO_INHERIT, recursive or not
 abbrev pub is_inherit : Protocol → Bool
 is_inherit Protocol.None = false
 is_inherit Protocol.Inherit = true
+is_inherit Protocol.InheritRecursive = true
 is_inherit (Protocol.Protect c) = false
 
 -- m is a PRIO_INHERIT mutex, and a task waits for it at this priority

@@ -65,6 +65,7 @@ refusal_number Refusal.NotWaiting = 8
 refusal_number Refusal.Priority = 9
 refusal_number Refusal.Tickets = 10
 refusal_number Refusal.NotProtect = 11
+refusal_number Refusal.Again = 12
 
 -- each kind of reply has a number of its own
 abbrev pub reply_kind : Reply → ℕ
@@ -76,6 +77,7 @@ reply_kind (Reply.Released k) = 5
 reply_kind Reply.Withdrawn = 6
 reply_kind Reply.Set = 7
 reply_kind (Reply.Refused r) = 8
+reply_kind Reply.Kept = 9
 
 -- what a reply of some kind says besides: the task, the count, or the number of the refusal
 abbrev pub reply_detail : Reply → ℕ
@@ -87,6 +89,7 @@ reply_detail (Reply.Released k) = k
 reply_detail Reply.Withdrawn = 0
 reply_detail Reply.Set = 0
 reply_detail (Reply.Refused r) = refusal_number r
+reply_detail Reply.Kept = 0
 
 -- the replies are equal
 abbrev pub same_reply : Reply → Reply → Bool

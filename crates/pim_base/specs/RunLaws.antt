@@ -11,7 +11,7 @@ use Rattle.pim_base.specs.Runs.{IsRun}
 use Rattle.pim_base.specs.Steady.{IsSteady}
 use Rattle.pim_base.specs.declared.lines.Verdict.{Verdict}
 use Rattle.pim_base.specs.declared.steps.Entry.{Entry}
-use Rattle.pim_base.specs.declared.limits.TheConstants.{MAX_TASKS, MAX_MUTEXES, MAX_STEPS, MAX_WORKERS, MAX_LOOKERS, LAST_TICKET, LAST_VERSION}
+use Rattle.pim_base.specs.declared.limits.TheConstants.{MAX_TASKS, MAX_MUTEXES, MAX_STEPS, MAX_WORKERS, MAX_LOOKERS, LAST_TICKET, LAST_VERSION, MAX_COUNT}
 use Rattle.pim_base.specs.declared.steps.Protocol.{Protocol}
 use Rattle.pim_base.specs.declared.steps.Reply.{Reply}
 use Rattle.pim_base.specs.declared.steps.Step.{Step}
@@ -29,6 +29,7 @@ pub record LimitsLaw : Type 0 where
   pub lookers : MAX_LOOKERS ≡ 8
   pub tickets : LAST_TICKET ≡ 2 ^ 64 - 2
   pub versions : LAST_VERSION ≡ 2
+  pub counts : MAX_COUNT ≡ 255
 
 -- Two replies are taken for the same exactly where they are equal.
 abbrev pub SameReplyLaw : Type 0
@@ -47,8 +48,8 @@ SameRunLaw =
     → map (λ (e : Entry). e.step) es ≡ map (λ (e : Entry). e.step) fs
     → (es ≡ fs) × (end ≡ other)
 
--- Each step leaves a steady state steady: no cycle of waits, a ticket of its own for each that waits, and no free mutex
--- with waiters.
+-- Each step leaves a steady state steady: no cycle of waits, a ticket of its own for each that waits, no free mutex with
+-- waiters, and for each mutex a count that goes with its owner.
 abbrev pub SteadyStepLaw : Type 0
 SteadyStepLaw = (S : State) (step : Step) → IsSteady S → IsSteady (after S step)
 

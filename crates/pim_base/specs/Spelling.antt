@@ -29,6 +29,7 @@ IsPrio n = (0 < n) × (n ≤ 99)
 abbrev pub protocol_words : Protocol → List (List ℕ)
 protocol_words Protocol.None = codes "none" ∷ []
 protocol_words Protocol.Inherit = codes "inherit" ∷ []
+protocol_words Protocol.InheritRecursive = codes "inherit" ∷ codes "recursive" ∷ []
 protocol_words (Protocol.Protect c) = codes "protect" ∷ decimal c ∷ []
 
 abbrev pub op_words : Op → List (List ℕ)
@@ -52,6 +53,7 @@ refusal_word Refusal.NotWaiting = codes "not-waiting"
 refusal_word Refusal.Priority = codes "priority"
 refusal_word Refusal.Tickets = codes "tickets"
 refusal_word Refusal.NotProtect = codes "not-protect"
+refusal_word Refusal.Again = codes "again"
 
 abbrev pub reply_words : Reply → List (List ℕ)
 reply_words Reply.Granted = codes "granted" ∷ []
@@ -61,6 +63,7 @@ reply_words (Reply.Handed t) = codes "handed" ∷ decimal t ∷ []
 reply_words (Reply.Released k) = codes "released" ∷ decimal k ∷ []
 reply_words Reply.Withdrawn = codes "withdrawn" ∷ []
 reply_words Reply.Set = codes "set" ∷ []
+reply_words Reply.Kept = codes "kept" ∷ []
 reply_words (Reply.Refused r) = codes "refused" ∷ refusal_word r ∷ []
 
 -- an equals sign and the recorded reply, if there is one
@@ -89,6 +92,7 @@ spelled line = join_with_byte SPACE (words_of line)
 abbrev pub IsProtocol : Protocol → Type 0
 IsProtocol Protocol.None = Unit {0}
 IsProtocol Protocol.Inherit = Unit {0}
+IsProtocol Protocol.InheritRecursive = Unit {0}
 IsProtocol (Protocol.Protect c) = IsPrio c
 
 abbrev pub IsOp : Op → Type 0
@@ -109,6 +113,7 @@ IsReply (Reply.Handed t) = IsNumber t
 IsReply (Reply.Released k) = k < 2 ^ 16
 IsReply Reply.Withdrawn = Unit {0}
 IsReply Reply.Set = Unit {0}
+IsReply Reply.Kept = Unit {0}
 IsReply (Reply.Refused r) = Unit {0}
 
 abbrev pub IsRecorded : Option Reply → Type 0
@@ -122,6 +127,12 @@ IsLine (lines.Mutex n protocol) = IsNumber n × IsProtocol protocol
 IsLine (lines.Step line) = IsNumber line.step.actor × IsOp line.step.op × IsRecorded line.recorded
 
 -- ---- the first version of the text that has it
+
+abbrev pub protocol_since : Protocol → ℕ
+protocol_since Protocol.None = 1
+protocol_since Protocol.Inherit = 1
+protocol_since Protocol.InheritRecursive = 2
+protocol_since (Protocol.Protect c) = 1
 
 abbrev pub op_since : Op → ℕ
 op_since (Op.Lock m) = 1
@@ -144,6 +155,7 @@ refusal_since Refusal.NotWaiting = 1
 refusal_since Refusal.Priority = 1
 refusal_since Refusal.Tickets = 1
 refusal_since Refusal.NotProtect = 2
+refusal_since Refusal.Again = 2
 
 abbrev pub reply_since : Reply → ℕ
 reply_since Reply.Granted = 1
@@ -153,12 +165,13 @@ reply_since (Reply.Handed t) = 1
 reply_since (Reply.Released k) = 1
 reply_since Reply.Withdrawn = 1
 reply_since Reply.Set = 1
+reply_since Reply.Kept = 2
 reply_since (Reply.Refused r) = refusal_since r
 
 -- a line came with the latest of its words
 abbrev pub since : Line → ℕ
 since (lines.Task n p) = 1
-since (lines.Mutex n protocol) = 1
+since (lines.Mutex n protocol) = protocol_since protocol
 since (lines.Step line) = max (op_since line.step.op) (option_map_or reply_since line.recorded 1)
 
 -- the line stands in texts of this version: it came with that one, or with an earlier one

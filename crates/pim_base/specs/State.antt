@@ -1,17 +1,19 @@
 -- The state: what was declared, what is owned and what is waited for. (POSIX.1-2017: the priority of a thread; the
 -- protocol, ceiling and owner of a mutex; the threads that wait for it)
-use Rattle.std.specs.Prelude.{◌≡◌, ◌≤◌, ◌+◌, ℕ, List, length, Option, Some, None, unwrap_or, replicate}
+use Rattle.std.specs.Prelude.{◌≡◌, ◌≤◌, ◌+◌, ℕ, Bool, true, false, ◌&&◌, List, length, Option, Some, None, unwrap_or, replicate}
 use Rattle.std.specs.List.{filter}
 use Rattle.pim_base.specs.Lists.{nth, put, numbers, holds}
 use Rattle.pim_base.specs.declared.steps.Protocol.{Protocol}
 use Rattle.pim_base.specs.declared.steps.Wait.{Wait}
 
 -- A list of tasks begins with task 1, and a list of mutexes with mutex 1. There are no priorities in force and no
--- queues: those are computed from what stands here. `next` is the next ticket.
+-- queues: those are computed from what stands here. `count` says how often the owner of each mutex has locked it and not
+-- yet unlocked it, and `next` is the next ticket.
 pub record State : Type 0 where
   pub base : List ℕ
   pub protocol : List Protocol
   pub owner : List (Option ℕ)
+  pub count : List ℕ
   pub wait : List (Option Wait)
   pub next : ℕ
 
@@ -21,6 +23,7 @@ start bases protocols next = record {
   base = bases;
   protocol = protocols;
   owner = replicate (length protocols) None;
+  count = replicate (length protocols) 0;
   wait = replicate (length bases) None;
   next = next;
 }
@@ -45,18 +48,34 @@ protocol_of S m = unwrap_or (nth S.protocol m) Protocol.None
 abbrev pub owner_of : State → ℕ → Option ℕ
 owner_of S m = unwrap_or (nth S.owner m) None
 
+-- how often its owner has locked a mutex and not yet unlocked it, and 0 of a free or an unknown one
+abbrev pub count_of : State → ℕ → ℕ
+count_of S m = unwrap_or (nth S.count m) 0
+
 -- what a task waits for, if it waits
 abbrev pub wait_of : State → ℕ → Option Wait
 wait_of S t = unwrap_or (nth S.wait t) None
+
+-- its owner may lock the mutex again, and has to unlock it as often. (POSIX.1-2017, PTHREAD_MUTEX_RECURSIVE)
+abbrev pub is_recursive : Protocol → Bool
+is_recursive Protocol.None = false
+is_recursive Protocol.Inherit = false
+is_recursive Protocol.InheritRecursive = true
+is_recursive (Protocol.Protect c) = false
+
+-- t locks a mutex that it owns once more, which a recursive one allows. (POSIX.1-2017, pthread_mutex_lock: relock)
+abbrev pub relocks : State → ℕ → ℕ → Bool
+relocks S t m = is_recursive (protocol_of S m) && holds (owner_of S m) t
 
 -- the mutexes that the task owns, in ascending order
 abbrev pub owned : State → ℕ → List ℕ
 owned S t = filter (λ m. holds (owner_of S m) t) (mutex_numbers S)
 
--- each task has an entry among the waits, and each mutex among the owners
+-- each task has an entry among the waits, and each mutex among the owners and the counts
 pub record IsState (S : State) : Type 0 where
   pub waits : length S.wait ≡ length S.base
   pub owners : length S.owner ≡ length S.protocol
+  pub counts : length S.count ≡ length S.protocol
 
 -- the task has one of the numbers 1 to N
 abbrev pub IsTask : State → ℕ → Type 0
@@ -68,9 +87,18 @@ IsMutex S m = (1 ≤ m) × (m ≤ length S.protocol)
 
 -- The changes of one fact, at a known number; at any other nothing changes.
 
--- m has this owner, or none
+-- how often a new owner has locked the mutex: once; and nobody has locked a free one
+abbrev pub first_count : Option ℕ → ℕ
+first_count None = 0
+first_count (Some t) = 1
+
+-- m has this new owner, or none, and the count that goes with it
 abbrev pub with_owner : State → ℕ → Option ℕ → State
-with_owner S m o = record S { owner = put S.owner m o }
+with_owner S m o = record S { owner = put S.owner m o; count = put S.count m (first_count o) }
+
+-- m has been locked so often by its owner (POSIX.1-2017, pthread_mutex_lock: the lock count)
+abbrev pub with_count : State → ℕ → ℕ → State
+with_count S m k = record S { count = put S.count m k }
 
 -- t has this wait, or none
 abbrev pub with_wait : State → ℕ → Option Wait → State

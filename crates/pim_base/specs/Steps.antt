@@ -1,8 +1,8 @@
 -- One step: the reply to it, and the state after it.
-use Rattle.std.specs.Prelude.{ℕ, Bool, List, [], ◌∷◌, length, Option, Some, None, if◌then◌else◌}
+use Rattle.std.specs.Prelude.{ℕ, ◌+◌, ◌-◌, Bool, nat_lt, ◌&&◌, List, [], ◌∷◌, length, Option, Some, None, if◌then◌else◌}
 use Rattle.std.specs.List.{fold}
-use Rattle.pim_base.specs.State.{State, owned, with_owner, with_wait, with_base, with_ceiling, queued}
-use Rattle.pim_base.specs.Checks.{is_owned, first_checks, checks}
+use Rattle.pim_base.specs.State.{State, owned, protocol_of, count_of, is_recursive, relocks, with_owner, with_count, with_wait, with_base, with_ceiling, queued}
+use Rattle.pim_base.specs.Checks.{is_busy, first_checks, checks}
 use Rattle.pim_base.specs.Queues.{first_of}
 use Rattle.pim_base.specs.declared.steps.Op.{Op}
 use Rattle.pim_base.specs.declared.steps.Step.{Step}
@@ -20,11 +20,16 @@ abbrev pub handed : Option Waiter → Reply
 handed None = Reply.Freed
 handed (Some w) = Reply.Handed w.task
 
+-- the owner keeps the mutex when it unlocks it: it has locked it more often than that. (POSIX.1-2017,
+-- pthread_mutex_unlock: a recursive mutex is available when its lock count is zero)
+abbrev pub is_kept : State → ℕ → Bool
+is_kept S m = is_recursive (protocol_of S m) && nat_lt 1 (count_of S m)
+
 -- the reply where nothing refuses
 abbrev pub served : State → ℕ → Op → Reply
-served S a (Op.Lock m) = if is_owned S m then Reply.Queued else Reply.Granted
+served S a (Op.Lock m) = if is_busy S a m then Reply.Queued else Reply.Granted
 served S a (Op.Try m) = Reply.Granted
-served S a (Op.Unlock m) = handed (first_of S m)
+served S a (Op.Unlock m) = if is_kept S m then Reply.Kept else handed (first_of S m)
 served S a Op.ReleaseAll = Reply.Released (length (owned S a))
 served S a (Op.Cancel t) = Reply.Withdrawn
 served S a (Op.SetBase t p) = Reply.Set
@@ -37,6 +42,10 @@ answer S a op = unless (checks S a op) (served S a op)
 -- the reply to the step
 abbrev pub reply_of : State → Step → Reply
 reply_of S step = unless (first_checks S step) (answer S step.actor step.op)
+
+-- a has m, or has it once more
+abbrev pub granted : State → ℕ → ℕ → State
+granted S a m = if relocks S a m then with_count S m (count_of S m + 1) else with_owner S m (Some a)
 
 -- m goes to this waiter, which stops waiting, or is free
 abbrev pub hand_over_to : State → ℕ → Option Waiter → State
@@ -79,8 +88,9 @@ with_setting S (Op.SetCeiling m p) = with_ceiling S m p
 
 -- what the operation of this actor does when it is given this reply
 abbrev pub after_reply : State → ℕ → Op → Reply → State
-after_reply S a op Reply.Granted = with_owner S (mutex_of op) (Some a)
+after_reply S a op Reply.Granted = granted S a (mutex_of op)
 after_reply S a op Reply.Queued = queued S a (mutex_of op)
+after_reply S a op Reply.Kept = with_count S (mutex_of op) (count_of S (mutex_of op) - 1)
 after_reply S a op Reply.Freed = hand_over S (mutex_of op)
 after_reply S a op (Reply.Handed t) = hand_over S (mutex_of op)
 after_reply S a op (Reply.Released k) = fold hand_over S (owned S a)

@@ -18,5 +18,8 @@ pub const MAX_LOOKERS: u16 = 8;
 /// The last version of the text; the first is 1.
 pub const LAST_VERSION: u8 = 2;
 
+/// The most times that the owner of a recursive mutex has locked it and not yet unlocked it.
+pub const MAX_COUNT: u8 = 255;
+
 /// The last ticket that is given out; where the next one would be above it, none is left.
 pub const LAST_TICKET: u64 = u64::MAX - 1;

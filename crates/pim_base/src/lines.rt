@@ -23,7 +23,8 @@ impl Line {
         ensures { result ≡ since self.now }
     {
         match self {
-            Line::Task { .. } | Line::Mutex { .. } => 1,
+            Line::Task { .. } => 1,
+            Line::Mutex { protocol, .. } => protocol.since(),
             Line::Step(line) => {
                 let recorded = line.recorded.map_or(1, |reply| reply.since());
                 line.step.op.since().max(recorded)
@@ -54,7 +55,7 @@ mod tests {
     use crate::steps::{Op, Refusal};
 
     #[test]
-    fn a_ceil_line_and_its_own_refusal_came_with_version_2(rt: HostRuntime) {
+    fn ceil_and_recursive_and_what_they_are_answered_came_with_version_2(rt: HostRuntime) {
         let step = |op: Op, recorded: Option<Reply>| {
             let actor = TaskNo(1);
             Line::Step(StepLine {
@@ -63,16 +64,19 @@ mod tests {
             })
         };
         let not_protect = Some(Reply::Refused(Refusal::NotProtect));
-        assert_eq!(rt;
-            Line::Mutex {
-                number: MutexNo(1),
-                protocol: Protocol::Inherit
-            }
-            .since(),
-            1
-        );
+        let mutex = |protocol: Protocol| {
+            let number = MutexNo(1);
+            Line::Mutex { number, protocol }
+        };
+        assert_eq!(rt; mutex(Protocol::Inherit).since(), 1);
+        assert_eq!(rt; mutex(Protocol::InheritRecursive).since(), 2);
         assert_eq!(rt; step(Op::Lock(MutexNo(1)), Some(Reply::Granted)).since(), 1);
         assert_eq!(rt; step(Op::Lock(MutexNo(1)), not_protect).since(), 2);
         assert_eq!(rt; step(Op::SetCeiling(MutexNo(1), 10), None).since(), 2);
+        assert_eq!(rt; step(Op::Unlock(MutexNo(1)), Some(Reply::Kept)).since(), 2);
+        assert_eq!(rt;
+            step(Op::Lock(MutexNo(1)), Some(Reply::Refused(Refusal::Again))).since(),
+            2
+        );
     }
 }
