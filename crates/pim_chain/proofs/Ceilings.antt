@@ -28,6 +28,7 @@ protocol_other S m c k ne =
 heir_in-protect : (p : Protocol) (o : Option ℕ) → is_none (ceiling p) ≡ false → heir_in p o ≡ None
 heir_in-protect Protocol.None o h = absurd (both_ways _ h refl)
 heir_in-protect Protocol.Inherit o h = absurd (both_ways _ h refl)
+heir_in-protect Protocol.InheritRecursive o h = absurd (both_ways _ h refl)
 heir_in-protect (Protocol.Protect c) o h = refl
 
 -- nobody inherits through it, whatever its ceiling

@@ -6,16 +6,16 @@ use Rattle.std.proofs.lemmas.Option.{none-some, same_Some}
 use Rattle.pim_base.specs.Lists.{holds, put}
 use Rattle.pim_base.specs.Laws.{IsSound}
 use Rattle.pim_base.specs.State.{State, IsState, IsTask, IsMutex, base_of, owner_of, wait_of, protocol_of}
-use Rattle.pim_base.specs.Chains.{heir, heir_in, heir_of, closes_cycle}
+use Rattle.pim_base.specs.Chains.{heir, heir_in, heir_of, leads_back}
 use Rattle.pim_base.specs.Priorities.{own_priority, local_priority, ceiling_of}
-use Rattle.pim_base.specs.State.{with_owner, with_wait, with_base}
+use Rattle.pim_base.specs.State.{with_owner, with_count, with_wait, with_base}
 use Rattle.pim_base.specs.declared.limits.TheConstants.{MAX_TASKS}
 use Rattle.pim_base.specs.declared.steps.Wait.{Wait}
 use Rattle.pim_base.specs.declared.steps.Waiter.{Waiter}
 use Rattle.pim_base.proofs.Greatest.{greatest_of, greatest-cons}
 use Rattle.pim_base.proofs.Places.{nth-put_same, nth-put_other, length-put}
-use Rattle.pim_base.proofs.Closing.{closing_law}
-use Rattle.pim_base.proofs.NoCycle.{owner_sound, idle_sound, base_sound, unwrap_or-put_same}
+use Rattle.pim_base.proofs.Closing.{leads_back-cycle}
+use Rattle.pim_base.proofs.NoCycle.{owner_sound, count_sound, idle_sound, base_sound, unwrap_or-put_same}
 use Rattle.pim_base.proofs.Stored.{own_priority-le-local_priority, stored-le-local_priority, local_priority-le, holds_from, from_holds}
 use Rattle.std.proofs.Common.{map}
 use Rattle.pim_base.specs.declared.steps.Protocol.{Protocol}
@@ -98,6 +98,7 @@ heir_by T u t w at e = ap (option_and_then (λ (w : Wait). heir_of T w.mutex)) a
 -- the heir of a mutex is its owner
 heir_in-change : (p : Protocol) (o o' : Option ℕ) (t : ℕ) → (o ≡ Some t → o' ≡ Some t) → heir_in p o ≡ Some t → heir_in p o' ≡ Some t
 heir_in-change Protocol.Inherit o o' t h e = h e
+heir_in-change Protocol.InheritRecursive o o' t h e = h e
 heir_in-change Protocol.None o o' t h e = absurd (none-some t e)
 heir_in-change (Protocol.Protect c) o o' t h e = absurd (none-some t e)
 
@@ -210,6 +211,23 @@ pub ready_owned :
     → Ready (with_state v (with_owner v.state m (Some t)))
 ready_owned v m t known idle =
     ready_bound v m (Some t) (λ y e. subst (λ z. IsTask v.state z × (wait_of v.state z ≡ None)) (same_Some t y e) (known, idle))
+
+-- its owner has locked a mutex more or less often
+pub ready_counted : (v : View) (m c : ℕ) → Ready v → Ready (with_state v (with_count v.state m c))
+ready_counted v m c ready = record {
+  sound = count_sound v.state m c ready.sound;
+  few_tasks = ready.few_tasks;
+  few_mutexes = ready.few_mutexes;
+  stored_len = ready.stored_len;
+  queues_len = ready.queues_len;
+  waits = record {
+    owners = ready.waits.owners;
+    mutexes = λ t w e. ready.waits.mutexes t w e;
+    tickets = λ t u w e f. ready.waits.tickets t u w e f;
+  };
+  queues = λ k known. ready.queues k known;
+  room = λ k known. ready.room k known;
+}
 
 pub ready_freed : (v : View) (m : ℕ) → Ready v → Ready (with_state v (with_owner v.state m None))
 ready_freed v m = ready_bound v m None (λ y e. absurd (none-some y e))
@@ -325,15 +343,19 @@ pub ready_joined :
     → IsTask v.state t
     → IsMutex v.state w.mutex
     → wait_of v.state t ≡ None
-    → closes_cycle v.state t w.mutex ≡ false
+    → leads_back v.state t w.mutex ≡ false
     → ((u : ℕ) → wait_of v.state u ≡ Some w → ⊥)
     → Ready v
     → Ready (joined v t w)
 ready_joined v t w known mutex idle open' fresh ready =
     ready_requeued v (put v.state.wait t (Some w)) v.stored w.mutex _ ready
     (record {
-      lists = record { waits = length-put v.state.wait t (Some w) ∙ ready.sound.lists.waits; owners = ready.sound.lists.owners };
-      no_cycle = λ h. both_ways _ open' ((closing_law v.state t w.mutex w.ticket ready.sound.lists ready.sound.no_cycle known idle).1 h);
+      lists = record {
+        waits = length-put v.state.wait t (Some w) ∙ ready.sound.lists.waits;
+        owners = ready.sound.lists.owners;
+        counts = ready.sound.lists.counts;
+      };
+      no_cycle = λ h. both_ways _ open' ((leads_back-cycle v.state t w.mutex w.ticket ready.sound.lists ready.sound.no_cycle known idle).1 h);
     })
     (record {
       owners = ready.waits.owners;

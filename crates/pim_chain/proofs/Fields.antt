@@ -6,7 +6,7 @@ use Rattle.std.specs.List.{list_any, find, AllByRecursion}
 use Rattle.std.proofs.lemmas.Bool.{false_from_ne_true, eqb-true, eq-eqb, or_cases, or_left, or_right}
 use Rattle.std.proofs.lemmas.Option.{none-some, same_Some}
 use Rattle.pim_base.specs.Lists.{nth, put}
-use Rattle.pim_base.specs.State.{IsTask, IsMutex, wait_of, with_owner, with_base, with_ceiling}
+use Rattle.pim_base.specs.State.{IsTask, IsMutex, wait_of, first_count, with_owner, with_count, with_base, with_ceiling}
 use Rattle.pim_base.specs.declared.steps.Protocol.{Protocol}
 use Rattle.pim_base.specs.declared.steps.Wait.{Wait}
 use Rattle.pim_base.specs.declared.steps.Waiter.{Waiter}
@@ -21,12 +21,22 @@ use Rattle.pim_chain.proofs.Visit.{stands}
 
 -- ---- the tables after a field was written
 pub owner_written :
-    {v u : View} {m k : ℕ} {owners : List (Option ℕ)} (o : Option ℕ)
+    {v u : View} {m k j : ℕ} {owners : List (Option ℕ)} {counts : List ℕ} (o : Option ℕ)
     → v ≡ u
     → owners ≡ put v.state.owner k o
     → k ≡ m
-    → with_state v (record v.state { owner = owners }) ≡ with_state u (with_owner u.state m o)
-owner_written o same is at = cc
+    → counts ≡ put v.state.count j (first_count o)
+    → j ≡ m
+    → with_state v (record v.state { owner = owners; count = counts }) ≡ with_state u (with_owner u.state m o)
+owner_written o same is at is_count at_count = cc
+
+pub count_written :
+    {v u : View} {m k : ℕ} {counts : List ℕ} (c : ℕ)
+    → v ≡ u
+    → counts ≡ put v.state.count k c
+    → k ≡ m
+    → with_state v (record v.state { count = counts }) ≡ with_state u (with_count u.state m c)
+count_written c same is at = cc
 
 pub base_written :
     {v u : View} {t k : ℕ} {bases : List ℕ} (p : ℕ)

@@ -42,6 +42,7 @@ heir_is S m t owns = go (protocol_of S m)
 
     go : (p : Protocol) → holds (heir_in p (owner_of S m)) t ≡ is_some (heir_in p (owner_of S m))
     go Protocol.Inherit = itself (owner_of S m) owns
+    go Protocol.InheritRecursive = itself (owner_of S m) owns
     go Protocol.None = refl
     go (Protocol.Protect c) = refl
 

@@ -95,6 +95,7 @@ inherits S m t owns h = go (protocol_of S m) h
   where
     go : (p : Protocol) → is_inherit p ≡ true → heir_in p (owner_of S m) ≡ Some t
     go Protocol.Inherit e = owns
+    go Protocol.InheritRecursive e = owns
     go Protocol.None e = absurd (both_ways false refl e)
     go (Protocol.Protect c) e = absurd (both_ways false refl e)
 

@@ -1,5 +1,5 @@
 -- What `==` tells of the lists of a state: all are equal exactly where the states are.
-use Rattle.std.proofs.Common.{rules, ◌≡◌, ◌↔◌, ◌==◌, ◌&&◌, ℕ, Bool, Option, IsTrue, ap, eqb-true, eq-eqb, sym, ◌∙◌}
+use Rattle.std.proofs.Common.{rules, ◌≡◌, ◌↔◌, ◌==◌, eqb, ◌&&◌, ℕ, Bool, Option, IsTrue, ap, eqb-true, eq-eqb, sym, ◌∙◌}
 use Rattle.std.specs.Bool.{Decides}
 use Rattle.std.specs.Option.{option_eq}
 use Rattle.std.proofs.lemmas.Bool.Decides.{Decides-and}
@@ -24,27 +24,51 @@ waits_decide x y = search rules
 options_decide : {X : Type 0} (E : X → X → Bool) → ((x y : X) → Decides (E x y) (x ≡ y)) → (x y : Option X) → Decides (option_eq E x y) (x ≡ y)
 options_decide E decides x y = search (rules, decides)
 
--- whether bases, protocols, owners, waits and next ticket are the same
+-- whether bases, protocols, owners, counts, waits and next ticket are the same
 abbrev pub same_fields : State → State → Bool
 same_fields S T =
     pointwise prio.eq-value.it S.base T.base
     && pointwise protocol.eq-value.it S.protocol T.protocol
     && pointwise (option_eq task.eq-value.it) S.owner T.owner
+    && pointwise eqb S.count T.count
     && pointwise (option_eq wait.eq-value.it) S.wait T.wait
     && (S.next == T.next)
 
-same_fields_are : (S T : State) → Decides (same_fields S T) (((((S.base ≡ T.base) × (S.protocol ≡ T.protocol)) × (S.owner ≡ T.owner)) × (S.wait ≡ T.wait)) × (S.next ≡ T.next))
+-- all lists of the two states are equal
+abbrev AreSame : State → State → Type 0
+AreSame S T =
+    (((((S.base ≡ T.base) × (S.protocol ≡ T.protocol)) × (S.owner ≡ T.owner)) × (S.count ≡ T.count)) × (S.wait ≡ T.wait))
+    × (S.next ≡ T.next)
+
+same_fields_are : (S T : State) → Decides (same_fields S T) (AreSame S T)
 same_fields_are S T =
     let bases = pointwise_decides numbers_decide S.base T.base in
     let protocols = pointwise_decides protocols_decide S.protocol T.protocol in
     let owners = pointwise_decides (options_decide task.eq-value.it numbers_decide) S.owner T.owner in
+    let counts = pointwise_decides numbers_decide S.count T.count in
     let waits = pointwise_decides (options_decide wait.eq-value.it waits_decide) S.wait T.wait in
-    Decides-and _ _ (Decides-and _ _ (Decides-and _ _ (Decides-and _ _ bases protocols) owners) waits) (numbers_decide S.next T.next)
+    let owned = Decides-and _ _ (Decides-and _ _ (Decides-and _ _ bases protocols) owners) counts in
+    Decides-and _ _ (Decides-and _ _ owned waits) (numbers_decide S.next T.next)
 
 pub same_fields-Decides : (S T : State) (r : Bool) → r ≡ same_fields S T → IsTrue r ↔ S ≡ T
 same_fields-Decides S T r is = (
   λ t. let f = (same_fields_are S T).0 (sym is ∙ t) in
-      λ i. record { base = f.0.0.0.0 i; protocol = f.0.0.0.1 i; owner = f.0.0.1 i; wait = f.0.1 i; next = f.1 i },
-  λ e. is ∙ (same_fields_are S T).1
-      ((((ap (λ (s : State). s.base) e, ap (λ (s : State). s.protocol) e), ap (λ (s : State). s.owner) e), ap (λ (s : State). s.wait) e), ap (λ (s : State). s.next) e),
+      λ i. record {
+        base = f.0.0.0.0.0 i;
+        protocol = f.0.0.0.0.1 i;
+        owner = f.0.0.0.1 i;
+        count = f.0.0.1 i;
+        wait = f.0.1 i;
+        next = f.1 i;
+      },
+  λ e. is ∙ (same_fields_are S T).1 (
+    (
+      (
+        ((ap (λ (s : State). s.base) e, ap (λ (s : State). s.protocol) e), ap (λ (s : State). s.owner) e),
+        ap (λ (s : State). s.count) e,
+      ),
+      ap (λ (s : State). s.wait) e,
+    ),
+    ap (λ (s : State). s.next) e,
+  ),
 )

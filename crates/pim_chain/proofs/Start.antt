@@ -42,7 +42,11 @@ module _ (bases : List ℕ) (protocols : List Protocol) where
 
   sound : IsSound (start bases protocols 1)
   sound = record {
-    lists = record { waits = length-replicate (length bases) None; owners = length-replicate (length protocols) None };
+    lists = record {
+      waits = length-replicate (length bases) None;
+      owners = length-replicate (length protocols) None;
+      counts = length-replicate (length protocols) 0;
+    };
     no_cycle = no_cycle;
   }
 
@@ -92,12 +96,15 @@ module _ (bases : List ℕ) (protocols : List Protocol) where
 
 pub is_fresh :
     (bases : List ℕ) (protocols : List Protocol)
-    (b : List ℕ) (p : List Protocol) (o : List (Option ℕ)) (w : List (Option Wait)) (s : List ℕ) (q : List QueueView)
+    (b : List ℕ) (p : List Protocol) (o : List (Option ℕ)) (c : List ℕ) (w : List (Option Wait)) (s : List ℕ)
+    (q : List QueueView)
     → b ≡ bases
     → p ≡ protocols
     → o ≡ replicate (length protocols) None
+    → c ≡ replicate (length protocols) 0
     → w ≡ replicate (length bases) None
     → s ≡ bases
     → q ≡ replicate (length protocols) (record { waiters = []; room = length bases })
-    → record { state = record { base = b; protocol = p; owner = o; wait = w; next = 1 }; stored = s; queues = q } ≡ fresh bases protocols
-is_fresh bases protocols b p o w s q is_b is_p is_o is_w is_s is_q = cc
+    → record { state = record { base = b; protocol = p; owner = o; count = c; wait = w; next = 1 }; stored = s; queues = q }
+    ≡ fresh bases protocols
+is_fresh bases protocols b p o c w s q is_b is_p is_o is_c is_w is_s is_q = cc

@@ -10,6 +10,7 @@ shown t = record {
     base = t.base.items;
     protocol = t.protocol.items;
     owner = t.owner.items;
+    count = t.count.items;
     wait = t.wait.items;
     next = t.next;
   };

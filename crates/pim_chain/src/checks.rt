@@ -2,11 +2,12 @@
 
 ghost use Rattle.std.specs.Prelude.{◌≡◌, ◌↔◌, IsTrue, ℕ, Some};
 ghost use Rattle.pim_base.specs.Lists.{holds};
-ghost use Rattle.pim_base.specs.State.{owner_of, wait_of};
-ghost use Rattle.pim_base.specs.Checks.{unknown_task, unknown_mutex, is_waiting, is_owned, owned_by_another, above_ceiling};
+ghost use Rattle.pim_base.specs.State.{owner_of, wait_of, protocol_of, is_recursive, relocks};
+ghost use Rattle.pim_base.specs.Checks.{unknown_task, unknown_mutex, is_waiting, is_owned, owned_by_another, locked_too_often, above_ceiling};
+ghost use Rattle.pim_base.specs.Steps.{is_kept};
 
 use crate::tables::Tables;
-use pim_base::{MutexNo, TaskNo};
+use pim_base::{MAX_COUNT, MutexNo, TaskNo};
 
 impl Tables {
     /// Returns whether no task has this number.
@@ -49,6 +50,35 @@ impl Tables {
         ensures { result ≡ holds (owner_of self.now.state mutex) task }
     {
         self.owner(mutex) == Some(task)
+    }
+
+    /// Returns whether the owner of the mutex may lock it again.
+    pub fn is_recursive(&self, mutex: MutexNo) -> bool
+        ensures { result ≡ is_recursive (protocol_of self.now.state mutex) }
+    {
+        self.protocol(mutex)
+            .is_some_and(|protocol| protocol.is_recursive())
+    }
+
+    /// Returns whether the task owns the mutex and may lock it again.
+    pub fn relocks(&self, task: TaskNo, mutex: MutexNo) -> bool
+        ensures { result ≡ relocks self.now.state task mutex }
+    {
+        self.is_recursive(mutex) && self.owns(task, mutex)
+    }
+
+    /// Returns whether the task would lock the mutex once more than can be counted.
+    pub fn is_locked_too_often(&self, task: TaskNo, mutex: MutexNo) -> bool
+        ensures { result ≡ locked_too_often self.now.state task mutex }
+    {
+        self.relocks(task, mutex) && self.count_of(mutex) == MAX_COUNT
+    }
+
+    /// Returns whether its owner keeps the mutex when it unlocks it once.
+    pub fn is_kept(&self, mutex: MutexNo) -> bool
+        ensures { result ≡ is_kept self.now.state mutex }
+    {
+        self.is_recursive(mutex) && 1 < self.count_of(mutex)
     }
 
     /// Returns whether a task waits for the mutex with this ticket. Looks at each waiter.

@@ -2,7 +2,7 @@
 
 ghost use Rattle.std.specs.Prelude.{◌≡◌};
 ghost use Rattle.pim_base.specs.Lists.{contains};
-ghost use Rattle.pim_base.specs.Chains.{blocker, waits_chain, closes_cycle};
+ghost use Rattle.pim_base.specs.Chains.{blocker, waits_chain, leads_back, closes_cycle};
 
 use crate::tables::Tables;
 use pim_base::{MutexNo, TaskNo};
@@ -36,10 +36,18 @@ impl Tables {
         task == at
     }
 
-    /// Returns whether the wait of the task for the mutex would close a cycle: whether the mutex is owned, and the task is
-    /// on the chain of its owner.
+    /// Returns whether a request of the task for the mutex would close a cycle: whether its wait would lead back to it, and
+    /// it is no relock, which doesn't wait.
     pub fn closes_cycle(&self, task: TaskNo, mutex: MutexNo) -> bool
         ensures { result ≡ closes_cycle self.now.state task mutex }
+    {
+        !self.relocks(task, mutex) && self.leads_back(task, mutex)
+    }
+
+    /// Returns whether a wait of the task for the mutex would lead back to it: whether the mutex is owned, and the task is on
+    /// the chain of its owner.
+    pub fn leads_back(&self, task: TaskNo, mutex: MutexNo) -> bool
+        ensures { result ≡ leads_back self.now.state task mutex }
     {
         self.owner(mutex)
             .is_some_and(|owner| self.on_chain(owner, task))

@@ -1,12 +1,12 @@
 //! What is owned and waited for, with the stored priorities and the queues.
 
-ghost use Rattle.std.specs.Prelude.{◌≡◌, ◌≢◌, ◌≤◌, ◌↔◌, IsTrue, length, IfOk, None, Some, false, ℕ};
+ghost use Rattle.std.specs.Prelude.{◌≡◌, ◌≢◌, ◌≤◌, ◌<◌, ◌+◌, ◌-◌, ◌↔◌, IsTrue, length, IfOk, None, Some, true, false, ℕ};
 ghost use Rattle.std.specs.List.{filter};
 ghost use Rattle.std.specs.Option.{option_copied};
-ghost use Rattle.pim_base.specs.declared.limits.TheConstants.{MAX_TASKS, MAX_MUTEXES};
+ghost use Rattle.pim_base.specs.declared.limits.TheConstants.{MAX_TASKS, MAX_MUTEXES, MAX_COUNT};
 ghost use Rattle.pim_base.specs.Lists.{nth, first_item};
-ghost use Rattle.pim_base.specs.State.{IsTask, IsMutex, task_numbers, base_of, protocol_of, owner_of, owned, wait_of, with_owner, with_base, with_ceiling};
-ghost use Rattle.pim_base.specs.Chains.{blocker, heir_of, closes_cycle};
+ghost use Rattle.pim_base.specs.State.{IsTask, IsMutex, task_numbers, base_of, protocol_of, owner_of, count_of, owned, wait_of, is_recursive, with_owner, with_count, with_base, with_ceiling};
+ghost use Rattle.pim_base.specs.Chains.{blocker, heir_of, leads_back};
 ghost use Rattle.pim_base.specs.Checks.{not_protect};
 ghost use Rattle.pim_base.specs.Priorities.{ceiling};
 ghost use Rattle.pim_base.specs.declared.steps.Wait.{Wait};
@@ -36,6 +36,7 @@ pub struct Tables {
     base: Vec<Prio>,
     protocol: Vec<Protocol>,
     owner: Vec<Option<TaskNo>>,
+    count: Vec<u8>,
     wait: Vec<Option<Wait>>,
     owned: OwnedSets,
     pub(crate) stored: Vec<Prio>,
@@ -72,6 +73,7 @@ impl Tables {
             base: Vec::from_slice(alloc, bases)?,
             protocol: Vec::from_slice(alloc, protocols)?,
             owner: filled(alloc, protocols.len(), None)?,
+            count: filled(alloc, protocols.len(), 0)?,
             wait: filled(alloc, bases.len(), None)?,
             owned: OwnedSets::new(alloc, bases.len())?,
             stored: Vec::from_slice(alloc, bases)?,
@@ -92,6 +94,7 @@ impl Tables {
             base: Vec::from_slice(alloc, &self.base)?,
             protocol: Vec::from_slice(alloc, &self.protocol)?,
             owner: Vec::from_slice(alloc, &self.owner)?,
+            count: Vec::from_slice(alloc, &self.count)?,
             wait: Vec::from_slice(alloc, &self.wait)?,
             owned: self.owned.try_clone(alloc)?,
             stored: Vec::from_slice(alloc, &self.stored)?,
@@ -100,8 +103,8 @@ impl Tables {
         })
     }
 
-    /// Returns whether bases, protocols, owners, waits with their tickets and the next ticket are those of the other
-    /// tables. Looks at most once at each task and each mutex.
+    /// Returns whether bases, protocols, owners, counts, waits with their tickets and the next ticket are those of the
+    /// other tables. Looks at most once at each task and each mutex.
     pub fn has_state_of(&self, other: &Tables) -> bool
         ensures { IsTrue result ↔ self.now.state ≡ other.now.state }
     {
@@ -109,6 +112,7 @@ impl Tables {
             &self.base,
             &self.protocol,
             &self.owner,
+            &self.count,
             &self.wait,
             self.next,
         );
@@ -116,6 +120,7 @@ impl Tables {
             &other.base,
             &other.protocol,
             &other.owner,
+            &other.count,
             &other.wait,
             other.next,
         );
@@ -166,12 +171,19 @@ impl Tables {
         nth(&self.owner, mutex.get()).flatten()
     }
 
+    /// Returns how often its owner has locked the mutex and not yet unlocked it, 0 of a free one, `None` for an unknown one.
+    pub fn count(&self, mutex: MutexNo) -> Option<u16>
+        ensures { result ≡ nth self.now.state.count mutex }
+    {
+        nth(&self.count, mutex.get()).map(|count| count as u16)
+    }
+
     /// Returns the owner of an INHERIT mutex, which gets the priority of those that wait for it, `None` for any other one.
     pub fn heir_of(&self, mutex: MutexNo) -> Option<TaskNo>
         ensures { result ≡ heir_of self.now.state mutex }
     {
         match self.protocol(mutex)? {
-            Protocol::Inherit => self.owner(mutex),
+            Protocol::Inherit | Protocol::InheritRecursive => self.owner(mutex),
             Protocol::None | Protocol::Protect(_) => None,
         }
     }
@@ -235,6 +247,13 @@ impl Tables {
         self.stored[task.get() as usize - 1]
     }
 
+    /// Returns how often its owner has locked the mutex, 0 of a free or an unknown one.
+    pub(crate) fn count_of(&self, mutex: MutexNo) -> u8
+        ensures { result ≡ count_of self.now.state mutex }
+    {
+        nth(&self.count, mutex.get()).unwrap_or(0)
+    }
+
     /// Returns the known task as a waiter with this ticket.
     pub(crate) fn waiter(&self, task: TaskNo, ticket: u64) -> Waiter
         requires { IsTask self.now.state task }
@@ -275,6 +294,7 @@ impl Tables {
         ensures ready { Ready self.new }
     {
         put(&mut self.owner, mutex.get(), Some(task));
+        put(&mut self.count, mutex.get(), 1);
         self.owned.insert(task, mutex);
     }
 
@@ -287,8 +307,34 @@ impl Tables {
     {
         if let Some(owner) = self.owner(mutex) {
             put(&mut self.owner, mutex.get(), None);
+            put(&mut self.count, mutex.get(), 0);
             self.owned.remove(owner, mutex);
         }
+    }
+
+    /// Counts one lock more of the mutex, which must be recursive and owned, and locked less than `MAX_COUNT` times.
+    pub fn count_up(&mut self, mutex: MutexNo)
+        requires owned { owner_of self.old.state mutex ≢ None }
+        requires recursive { is_recursive (protocol_of self.old.state mutex) ≡ true }
+        requires few { count_of self.old.state mutex < MAX_COUNT }
+        ensures state { self.new ≡ with_state self.old (with_count self.old.state mutex (count_of self.old.state mutex + 1)) }
+        ensures unsettles { Unsettles self.old self.new None }
+        ensures ready { Ready self.new }
+    {
+        let count = self.count_of(mutex);
+        put(&mut self.count, mutex.get(), count + 1);
+    }
+
+    /// Counts one lock less of the mutex, which must be recursive and locked more than once.
+    pub fn count_down(&mut self, mutex: MutexNo)
+        requires recursive { is_recursive (protocol_of self.old.state mutex) ≡ true }
+        requires more { 1 < count_of self.old.state mutex }
+        ensures state { self.new ≡ with_state self.old (with_count self.old.state mutex (count_of self.old.state mutex - 1)) }
+        ensures unsettles { Unsettles self.old self.new None }
+        ensures ready { Ready self.new }
+    {
+        let count = self.count_of(mutex);
+        put(&mut self.count, mutex.get(), count - 1);
     }
 
     /// Gives the task this base priority.
@@ -319,7 +365,7 @@ impl Tables {
         requires known { IsTask self.old.state task }
         requires mutex { IsMutex self.old.state mutex }
         requires idle { wait_of self.old.state task ≡ None }
-        requires closes_none { closes_cycle self.old.state task mutex ≡ false }
+        requires closes_none { leads_back self.old.state task mutex ≡ false }
         requires fresh { (u : ℕ) → wait_of self.old.state u ≢ Some (record { mutex = mutex; ticket = ticket }) }
         ensures joined { self.new ≡ joined self.old task (record { mutex = mutex; ticket = ticket }) }
         ensures unsettles { Unsettles self.old self.new (owner_of self.old.state mutex) }

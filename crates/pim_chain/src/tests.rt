@@ -471,6 +471,70 @@ fn checks_answer_from_what_stands(rt: HostRuntime) -> Result<(), Fail> {
     Ok(())
 }
 
+// a recursive mutex of task 1, which task 2 waits for, and an INHERIT one of task 1
+fn locked_again(rt: &impl Abort, alloc: Global) -> Result<Tables, AllocError> {
+    let protocols = [Protocol::InheritRecursive, Protocol::Inherit];
+    let mut tables = tables(rt, alloc, &[10, 50], &protocols)?;
+    let mut visits = Visits::new();
+    lock(rt, &mut tables, TaskNo(1), MutexNo(1), 1, &mut visits);
+    lock(rt, &mut tables, TaskNo(1), MutexNo(2), 2, &mut visits);
+    lock(rt, &mut tables, TaskNo(2), MutexNo(1), 3, &mut visits);
+    Ok(tables)
+}
+
+// counts one lock more of mutex 1, as often as it is said
+fn count_up(rt: &impl Abort, tables: &mut Tables, times: u16) {
+    for _time in 0..times {
+        assert!(rt; tables.relocks(TaskNo(1), MutexNo(1)));
+        assert!(rt; !tables.is_locked_too_often(TaskNo(1), MutexNo(1)));
+        tables.count_up(MutexNo(1));
+    }
+}
+
+#[test]
+fn recursive_mutex_is_counted(rt: HostRuntime) -> Result<(), Fail> {
+    let mut tables = locked_again(&rt, rt.alloc)?;
+    assert_eq!(rt; tables.count(MutexNo(1)), Some(1));
+    assert!(rt; !tables.is_kept(MutexNo(1)));
+    count_up(&rt, &mut tables, 2);
+    assert_eq!(rt; tables.count(MutexNo(1)), Some(3));
+    assert!(rt; tables.is_kept(MutexNo(1)));
+    tables.count_down(MutexNo(1));
+    assert_eq!(rt; tables.count(MutexNo(1)), Some(2));
+    assert_eq!(rt; tables.stored(TaskNo(1)), Prio::new(50));
+    Ok(())
+}
+
+#[test]
+fn recursive_mutex_is_counted_up_to_255(rt: HostRuntime) -> Result<(), Fail> {
+    let mut tables = locked_again(&rt, rt.alloc)?;
+    count_up(&rt, &mut tables, 254);
+    assert_eq!(rt; tables.count(MutexNo(1)), Some(255));
+    assert!(rt; tables.is_locked_too_often(TaskNo(1), MutexNo(1)));
+    Ok(())
+}
+
+#[test]
+fn other_mutexes_have_the_count_of_their_owner(rt: HostRuntime) -> Result<(), Fail> {
+    let tables = locked_again(&rt, rt.alloc)?;
+    assert_eq!(rt; tables.count(MutexNo(2)), Some(1));
+    assert_eq!(rt; tables.count(MutexNo(3)), None);
+    let free = tables(&rt, rt.alloc, &[10], &[Protocol::None])?;
+    assert_eq!(rt; free.count(MutexNo(1)), Some(0));
+    Ok(())
+}
+
+#[test]
+fn a_relock_leads_back_and_closes_no_cycle(rt: HostRuntime) -> Result<(), Fail> {
+    let tables = locked_again(&rt, rt.alloc)?;
+    assert!(rt; tables.is_recursive(MutexNo(1)) && !tables.is_recursive(MutexNo(2)));
+    assert!(rt; tables.leads_back(TaskNo(1), MutexNo(1)));
+    assert!(rt; !tables.closes_cycle(TaskNo(1), MutexNo(1)));
+    assert!(rt; tables.closes_cycle(TaskNo(1), MutexNo(2)));
+    assert!(rt; !tables.leads_back(TaskNo(2), MutexNo(2)));
+    Ok(())
+}
+
 #[test]
 fn next_ticket_is_the_one_that_was_put(rt: HostRuntime) -> Result<(), Fail> {
     let mut tables = scene(&rt, rt.alloc())?;
