@@ -165,7 +165,10 @@ pub passed_state :
 passed_state {S} {u} {x} {y} {m} {w} p first is =
     ap (λ (v : View). v.state) is
     ∙ ap (λ U. with_owner U m (Some w.task)) p.state
-    ∙ ap (λ os. record S { owner = os; wait = put S.wait w.task None }) (put-put S.owner m None (Some w.task))
+    ∙ ap (λ os. record S { owner = os; count = put (put S.count m 0) m 1; wait = put S.wait w.task None })
+    (put-put S.owner m None (Some w.task))
+    ∙ ap (λ cs. record S { owner = put S.owner m (Some w.task); count = cs; wait = put S.wait w.task None })
+    (put-put S.count m 0 1)
     ∙ ap (hand_over_to S m) (sym first)
 
 -- two walks, to u and then from y to z, are one work

@@ -25,6 +25,8 @@ pub bases_after : (S : State) (step : Step) → length (after S step).base ≡ l
 bases_after S step =
     kept_by_step (λ T. length T.base ≡ length S.base) (record {
       grant = λ T a m same _. same;
+      lock_again = λ T a m same _ _. same;
+      keep = λ T m same _. same;
       enqueue = λ T a m same _ _ _ _. same;
       hand = λ T m same. ap length (base-hand_over T m) ∙ same;
       withdraw = λ T t same. same;

@@ -1,13 +1,13 @@
 //! The changes of a step, each with the walks from the tasks whose local priority it may have
 //! changed.
 
-ghost use Rattle.std.specs.Prelude.{◌≡◌, ◌≤◌, ◌<◌, ◌+◌, ◌-◌, ◌^◌, Some, None, false};
-ghost use Rattle.pim_base.specs.State.{IsTask, IsMutex, owner_of, wait_of, with_owner, with_wait, with_base, with_ceiling, queued};
-ghost use Rattle.pim_base.specs.Chains.{blocker, closes_cycle};
-ghost use Rattle.pim_base.specs.Checks.{not_protect};
+ghost use Rattle.std.specs.Prelude.{◌≡◌, ◌≤◌, ◌<◌, ◌+◌, ◌-◌, ◌^◌, Some, None, true, false};
+ghost use Rattle.pim_base.specs.State.{IsTask, IsMutex, owner_of, count_of, wait_of, relocks, with_owner, with_count, with_wait, with_base, with_ceiling, queued};
+ghost use Rattle.pim_base.specs.Chains.{blocker, leads_back};
+ghost use Rattle.pim_base.specs.Checks.{not_protect, locked_too_often};
 ghost use Rattle.pim_base.specs.Counts.{changed_task_count, handed_mutex_count};
 ghost use Rattle.pim_base.specs.Queues.{first_of};
-ghost use Rattle.pim_base.specs.Steps.{hand_over};
+ghost use Rattle.pim_base.specs.Steps.{is_kept, hand_over};
 ghost use Rattle.pim_base.specs.declared.limits.TheConstants.{LAST_TICKET, MAX_TASKS};
 ghost use Rattle.pim_manager.specs.Settled.{Worked};
 
@@ -30,6 +30,25 @@ impl Manager {
         self.tables.gain(mutex, task, visits);
     }
 
+    /// Counts one lock more of the recursive mutex, which the task owns. No priority changes.
+    pub(crate) fn lock_again(&mut self, mutex: MutexNo, task: TaskNo, visits: &Visits)
+        requires again { relocks self.old task mutex ≡ true }
+        requires few { locked_too_often self.old task mutex ≡ false }
+        ensures state { self.new ≡ with_count self.old mutex (count_of self.old mutex + 1) }
+        ensures work { Worked self.old visits.now self.new visits.now }
+    {
+        self.tables.count_up(mutex);
+    }
+
+    /// Counts one lock less of the recursive mutex, which its owner keeps. No priority changes.
+    pub(crate) fn unlock_once(&mut self, mutex: MutexNo, visits: &Visits)
+        requires { is_kept self.old mutex ≡ true }
+        ensures state { self.new ≡ with_count self.old mutex (count_of self.old mutex - 1) }
+        ensures work { Worked self.old visits.now self.new visits.now }
+    {
+        self.tables.count_down(mutex);
+    }
+
     /// Lets the task, which doesn't wait, wait with the next ticket for the mutex, which has this
     /// owner. That closes no cycle.
     pub(crate) fn enqueue(
@@ -43,7 +62,7 @@ impl Manager {
         requires mutex { IsMutex self.old mutex }
         requires idle { wait_of self.old task ≡ None }
         requires owned { owner_of self.old mutex ≡ Some owner }
-        requires closes_none { closes_cycle self.old task mutex ≡ false }
+        requires closes_none { leads_back self.old task mutex ≡ false }
         requires tickets { self.old.next ≤ LAST_TICKET }
         requires room { visits.old.count ≤ 2 ^ 32 - 1 - MAX_TASKS }
         ensures state { self.new ≡ queued self.old task mutex }

@@ -3,12 +3,12 @@
 ghost use Rattle.std.specs.Prelude.{◌≡◌, ◌≤◌, ◌<◌, ◌+◌, ◌*◌, ◌↔◌, length, map, AllPairs, IfOk, IfSome, IsErrOf, IsTrue};
 ghost use Rattle.std.specs.Vec.{vec_capacity};
 ghost use Rattle.std.specs.Option.{option_map, option_copied};
-ghost use Rattle.pim_base.specs.State.{start, base_of, protocol_of, owner_of, wait_of};
+ghost use Rattle.pim_base.specs.State.{start, base_of, protocol_of, owner_of, count_of, wait_of};
 ghost use Rattle.pim_base.specs.Chains.{HasCycle};
 ghost use Rattle.pim_base.specs.Queues.{Precedes, queue_of};
 ghost use Rattle.pim_base.specs.Priorities.{effective_priority};
 ghost use Rattle.pim_base.specs.Reasons.{reason_of};
-ghost use Rattle.pim_base.specs.Steady.{IsSteady};
+ghost use Rattle.pim_base.specs.Steady.{IsSteady, IsCountOf};
 ghost use Rattle.pim_base.specs.Counts.{changed_task_count, handed_mutex_count};
 ghost use Rattle.pim_base.specs.Reports.{changed_tasks};
 ghost use Rattle.pim_base.specs.Steps.{reply_of, after};
@@ -31,7 +31,7 @@ use std::marker::Model;
 /// for, and the next ticket. So equal managers answer alike and stay equal. Between two calls
 /// each stored priority is the effective one, each queue is in order, and the state is steady: no
 /// cycle of waits stands, each task that waits has a ticket of its own, which is below the next
-/// one, and no free mutex has waiters.
+/// one, no free mutex has waiters, and each mutex has a count that goes with its owner.
 #[derive(Drop)]
 pub struct Manager {
     pub(crate) tables: Tables,
@@ -104,8 +104,8 @@ impl Manager {
         Ok(Manager { tables })
     }
 
-    /// Returns whether the other manager is equal: it has the same bases, protocols, owners, waits with
-    /// their tickets, and next ticket. Looks at most once at each task and each mutex.
+    /// Returns whether the other manager is equal: it has the same bases, protocols, owners, counts,
+    /// waits with their tickets, and next ticket. Looks at most once at each task and each mutex.
     pub fn has_state_of(&self, other: &Manager) -> bool
         ensures { IsTrue result ↔ self.now ≡ other.now }
     {
@@ -185,6 +185,17 @@ impl Manager {
         } else {
             Some(self.tables.owner(mutex))
         }
+    }
+
+    /// Returns how often its owner has locked the mutex and not yet unlocked it, `None` for an unknown
+    /// one: 0 where it is free, 1 where it is owned and not recursive, else 1 to `MAX_COUNT`.
+    pub fn count(&self, mutex: MutexNo) -> Option<u16>
+        ensures count { result ≡ of_mutex self.now mutex (count_of self.now mutex) }
+        ensures fits { IfSome result (IsCountOf (protocol_of self.now mutex) (owner_of self.now mutex)) }
+    {
+        // Its contract tells the proof that the state is steady.
+        let _steady = self.tasks();
+        self.tables.count(mutex)
     }
 
     /// Returns the protocol of the mutex, `None` for an unknown one.

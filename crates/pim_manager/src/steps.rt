@@ -1,9 +1,10 @@
 //! The steps: what each is answered, and what it changes.
 
-ghost use Rattle.std.specs.Prelude.{◌≡◌, ◌≤◌, ◌+◌, ◌*◌, None};
-ghost use Rattle.pim_base.specs.State.{IsTask, wait_of};
+ghost use Rattle.std.specs.Prelude.{◌≡◌, ◌≤◌, ◌+◌, ◌*◌, None, true};
+ghost use Rattle.pim_base.specs.State.{IsTask, wait_of, relocks};
 ghost use Rattle.pim_base.specs.Counts.{changed_task_count, handed_mutex_count};
 ghost use Rattle.pim_base.specs.Steps.{answer, after_reply, reply_of, after};
+ghost use Rattle.pim_manager.specs.Relocks.{relocked};
 ghost use Rattle.pim_manager.specs.Settled.{Worked};
 
 use crate::manager::Manager;
@@ -38,8 +39,8 @@ impl Manager {
         }
     }
 
-    /// Answers a lock by a known task that does not wait: the mutex is granted if it is free,
-    /// else the actor queues for it. The deadlock test makes at most as many hops as there are
+    /// Answers a lock by a known task that does not wait: the mutex is granted if it is free, or
+    /// once more to its owner if it is recursive, else the actor queues for it. The deadlock test makes at most as many hops as there are
     /// tasks.
     fn answer_lock(&mut self, actor: TaskNo, mutex: MutexNo, visits: &mut Visits) -> Reply
         requires known { IsTask self.old actor }
@@ -53,7 +54,10 @@ impl Manager {
         if self.tables.is_unknown_mutex(mutex) {
             return Reply::Refused(Refusal::NoMutex);
         }
-        if self.tables.closes_cycle(actor, mutex) {
+        if self.tables.relocks(actor, mutex) {
+            return self.answer_relock(actor, mutex, visits);
+        }
+        if self.tables.leads_back(actor, mutex) {
             return Reply::Refused(Refusal::Deadlock);
         }
         if self.tables.is_above_ceiling(actor, mutex) {
@@ -70,7 +74,8 @@ impl Manager {
         Reply::Queued
     }
 
-    /// Answers a try by a known task that does not wait: the mutex is granted if it is free.
+    /// Answers a try by a known task that does not wait: the mutex is granted if it is free, or
+    /// once more to its owner if it is recursive.
     fn answer_try(&mut self, actor: TaskNo, mutex: MutexNo, visits: &mut Visits) -> Reply
         requires known { IsTask self.old actor }
         requires idle { wait_of self.old actor ≡ None }
@@ -83,6 +88,9 @@ impl Manager {
         if self.tables.is_unknown_mutex(mutex) {
             return Reply::Refused(Refusal::NoMutex);
         }
+        if self.tables.relocks(actor, mutex) {
+            return self.answer_relock(actor, mutex, visits);
+        }
         if self.tables.is_above_ceiling(actor, mutex) {
             return Reply::Refused(Refusal::Ceiling);
         }
@@ -93,8 +101,23 @@ impl Manager {
         Reply::Granted
     }
 
-    /// Answers an unlock by a task that does not wait: the mutex goes to the first waiter, or is
-    /// free.
+    /// Answers a lock or a try of a recursive mutex by its owner: it is locked once more, unless it
+    /// is locked as often as can be counted.
+    fn answer_relock(&mut self, actor: TaskNo, mutex: MutexNo, visits: &Visits) -> Reply
+        requires { relocks self.old actor mutex ≡ true }
+        ensures reply { result ≡ relocked self.old mutex }
+        ensures state { self.new ≡ after_reply self.old actor (Op.Lock mutex) result }
+        ensures work { Worked self.old visits.now self.new visits.now }
+    {
+        if self.tables.is_locked_too_often(actor, mutex) {
+            return Reply::Refused(Refusal::Again);
+        }
+        self.lock_again(mutex, actor, visits);
+        Reply::Granted
+    }
+
+    /// Answers an unlock by a task that does not wait: a mutex that the task has locked more often
+    /// stays with it; else the mutex goes to the first waiter, or is free.
     fn answer_unlock(&mut self, actor: TaskNo, mutex: MutexNo, visits: &mut Visits) -> Reply
         requires idle { wait_of self.old actor ≡ None }
         requires fresh { visits.old.count ≡ 0 }
@@ -108,6 +131,10 @@ impl Manager {
         }
         if !self.tables.owns(actor, mutex) {
             return Reply::Refused(Refusal::NotOwner);
+        }
+        if self.tables.is_kept(mutex) {
+            self.unlock_once(mutex, visits);
+            return Reply::Kept;
         }
         match self.hand_over(mutex, actor, visits) {
             Some(waiter) => Reply::Handed(waiter.task),

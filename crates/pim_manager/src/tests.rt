@@ -180,6 +180,52 @@ fn ceilings_that_change(rt: HostRuntime) -> Result<(), Fail> {
     Ok(())
 }
 
+/// What each step of a recursive mutex is answered, and how often the mutex is locked then.
+const RECURSIVE: [(u16, Op, Reply, u16); 11] = [
+    (1, Lock(FIRST), Reply::Granted, 1),
+    (1, Lock(FIRST), Reply::Granted, 2),
+    (1, Try(FIRST), Reply::Granted, 3),
+    (2, Try(FIRST), Reply::Refused(Refusal::Busy), 3),
+    (2, Lock(FIRST), Reply::Queued, 3),
+    (1, Unlock(FIRST), Reply::Kept, 2),
+    (1, Unlock(FIRST), Reply::Kept, 1),
+    (1, Unlock(FIRST), Reply::Handed(TaskNo(2)), 1),
+    (1, Unlock(FIRST), Reply::Refused(Refusal::NotOwner), 1),
+    (2, Lock(FIRST), Reply::Granted, 2),
+    (2, ReleaseAll, Reply::Released(1), 0),
+];
+
+#[test]
+fn recursive_mutex_with_a_waiter(rt: HostRuntime) -> Result<(), Fail> {
+    let mut manager = made(rt.alloc(), &[10, 50], &[Protocol::InheritRecursive])?;
+    for (actor, op, reply, count) in RECURSIVE {
+        assert_eq!(rt; manager.step(by(actor, op)).reply, reply, "{actor} {op:?}");
+        assert_eq!(rt; manager.count(FIRST), Some(count), "{actor} {op:?}");
+        let lent = reply == Reply::Queued || reply == Reply::Kept;
+        let level = if lent { 50 } else { 10 };
+        assert_eq!(rt;
+            manager.effective(TaskNo(1)),
+            Prio::new(level),
+            "{actor} {op:?}"
+        );
+    }
+    assert_eq!(rt; manager.count(MutexNo(2)), None);
+    Ok(())
+}
+
+#[test]
+fn relocks_end_at_255(rt: HostRuntime) -> Result<(), Fail> {
+    let mut manager = made(rt.alloc(), &[10], &[Protocol::InheritRecursive])?;
+    for _time in 0..255 {
+        assert_eq!(rt; manager.step(by(1, Lock(FIRST))).reply, Reply::Granted);
+    }
+    let again = Reply::Refused(Refusal::Again);
+    assert_eq!(rt; manager.step(by(1, Lock(FIRST))).reply, again);
+    assert_eq!(rt; manager.step(by(1, Try(FIRST))).reply, again);
+    assert_eq!(rt; manager.count(FIRST), Some(255));
+    Ok(())
+}
+
 /// What is made of so many tasks, and of so many INHERIT mutexes.
 fn sized(
     rt: &impl Abort,

@@ -1,7 +1,7 @@
 use Rattle.std.proofs.Common.{◌≡◌, Some, ◌+◌, is_some, refl, sym, ◌∙◌, ap, arith}
 use Rattle.pim_base.specs.Lists.{put}
 use Rattle.pim_base.specs.State.{State, queued, wait_of, with_wait}
-use Rattle.pim_base.specs.Chains.{closes_cycle}
+use Rattle.pim_base.specs.Chains.{leads_back}
 use Rattle.pim_base.specs.declared.steps.Wait.{Wait}
 use Rattle.pim_base.proofs.Steady.{steady_kept}
 use Rattle.pim_chain.specs.Views.{View}
@@ -16,8 +16,8 @@ join-requires-clause-fresh c u e =
 
 pub join-requires-clause-closes_none : goal.join-requires-clause-closes_none
 join-requires-clause-closes_none c =
-    ap (λ (w : View). closes_cycle w.state c.args.task c.args.mutex) c.put_next_ticket.ensures.state
-    ∙ ap (λ (U : State). closes_cycle U c.args.task c.args.mutex) c.self.view_is
+    ap (λ (w : View). leads_back w.state c.args.task c.args.mutex) c.put_next_ticket.ensures.state
+    ∙ ap (λ (U : State). leads_back U c.args.task c.args.mutex) c.self.view_is
     ∙ c.requires.closes_none
 
 -- the state once the task has joined the queue
