@@ -5,7 +5,10 @@ use Rattle.std.proofs.lemmas.List.Splits.{slice_split_first, slice_split_none}
 use Rattle.std.proofs.lemmas.List.Sums.{fails_before_first}
 
 -- at the place of the first that passes
-pub split_at_place : (p : ℕ → Bool) (xs : List ℕ) (i : ℕ) → position p xs ≡ Some i → slice_split p xs ≡ take i xs ∷ slice_split p (drop (i + 1) xs)
+pub split_at_place :
+    (p : ℕ → Bool) (xs : List ℕ) (i : ℕ)
+    → position p xs ≡ Some i
+    → slice_split p xs ≡ take i xs ∷ slice_split p (drop (i + 1) xs)
 split_at_place p xs i e = grind (arith, slice_split_first)
 
 -- nowhere, where none passes

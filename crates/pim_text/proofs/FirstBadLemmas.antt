@@ -16,7 +16,8 @@ HasFronts Is = (ls : List (List ℕ)) (n : ℕ) → 0 < n → Is ls → Is (take
 
 fronts : (kind : TextKind) → HasFronts (IsOf kind)
 fronts kind ls n some is =
-    front_is kind (take n ls) (drop n ls) (omega (arith, length-take n ls, ap length is.1.0.1)) (subst (IsOf kind) (sym (take-append-drop n ls)) is)
+    front_is kind (take n ls) (drop n ls) (omega (arith, length-take n ls, ap length is.1.0.1))
+    (subst (IsOf kind) (sym (take-append-drop n ls)) is)
 
 pub trace_fronts : HasFronts IsTrace
 trace_fronts ls n some is = let front = fronts kinds.Trace ls n some (is.0, (is.1, tt)) in (front.0, front.1.0)
@@ -28,7 +29,14 @@ pub valid_has_none : (Is : List (List ℕ) → Type 0) → HasFronts Is → Vali
 valid_has_none Is has ls n is bad = bad.2 (has ls n bad.1 is)
 
 -- no later line is the first
-not_later : (Is : List (List ℕ) → Type 0) → HasFronts Is → (ls : List (List ℕ)) (n k : ℕ) → n < k → FirstBad Is ls n → FirstBad Is ls k → ⊥
+not_later :
+    (Is : List (List ℕ) → Type 0)
+    → HasFronts Is
+    → (ls : List (List ℕ)) (n k : ℕ)
+    → n < k
+    → FirstBad Is ls n
+    → FirstBad Is ls k
+    → ⊥
 not_later Is has ls n k before bad later = elim later.0 [
   | inl one ↦ omega (arith, one, before, bad.1)
   | inr is ↦ bad.2 (subst Is (take-take n (k - 1) ls (omega (arith, before))) (has (take (k - 1) ls) n bad.1 is))

@@ -20,13 +20,33 @@ pub no_protocol :
 no_protocol rest none inherit protect h is e = grind (arith, only_word)
 
 -- one word is no PROTECT protocol
-pub no_ceiling : (ws : List (List ℕ)) (w : List ℕ) → ws ≡ w ∷ [] → (c : ℕ) → IsPrio c → ws ≡ codes "protect" ∷ decimal c ∷ [] → ⊥
+pub no_ceiling :
+    (ws : List (List ℕ)) (w : List ℕ)
+    → ws ≡ w ∷ []
+    → (c : ℕ)
+    → IsPrio c
+    → ws ≡ codes "protect" ∷ decimal c ∷ []
+    → ⊥
 no_ceiling ws w one c is e = let both = sym one ∙ e in cc
 
-pub bad_ceiling : (ws : List (List ℕ)) (w ceiling : List ℕ) → ws ≡ w ∷ words ceiling → ReadsAs IsPrio decimal ceiling None → (c : ℕ) → IsPrio c → ws ≡ codes "protect" ∷ decimal c ∷ [] → ⊥
+pub bad_ceiling :
+    (ws : List (List ℕ)) (w ceiling : List ℕ)
+    → ws ≡ w ∷ words ceiling
+    → ReadsAs IsPrio decimal ceiling None
+    → (c : ℕ)
+    → IsPrio c
+    → ws ≡ codes "protect" ∷ decimal c ∷ []
+    → ⊥
 bad_ceiling ws w ceiling cut none c is e = none c is (only_word ceiling (decimal c) (let both = sym cut ∙ e in cc))
 
-pub not_protect : (ws : List (List ℕ)) (w : List ℕ) (tail : List (List ℕ)) → ws ≡ w ∷ tail → (w ≡ codes "protect" → ⊥) → (c : ℕ) → IsPrio c → ws ≡ codes "protect" ∷ decimal c ∷ [] → ⊥
+pub not_protect :
+    (ws : List (List ℕ)) (w : List ℕ) (tail : List (List ℕ))
+    → ws ≡ w ∷ tail
+    → (w ≡ codes "protect" → ⊥)
+    → (c : ℕ)
+    → IsPrio c
+    → ws ≡ codes "protect" ∷ decimal c ∷ []
+    → ⊥
 not_protect ws w tail cut other c is e = other (let both = sym cut ∙ e in cc)
 
 -- ---- lines of tasks
@@ -39,10 +59,18 @@ no_task ws none (lines.Task n p) is e = none n p is.0 is.1 (cc)
 no_task ws none (lines.Mutex n p) is e = cc
 no_task ws none (lines.Step line) is e = no_number line.step.actor (codes "task") is.0 (cc) (omega arith)
 
-pub task_no_number : (ws : List (List ℕ)) (first : List ℕ) (tail : List (List ℕ)) → ws ≡ first ∷ tail → ReadsAs IsNumber decimal first None → Reads (codes "task" ∷ ws) None
+pub task_no_number :
+    (ws : List (List ℕ)) (first : List ℕ) (tail : List (List ℕ))
+    → ws ≡ first ∷ tail
+    → ReadsAs IsNumber decimal first None
+    → Reads (codes "task" ∷ ws) None
 task_no_number ws first tail cut none = no_task ws (λ n p is prio e. none n is (let both = sym cut ∙ e in cc))
 
-pub task_no_base : (ws : List (List ℕ)) (first base : List ℕ) → ws ≡ first ∷ words base → ReadsAs IsPrio decimal base None → Reads (codes "task" ∷ ws) None
+pub task_no_base :
+    (ws : List (List ℕ)) (first base : List ℕ)
+    → ws ≡ first ∷ words base
+    → ReadsAs IsPrio decimal base None
+    → Reads (codes "task" ∷ ws) None
 task_no_base ws first base cut none = grind (arith, no_task, only_word)
 
 pub task_only_number : (ws : List (List ℕ)) (first : List ℕ) → ws ≡ first ∷ [] → Reads (codes "task" ∷ ws) None
@@ -58,10 +86,18 @@ no_mutex ws none (lines.Task n p) is e = cc
 no_mutex ws none (lines.Mutex n p) is e = none n p is.0 is.1 (cc)
 no_mutex ws none (lines.Step line) is e = no_number line.step.actor (codes "mutex") is.0 (cc) (omega arith)
 
-pub mutex_no_number : (ws : List (List ℕ)) (first : List ℕ) (tail : List (List ℕ)) → ws ≡ first ∷ tail → ReadsAs IsNumber decimal first None → Reads (codes "mutex" ∷ ws) None
+pub mutex_no_number :
+    (ws : List (List ℕ)) (first : List ℕ) (tail : List (List ℕ))
+    → ws ≡ first ∷ tail
+    → ReadsAs IsNumber decimal first None
+    → Reads (codes "mutex" ∷ ws) None
 mutex_no_number ws first tail cut none = no_mutex ws (λ n p is fits e. none n is (let both = sym cut ∙ e in cc))
 
-pub mutex_no_protocol : (ws : List (List ℕ)) (first : List ℕ) (tail : List (List ℕ)) → ws ≡ first ∷ tail → ReadsAs IsProtocol protocol_words tail None → Reads (codes "mutex" ∷ ws) None
+pub mutex_no_protocol :
+    (ws : List (List ℕ)) (first : List ℕ) (tail : List (List ℕ))
+    → ws ≡ first ∷ tail
+    → ReadsAs IsProtocol protocol_words tail None
+    → Reads (codes "mutex" ∷ ws) None
 mutex_no_protocol ws first tail cut none = no_mutex ws (λ n p is fits e. none p fits (let both = sym cut ∙ e in cc))
 
 -- no protocol has no word

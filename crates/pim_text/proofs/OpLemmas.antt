@@ -18,5 +18,10 @@ pub no_target : (w : List ℕ) (ws : List (List ℕ)) → (w ≡ codes "release"
 no_target w ws release none h vs is e = search rules
 
 -- a new base has two, and so has a new ceiling
-pub no_level : (w first : List ℕ) (ws tail : List (List ℕ)) → (w ≡ codes "base") ⊎ (w ≡ codes "ceil") → ws ≡ first ∷ tail → NoNumber tail → NoOp (w ∷ ws)
+pub no_level :
+    (w first : List ℕ) (ws tail : List (List ℕ))
+    → (w ≡ codes "base") ⊎ (w ≡ codes "ceil")
+    → ws ≡ first ∷ tail
+    → NoNumber tail
+    → NoOp (w ∷ ws)
 no_level w first ws tail two cut none h vs is e = grind (arith, common_steps)

@@ -1,6 +1,8 @@
 -- The lines of the bytes, one after another, and the first that can't stand.
 use Rattle.std.proofs.lemmas.Grind.{common_steps}
-use Rattle.std.proofs.Common.{◌≡◌, ℕ, zero, suc, ◌+◌, ◌-◌, ◌<◌, ◌≤◌, List, [], ◌∷◌, ◌++◌, arith, refl, ap, sym, ◌∙◌, subst, length, length-append, append_assoc, take, Bool, true, false, Option, Some, None, IfSome, Bor, eqb, inl, inr, unwrap_or, codes, rules}
+use Rattle.std.proofs.Common.{◌≡◌, ℕ, zero, suc, ◌+◌, ◌-◌, ◌<◌, ◌≤◌, List, [], ◌∷◌, ◌++◌, arith, refl, ap}
+use Rattle.std.proofs.Common.{sym, ◌∙◌, subst, length, length-append, append_assoc, take, Bool, true, false}
+use Rattle.std.proofs.Common.{Option, Some, None, IfSome, Bor, eqb, inl, inr, unwrap_or, codes, rules}
 use Rattle.std.specs.Bool.{MatchBool}
 use Rattle.std.specs.List.{slice_split, join_with_byte}
 use Rattle.std.proofs.lemmas.List.Splits.{length-slice_split, join_with_byte-slice_split}
@@ -18,7 +20,8 @@ parts bytes = slice_split (λ b. eqb b NEWLINE) bytes
 
 -- the last line is the bytes
 lines_of-last : (b : ℕ) (bytes line : List ℕ) → parts (b ∷ bytes) ≡ line ∷ [] → lines_of (b ∷ bytes) ≡ line ∷ []
-lines_of-last b bytes [] cut = absurd (empty (sym (join_with_byte-slice_split NEWLINE (b ∷ bytes)) ∙ ap (join_with_byte NEWLINE) cut))
+lines_of-last b bytes [] cut =
+    absurd (empty (sym (join_with_byte-slice_split NEWLINE (b ∷ bytes)) ∙ ap (join_with_byte NEWLINE) cut))
   where
     empty : b ∷ bytes ≡ [] → ⊥
     empty e = cc
@@ -26,9 +29,14 @@ lines_of-last b bytes (x ∷ line) cut = ap without_empty_last cut
 
 -- there are more parts behind this one
 lines_of-more : (bytes line rest : List ℕ) → parts bytes ≡ line ∷ parts rest → lines_of bytes ≡ line ∷ lines_of rest
-lines_of-more bytes line rest cut = ap without_empty_last cut ∙ go (parts rest) (omega (arith, length-slice_split (λ b. eqb b NEWLINE) rest)) line
+lines_of-more bytes line rest cut =
+    ap without_empty_last cut ∙ go (parts rest) (omega (arith, length-slice_split (λ b. eqb b NEWLINE) rest)) line
   where
-    go : (ps : List (List ℕ)) → 0 < length ps → (line : List ℕ) → without_empty_last (line ∷ ps) ≡ line ∷ without_empty_last ps
+    go :
+        (ps : List (List ℕ))
+        → 0 < length ps
+        → (line : List ℕ)
+        → without_empty_last (line ∷ ps) ≡ line ∷ without_empty_last ps
     go [] some line = absurd (omega arith)
     go (p ∷ ps) some [] = refl
     go (p ∷ ps) some (x ∷ line) = refl
@@ -41,7 +49,8 @@ pub lines_are :
     → parts bytes ≡ line ∷ pieces NEWLINE o
     → lines_of bytes ≡ line ∷ lines_of (unwrap_or o d).now
 lines_are [] line o d none some cut = absurd (omega arith)
-lines_are (b ∷ bytes) line None d none some cut = lines_of-last b bytes line cut ∙ ap (λ (rest : List ℕ). line ∷ lines_of rest) (sym none)
+lines_are (b ∷ bytes) line None d none some cut =
+    lines_of-last b bytes line cut ∙ ap (λ (rest : List ℕ). line ∷ lines_of rest) (sym none)
 lines_are (b ∷ bytes) line (Some r) d none some cut = lines_of-more (b ∷ bytes) line r.now cut
 
 pub rest_shorter :
@@ -66,7 +75,8 @@ take_done done rest = grind (arith, common_steps)
 
 -- the line behind a valid text that no valid text goes on with
 pub bad_next :
-    {kind : TextKind} {all left : List (List ℕ)} {t : Trace} {count : ℕ} (added : Bool) (P : List (List ℕ) → Type 0) (line : List ℕ) (rest : List (List ℕ))
+    {kind : TextKind} {all left : List (List ℕ)} {t : Trace} {count : ℕ}
+    (added : Bool) (P : List (List ℕ) → Type 0) (line : List ℕ) (rest : List (List ℕ))
     → left ≡ line ∷ rest
     → Halfway kind all left t count
     → added ≡ false
@@ -74,19 +84,25 @@ pub bad_next :
     → FirstBad (IsOf kind) all (count + 1)
 bad_next {kind} {all} {left} {t} {count} added P line rest next half refused add =
     let whole : all ≡ half.done ++ line ∷ rest = half.whole ∙ ap (λ ls. half.done ++ ls) next in
-    let stops = subst (λ (b : Bool). MatchBool b (P half.done) (IsOf kind (half.done ++ line ∷ []) → ⊥)) refused (add half.done half.spells) in
+    let stops =
+    subst (λ (b : Bool). MatchBool b (P half.done) (IsOf kind (half.done ++ line ∷ []) → ⊥)) refused
+    (add half.done half.spells) in
     let longer : all ≡ (half.done ++ line ∷ []) ++ rest = whole ∙ sym (append_assoc half.done (line ∷ []) rest) in
-    let size : length (half.done ++ line ∷ []) ≡ count + 1 = omega (arith, length-append half.done (line ∷ []), half.many) in
+    let size : length (half.done ++ line ∷ []) ≡ count + 1 =
+    omega (arith, length-append half.done (line ∷ []), half.many) in
     let before : take (count + 1 - 1) all ≡ half.done =
     ap (λ k. take k all) (let k : count + 1 - 1 ≡ length half.done = omega (arith, half.many) in k)
     ∙ ap (take (length half.done)) whole ∙ take_done half.done (line ∷ rest) in
     let upto : take (count + 1) all ≡ half.done ++ line ∷ [] =
-    ap (λ k. take k all) (sym size) ∙ ap (take (length (half.done ++ line ∷ []))) longer ∙ take_done (half.done ++ line ∷ []) rest in
+    ap (λ k. take k all) (sym size)
+    ∙ ap (take (length (half.done ++ line ∷ []))) longer
+    ∙ take_done (half.done ++ line ∷ []) rest in
     (inr (subst (IsOf kind) (sym before) (t, half.spells)), omega arith, λ valid. stops (subst (IsOf kind) upto valid))
 
 -- the text with that line
 pub goes_on :
-    {kind : TextKind} {all left : List (List ℕ)} {t : Trace} {count : ℕ} (added : Bool) (u : Trace) (Q : List (List ℕ) → Type 0) (line : List ℕ) (rest : List (List ℕ))
+    {kind : TextKind} {all left : List (List ℕ)} {t : Trace} {count : ℕ}
+    (added : Bool) (u : Trace) (Q : List (List ℕ) → Type 0) (line : List ℕ) (rest : List (List ℕ))
     → left ≡ line ∷ rest
     → Halfway kind all left t count
     → added ≡ true
@@ -95,12 +111,17 @@ pub goes_on :
 goes_on {kind} {all} {left} {t} {count} added u Q line rest next half taken add = record {
   done = half.done ++ line ∷ [];
   whole = half.whole ∙ ap (λ ls. half.done ++ ls) next ∙ sym (append_assoc half.done (line ∷ []) rest);
-  spells = subst (λ (b : Bool). MatchBool b (SpellsAs kind (half.done ++ line ∷ []) u) (Q half.done)) taken (add half.done half.spells);
+  spells =
+      subst (λ (b : Bool). MatchBool b (SpellsAs kind (half.done ++ line ∷ []) u) (Q half.done)) taken
+      (add half.done half.spells);
   many = omega (arith, length-append half.done (line ∷ []), half.many);
 }
 
 -- they are few
-pub count_small : {kind : TextKind} {all rest : List (List ℕ)} {t : Trace} {count : ℕ} → Halfway kind all rest t count → count ≤ 1 + MAX_TASKS + MAX_MUTEXES + MAX_STEPS
+pub count_small :
+    {kind : TextKind} {all rest : List (List ℕ)} {t : Trace} {count : ℕ}
+    → Halfway kind all rest t count
+    → count ≤ 1 + MAX_TASKS + MAX_MUTEXES + MAX_STEPS
 count_small {kind} {all} {rest} {t} {count} half = omega (arith, half.many, length_valid half.done t half.spells.0)
 
 -- the first line is the version

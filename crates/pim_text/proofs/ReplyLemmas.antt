@@ -19,13 +19,25 @@ no_argument :
     → ReadsAs IsReply reply_words (w ∷ rest) None
 no_argument w argument rest cut some handed released refused h is e = grind (arith, only_word)
 
-pub no_handed : (w argument : List ℕ) → w ≡ codes "handed" → ReadsAs IsNumber decimal argument None → ReadsAs IsReply reply_words (w ∷ words argument) None
+pub no_handed :
+    (w argument : List ℕ)
+    → w ≡ codes "handed"
+    → ReadsAs IsNumber decimal argument None
+    → ReadsAs IsReply reply_words (w ∷ words argument) None
 no_handed w argument is none = grind (arith, no_argument)
 
-pub no_released : (w argument : List ℕ) → w ≡ codes "released" → ReadsAs (λ n. n < 2 ^ 16) decimal argument None → ReadsAs IsReply reply_words (w ∷ words argument) None
+pub no_released :
+    (w argument : List ℕ)
+    → w ≡ codes "released"
+    → ReadsAs (λ n. n < 2 ^ 16) decimal argument None
+    → ReadsAs IsReply reply_words (w ∷ words argument) None
 no_released w argument is none = grind (arith, no_argument)
 
-pub no_refused : (w argument : List ℕ) → w ≡ codes "refused" → ((r : Refusal) → argument ≡ refusal_word r → ⊥) → ReadsAs IsReply reply_words (w ∷ words argument) None
+pub no_refused :
+    (w argument : List ℕ)
+    → w ≡ codes "refused"
+    → ((r : Refusal) → argument ≡ refusal_word r → ⊥)
+    → ReadsAs IsReply reply_words (w ∷ words argument) None
 no_refused w argument is none = grind (arith, no_argument)
 
 -- it is none of the words that have an argument
@@ -39,5 +51,9 @@ no_such_reply w argument handed released refused = grind (arith, some_word)
 
 -- ---- such replies that are spelled
 
-pub spells_with : (w argument verb word : List ℕ) → w ≡ verb → words argument ≡ word ∷ [] → w ∷ words argument ≡ verb ∷ word ∷ []
+pub spells_with :
+    (w argument verb word : List ℕ)
+    → w ≡ verb
+    → words argument ≡ word ∷ []
+    → w ∷ words argument ≡ verb ∷ word ∷ []
 spells_with w argument verb word e f = cc

@@ -1,6 +1,7 @@
 -- A spelled line is cut into its words again, and no two lines are spelled alike.
 use Rattle.std.proofs.lemmas.Grind.{common_steps}
-use Rattle.std.proofs.Common.{◌≡◌, ◌^◌, ℕ, ◌<◌, ◌≤◌, ◌==◌, List, [], ◌∷◌, ◌++◌, codes, arith, rules, refl, get_or, ap, sym, ◌∙◌, length, false, Option, Some, None, unwrap_or, find, if◌then◌else◌}
+use Rattle.std.proofs.Common.{◌≡◌, ◌^◌, ℕ, ◌<◌, ◌≤◌, ◌==◌, List, [], ◌∷◌, ◌++◌, codes, arith, rules, refl, get_or}
+use Rattle.std.proofs.Common.{ap, sym, ◌∙◌, length, false, Option, Some, None, unwrap_or, find, if◌then◌else◌}
 use Rattle.std.specs.Fmt.{decimal}
 use Rattle.std.specs.List.{AllByRecursion, join_with_byte}
 use Rattle.std.specs.Str.{bytes_eq}
@@ -19,7 +20,8 @@ use Rattle.pim_base.specs.declared.steps.Reply.{Reply}
 use Rattle.pim_base.specs.declared.lines.StepLine.{StepLine}
 use Rattle.pim_base.specs.declared.lines.Line.{Line}
 use Rattle.pim_base.specs.declared.lines.Line.TheVariants as lines
-use Rattle.pim_base.specs.Spelling.{SPACE, IsNumber, IsProtocol, IsOp, IsReply, IsRecorded, IsLine, words_of, protocol_words, op_words, refusal_word, reply_words, recorded_words, spelled}
+use Rattle.pim_base.specs.Spelling.{SPACE, IsNumber, IsProtocol, IsOp, IsReply, IsRecorded, IsLine, words_of}
+use Rattle.pim_base.specs.Spelling.{protocol_words, op_words, refusal_word, reply_words, recorded_words, spelled}
 use Rattle.pim_text.specs.Reading.{words, Reads, ReadsBytes}
 use Rattle.pim_text.proofs.NumberLemmas.{numerals, no_number}
 
@@ -38,12 +40,17 @@ split_joined (x ∷ y ∷ xs) each some =
 
 pub word_decimal : (n : ℕ) → n < 2 ^ 16 → IsWord (decimal n)
 word_decimal n small =
-    recursion_from_All (λ b. (b == SPACE) ≡ false) (decimal n) (All-from_get_or (λ b. (b == SPACE) ≡ false) (decimal n) 0 (λ i inside.
+    recursion_from_All (λ b. (b == SPACE) ≡ false) (decimal n)
+    (All-from_get_or (λ b. (b == SPACE) ≡ false) (decimal n) 0 (λ i inside.
     let digit : (48 ≤ get_or (decimal n) i 0) × (get_or (decimal n) i 0 ≤ 57) =
     digit_at (decimal n) i (digits_decimal numerals n (omega arith)) inside in
     ne_eqb (get_or (decimal n) i 0) SPACE (λ e. let space : get_or (decimal n) i 0 ≡ 32 = e in omega arith)))
 
-pub all_append : {A : Type 0} (P : A → Type 0) (xs ys : List A) → AllByRecursion P xs → AllByRecursion P ys → AllByRecursion P (xs ++ ys)
+pub all_append :
+    {A : Type 0} (P : A → Type 0) (xs ys : List A)
+    → AllByRecursion P xs
+    → AllByRecursion P ys
+    → AllByRecursion P (xs ++ ys)
 all_append P xs ys h k = grind (arith, common_steps)
 
 protocol_split : (p : Protocol) → IsProtocol p → AllByRecursion IsWord (protocol_words p)
@@ -59,7 +66,11 @@ pub split_spelled : (line : Line) → IsLine line → words (spelled line) ≡ w
 split_spelled line is = split_joined (words_of line) (words_split line is) (some_words line)
 
 -- what the words of the bytes say, the bytes say
-pub bytes_read : (bytes : List ℕ) (ws : List (List ℕ)) (r : Option Line) → words bytes ≡ ws → Reads ws r → ReadsBytes bytes r
+pub bytes_read :
+    (bytes : List ℕ) (ws : List (List ℕ)) (r : Option Line)
+    → words bytes ≡ ws
+    → Reads ws r
+    → ReadsBytes bytes r
 bytes_read bytes ws None same reads = λ line is e. reads line is (sym same ∙ ap words e ∙ split_spelled line is)
 bytes_read bytes ws (Some l) same reads =
     (reads.0, sym (join_with_byte-slice_split SPACE bytes) ∙ ap (join_with_byte SPACE) (same ∙ reads.1))
@@ -154,9 +165,13 @@ unfolding recorded_in
 recorded_in-words r is = grind (arith, reply_in-words)
 
 step_in : List ℕ → List (List ℕ) → StepLine
-step_in first ws = record { step = record { actor = digits_value 10 first; op = op_in ws }; recorded = recorded_in (behind ws) }
+step_in first ws =
+    record { step = record { actor = digits_value 10 first; op = op_in ws }; recorded = recorded_in (behind ws) }
 
-step_in-words : (line : StepLine) → IsLine (lines.Step line) → step_in (decimal line.step.actor) (op_words line.step.op ++ recorded_words line.recorded) ≡ line
+step_in-words :
+    (line : StepLine)
+    → IsLine (lines.Step line)
+    → step_in (decimal line.step.actor) (op_words line.step.op ++ recorded_words line.recorded) ≡ line
 unfolding step_in
 step_in-words line is = grind (arith, value-decimal, op_in-words, behind-words, recorded_in-words)
 

@@ -1,6 +1,7 @@
 -- The lines of a text tell it, and how they grow with it.
 use Rattle.std.proofs.lemmas.Grind.{common_steps}
-use Rattle.std.proofs.Common.{◌≡◌, ℕ, ◌+◌, ◌≤◌, List, [], ◌∷◌, ◌++◌, arith, refl, ap, ap₂, sym, ◌∙◌, length, map, append_assoc, length-append}
+use Rattle.std.proofs.Common.{◌≡◌, ℕ, ◌+◌, ◌≤◌, List, [], ◌∷◌, ◌++◌, arith, refl, ap, ap₂}
+use Rattle.std.proofs.Common.{sym, ◌∙◌, length, map, append_assoc, length-append}
 use Rattle.std.specs.Fmt.{decimal}
 use Rattle.std.specs.List.{AllByRecursion}
 use Rattle.std.specs.Str.Parse.{digits_value}
@@ -29,13 +30,18 @@ collect v [] = empty_of v
 collect v (l ∷ ls) = onto l (collect v ls)
 
 abbrev joined : List ℕ → List Protocol → List StepLine → Trace → Trace
-joined bs ps ss t = record { version = t.version; bases = bs ++ t.bases; protocols = ps ++ t.protocols; steps = ss ++ t.steps }
+joined bs ps ss t =
+    record { version = t.version; bases = bs ++ t.bases; protocols = ps ++ t.protocols; steps = ss ++ t.steps }
 
-collect-task_lines : (v n : ℕ) (bs : List ℕ) (rest : List Line) → collect v (task_lines n bs ++ rest) ≡ joined bs [] [] (collect v rest)
+collect-task_lines :
+    (v n : ℕ) (bs : List ℕ) (rest : List Line)
+    → collect v (task_lines n bs ++ rest) ≡ joined bs [] [] (collect v rest)
 collect-task_lines v n [] rest = refl
 collect-task_lines v n (b ∷ bs) rest = ap (onto (lines.Task n b)) (collect-task_lines v (n + 1) bs rest)
 
-collect-mutex_lines : (v n : ℕ) (ps : List Protocol) (rest : List Line) → collect v (mutex_lines n ps ++ rest) ≡ joined [] ps [] (collect v rest)
+collect-mutex_lines :
+    (v n : ℕ) (ps : List Protocol) (rest : List Line)
+    → collect v (mutex_lines n ps ++ rest) ≡ joined [] ps [] (collect v rest)
 collect-mutex_lines v n [] rest = refl
 collect-mutex_lines v n (p ∷ ps) rest = ap (onto (lines.Mutex n p)) (collect-mutex_lines v (n + 1) ps rest)
 
@@ -47,7 +53,12 @@ collect-declared : (t : Trace) → collect t.version (declared t) ≡ t
 collect-declared t = grind (arith, collect-task_lines, collect-mutex_lines, collect-steps, append-nil)
 
 -- lines that are spelled alike are the same
-map-spelled_same : (ls ms : List Line) → AllByRecursion IsLine ls → AllByRecursion IsLine ms → map spelled ls ≡ map spelled ms → ls ≡ ms
+map-spelled_same :
+    (ls ms : List Line)
+    → AllByRecursion IsLine ls
+    → AllByRecursion IsLine ms
+    → map spelled ls ≡ map spelled ms
+    → ls ≡ ms
 map-spelled_same [] [] hl hm e = refl
 map-spelled_same [] (m ∷ ms) hl hm e = cc
 map-spelled_same (l ∷ ls) [] hl hm e = cc
@@ -56,7 +67,12 @@ map-spelled_same (l ∷ ls) (m ∷ ms) hl hm e =
     let b : ls ≡ ms = map-spelled_same ls ms hl.1 hm.1 (cc) in cc
 
 -- the first line tells the version
-version_same : (t u : Trace) → IsWithinLimits t → IsWithinLimits u → version_line t.version ≡ version_line u.version → t.version ≡ u.version
+version_same :
+    (t u : Trace)
+    → IsWithinLimits t
+    → IsWithinLimits u
+    → version_line t.version ≡ version_line u.version
+    → t.version ≡ u.version
 version_same t u it iu e =
     let same : decimal t.version ≡ decimal u.version = cc in
     sym (value-decimal t.version (omega (arith, it.version.1)))
@@ -74,19 +90,26 @@ spelled_once t u it iu e =
 
 -- ---- one more line of each part
 
-task_lines-append_one : (n : ℕ) (bs : List ℕ) (p : ℕ) → task_lines n (bs ++ p ∷ []) ≡ task_lines n bs ++ lines.Task (n + length bs) p ∷ []
+task_lines-append_one :
+    (n : ℕ) (bs : List ℕ) (p : ℕ)
+    → task_lines n (bs ++ p ∷ []) ≡ task_lines n bs ++ lines.Task (n + length bs) p ∷ []
 task_lines-append_one n [] p = ap (λ k. lines.Task k p ∷ []) (omega arith)
 task_lines-append_one n (b ∷ bs) p =
     ap (λ ls. lines.Task n b ∷ ls)
     (task_lines-append_one (n + 1) bs p ∙ ap (λ k. task_lines (n + 1) bs ++ lines.Task k p ∷ []) (omega arith))
 
-mutex_lines-append_one : (n : ℕ) (ps : List Protocol) (p : Protocol) → mutex_lines n (ps ++ p ∷ []) ≡ mutex_lines n ps ++ lines.Mutex (n + length ps) p ∷ []
+mutex_lines-append_one :
+    (n : ℕ) (ps : List Protocol) (p : Protocol)
+    → mutex_lines n (ps ++ p ∷ []) ≡ mutex_lines n ps ++ lines.Mutex (n + length ps) p ∷ []
 mutex_lines-append_one n [] p = ap (λ k. lines.Mutex k p ∷ []) (omega arith)
 mutex_lines-append_one n (b ∷ bs) p =
     ap (λ ls. lines.Mutex n b ∷ ls)
     (mutex_lines-append_one (n + 1) bs p ∙ ap (λ k. mutex_lines (n + 1) bs ++ lines.Mutex k p ∷ []) (omega arith))
 
-with_task : (bs : List ℕ) (p n : ℕ) → n ≡ length bs + 1 → task_lines 1 (bs ++ p ∷ []) ++ [] ≡ (task_lines 1 bs ++ []) ++ lines.Task n p ∷ []
+with_task :
+    (bs : List ℕ) (p n : ℕ)
+    → n ≡ length bs + 1
+    → task_lines 1 (bs ++ p ∷ []) ++ [] ≡ (task_lines 1 bs ++ []) ++ lines.Task n p ∷ []
 with_task bs p n e = grind (arith, append-nil, task_lines-append_one)
 
 with_mutex :
@@ -113,5 +136,8 @@ length-declared : (t : Trace) → length (declared t) ≡ length t.bases + lengt
 length-declared t = grind (arith, length-append, length-task_lines, length-mutex_lines, length-map)
 
 -- a valid text is short
-pub length_valid : (ls : List (List ℕ)) (t : Trace) → Spells ls t → length ls ≤ 1 + MAX_TASKS + MAX_MUTEXES + MAX_STEPS
+pub length_valid :
+    (ls : List (List ℕ)) (t : Trace)
+    → Spells ls t
+    → length ls ≤ 1 + MAX_TASKS + MAX_MUTEXES + MAX_STEPS
 length_valid ls t spells = grind (arith, length-declared, length-map)

@@ -1,5 +1,6 @@
 -- Words cut off the front of a line, and what single words spell.
-use Rattle.std.proofs.Common.{◌≡◌, ◌<◌, ◌≤◌, ◌^◌, ℕ, List, [], ◌∷◌, codes, arith, sym, ◌∙◌, ap, Option, Some, None, Bor, Bool, true, false, eqb, length, ◌++◌, ◌≢◌, refl}
+use Rattle.std.proofs.Common.{◌≡◌, ◌<◌, ◌≤◌, ◌^◌, ℕ, List, [], ◌∷◌, codes, arith, sym, ◌∙◌, ap, Option}
+use Rattle.std.proofs.Common.{Some, None, Bor, Bool, true, false, eqb, length, ◌++◌, ◌≢◌, refl}
 use Rattle.std.specs.Fmt.{decimal}
 use Rattle.std.specs.Bool.{MatchBool}
 use Rattle.std.specs.List.{join_with_byte, starts_with}
@@ -25,11 +26,19 @@ some_word bytes e =
     omega (arith, size, none)
 
 -- what stands behind the first word
-pub cut_some : (ws : List (List ℕ)) (first : List ℕ) (o : Option (Bor (List ℕ))) (rest : Bor (List ℕ)) → ws ≡ first ∷ pieces SPACE o → o ≡ Some rest → ws ≡ first ∷ words rest.now
+pub cut_some :
+    (ws : List (List ℕ)) (first : List ℕ) (o : Option (Bor (List ℕ))) (rest : Bor (List ℕ))
+    → ws ≡ first ∷ pieces SPACE o
+    → o ≡ Some rest
+    → ws ≡ first ∷ words rest.now
 cut_some ws first o rest cut some = cut ∙ ap (λ o. first ∷ pieces SPACE o) some
 
 -- nothing stands behind it
-pub cut_none : (ws : List (List ℕ)) (first : List ℕ) (o : Option (Bor (List ℕ))) → ws ≡ first ∷ pieces SPACE o → o ≡ None → ws ≡ first ∷ []
+pub cut_none :
+    (ws : List (List ℕ)) (first : List ℕ) (o : Option (Bor (List ℕ)))
+    → ws ≡ first ∷ pieces SPACE o
+    → o ≡ None
+    → ws ≡ first ∷ []
 cut_none ws first o cut none = cut ∙ ap (λ o. first ∷ pieces SPACE o) none
 
 -- ---- a single word
@@ -51,13 +60,27 @@ one_prio w p is e = one_number w p (omega (arith, is.1)) e
 pub only_word : (bytes w : List ℕ) → words bytes ≡ w ∷ [] → bytes ≡ w
 only_word bytes w e = sym (join_with_byte-slice_split SPACE bytes) ∙ ap (join_with_byte SPACE) e
 
+-- bytes that go on behind their first number are no number
+pub number_goes_on :
+    (word : List ℕ) (n : ℕ) (o : Option (Bor (List ℕ))) (rest : Bor (List ℕ))
+    → words word ≡ decimal n ∷ pieces SPACE o
+    → o ≡ Some rest
+    → (m : ℕ)
+    → IsNumber m
+    → word ≡ decimal m
+    → ⊥
+number_goes_on word n o rest cut some m is e =
+    let alone = one_number word m is.1 e in
+    some_word rest.now (cc)
+
 -- the priority that a number is, if it is one
 pub prio_read :
     (word : List ℕ) (n : ℕ) (r : Option ℕ)
     → IsNumber n × (word ≡ decimal n)
     → SomeIff r ((1 ≤ n) × (n ≤ 99)) n
     → ReadsAs IsPrio decimal word r
-prio_read word n (Some p) read h = ((omega (arith, h.1, read.0.0), omega (arith, h.0.1, h.1)), read.1 ∙ ap decimal (sym h.1))
+prio_read word n (Some p) read h =
+    ((omega (arith, h.1, read.0.0), omega (arith, h.0.1, h.1)), read.1 ∙ ap decimal (sym h.1))
 prio_read word n None read h =
     λ p is e.
     let same : p ≡ n =
@@ -78,6 +101,14 @@ count_read word r other h = grind (arith, decimal_digit)
 -- ---- comparing
 
 -- a word that begins with one as long is that one
-pub same_word : (word name : List ℕ) (r : Bool) → length word ≡ length name → r ≡ starts_with eqb word name → MatchBool r (word ≡ name) (word ≢ name)
-same_word word name true long e = (starts_is Decides-eqb word name true e).0 refl ∙ ap (λ t. name ++ t) (drop_all (length name) word (omega arith)) ∙ append-nil name
-same_word word name false long e = λ same. let bad : false ≡ true = (starts_is Decides-eqb word name false e).1 [] (same ∙ sym (append-nil name)) in cc
+pub same_word :
+    (word name : List ℕ) (r : Bool)
+    → length word ≡ length name
+    → r ≡ starts_with eqb word name
+    → MatchBool r (word ≡ name) (word ≢ name)
+same_word word name true long e =
+    (starts_is Decides-eqb word name true e).0 refl
+    ∙ ap (λ t. name ++ t) (drop_all (length name) word (omega arith))
+    ∙ append-nil name
+same_word word name false long e = λ same.
+    let bad : false ≡ true = (starts_is Decides-eqb word name false e).1 [] (same ∙ sym (append-nil name)) in cc

@@ -1,5 +1,6 @@
 -- What the reading of a text comes to, one line after another.
-use Rattle.std.specs.Prelude.{ℕ, ◌≡◌, ◌+◌, ◌<◌, ◌≤◌, ◌==◌, List, [], ◌∷◌, ◌++◌, length, Option, Some, None, MatchOption, Bool}
+use Rattle.std.specs.Prelude.{ℕ, ◌≡◌, ◌+◌, ◌<◌, ◌≤◌, ◌==◌, List, [], ◌∷◌, ◌++◌, length}
+use Rattle.std.specs.Prelude.{Option, Some, None, MatchOption, Bool}
 use Rattle.std.specs.Bool.{MatchBool}
 use Rattle.std.specs.List.{slice_split}
 use Rattle.std.specs.Borrow.{Bor}
@@ -30,7 +31,8 @@ words bytes = slice_split (λ b. b == SPACE) bytes
 
 -- what a word, words or bytes spell: nothing if they spell none of those
 abbrev pub ReadsAs : {X Y : Type 0} → (X → Type 0) → (X → Y) → Y → Option X → Type 0
-ReadsAs {X} Is spelling y result = MatchOption result ((x : X) → Is x → y ≡ spelling x → ⊥) (λ x. Is x × (y ≡ spelling x))
+ReadsAs {X} Is spelling y result =
+    MatchOption result ((x : X) → Is x → y ≡ spelling x → ⊥) (λ x. Is x × (y ≡ spelling x))
 
 -- the line that these words spell
 abbrev pub Reads : List (List ℕ) → Option Line → Type 0
@@ -56,8 +58,10 @@ with_line t (lines.Step step) = record t { steps = t.steps ++ step ∷ [] }
 
 -- the line may follow those of the text, in a version that has it
 abbrev pub MayFollow : Trace → Line → Type 0
-MayFollow t (lines.Task n base) = (length t.bases < MAX_TASKS) × (n ≡ length t.bases + 1) × (t.protocols ≡ []) × (t.steps ≡ [])
-MayFollow t (lines.Mutex n protocol) = (length t.protocols < MAX_MUTEXES) × (n ≡ length t.protocols + 1) × (t.steps ≡ [])
+MayFollow t (lines.Task n base) =
+    (length t.bases < MAX_TASKS) × (n ≡ length t.bases + 1) × (t.protocols ≡ []) × (t.steps ≡ [])
+MayFollow t (lines.Mutex n protocol) =
+    (length t.protocols < MAX_MUTEXES) × (n ≡ length t.protocols + 1) × (t.steps ≡ [])
 MayFollow t (lines.Step step) = length t.steps < MAX_STEPS
 
 -- the line was added to the text where it may follow, and else is refused

@@ -1,8 +1,8 @@
 //! The text of traces and scripts, and how it is read.
 //!
 //! [`parse`] reads the bytes of a trace, [`parse_script`] those of a script, which is to be run. Each returns the
-//! [`Text`], its version, what the bytes declare and the steps that they ask for, or the [`TextFault`] that names the first
-//! invalid line. What is valid is said in `pim_base` (specs/Texts.antt, specs/Scripts.antt): the lines that are
+//! [`Text`], its version, what the bytes declare and the steps that they ask for, or the [`TextFault`] that names the
+//! first invalid line. What is valid is said in `pim_base` (specs/Texts.antt, specs/Scripts.antt): the lines that are
 //! the one spelling of a trace.
 //!
 //! ```text

@@ -76,7 +76,9 @@ impl Text {
 
     /// Returns whether the kind lets the line stand below those of this text.
     pub(crate) fn allows(&self, line: &Line, kind: TextKind) -> bool
-        ensures { MatchBool result (Allows kind (trace_of self.now) line.now) (Allows kind (trace_of self.now) line.now → ⊥) }
+        ensures { MatchBool result
+            (Allows kind (trace_of self.now) line.now)
+            (Allows kind (trace_of self.now) line.now → ⊥) }
     {
         match line {
             Line::Step(line) if kind == TextKind::Script => {

@@ -1,11 +1,11 @@
 //! The words of a line, and the numbers that they spell.
-ghost use Rattle.std.specs.Prelude.{◌≡◌, ◌≢◌, ℕ, List, ◌∷◌, ◌==◌, ◌<◌, ◌≤◌, ◌+◌, ◌^◌, length, map, IfSome, MatchOption, decimal, position};
+ghost use Rattle.std.specs.Prelude.{◌≡◌, ◌≢◌, ℕ, List, ◌∷◌, ◌==◌, ◌<◌, ◌≤◌, ◌+◌, ◌^◌, length, map};
+ghost use Rattle.std.specs.Prelude.{IfSome, MatchOption, decimal, position};
 ghost use Rattle.std.specs.Bool.{MatchBool};
 ghost use Rattle.std.specs.Char.{digit_value};
 ghost use Rattle.std.specs.Int.{IsInRange};
 ghost use Rattle.std.specs.List.{slice_split};
 ghost use Rattle.std.specs.Simd.Lanes.{mask_l, chunk};
-ghost use Rattle.std.specs.Str.Parse.{AllDigits, digits_value};
 ghost use Rattle.pim_base.specs.Spelling.{SPACE, IsNumber, IsPrio};
 ghost use Rattle.pim_text.specs.Reading.{pieces, words, ReadsAs};
 
@@ -85,14 +85,14 @@ pub(crate) fn prio_of(word: &[u8]) -> Option<Prio>
 pub(crate) fn number_of(word: &[u8]) -> Option<u16>
     ensures { ReadsAs IsNumber decimal word.now result }
 {
-    match word {
-        [b'1'..=b'9', ..] => value_of(word),
-        _ => None,
+    match cut_number(word)? {
+        (number, None) => Some(number),
+        (_, Some(_)) => None,
     }
 }
 
-/// Cuts off the first word, and returns the number, 1 to 65535, that it spells, and the bytes behind its separator; or `None`
-/// where it spells none.
+/// Cuts off the first word, and returns the number, 1 to 65535, that it spells, and the bytes behind its separator;
+/// or `None` where it spells none.
 ///
 /// The number is read on the way to the separator, so that each of its digits is looked at once.
 pub(crate) fn cut_number(bytes: &[u8]) -> Option<(u16, Option<&[u8]>)>
@@ -120,29 +120,12 @@ pub(crate) fn cut_number(bytes: &[u8]) -> Option<(u16, Option<&[u8]>)>
     Some((value as u16, None))
 }
 
-/// Returns the value of a word of digits, where it is at most 65535, or `None`.
-///
-/// Digit by digit: `from_utf8` and `parse` of std look at a word twice, and take three times as long.
-fn value_of(word: &[u8]) -> Option<u16>
-    ensures { MatchOption result
-        ((n : ℕ) → n < 2 ^ 16 → word.now ≡ decimal n → ⊥)
-        (λ n. (n < 2 ^ 16) × AllDigits 10 word.now × (n ≡ digits_value 10 word.now)) }
-{
-    let mut value = 0;
-    for byte in word {
-        let digit = digit_of(*byte)?;
-        value = value * 10 + u32::from(digit);
-        if value > 65_535 {
-            return None;
-        }
-    }
-    Some(value as u16)
-}
-
 /// Returns the digit that a character is, or `None` where it is none.
 #[inline]
 fn digit_of(byte: u8) -> Option<u8>
-    ensures { MatchOption result (¬ (IsInRange 48 57 byte)) (λ digit. IsInRange 48 57 byte × (digit ≡ digit_value byte)) }
+    ensures { MatchOption result
+        (¬ (IsInRange 48 57 byte))
+        (λ digit. IsInRange 48 57 byte × (digit ≡ digit_value byte)) }
 {
     match byte {
         b'0'..=b'9' => Some(byte - b'0'),

@@ -53,7 +53,9 @@ is_simple_app : is_simple pim_app ≡ true
 unfolding clap_on_literals
 is_simple_app = refl
 
-firsts : {A B C : Type 0} (f : A → B) (g : A → C) (o : Option A) → option_map f o ≡ option_map (λ (p : B × C). p.0) (option_map (λ a. (f a, g a)) o)
+firsts :
+    {A B C : Type 0} (f : A → B) (g : A → C) (o : Option A)
+    → option_map f o ≡ option_map (λ (p : B × C). p.0) (option_map (λ a. (f a, g a)) o)
 firsts f g None = refl
 firsts f g (Some a) = refl
 
@@ -61,5 +63,11 @@ name_of_rows : (m : ArgMatches) → subcommand_name_of m ≡ name_in (subcommand
 name_of_rows m = firsts _ _ (out-ArgMatches m).subcommand
 
 -- the job that the matches name is that of the words
-pub job_of_matches : (a : App) (words literal : List Text) (m : ArgMatches) → a ≡ pim_app → words ≡ literal → HasMatchesOf a words m → job_named (subcommand_name_of m) ≡ job_in literal
-job_of_matches a words literal m app same has = ap job_named (name_of_rows m ∙ ap name_in ((has (ap is_simple app ∙ is_simple_app)).1 ∙ ap₂ subcommand_of app same))
+pub job_of_matches :
+    (a : App) (words literal : List Text) (m : ArgMatches)
+    → a ≡ pim_app
+    → words ≡ literal
+    → HasMatchesOf a words m
+    → job_named (subcommand_name_of m) ≡ job_in literal
+job_of_matches a words literal m app same has =
+    ap job_named (name_of_rows m ∙ ap name_in ((has (ap is_simple app ∙ is_simple_app)).1 ∙ ap₂ subcommand_of app same))

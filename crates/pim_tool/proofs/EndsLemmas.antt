@@ -4,4 +4,8 @@ use Rattle.std.proofs.lemmas.Bool.Decides.{leb_tells}
 use Rattle.pim_tool.specs.Ends.{one_more, Happened}
 
 pub raised : (old new : ℕ) → new ≡ one_more old → Happened old new
-raised old new e = elim (leb_tells (2 ^ 64 - 1) old) [ inl h ↦ inr h.1 | inr h ↦ inl (let below : old < 2 ^ 64 - 1 = h.1 in omega arith) ]
+raised old new e =
+    elim (leb_tells (2 ^ 64 - 1) old) [
+      | inl h ↦ inr h.1
+      | inr h ↦ inl (let below : old < 2 ^ 64 - 1 = h.1 in omega arith)
+    ]

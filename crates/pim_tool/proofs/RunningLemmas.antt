@@ -1,5 +1,7 @@
 -- What comes of a script that is run.
-use Rattle.std.proofs.Common.{◌≡◌, ◌<◌, ◌≤◌, ◌+◌, ◌-◌, ◌^◌, if◌then◌else◌, ℕ, Bool, List, [], length, map, drop, get_or, Option, Some, None, Result, Ok, Err, IfOk, IfErr, IfSome, ◌∙◌, ap, sym, subst, inl, inr, arith}
+use Rattle.std.proofs.Common.{◌≡◌, ◌<◌, ◌≤◌, ◌+◌, ◌-◌, ◌^◌, if◌then◌else◌, ℕ, Bool, List, []}
+use Rattle.std.proofs.Common.{length, map, drop, get_or, Option, Some, None, Result, Ok, Err}
+use Rattle.std.proofs.Common.{IfOk, IfErr, IfSome, ◌∙◌, ap, sym, subst, inl, inr, arith}
 use Rattle.std.proofs.lemmas.List.{length-map, get_or-map, drop_all}
 use Rattle.pim_base.specs.State.{State, start}
 use Rattle.pim_base.specs.Steps.{after, reply_of}
@@ -12,7 +14,8 @@ use Rattle.pim_base.specs.declared.lines.Verdict.{Verdict}
 use Rattle.pim_base.specs.declared.lines.Verdict.TheVariants as verdicts
 use Rattle.pim_base.proofs.Recorded.{recording_law}
 use Rattle.pim_tool.specs.Ends.{Puts, Stops, Prints, Appends, AppendsFront}
-use Rattle.pim_tool.specs.Running.{IsRunnable, SpellsRunnable, run_length, IsVerdictOfRun, Call, Wrote, WroteFront, StandsAfter}
+use Rattle.pim_tool.specs.Running.{IsRunnable, SpellsRunnable, run_length, IsVerdictOfRun}
+use Rattle.pim_tool.specs.Running.{Call, Wrote, WroteFront, StandsAfter}
 use Rattle.pim_tool.specs.declared.fault.Fault.{Fault}
 use Rattle.pim_tool.proofs.PrintingLemmas.{puts_whole, stops_front}
 use Rattle.pim_tool.proofs.ReportLemmas.{verdict_next}
@@ -27,7 +30,8 @@ pub entry_verdict :
     → T ≡ after S e.step
     → reply ≡ reply_of S e.step
     → goes_on ≡ agrees (Some e.reply) reply
-    → verdict_from k S (drop i (map entry_line es)) ≡ (if goes_on then verdict_from (k + 1) T (drop (i + 1) (map entry_line es)) else verdicts.Rejected k)
+    → verdict_from k S (drop i (map entry_line es))
+    ≡ (if goes_on then verdict_from (k + 1) T (drop (i + 1) (map entry_line es)) else verdicts.Rejected k)
 entry_verdict k S T es i e reply goes_on inside at next replied says =
     verdict_next k S T (map entry_line es) i (entry_line e) goes_on
     (omega (arith, length-map es entry_line))
@@ -36,9 +40,13 @@ entry_verdict k S T es i e reply goes_on inside at next replied says =
     (says ∙ ap (agrees (Some e.reply)) replied)
 
 -- after the last entry
-pub end_verdict : (S : State) (es : List Entry) (i : ℕ) → i ≡ length es → verdict_from (i + 1) S (drop i (map entry_line es)) ≡ verdicts.Accepted (length es)
+pub end_verdict :
+    (S : State) (es : List Entry) (i : ℕ)
+    → i ≡ length es
+    → verdict_from (i + 1) S (drop i (map entry_line es)) ≡ verdicts.Accepted (length es)
 end_verdict S es i e =
-    ap (verdict_from (i + 1) S) (let over : length (map entry_line es) ≤ i = omega (arith, length-map es entry_line) in drop_all i (map entry_line es) over)
+    let over : length (map entry_line es) ≤ i = omega (arith, length-map es entry_line) in
+    ap (verdict_from (i + 1) S) (drop_all i (map entry_line es) over)
     ∙ ap verdicts.Accepted (let less : (i + 1) - 1 ≡ length es = omega arith in less)
 
 -- a run is accepted
@@ -55,7 +63,8 @@ run_verdict script es S verdict runnable run begins says =
 
 pub few_entries : (script : Trace) (es : List Entry) → IsRunnable script → IsRunOf script es → length es < 2 ^ 32
 few_entries script es runnable run =
-    let long : length es ≡ length script.steps + length script.bases = (recording_law script es runnable.limits runnable.rules run).0 in
+    let long : length es ≡ length script.steps + length script.bases =
+    (recording_law script es runnable.limits runnable.rules run).0 in
     omega (arith, runnable.limits.steps, runnable.few)
 
 -- ---- what is written
@@ -69,8 +78,11 @@ pub put_ok :
     → Wrote Is c
 put_ok Is c script out spells is put = go c.bytes spells
   where
-    go : (o : Option (List ℕ)) → IfSome o (λ bytes. SpellsRunnable (lines_of bytes) script)
-        → IfSome o (λ bytes. (s : Trace) × (bs : List ℕ) × SpellsRunnable (lines_of bytes) s × Is s bs × Appends c.before.contents c.after.contents bs)
+    go :
+        (o : Option (List ℕ))
+        → IfSome o (λ bytes. SpellsRunnable (lines_of bytes) script)
+        → IfSome o (λ bytes. (s : Trace) × (bs : List ℕ) × SpellsRunnable (lines_of bytes) s × Is s bs
+        × Appends c.before.contents c.after.contents bs)
     go None h = tt
     go (Some bytes) h = (script, out, h, is, puts_whole c.before c.after out put)
 
@@ -83,8 +95,11 @@ front_written :
     → WroteFront Is c
 front_written Is c script out f spells is stopped = go c.bytes spells
   where
-    go : (o : Option (List ℕ)) → IfSome o (λ bytes. SpellsRunnable (lines_of bytes) script)
-        → IfSome o (λ bytes. (s : Trace) × (bs : List ℕ) × SpellsRunnable (lines_of bytes) s × Is s bs × AppendsFront c.before.contents c.after.contents bs)
+    go :
+        (o : Option (List ℕ))
+        → IfSome o (λ bytes. SpellsRunnable (lines_of bytes) script)
+        → IfSome o (λ bytes. (s : Trace) × (bs : List ℕ) × SpellsRunnable (lines_of bytes) s × Is s bs
+        × AppendsFront c.before.contents c.after.contents bs)
     go None h = tt
     go (Some bytes) h = (script, out, h, is, stops_front c.before c.after out f stopped)
 

@@ -1,5 +1,6 @@
 -- The lines of a trace, by their parts.
-use Rattle.std.proofs.Common.{◌≡◌, ◌<◌, ◌+◌, ℕ, List, [], ◌∷◌, ◌++◌, length, map, drop, get_or, codes, decimal, refl, ap, ap₂, ◌∙◌, sym, subst, append_assoc}
+use Rattle.std.proofs.Common.{◌≡◌, ◌<◌, ◌+◌, ℕ, List, [], ◌∷◌, ◌++◌, length, map, drop, get_or}
+use Rattle.std.proofs.Common.{codes, decimal, refl, ap, ap₂, ◌∙◌, sym, subst, append_assoc}
 use Rattle.std.specs.List.{flat_map}
 use Rattle.std.proofs.lemmas.List.{map-append, at_drop_more}
 use Rattle.std.proofs.lemmas.Grind.{flat_map-append}
@@ -39,10 +40,14 @@ before_op w (Op.SetBase t p) = refl
 before_op w (Op.SetCeiling m p) = refl
 
 -- words before other words
-join-append : (v : List ℕ) (vs : List (List ℕ)) (w : List ℕ) (ws : List (List ℕ))
-    → join_with_byte SPACE (v ∷ (vs ++ w ∷ ws)) ≡ join_with_byte SPACE (v ∷ vs) ++ (codes " " ++ join_with_byte SPACE (w ∷ ws))
+join-append :
+    (v : List ℕ) (vs : List (List ℕ)) (w : List ℕ) (ws : List (List ℕ))
+    → join_with_byte SPACE (v ∷ (vs ++ w ∷ ws))
+    ≡ join_with_byte SPACE (v ∷ vs) ++ (codes " " ++ join_with_byte SPACE (w ∷ ws))
 join-append v [] w ws = refl
-join-append v (u ∷ vs) w ws = ap (λ t. v ++ (codes " " ++ t)) (join-append u vs w ws) ∙ sym (append_assoc v (codes " " ++ join_with_byte SPACE (u ∷ vs)) _)
+join-append v (u ∷ vs) w ws =
+    ap (λ t. v ++ (codes " " ++ t)) (join-append u vs w ws)
+    ∙ sym (append_assoc v (codes " " ++ join_with_byte SPACE (u ∷ vs)) _)
 
 -- the parts of the line
 pub entry_spelled :
@@ -57,12 +62,16 @@ entry_spelled e =
     ap ended (whole ∙ ap₂ (λ s t. s ++ (codes " " ++ t)) front back) ∙ simp append_assoc
 
 -- the entries are the last lines
-entries_are : (es : List Entry) → flat_map ended (map spelled (map lines.Step (map entry_line es))) ≡ flat_map entry_text es
+entries_are :
+    (es : List Entry)
+    → flat_map ended (map spelled (map lines.Step (map entry_line es))) ≡ flat_map entry_text es
 entries_are [] = refl
 entries_are (e ∷ es) = ap (λ bs. entry_text e ++ bs) (entries_are es)
 
 -- four texts, one after another
-in_front : (first tasks mutexes entries : List ℕ) → first ++ (tasks ++ (mutexes ++ entries)) ≡ (first ++ (tasks ++ mutexes)) ++ entries
+in_front :
+    (first tasks mutexes entries : List ℕ)
+    → first ++ (tasks ++ (mutexes ++ entries)) ≡ (first ++ (tasks ++ mutexes)) ++ entries
 in_front first tasks mutexes entries = simp append_assoc
 
 -- what is declared, and the entries
@@ -73,24 +82,33 @@ text_is t es =
     let mutexes : List Line = mutex_lines 1 t.protocols in
     let steps : List Line = map lines.Step (map entry_line es) in
     ap (λ ls. first ++ flat_map ended ls)
-    (map-append spelled tasks (mutexes ++ steps) ∙ ap (λ ls. map spelled tasks ++ ls) (map-append spelled mutexes steps))
+    (map-append spelled tasks (mutexes ++ steps)
+    ∙ ap (λ ls. map spelled tasks ++ ls) (map-append spelled mutexes steps))
     ∙ ap (λ bs. first ++ bs)
     (flat_map-append ended (map spelled tasks) (map spelled mutexes ++ map spelled steps)
-    ∙ ap (λ bs. tasks_text 1 t.bases ++ bs) (flat_map-append ended (map spelled mutexes) (map spelled steps) ∙ ap (λ bs. mutexes_text 1 t.protocols ++ bs) (entries_are es)))
+    ∙ ap (λ bs. tasks_text 1 t.bases ++ bs)
+    (flat_map-append ended (map spelled mutexes) (map spelled steps)
+    ∙ ap (λ bs. mutexes_text 1 t.protocols ++ bs) (entries_are es)))
     ∙ in_front first (tasks_text 1 t.bases) (mutexes_text 1 t.protocols) (flat_map entry_text es)
 
 -- the entries from one on
 pub entries_next : (es : List Entry) (i : ℕ) (e : Entry) → i < length es → e ≡ get_or es i e
     → flat_map entry_text (drop i es) ≡ entry_text e ++ flat_map entry_text (drop (i + 1) es)
-entries_next es i e inside at = at_drop_more (flat_map entry_text) es i e inside ∙ ap (λ d. entry_text d ++ flat_map entry_text (drop (i + 1) es)) (sym at)
+entries_next es i e inside at =
+    at_drop_more (flat_map entry_text) es i e inside
+    ∙ ap (λ d. entry_text d ++ flat_map entry_text (drop (i + 1) es)) (sym at)
 
 -- so a page of what is declared, and then the entries, is the text
-pub puts_text : {a b : Told} {left : List ℕ} (t : Trace) (es : List Entry) (page : List ℕ) → page ≡ declarations_text t
+pub puts_text :
+    {a b : Told} {left : List ℕ} (t : Trace) (es : List Entry) (page : List ℕ)
+    → page ≡ declarations_text t
     → Puts a b (page ++ flat_map entry_text es) left → Puts a b (text_of (recording t es)) left
 puts_text {a} {b} {left} t es page declared put =
     subst (λ bytes. Puts a b bytes left) (ap (λ p. p ++ flat_map entry_text es) declared ∙ sym (text_is t es)) put
 
-pub stops_text : {a b : Told} {fault : Fault} (t : Trace) (es : List Entry) (page : List ℕ) → page ≡ declarations_text t
+pub stops_text :
+    {a b : Told} {fault : Fault} (t : Trace) (es : List Entry) (page : List ℕ)
+    → page ≡ declarations_text t
     → Stops a b (page ++ flat_map entry_text es) fault → Stops a b (text_of (recording t es)) fault
 stops_text {a} {b} {fault} t es page declared stopped =
     subst (λ bytes. Stops a b bytes fault) (ap (λ p. p ++ flat_map entry_text es) declared ∙ sym (text_is t es)) stopped

@@ -1,5 +1,6 @@
 -- What reads and writes do to the bytes of an end, where they are known.
-use Rattle.std.specs.Prelude.{ℕ, ◌≡◌, ◌+◌, ◌-◌, ◌^◌, ◌<◌, ◌≤◌, min, List, [], ◌++◌, Option, Some, None, ◌⊎◌, Result, MatchResult}
+use Rattle.std.specs.Prelude.{ℕ, ◌≡◌, ◌+◌, ◌-◌, ◌^◌, ◌<◌, ◌≤◌, min, List, [], ◌++◌}
+use Rattle.std.specs.Prelude.{Option, Some, None, ◌⊎◌, Result, MatchResult}
 use Rattle.pim_tool.specs.declared.fault.Fault.{Fault}
 use Rattle.pim_tool.specs.declared.fault.Fault.TheVariants as faults
 

@@ -23,7 +23,8 @@ reason_text r = join_with_byte SPACE (reason_words r)
 
 -- "  task <t> at <p> <reason>"
 unfoldable pub changed_line : ℕ → ℕ → Reason → List ℕ
-changed_line t p r = codes "  task " ++ decimal t ++ codes " at " ++ decimal p ++ codes " " ++ reason_text r ++ codes "\n"
+changed_line t p r =
+    codes "  task " ++ decimal t ++ codes " at " ++ decimal p ++ codes " " ++ reason_text r ++ codes "\n"
 
 -- that line
 abbrev pub line_of : ChangedTask → List ℕ

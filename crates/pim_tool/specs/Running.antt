@@ -45,7 +45,8 @@ IsEndOfReport script bytes = bytes ≡ accepted (run_length script)
 
 -- the verdict of that report, for the script that the lines spell
 abbrev pub IsVerdictOfRun : List (List ℕ) → Verdict → Type 0
-IsVerdictOfRun ls verdict = (script : Trace) × SpellsRunnable ls script × (verdict ≡ verdicts.Accepted (run_length script))
+IsVerdictOfRun ls verdict =
+    (script : Trace) × SpellsRunnable ls script × (verdict ≡ verdicts.Accepted (run_length script))
 
 -- ---- calls
 
@@ -74,12 +75,16 @@ WroteNothing c = c.after.contents ≡ c.before.contents
 
 -- what was read is a script, and such an output of it was written and nothing else
 abbrev pub Wrote : (Trace → List ℕ → Type 0) → Call → Type 0
-Wrote Is c = IfSome c.bytes (λ bytes. (script : Trace) × (out : List ℕ) × SpellsRunnable (lines_of bytes) script × Is script out
+Wrote Is c =
+    IfSome c.bytes (λ bytes.
+    (script : Trace) × (out : List ℕ) × SpellsRunnable (lines_of bytes) script × Is script out
     × Appends c.before.contents c.after.contents out)
 
 -- what was read is a script, and a prefix of such an output of it was written
 abbrev pub WroteFront : (Trace → List ℕ → Type 0) → Call → Type 0
-WroteFront Is c = IfSome c.bytes (λ bytes. (script : Trace) × (out : List ℕ) × SpellsRunnable (lines_of bytes) script × Is script out
+WroteFront Is c =
+    IfSome c.bytes (λ bytes.
+    (script : Trace) × (out : List ℕ) × SpellsRunnable (lines_of bytes) script × Is script out
     × AppendsFront c.before.contents c.after.contents out)
 
 -- what was read is a script that can be run

@@ -5,6 +5,7 @@ use Rattle.pim_tool.specs.declared.printer.Printer.{Printer}
 use Rattle.pim_tool.specs.declared.fault.Fault.{Fault}
 
 -- the printer has these bytes more, written or still in the page; else it stopped
-pub record Takes {W T : Type 0} (told : W → Told) (old new : Printer W) (bytes : List ℕ) (result : Result T Fault) : Type 0 where
+pub record Takes {W T : Type 0} (told : W → Told) (old new : Printer W) (bytes : List ℕ) (result : Result T Fault)
+    : Type 0 where
   pub same_writer : new.writer.ghost_name ≡ old.writer.ghost_name
   pub prints : Prints (told old.writer.now) (told new.writer.now) (old.page.now ++ bytes) new.page.now result

@@ -15,13 +15,15 @@ pim_alone = on_top (λ (s : Shape). record s { has_version = true }) (new_app (c
 -- the program with its three subcommands
 abbrev pub pim_app : App
 pim_app =
-    with_subcommand (with_subcommand (with_subcommand pim_alone (new_app (codes "judge")).top) (new_app (codes "run")).top)
+    with_subcommand
+    (with_subcommand (with_subcommand pim_alone (new_app (codes "judge")).top) (new_app (codes "run")).top)
     (new_app (codes "check")).top
 
 -- the job that a subcommand names: judge, if there is none
 abbrev pub job_named : Option (List ℕ) → Job
 job_named None = Judge
-job_named (Some name) = if bytes_eq name (codes "run") then Run else (if bytes_eq name (codes "check") then Check else Judge)
+job_named (Some name) =
+    if bytes_eq name (codes "run") then Run else (if bytes_eq name (codes "check") then Check else Judge)
 
 -- the answer is the job, unless memory ran out
 abbrev pub Answers : Result Job Error → Job → Type 0

@@ -69,9 +69,12 @@ Exit status: 0 accepted, 1 rejected, 2 any fault: 'pim: line <n>' where line n i
 /// the version, or what is wrong.
 pub fn command<'a>(alloc: Global, words: &'a [&'a str]) -> Result<Job, Error>
     ensures none { (name : List ℕ) → map (λ word. word.now) words.now ≡ name ∷ [] → Answers result Job.Judge }
-    ensures judge { (name : List ℕ) → map (λ word. word.now) words.now ≡ name ∷ codes "judge" ∷ [] → Answers result Job.Judge }
-    ensures run { (name : List ℕ) → map (λ word. word.now) words.now ≡ name ∷ codes "run" ∷ [] → Answers result Job.Run }
-    ensures check { (name : List ℕ) → map (λ word. word.now) words.now ≡ name ∷ codes "check" ∷ [] → Answers result Job.Check }
+    ensures judge { (name : List ℕ) → map (λ word. word.now) words.now ≡ name ∷ codes "judge" ∷ []
+        → Answers result Job.Judge }
+    ensures run { (name : List ℕ) → map (λ word. word.now) words.now ≡ name ∷ codes "run" ∷ []
+        → Answers result Job.Run }
+    ensures check { (name : List ℕ) → map (λ word. word.now) words.now ≡ name ∷ codes "check" ∷ []
+        → Answers result Job.Check }
 {
     let matches = pim(alloc)?.try_get_matches_from(words)?;
     Ok(job_of(matches.subcommand_name()))

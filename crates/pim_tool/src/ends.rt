@@ -22,7 +22,8 @@ pub trait Source {
     /// `Failed` where the read failed. No byte is lost.
     fn read(&mut self, buffer: &mut [u8]) -> Result<usize, Failed>
         ensures count { IfOk result (λ count. count ≤ length buffer.old) }
-        ensures bytes { IfOk result (λ count. TakesOff (remaining self.old) (remaining self.new) (take count buffer.new)) }
+        ensures bytes { IfOk result (λ count.
+            TakesOff (remaining self.old) (remaining self.new) (take count buffer.new)) }
         ensures end { result ≡ Ok 0 → 0 < length buffer.old → IsAtEnd (remaining self.old) }
         ensures ok { OnOk result (failures self.new ≡ failures self.old) }
         ensures err { OnErr result (failures self.new ≡ one_more (failures self.old)) }
@@ -41,7 +42,8 @@ pub trait Sink {
     /// `Failed` where the write failed. No byte was written.
     fn write(&mut self, piece: &[u8]) -> Result<usize, Failed>
         ensures count { IfOk result (λ count. count ≤ length piece.now) }
-        ensures bytes { IfOk result (λ count. Appends (told self.old).contents (told self.new).contents (take count piece.now)) }
+        ensures bytes { IfOk result (λ count.
+            Appends (told self.old).contents (told self.new).contents (take count piece.now)) }
         ensures ok { OnOk result ((told self.new).failures ≡ (told self.old).failures) }
         ensures some { IfOk result (λ count. 0 < count → (told self.new).stalls ≡ (told self.old).stalls) }
         ensures none { result ≡ Ok 0 → 0 < length piece.now → (told self.new).stalls ≡ one_more (told self.old).stalls }

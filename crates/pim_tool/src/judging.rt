@@ -29,8 +29,8 @@ use std::alloc::Global;
 ///
 /// # Errors
 ///
-/// `Fault::Line(n)` where line n, counted from 1, is the first invalid one; `Fault::Read` and `Fault::Write` where a read
-/// or a write of this call failed; `Fault::Memory` if out of memory.
+/// `Fault::Line(n)` where line n, counted from 1, is the first invalid one; `Fault::Read` and `Fault::Write` where a
+/// read or a write of this call failed; `Fault::Memory` if out of memory.
 #[tactic(auto, using(crate::proofs::PrintingLemmas::puts_whole, crate::proofs::PrintingLemmas::stops_front))]
 pub fn judge<R: Source, W: Sink>(
     alloc: Global,
@@ -38,23 +38,28 @@ pub fn judge<R: Source, W: Sink>(
     writer: &mut W,
 ) -> Result<Verdict, Fault>
     // What was read is a trace, its report was written and nothing else, and the verdict is the report's.
-    ensures ok { IfOk result (λ verdict. IfSome (R.remaining reader.old) (λ bytes. (t : Trace) × Spells (lines_of bytes) t
+    ensures ok { IfOk result (λ verdict. IfSome (R.remaining reader.old) (λ bytes.
+        (t : Trace) × Spells (lines_of bytes) t
         × Appends (W.told writer.old).contents (W.told writer.new).contents (report_of t) × (verdict ≡ verdict_of t))) }
 
     // The reader is at its end.
     ensures end { IfOk result (λ _. IfSome (R.remaining reader.old) (λ _. R.remaining reader.new ≡ Some [])) }
 
     // Line n is the first invalid one, and nothing was written.
-    ensures line { (n : ℕ) → result ≡ Err (Fault.Line n) → IfSome (R.remaining reader.old) (λ bytes. FirstBadLine (lines_of bytes) n) }
-    ensures line_unwritten { (n : ℕ) → result ≡ Err (Fault.Line n) → (W.told writer.new).contents ≡ (W.told writer.old).contents }
+    ensures line { (n : ℕ) → result ≡ Err (Fault.Line n)
+        → IfSome (R.remaining reader.old) (λ bytes. FirstBadLine (lines_of bytes) n) }
+    ensures line_unwritten { (n : ℕ) → result ≡ Err (Fault.Line n)
+        → (W.told writer.new).contents ≡ (W.told writer.old).contents }
 
     // A read failed in this call, and nothing was written.
     ensures read { result ≡ Err Fault.Read → Happened (R.failures reader.old) (R.failures reader.new) }
     ensures read_unwritten { result ≡ Err Fault.Read → (W.told writer.new).contents ≡ (W.told writer.old).contents }
 
-    // A write failed in this call, or took no byte of a piece that wasn't empty, and a prefix of the report was written.
+    // A write failed in this call, or took no byte of a piece that wasn't empty, and a prefix of the report was
+    // written.
     ensures write { result ≡ Err Fault.Write → Fails (W.told writer.old) (W.told writer.new) }
-    ensures write_front { result ≡ Err Fault.Write → IfSome (R.remaining reader.old) (λ bytes. (t : Trace) × Spells (lines_of bytes) t
+    ensures write_front { result ≡ Err Fault.Write → IfSome (R.remaining reader.old) (λ bytes.
+        (t : Trace) × Spells (lines_of bytes) t
         × AppendsFront (W.told writer.old).contents (W.told writer.new).contents (report_of t)) }
 
     // Nothing was written, or a prefix of the report.
@@ -71,10 +76,12 @@ pub fn judge<R: Source, W: Sink>(
 
 /// Reads the text that a reader has. Its bytes are not kept.
 fn read_text<R: Source>(alloc: Global, reader: &mut R) -> Result<Text, Fault>
-    ensures ok { IfOk result (λ text. IfSome (R.remaining reader.old) (λ bytes. Spells (lines_of bytes) (trace_of text))) }
+    ensures ok { IfOk result (λ text.
+        IfSome (R.remaining reader.old) (λ bytes. Spells (lines_of bytes) (trace_of text))) }
     ensures limits { IfOk result (λ text. IsWithinLimits (trace_of text)) }
     ensures end { IfOk result (λ _. IfSome (R.remaining reader.old) (λ _. R.remaining reader.new ≡ Some [])) }
-    ensures line { (n : ℕ) → result ≡ Err (Fault.Line n) → IfSome (R.remaining reader.old) (λ bytes. FirstBadLine (lines_of bytes) n) }
+    ensures line { (n : ℕ) → result ≡ Err (Fault.Line n)
+        → IfSome (R.remaining reader.old) (λ bytes. FirstBadLine (lines_of bytes) n) }
     ensures read { result ≡ Err Fault.Read → Happened (R.failures reader.old) (R.failures reader.new) }
     ensures write { result ≡ Err Fault.Write → ⊥ }
     ensures others { IfErr result IsWorkerless }
@@ -100,7 +107,8 @@ pub struct Judged {
 /// out. There is no other fault.
 pub fn judge_bytes(alloc: Global, bytes: &[u8]) -> Result<Judged, Fault>
     ensures { MatchResult result
-        (λ judged. (t : Trace) × Spells (lines_of bytes.now) t × (judged.report.items ≡ report_of t) × (judged.verdict ≡ verdict_of t))
+        (λ judged. (t : Trace) × Spells (lines_of bytes.now) t
+        × (judged.report.items ≡ report_of t) × (judged.verdict ≡ verdict_of t))
         (IsParseFault IsTrace (lines_of bytes.now)) }
 {
     let text = parse(alloc, bytes)?;
@@ -182,8 +190,8 @@ pub(crate) fn manager_of(alloc: Global, text: &Text) -> Result<Manager, Fault>
     }
 }
 
-/// Returns the exit status for an answer of `judge` or `check`: 0 where the trace was accepted, 1 where it was rejected,
-/// 2 for a fault. An `Ok` of `run` counts as accepted.
+/// Returns the exit status for an answer of `judge` or `check`: 0 where the trace was accepted, 1 where it was
+/// rejected, 2 for a fault. An `Ok` of `run` counts as accepted.
 pub fn status(answer: &Result<Verdict, Fault>) -> u8
     ensures { result ≡ status_of answer.now }
 {

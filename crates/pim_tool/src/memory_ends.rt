@@ -25,8 +25,8 @@ impl<'a> MemoryReader<'a> {
         MemoryReader::piecewise(bytes, usize::MAX, 0)
     }
 
-    /// Returns a reader that hands over at most `most` bytes a call, at least one, and whose call number `fails_at` fails,
-    /// counted from 1; none fails where that is 0.
+    /// Returns a reader that hands over at most `most` bytes a call, at least one, and whose call number `fails_at`
+    /// fails, counted from 1; none fails where that is 0.
     pub fn piecewise(bytes: &'a [u8], most: usize, fails_at: u64) -> MemoryReader<'a>
         ensures remaining { ⟦<MemoryReader<'static> as Source>⟧.remaining result ≡ Some bytes.now }
         ensures failures { ⟦<MemoryReader<'static> as Source>⟧.failures result ≡ 0 }
@@ -134,7 +134,8 @@ impl MemoryWriter {
 }
 
 impl Sink for MemoryWriter {
-    ghost told = { λ writer. record { contents = Some writer.bytes.items; failures = writer.failures; stalls = writer.stalls } };
+    ghost told = { λ writer.
+        record { contents = Some writer.bytes.items; failures = writer.failures; stalls = writer.stalls } };
 
     fn write(&mut self, piece: &[u8]) -> Result<usize, Failed> {
         self.calls = self.calls.saturating_add(1);

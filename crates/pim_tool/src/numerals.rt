@@ -8,7 +8,8 @@ use std::marker::Model;
 /// The digits of the numbers below this are kept.
 pub(crate) const KEPT: u32 = 1000;
 
-/// The digits of each number below a thousand: of four bytes the first are its digits, and the last says how many these are.
+/// The digits of each number below a thousand: of four bytes the first are its digits, and the last says how many these
+/// are.
 ///
 /// A number is put by one move of four bytes, with no division, and with no jump that goes by how many digits it has.
 #[derive(Drop)]
@@ -48,7 +49,7 @@ impl Numerals {
 }
 
 /// Returns the digits of a number, computed.
-#[tactic(auto, using(std::proofs::lemmas::Fmt::decimal_digit, crate::proofs::DecimalLemmas::two_digits, crate::proofs::DecimalLemmas::three_digits))]
+#[tactic(auto, using(crate::proofs::DecimalLemmas::below_a_thousand))]
 fn numeral_of(number: u32) -> [u8; 4]
     requires { number < 1000 }
     ensures { IsNumeral number result }

@@ -96,7 +96,8 @@ impl Page {
         reply: &Reply,
         recorded: &Reply,
     ) -> Result<(), AllocError>
-        ensures { OnOk result (self.new ≡ self.old ++ (differing_line number reply.now recorded.now ++ rejected number)) }
+        ensures { OnOk result
+            (self.new ≡ self.old ++ (differing_line number reply.now recorded.now ++ rejected number)) }
     {
         self.differing_line(number, reply, recorded)?;
         self.rejected(number)

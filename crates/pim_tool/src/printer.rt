@@ -8,13 +8,13 @@ use crate::transfer::write_all;
 
 /// A printer over its writer: what the writer was told, and a page of what is not yet written.
 ///
-/// Lines go to the page, and the page goes to the writer whenever it is full. Which lines there are is said where they are
-/// added: those of a report, and those of a trace.
+/// Lines go to the page, and the page goes to the writer whenever it is full. Which lines there are is said where they
+/// are added: those of a report, and those of a trace.
 ///
 /// # Errors
 ///
-/// A call fails with `Fault::Write` where a write fails, and with `Fault::Memory` where memory was refused. What the writer
-/// was told is then a prefix of what was to be printed.
+/// A call fails with `Fault::Write` where a write fails, and with `Fault::Memory` where memory was refused. What the
+/// writer was told is then a prefix of what was to be printed.
 #[derive(Drop)]
 pub(crate) struct Printer<'a, W> {
     writer: &'a mut W,

@@ -1,7 +1,7 @@
 //! Words and numbers, put into a row of bytes.
 //!
-//! Each call puts a text at a place, and returns the place behind it. So the place stays in a register, and a word is put
-//! by a move or two; a `Vec` compares its length with its room, and writes both, for each word.
+//! Each call puts a text at a place, and returns the place behind it. So the place stays in a register, and a word is
+//! put by a move or two; a `Vec` compares its length with its room, and writes both, for each word.
 ghost use Rattle.std.specs.Prelude.{◌≡◌, ◌≤◌, ◌<◌, ◌+◌, ◌/◌, ◌%◌, ◌++◌, ◌∷◌, [], length, take, decimal};
 
 use crate::numerals::{KEPT, Numerals, digit};

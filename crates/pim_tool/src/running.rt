@@ -5,7 +5,8 @@ ghost use Rattle.pim_base.specs.Reports.{agrees, verdict_from};
 ghost use Rattle.pim_base.specs.Recordings.{IsRunOf, entry_line};
 ghost use Rattle.pim_text.specs.Reading.{trace_of};
 ghost use Rattle.pim_tool.specs.Ends.{Prints};
-ghost use Rattle.pim_tool.specs.Running.{IsRunnable, SpellsRunnable, IsTraceOfRun, IsEndOfReport, IsVerdictOfRun, Unread, IsOfRun, Wrote, StandsAfter, call};
+ghost use Rattle.pim_tool.specs.Running.{IsRunnable, SpellsRunnable, IsTraceOfRun, IsEndOfReport, IsVerdictOfRun};
+ghost use Rattle.pim_tool.specs.Running.{Unread, IsOfRun, Wrote, StandsAfter, call};
 ghost use Rattle.pim_tool.specs.Printed.{verdict_line};
 
 use crate::ends::{Sink, Source};
@@ -26,18 +27,18 @@ use std::sync::Wait;
 use std::thread::Threads;
 
 /// Reads a script to its end, runs it with a worker for each task, each in a thread of its own, and writes the trace of
-/// that run: what each step was answered, in the order in which the steps were made, and a release for each task after its
-/// last line. [`judge`](crate::judge) accepts that trace, if it has at most 65,536 steps.
+/// that run: what each step was answered, in the order in which the steps were made, and a release for each task after
+/// its last line. [`judge`](crate::judge) accepts that trace, if it has at most 65,536 steps.
 ///
 /// The clauses on bytes speak of a reader and a writer that tell them, as those of `MemoryReader` and `MemoryWriter`.
-/// Nothing is written before the run has ended. In which order the threads come is not promised, nor that each comes to its
-/// end: a task that never unlocks a mutex keeps those waiting that ask for it.
+/// Nothing is written before the run has ended. In which order the threads come is not promised, nor that each comes to
+/// its end: a task that never unlocks a mutex keeps those waiting that ask for it.
 ///
 /// # Errors
 ///
-/// `Fault::Line(n)` where line n, counted from 1, is the first that is invalid in a script, else `Fault::TooManyWorkers`
-/// above 16 tasks; `Fault::Read` and `Fault::Write` where a read or a write of this call failed; `Fault::Shared` where the
-/// script couldn't be run; `Fault::Memory` if out of memory.
+/// `Fault::Line(n)` where line n, counted from 1, is the first that is invalid in a script, else
+/// `Fault::TooManyWorkers` above 16 tasks; `Fault::Read` and `Fault::Write` where a read or a write of this call
+/// failed; `Fault::Shared` where the script couldn't be run; `Fault::Memory` if out of memory.
 pub fn run<T: Threads + Wait + Sync, R: Source, W: Sink>(
     rt: &T,
     alloc: Global,
@@ -45,13 +46,15 @@ pub fn run<T: Threads + Wait + Sync, R: Source, W: Sink>(
     writer: &mut W,
 ) -> Result<(), Fault>
     // What was read is a script of at most 16 tasks, and the trace of a run of it was written and nothing else.
-    ensures ok { IfOk result (λ _. Wrote IsTraceOfRun (call R.remaining R.failures W.told reader.old reader.new writer.old writer.new)) }
+    ensures ok { IfOk result (λ _. Wrote IsTraceOfRun
+        (call R.remaining R.failures W.told reader.old reader.new writer.old writer.new)) }
 
     // The reader is at its end.
     ensures end { IfOk result (λ _. IfSome (R.remaining reader.old) (λ _. R.remaining reader.new ≡ Some [])) }
 
     // What the fault says, and what was written by then.
-    ensures fault { IfErr result (StandsAfter IsTraceOfRun (call R.remaining R.failures W.told reader.old reader.new writer.old writer.new)) }
+    ensures fault { IfErr result (StandsAfter IsTraceOfRun
+        (call R.remaining R.failures W.told reader.old reader.new writer.old writer.new)) }
 {
     let script = read_script(alloc, reader)?;
     let log = log_of_run(rt, alloc, &script)?;
@@ -69,16 +72,19 @@ pub fn check<T: Threads + Wait + Sync, R: Source, W: Sink>(
     reader: &mut R,
     writer: &mut W,
 ) -> Result<Verdict, Fault>
-    // What was read is a script of at most 16 tasks, and the last line of the report of a run was written and nothing else:
-    // it accepts the steps and the releases.
-    ensures ok { IfOk result (λ _. Wrote IsEndOfReport (call R.remaining R.failures W.told reader.old reader.new writer.old writer.new)) }
-    ensures verdict { IfOk result (λ verdict. IfSome (R.remaining reader.old) (λ bytes. IsVerdictOfRun (lines_of bytes) verdict)) }
+    // What was read is a script of at most 16 tasks, and the last line of the report of a run was written and nothing
+    // else: it accepts the steps and the releases.
+    ensures ok { IfOk result (λ _. Wrote IsEndOfReport
+        (call R.remaining R.failures W.told reader.old reader.new writer.old writer.new)) }
+    ensures verdict { IfOk result (λ verdict.
+        IfSome (R.remaining reader.old) (λ bytes. IsVerdictOfRun (lines_of bytes) verdict)) }
 
     // The reader is at its end.
     ensures end { IfOk result (λ _. IfSome (R.remaining reader.old) (λ _. R.remaining reader.new ≡ Some [])) }
 
     // What the fault says, and what was written by then.
-    ensures fault { IfErr result (StandsAfter IsEndOfReport (call R.remaining R.failures W.told reader.old reader.new writer.old writer.new)) }
+    ensures fault { IfErr result (StandsAfter IsEndOfReport
+        (call R.remaining R.failures W.told reader.old reader.new writer.old writer.new)) }
 {
     let script = read_script(alloc, reader)?;
     let log = log_of_run(rt, alloc, &script)?;
@@ -90,7 +96,8 @@ pub fn check<T: Threads + Wait + Sync, R: Source, W: Sink>(
 
 /// Reads the script that a reader has. Its bytes are not kept.
 fn read_script<R: Source>(alloc: Global, reader: &mut R) -> Result<Text, Fault>
-    ensures ok { IfOk result (λ script. IfSome (R.remaining reader.old) (λ bytes. SpellsRunnable (lines_of bytes) (trace_of script))) }
+    ensures ok { IfOk result (λ script.
+        IfSome (R.remaining reader.old) (λ bytes. SpellsRunnable (lines_of bytes) (trace_of script))) }
     ensures runnable { IfOk result (λ script. IsRunnable (trace_of script)) }
     ensures end { IfOk result (λ _. IfSome (R.remaining reader.old) (λ _. R.remaining reader.new ≡ Some [])) }
     ensures fault { IfErr result (Unread (R.remaining reader.old) (R.failures reader.old) (R.failures reader.new)) }

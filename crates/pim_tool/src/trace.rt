@@ -26,7 +26,8 @@ pub(crate) fn print_trace<W: Sink>(
     entries: &[Entry],
 ) -> Result<(), Fault>
     requires limits { IsWithinLimits (trace_of script.now) }
-    ensures { Prints (W.told writer.old) (W.told writer.new) (text_of (recording (trace_of script.now) entries.now)) [] result }
+    ensures { Prints (W.told writer.old) (W.told writer.new)
+        (text_of (recording (trace_of script.now) entries.now)) [] result }
 {
     let mut page = Page::declaring(alloc, script)?;
     let mut printer = Printer::new(writer, &mut page);

@@ -3,7 +3,8 @@ use Rattle.pim_text.proofs.LineLemmas.{mutex_no_number, mutex_no_protocol, no_wo
 use Rattle.pim_text.proofs.line.read_mutex.Goals as goal
 
 pub returns-in_err-number : goal.returns-in_err-number
-returns-in_err-number c = rw c.from_residual.ensures (mutex_no_number _ _ _ c.cut.ensures.parts c.in_err-number.ensures)
+returns-in_err-number c =
+    rw c.from_residual.ensures (mutex_no_number _ _ _ c.cut.ensures.parts c.in_err-number.ensures)
 
 pub returns-in_err-protocol : goal.returns-in_err-protocol
 returns-in_err-protocol c =

@@ -11,4 +11,7 @@ returns-in_default c =
 pub returns-in_err-recorded : goal.returns-in_err-recorded
 returns-in_err-recorded c =
     rw c.from_residual.ensures
-    (no_step _ _ c.requires.number (λ line is e. let parts = c.cut.ensures.parts in let read = c.in-Some.ensures in let none = c.in_err-recorded.ensures in grind arith))
+    (no_step _ _ c.requires.number (λ line is e.
+    let parts = c.cut.ensures.parts in
+    let read = c.in-Some.ensures in
+    let none = c.in_err-recorded.ensures in grind arith))

@@ -5,15 +5,18 @@ use Rattle.pim_text.proofs.LineLemmas.{task_no_number, task_only_number, task_no
 use Rattle.pim_text.proofs.line.read_task.Goals as goal
 
 pub returns-in_err-number : goal.returns-in_err-number
-returns-in_err-number c = rw c.from_residual.ensures (task_no_number _ _ _ c.cut.ensures.parts c.in_err-number.ensures)
+returns-in_err-number c =
+    rw c.from_residual.ensures (task_no_number _ _ _ c.cut.ensures.parts c.in_err-number.ensures)
 
 pub returns-in_err-base : goal.returns-in_err-base
-returns-in_err-base c = rw c.from_residual-in_err-base.ensures (task_only_number _ _ (cut_none _ _ _ c.cut.ensures.parts c.in_err-base.was))
+returns-in_err-base c =
+    rw c.from_residual-in_err-base.ensures (task_only_number _ _ (cut_none _ _ _ c.cut.ensures.parts c.in_err-base.was))
 
 pub returns-in_err-base-2 : goal.returns-in_err-base-2
 returns-in_err-base-2 c =
     rw c.from_residual-in_err-base-2.ensures
-    (task_no_base _ _ c.in_ok-base.field-0.now (cut_some _ _ _ _ c.cut.ensures.parts c.in_ok-base.was) c.in_err-base-2.ensures)
+    (task_no_base _ _ c.in_ok-base.field-0.now (cut_some _ _ _ _ c.cut.ensures.parts c.in_ok-base.was)
+    c.in_err-base-2.ensures)
 
 pub returns : goal.returns
 returns c =

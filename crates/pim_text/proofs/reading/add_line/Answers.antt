@@ -5,7 +5,8 @@ pub returns-in_default : goal.returns-in_default
 returns-in_default c = λ ls spells. no_line_read _ _ c.args.bytes.now ls c.in_default.ensures spells
 
 pub returns-then-not-version_has : goal.returns-then-not-version_has
-returns-then-not-version_has c = later_line _ _ c.args.bytes.now c.in-Some.line c.in-Some.ensures c.if-not-version_has.ensures
+returns-then-not-version_has c =
+    later_line _ _ c.args.bytes.now c.in-Some.line c.in-Some.ensures c.if-not-version_has.ensures
 
 pub returns-then-not-allows : goal.returns-then-not-allows
 returns-then-not-allows c = not_allowed _ _ c.args.bytes.now c.in-Some.line c.in-Some.ensures c.if-not-allows.ensures

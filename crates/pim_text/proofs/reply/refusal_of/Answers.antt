@@ -32,8 +32,9 @@ named name Found None has h = none
 
 pub returns : goal.returns
 returns c =
-    named c.args.name.now _ c.find.result (λ r found. found.0)
-    (first_from_find _ _ c.find.result (λ r. c.args.name.now ≡ refusal_word r) (λ r. c.args.name.now ≡ refusal_word r → ⊥) c.find.ensures.ran
+    let name = c.args.name.now in
+    named name _ c.find.result (λ r found. found.0)
+    (first_from_find _ _ c.find.result (λ r. name ≡ refusal_word r) (λ r. name ≡ refusal_word r → ⊥) c.find.ensures.ran
     (YieldsList-from_copied (YieldsList-from_slice ALL cc))
     (λ x q k. search (rules, tests))
     (λ x q k. search (rules, tests)))

@@ -4,4 +4,6 @@ use Rattle.std.proofs.lemmas.Simd.{length-chunk, bitmask_splat}
 use Rattle.pim_text.proofs.word.marks_at.Goals as goal
 
 pub returns : goal.returns
-returns c = bitmask_splat w8 eqb (chunk c.args.place 16 c.args.bytes.now) 16 c.args.separator (length-chunk c.args.place 16 c.args.bytes.now c.requires) (omega arith)
+returns c =
+    bitmask_splat w8 eqb (chunk c.args.place 16 c.args.bytes.now) 16 c.args.separator
+    (length-chunk c.args.place 16 c.args.bytes.now c.requires) (omega arith)

@@ -1,15 +1,16 @@
-use Rattle.std.proofs.Common.{arith}
-use Rattle.pim_text.proofs.NumberLemmas.{first_of_number, number_valued}
+use Rattle.std.proofs.Common.{[]}
+use Rattle.pim_text.proofs.WordLemmas.{cut_none, one_number, only_word, number_goes_on}
 use Rattle.pim_text.proofs.word.number_of.Goals as goal
 
-pub returns-in-49-to-57 : goal.returns-in-49-to-57
-returns-in-49-to-57 c = let first = c.in-49-to-57 in number_valued c.args.word.now c.value_of.result (omega arith) (omega arith) c.value_of.ensures
+pub returns-in_err-number : goal.returns-in_err-number
+returns-in_err-number c = rw c.from_residual.ensures (λ n is e.
+    c.in_err-number.ensures n [] is (one_number c.args.word.now n is.1 e))
 
-pub returns-in_default : goal.returns-in_default
-returns-in_default c = λ n is e. let first = first_of_number n _ is e in let d = c.in_default in omega arith
+pub returns-in_default-None : goal.returns-in_default-None
+returns-in_default-None c =
+    let read = c.in_ok-number.ensures in
+    (read.0, only_word _ _ (cut_none _ _ _ read.1 c.in_default-None.is-1))
 
-pub returns-in_default-2 : goal.returns-in_default-2
-returns-in_default-2 c = λ n is e. let first = first_of_number n _ is e in let d = c.in_default in omega arith
-
-pub returns-in_default-3 : goal.returns-in_default-3
-returns-in_default-3 c = λ n is e. let first = first_of_number n _ is e in let d = c.in_default in omega arith
+pub returns-in_default-Some : goal.returns-in_default-Some
+returns-in_default-Some c =
+    number_goes_on _ _ _ _ c.in_ok-number.ensures.1 c.in_default-Some.is-1

@@ -5,7 +5,8 @@ use Rattle.pim_text.proofs.word.place_of.Goals as goal
 
 pub returns-then-marks-ne0 : goal.returns-then-marks-ne0
 returns-then-marks-ne0 c =
-    first_marked (λ b. eqb b c.args.separator) c.args.bytes.now c.looks.place c.marks_at-marks.result (omega arith) c.looks.invariant.passed
+    first_marked (λ b. eqb b c.args.separator) c.args.bytes.now c.looks.place c.marks_at-marks.result
+    (omega arith) c.looks.invariant.passed
     c.marks_at-marks.ensures (λ zero. omega arith)
 
 pub looks-preserved : goal.looks-preserved
@@ -19,7 +20,9 @@ looks-preserved c = record {
 
 pub returns-then-bytes-place : goal.returns-then-bytes-place
 returns-then-bytes-place c =
-    found_at (λ b. eqb b c.args.separator) c.args.bytes.now c.steps.place (omega arith) c.steps.invariant.passed (eq-eqb _ _ c.if-bytes-place.true)
+    found_at (λ b. eqb b c.args.separator) c.args.bytes.now c.steps.place (omega arith) c.steps.invariant.passed
+    (eq-eqb _ _ c.if-bytes-place.true)
 
 pub returns : goal.returns
-returns c = found_nowhere (λ b. eqb b c.args.separator) c.args.bytes.now c.steps.place (omega arith) c.steps.invariant.passed
+returns c =
+    found_nowhere (λ b. eqb b c.args.separator) c.args.bytes.now c.steps.place (omega arith) c.steps.invariant.passed

@@ -15,7 +15,8 @@ returns c =
     ∙ ap₂ with_subcommand
     (ap app_of_fields c.after_help.ensures
     ∙ ap app_of_fields c.version.ensures
-    ∙ ap (on_top (λ (s : Shape). record s { has_version = true })) (ap app_of_fields c.about.ensures ∙ c.new-4.ensures.app))
+    ∙ ap (on_top (λ (s : Shape). record s { has_version = true }))
+    (ap app_of_fields c.about.ensures ∙ c.new-4.ensures.app))
     (ap (λ (a : App). a.top) (ap app_of_fields c.about-judge.ensures ∙ c.new.ensures.app)))
     (ap (λ (a : App). a.top) (ap app_of_fields c.about-run.ensures ∙ c.new-2.ensures.app)))
     (ap (λ (a : App). a.top) (ap app_of_fields c.about-check.ensures ∙ c.new-3.ensures.app)))

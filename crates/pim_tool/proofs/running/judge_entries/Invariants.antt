@@ -5,4 +5,6 @@ use Rattle.pim_tool.proofs.running.judge_entries.Given as goal
 
 -- the verdict is that of the other entries
 abbrev pub invariant-loop-index : goal.invariant-loop-index
-invariant-loop-index l = verdict_from (l.index + 1) l.manager (drop l.index (map entry_line l.entries)) ≡ verdict_from 1 l.fn.manager (map entry_line l.entries)
+invariant-loop-index l =
+    verdict_from (l.index + 1) l.manager (drop l.index (map entry_line l.entries))
+    ≡ verdict_from 1 l.fn.manager (map entry_line l.entries)

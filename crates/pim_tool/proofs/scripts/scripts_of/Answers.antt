@@ -25,6 +25,8 @@ lines_more ls i xs ys x pushed before next =
 
 pub loop-index-preserved : goal.loop-index-preserved
 loop-index-preserved c = record {
-  scripts = lines_more c.args.text.now.lines.items c.loop-index.index _ _ _ c.in_ok-push.ensures.items c.loop-index.invariant.scripts (search (rules, c.in_ok-script_of.ensures));
+  scripts =
+      lines_more c.args.text.now.lines.items c.loop-index.index _ _ _ c.in_ok-push.ensures.items
+      c.loop-index.invariant.scripts (search (rules, c.in_ok-script_of.ensures));
   count = grind (arith, common_steps);
 }

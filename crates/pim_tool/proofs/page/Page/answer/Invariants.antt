@@ -6,4 +6,5 @@ use Rattle.pim_tool.proofs.page.Page.answer.Given as goal
 -- the lines of the other tasks are all that is wanting
 abbrev pub invariant-loop-task : goal.invariant-loop-task
 invariant-loop-task l =
-    l.self ++ flat_map line_of (drop l.task-index l.changed) ≡ l.fn.self ++ (reply_line l.number l.reply ++ flat_map line_of l.changed)
+    l.self ++ flat_map line_of (drop l.task-index l.changed)
+    ≡ l.fn.self ++ (reply_line l.number l.reply ++ flat_map line_of l.changed)

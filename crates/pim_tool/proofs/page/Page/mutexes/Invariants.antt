@@ -4,4 +4,5 @@ use Rattle.pim_tool.proofs.page.Page.mutexes.Given as goal
 
 -- the lines of the other mutexes are all that is wanting
 abbrev pub invariant-loop-index : goal.invariant-loop-index
-invariant-loop-index l = l.self ++ mutexes_text (l.index + 1) (drop l.index l.protocols) ≡ l.fn.self ++ mutexes_text 1 l.protocols
+invariant-loop-index l =
+    l.self ++ mutexes_text (l.index + 1) (drop l.index l.protocols) ≡ l.fn.self ++ mutexes_text 1 l.protocols

@@ -8,7 +8,9 @@ returns-in_err-entry g c =
     let next = entries_next c.args.entries.now c.loop-entry.entry-index _ c.loop-entry-test.true c.entry-item.is in
     record {
       same_writer = c.entry.ensures.same_writer ∙ c.loop-entry.invariant.same_writer;
-      prints = prints_err _ _ c.from_residual.ensures.1 (stops_next _ _ _ _ next c.loop-entry.invariant.put c.in_err-entry.ensures.prints);
+      prints =
+          prints_err _ _ c.from_residual.ensures.1
+          (stops_next _ _ _ _ next c.loop-entry.invariant.put c.in_err-entry.ensures.prints);
     }
 
 pub loop-entry-preserved : goal.loop-entry-preserved

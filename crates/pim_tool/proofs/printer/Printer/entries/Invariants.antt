@@ -8,6 +8,7 @@ use Rattle.pim_tool.proofs.printer.Printer.entries.Given as goal
 abbrev pub invariant-loop-entry : goal.invariant-loop-entry
 invariant-loop-entry g l = record {
   same_writer : l.self.writer.ghost_name ≡ l.fn.self.writer.ghost_name;
-  put : Puts (g.W.Sink.told l.fn.self.writer.now) (g.W.Sink.told l.self.writer.now) (l.fn.self.page.now ++ flat_map entry_text l.entries)
+  put : Puts (g.W.Sink.told l.fn.self.writer.now) (g.W.Sink.told l.self.writer.now)
+      (l.fn.self.page.now ++ flat_map entry_text l.entries)
       (l.self.page.now ++ flat_map entry_text (drop l.entry-index l.entries));
 }
