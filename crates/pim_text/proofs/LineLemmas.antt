@@ -1,23 +1,30 @@
 -- What words spell, by what they begin with.
-use Rattle.std.proofs.Common.{◌≡◌, ℕ, List, [], ◌∷◌, codes, arith, sym, ◌∙◌, None, rules}
+use Rattle.std.proofs.Common.{◌≡◌, ℕ, List, [], ◌∷◌, codes, arith, sym, ◌∙◌, ap, None, rules}
+use Rattle.std.specs.List.{join_with_byte}
+use Rattle.std.proofs.lemmas.List.Splits.{join_with_byte-slice_split}
 use Rattle.std.specs.Fmt.{decimal}
 use Rattle.pim_base.specs.declared.steps.Protocol.{Protocol}
 use Rattle.pim_base.specs.declared.lines.StepLine.{StepLine}
 use Rattle.pim_base.specs.declared.lines.Line.TheVariants as lines
-use Rattle.pim_base.specs.Spelling.{IsNumber, IsPrio, IsProtocol, IsLine, protocol_words, step_words}
+use Rattle.pim_base.specs.Spelling.{SPACE, IsNumber, IsPrio, IsProtocol, IsLine, protocol_words, step_words}
 use Rattle.pim_text.specs.Reading.{words, Reads, ReadsAs}
 use Rattle.pim_text.proofs.NumberLemmas.{no_number}
 use Rattle.pim_text.proofs.WordLemmas.{only_word}
 
 -- ---- protocols
 
+-- bytes of these two words have a space between them
+both_words : (bytes : List ℕ) → words bytes ≡ codes "inherit" ∷ codes "recursive" ∷ [] → bytes ≡ codes "inherit recursive"
+both_words bytes e = sym (join_with_byte-slice_split SPACE bytes) ∙ ap (join_with_byte SPACE) e
+
 pub no_protocol :
     (rest : List ℕ)
     → (rest ≡ codes "none" → ⊥)
     → (rest ≡ codes "inherit" → ⊥)
+    → (rest ≡ codes "inherit recursive" → ⊥)
     → ((c : ℕ) → IsPrio c → words rest ≡ codes "protect" ∷ decimal c ∷ [] → ⊥)
     → ReadsAs IsProtocol protocol_words (words rest) None
-no_protocol rest none inherit protect h is e = grind (arith, only_word)
+no_protocol rest none inherit recursive protect h is e = grind (arith, only_word, both_words)
 
 -- one word is no PROTECT protocol
 pub no_ceiling :

@@ -89,15 +89,19 @@ rest_of : List (List ℕ) → List (List ℕ)
 rest_of [] = []
 rest_of (w ∷ ws) = ws
 
+inherit_in : List (List ℕ) → Protocol
+inherit_in [] = Protocol.Inherit
+inherit_in (w ∷ ws) = Protocol.InheritRecursive
+
 protocol_in : List (List ℕ) → Protocol
 protocol_in [] = Protocol.None
 protocol_in (w ∷ ws) =
-    if bytes_eq w (codes "inherit") then Protocol.Inherit
+    if bytes_eq w (codes "inherit") then inherit_in ws
     else if bytes_eq w (codes "protect") then Protocol.Protect (number_at ws)
     else Protocol.None
 
 protocol_in-words : (p : Protocol) → IsProtocol p → protocol_in (protocol_words p) ≡ p
-unfolding protocol_in number_at
+unfolding protocol_in inherit_in number_at
 protocol_in-words p is = grind (arith, value-decimal)
 
 op_in : List (List ℕ) → Op
@@ -149,6 +153,7 @@ reply_in (w ∷ ws) =
     else if bytes_eq w (codes "released") then Reply.Released (number_at ws)
     else if bytes_eq w (codes "withdrawn") then Reply.Withdrawn
     else if bytes_eq w (codes "set") then Reply.Set
+    else if bytes_eq w (codes "kept") then Reply.Kept
     else if bytes_eq w (codes "refused") then Reply.Refused (refusal_in (word_at ws))
     else Reply.Granted
 

@@ -59,7 +59,7 @@ fn read_mutex(rest: &[u8]) -> Option<Line>
     })
 }
 
-/// Reads `none`, `inherit` or `protect <ceiling>`, or returns `None`.
+/// Reads `none`, `inherit`, `inherit recursive` or `protect <ceiling>`, or returns `None`.
 fn read_protocol(rest: &[u8]) -> Option<Protocol>
     ensures { ReadsAs IsProtocol protocol_words (words rest.now) result }
 {
@@ -68,6 +68,9 @@ fn read_protocol(rest: &[u8]) -> Option<Protocol>
     }
     if is(rest, "inherit") {
         return Some(Protocol::Inherit);
+    }
+    if is(rest, "inherit recursive") {
+        return Some(Protocol::InheritRecursive);
     }
     let (word, ceiling) = cut(rest, b' ');
     let ceiling = prio_of(ceiling?)?;

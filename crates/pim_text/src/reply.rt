@@ -46,6 +46,8 @@ fn plain_reply(word: &[u8]) -> Option<Reply>
         Some(Reply::Withdrawn)
     } else if is(word, "set") {
         Some(Reply::Set)
+    } else if is(word, "kept") {
+        Some(Reply::Kept)
     } else {
         None
     }

@@ -7,25 +7,25 @@ use Rattle.pim_text.proofs.line.read_protocol.Goals as goal
 pub returns-in_err-ceiling : goal.returns-in_err-ceiling
 returns-in_err-ceiling c =
     rw c.from_residual.ensures
-    (no_protocol _ c.if-is.ensures c.if-is-2.ensures
+    (no_protocol _ c.if-is.ensures c.if-is-2.ensures c.if-is-3.ensures
     (no_ceiling _ _ (cut_none _ _ _ c.cut.ensures.parts c.in_err-ceiling.was)))
 
 pub returns-in_err-ceiling-2 : goal.returns-in_err-ceiling-2
 returns-in_err-ceiling-2 c =
     rw c.from_residual-in_err-ceiling-2.ensures
-    (no_protocol _ c.if-is.ensures c.if-is-2.ensures
+    (no_protocol _ c.if-is.ensures c.if-is-2.ensures c.if-is-3.ensures
     (bad_ceiling _ _ _ (cut_some _ _ _ _ c.cut.ensures.parts c.in_ok-ceiling.was) c.in_err-ceiling-2.ensures))
 
-pub returns-then-is-3 : goal.returns-then-is-3
-returns-then-is-3 c =
+pub returns-then-is-4 : goal.returns-then-is-4
+returns-then-is-4 c =
     let ceiling = c.in_ok-ceiling-2.ensures in (
       ceiling.0,
       cut_some _ _ _ _ c.cut.ensures.parts c.in_ok-ceiling.was
-          ∙ ap (λ (w : List ℕ). w ∷ words c.in_ok-ceiling.field-0.now) c.if-is-3.ensures
+          ∙ ap (λ (w : List ℕ). w ∷ words c.in_ok-ceiling.field-0.now) c.if-is-4.ensures
           ∙ ap (λ (ws : List (List ℕ)). codes "protect" ∷ ws) (one_prio _ _ ceiling.0 ceiling.1),
     )
 
-pub returns-else-is-3 : goal.returns-else-is-3
-returns-else-is-3 c =
-    no_protocol _ c.if-is.ensures c.if-is-2.ensures
-    (not_protect _ _ _ c.cut.ensures.parts c.if-is-3.ensures)
+pub returns-else-is-4 : goal.returns-else-is-4
+returns-else-is-4 c =
+    no_protocol _ c.if-is.ensures c.if-is-2.ensures c.if-is-3.ensures
+    (not_protect _ _ _ c.cut.ensures.parts c.if-is-4.ensures)

@@ -29,6 +29,7 @@ named name Found None has h = none
     none Refusal.Priority = h 8 Refusal.NoTask (omega arith) (omega arith)
     none Refusal.Tickets = h 9 Refusal.NoTask (omega arith) (omega arith)
     none Refusal.NotProtect = h 10 Refusal.NoTask (omega arith) (omega arith)
+    none Refusal.Again = h 11 Refusal.NoTask (omega arith) (omega arith)
 
 pub returns : goal.returns
 returns c =
