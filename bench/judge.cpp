@@ -32,10 +32,11 @@ constexpr unsigned LAST_VERSION = 2;
 constexpr size_t MOST_TASKS = 256;
 constexpr size_t MOST_MUTEXES = 256;
 constexpr size_t MOST_STEPS = 65536;
+constexpr unsigned MOST_LOCKS = 255;
 constexpr unsigned HIGHEST_PRIO = 99;
 constexpr unsigned HIGHEST_NUMBER = 65535;
 
-enum class Protocol : uint8_t { None, Inherit, Protect };
+enum class Protocol : uint8_t { None, Inherit, Protect, InheritRecursive };
 enum class Op : uint8_t { Lock, Try, Unlock, Release, Cancel, Base, Ceil };
 enum class Answer : uint8_t {
     Granted,
@@ -43,6 +44,7 @@ enum class Answer : uint8_t {
     Freed,
     Withdrawn,
     Set,
+    Kept,
     NoTask,
     Waiting,
     NoMutex,
@@ -54,6 +56,7 @@ enum class Answer : uint8_t {
     Priority,
     Tickets,
     NotProtect,
+    Again,
     Handed,
     Released,
 };
@@ -65,6 +68,7 @@ constexpr std::string_view ANSWERS[] = {
     "freed",
     "withdrawn",
     "set",
+    "kept",
     "refused no-task",
     "refused waiting",
     "refused no-mutex",
@@ -76,6 +80,7 @@ constexpr std::string_view ANSWERS[] = {
     "refused priority",
     "refused tickets",
     "refused not-protect",
+    "refused again",
     "handed ",
     "released ",
 };
@@ -174,15 +179,26 @@ bool read_step(Cursor& line, Step& step) {
     return line.eat(" = ") && read_reply(line, step.recorded.emplace());
 }
 
+// The first version of the text that has the reply.
+unsigned since(Answer answer) {
+    const bool is_new =
+        answer == Answer::Kept || answer == Answer::NotProtect || answer == Answer::Again;
+    return is_new ? 2 : 1;
+}
+
 // The first version of the text that has the step, and the reply that was recorded for it.
 unsigned since(const Step& step) {
-    const bool has_new_reply = step.recorded && step.recorded->answer == Answer::NotProtect;
-    return step.op == Op::Ceil || has_new_reply ? 2 : 1;
+    if (step.op == Op::Ceil) return 2;
+    return step.recorded ? since(step.recorded->answer) : 1;
 }
+
+// The first version of the text that has the protocol.
+unsigned since(Protocol protocol) { return protocol == Protocol::InheritRecursive ? 2 : 1; }
 
 bool read_protocol(Cursor& line, Declared& declared) {
     uint16_t ceiling = 0;
     if (line.eat("none")) declared.protocol = Protocol::None;
+    else if (line.eat("inherit recursive")) declared.protocol = Protocol::InheritRecursive;
     else if (line.eat("inherit")) declared.protocol = Protocol::Inherit;
     else if (line.eat("protect ") && line.number(ceiling, HIGHEST_PRIO))
         declared.protocol = Protocol::Protect;
@@ -209,7 +225,7 @@ bool add_line(Cursor line, Text& text) {
         if (!text.steps.empty() || text.mutexes.size() == MOST_MUTEXES) return false;
         if (!line.number(number) || number != text.mutexes.size() + 1 || !line.eat(" "))
             return false;
-        if (!read_protocol(line, declared)) return false;
+        if (!read_protocol(line, declared) || since(declared.protocol) > text.version) return false;
         text.mutexes.push_back(declared);
     } else {
         Step step;
@@ -321,9 +337,11 @@ struct Mutex {
     Protocol protocol = Protocol::None;
     uint8_t ceiling = 0;
     uint16_t owner = 0;  // a task, or 0
+    uint8_t count = 0;   // how often its owner has locked it
     std::vector<Waiter> queue;
 
-    bool inherits() const { return protocol == Protocol::Inherit; }
+    bool is_recursive() const { return protocol == Protocol::InheritRecursive; }
+    bool inherits() const { return protocol == Protocol::Inherit || is_recursive(); }
     bool protects() const { return protocol == Protocol::Protect; }
     uint8_t first_prio() const { return queue.empty() ? 0 : queue.front().prio; }
     uint8_t lends() const { return protects() ? ceiling : inherits() ? first_prio() : 0; }
@@ -465,6 +483,7 @@ protected:
 
     void bind(uint16_t m, uint16_t t) {
         mutexes[m].owner = t;
+        mutexes[m].count = 1;
         tasks[t].owned[(m - 1u) / 64] |= uint64_t(1) << (m - 1u) % 64;
     }
 
@@ -485,6 +504,17 @@ protected:
         return mutex.protects() && tasks[actor].base > mutex.ceiling;
     }
 
+    // Returns whether the actor locks the mutex once more, which it owns.
+    static bool relocks(uint16_t actor, const Mutex& mutex) {
+        return mutex.is_recursive() && mutex.owner == actor;
+    }
+
+    static Reply relock(Mutex& mutex) {
+        if (mutex.count == MOST_LOCKS) return {Answer::Again};
+        ++mutex.count;
+        return {Answer::Granted};
+    }
+
     Reply grant(uint16_t actor, uint16_t m) {
         bind(m, actor);
         raise(actor, mutexes[m].lends());
@@ -494,6 +524,7 @@ protected:
     Reply lock(uint16_t actor, uint16_t m) {
         if (!has_mutex(m)) return {Answer::NoMutex};
         Mutex& mutex = mutexes[m];
+        if (relocks(actor, mutex)) return relock(mutex);
         if (mutex.owner && closes_cycle(actor, mutex)) return {Answer::Deadlock};
         if (is_above_ceiling(actor, mutex)) return {Answer::Ceiling};
         if (!mutex.owner) return grant(actor, m);
@@ -510,6 +541,7 @@ protected:
 
     Reply try_lock(uint16_t actor, uint16_t m) {
         if (!has_mutex(m)) return {Answer::NoMutex};
+        if (relocks(actor, mutexes[m])) return relock(mutexes[m]);
         if (is_above_ceiling(actor, mutexes[m])) return {Answer::Ceiling};
         if (mutexes[m].owner) return {Answer::Busy};
         return grant(actor, m);
@@ -533,6 +565,10 @@ protected:
     Reply unlock(uint16_t actor, uint16_t m) {
         if (!has_mutex(m)) return {Answer::NoMutex};
         if (mutexes[m].owner != actor) return {Answer::NotOwner};
+        if (mutexes[m].count > 1) {
+            --mutexes[m].count;
+            return {Answer::Kept};
+        }
         const uint16_t t = hand_over(m);
         return t ? Reply{Answer::Handed, t} : Reply{Answer::Freed};
     }

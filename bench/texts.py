@@ -73,20 +73,23 @@ def mixed(tasks, steps, seed=3):
     return text(bases, kinds[1 : tasks + 1], lines)
 
 
-def ceilings(tasks, steps, seed=4):
-    """All protocols and steps, with ceilings that change: a text of the second version.
+def second(tasks, steps, seed=4):
+    """All protocols and steps of version 2: ceilings that change, and recursive mutexes.
 
-    Each second mutex is a PROTECT one. Its owner mostly sets its ceiling, or any task where it is free.
+    Each second mutex is a PROTECT one. Its owner mostly sets its ceiling, or any task where it is
+    free. Each fourth is recursive: its owner locks it again, and keeps it when it unlocks it.
     """
     draw = random.Random(seed)
     bases = some_bases(draw, tasks)
     guess = Guess(bases, {mutex: draw.randint(60, 99) for mutex in range(2, tasks + 1, 2)})
-    kinds = ["none", "inherit", "inherit", "inherit"] * tasks
+    guess.recursive = set(range(1, tasks + 1, 4))
+    kinds = ["", "inherit recursive", "", "inherit", "", "inherit recursive", "", "none"] * tasks
     for mutex, ceiling in guess.ceilings.items():
         kinds[mutex] = f"protect {ceiling}"
     lines = []
     while len(lines) < steps:
-        some = some_ceiling if draw.random() < 0.15 else some_step
+        chosen = draw.random()
+        some = some_ceiling if chosen < 0.1 else some_relock if chosen < 0.2 else some_step
         line = some(draw, guess, tasks)
         lines += [line] if line else []
     return text(bases, kinds[1 : tasks + 1], lines, version=2)
@@ -98,6 +101,7 @@ class Guess:
     def __init__(self, bases, ceilings):
         self.bases, self.ceilings = dict(enumerate(bases, 1)), ceilings
         self.owner, self.waits = {}, {}
+        self.recursive, self.counts = set(), {}  # the counts above one
 
     def may_have(self, task, mutex):
         return self.bases[task] <= self.ceilings.get(mutex, 99)
@@ -115,8 +119,15 @@ class Guess:
         else:
             self.owner[mutex] = task
 
+    def unlock(self, mutex):
+        """The owner keeps a mutex that it has locked more often."""
+        if self.counts.get(mutex, 1) == 1:
+            return self.hand_over(mutex)
+        self.counts[mutex] -= 1
+
     def hand_over(self, mutex):
         del self.owner[mutex]
+        self.counts.pop(mutex, None)
         queue = [task for task, waited_for in self.waits.items() if waited_for == mutex]
         if queue:
             self.owner[mutex] = max(queue, key=self.bases.get)
@@ -138,7 +149,7 @@ def some_step(draw, guess, tasks):
         mutex = draw.choice(list(guess.owner))
         task = guess.owner[mutex]
         if task not in guess.waits:
-            guess.hand_over(mutex)
+            guess.unlock(mutex)
         return f"{task} unlock {mutex}"
     if chosen < 0.8:
         prio = draw.randint(1, 104)
@@ -171,6 +182,17 @@ def some_ceiling(draw, guess, tasks):
     return f"{task} ceil {mutex} {ceiling}"
 
 
+def some_relock(draw, guess, tasks):
+    """Returns a line that locks an owned recursive mutex again, or None where that can't be."""
+    owned = [mutex for mutex in guess.owner if mutex in guess.recursive]
+    mutex = draw.choice(owned) if owned else 0
+    task = guess.owner.get(mutex)
+    if task is None or task in guess.waits:
+        return None
+    guess.counts[mutex] = guess.counts.get(mutex, 1) + 1
+    return f"{task} {'try' if draw.random() < 0.3 else 'lock'} {mutex}"
+
+
 def chain(tasks, steps):
     """A chain of all tasks, along all of which priorities rise and fall."""
     lines = [f"{task} lock {task}" for task in range(1, tasks)]
@@ -191,4 +213,4 @@ def text(bases, protocols, lines, version=1):
     return "\n".join([f"pim {version}", *declared, *lines]) + "\n"
 
 
-TEXTS = {make.__name__: make for make in (start, free, wide, mixed, chain, ceilings)}
+TEXTS = {make.__name__: make for make in (start, free, wide, mixed, chain, second)}

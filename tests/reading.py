@@ -5,17 +5,21 @@ NUMBER = rb"(?:[1-9][0-9]{0,4})"
 STEP = rb"(%N) (?:(?:lock|try|unlock|cancel) %N|release|(?:base|ceil) %N %N)".replace(b"%N", NUMBER)
 NAMES = (
     rb"no-task|waiting|no-mutex|deadlock|ceiling|busy|not-owner|not-waiting|priority|tickets"
-    rb"|not-protect"
+    rb"|not-protect|again"
 )
 REPLY = (
-    rb"granted|queued|freed|withdrawn|set|handed %N|released (?:0|%N)|refused (?:%R)"
+    rb"granted|queued|freed|withdrawn|set|kept|handed %N|released (?:0|%N)|refused (?:%R)"
 ).replace(b"%N", NUMBER).replace(b"%R", NAMES)
 
 TASK = re.compile(rb"task (%N) (%N)".replace(b"%N", NUMBER))
-MUTEX = re.compile(rb"mutex (%N) (?:none|inherit|protect (%N))".replace(b"%N", NUMBER))
+MUTEX = re.compile(
+    rb"mutex (%N) (?:none|inherit|inherit recursive|protect (%N))".replace(b"%N", NUMBER)
+)
 STEP_LINE = re.compile(rb"%S( = (?:%R))?".replace(b"%S", STEP).replace(b"%R", REPLY))
 # What has come with version 2.
-LATER = re.compile(rb"[0-9]+ ceil .*|.* = refused not-protect")
+LATER = re.compile(
+    rb"[0-9]+ ceil .*|mutex .* inherit recursive|.* = (?:kept|refused not-protect|refused again)"
+)
 LIMITS = {"task": 256, "mutex": 256, "step": 65_536}
 PARTS = ["task", "mutex", "step"]
 

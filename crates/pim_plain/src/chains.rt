@@ -2,7 +2,7 @@
 
 ghost use Rattle.std.specs.Prelude.{◌≡◌, ℕ, Option, length};
 ghost use Rattle.pim_base.specs.Lists.{contains};
-ghost use Rattle.pim_base.specs.Chains.{chain, blocker, heir, waits_chain, inherit_chain, closes_cycle};
+ghost use Rattle.pim_base.specs.Chains.{chain, blocker, heir, waits_chain, inherit_chain, leads_back, closes_cycle};
 
 use crate::plain_manager::PlainManager;
 use pim_base::{MutexNo, TaskNo};
@@ -42,12 +42,19 @@ impl PlainManager {
         self.has_on_chain(|at| self.heir(at), from, task)
     }
 
-    /// Returns whether the wait of the task for the mutex would close a cycle of waits.
-    pub fn closes_cycle(&self, task: TaskNo, mutex: MutexNo) -> bool
-        ensures { result ≡ closes_cycle self.now task mutex }
+    /// Returns whether a wait of the task for the mutex would lead back to the task.
+    pub fn leads_back(&self, task: TaskNo, mutex: MutexNo) -> bool
+        ensures { result ≡ leads_back self.now task mutex }
     {
         self.owner_of(mutex)
             .is_some_and(|owner| self.on_chain(owner, task))
+    }
+
+    /// Returns whether the request of the task for the mutex would close a cycle of waits.
+    pub fn closes_cycle(&self, task: TaskNo, mutex: MutexNo) -> bool
+        ensures { result ≡ closes_cycle self.now task mutex }
+    {
+        !self.relocks(task, mutex) && self.leads_back(task, mutex)
     }
 
     /// Returns whether the task is `from`, or is reached from it by the hops that `hop` answers as `h` does.

@@ -1,10 +1,13 @@
-//! The tests that refuse a step.
+//! The tests that refuse a step or decide its reply.
 
 ghost use Rattle.std.specs.Prelude.{◌≡◌};
-ghost use Rattle.pim_base.specs.Checks.{unknown_task, unknown_mutex, is_owned, owned_by_another, is_waiting, above_ceiling};
+ghost use Rattle.pim_base.specs.State.{protocol_of, is_recursive, relocks};
+ghost use Rattle.pim_base.specs.Checks.{unknown_task, unknown_mutex, is_waiting, is_owned, is_busy, owned_by_another};
+ghost use Rattle.pim_base.specs.Checks.{locked_too_often, above_ceiling};
+ghost use Rattle.pim_base.specs.Steps.{is_kept};
 
 use crate::plain_manager::PlainManager;
-use pim_base::{MutexNo, TaskNo};
+use pim_base::{MAX_COUNT, MutexNo, TaskNo};
 
 impl PlainManager {
     /// Returns whether no task has this number.
@@ -26,6 +29,42 @@ impl PlainManager {
         ensures { result ≡ is_owned self.now mutex }
     {
         self.owner_of(mutex).is_some()
+    }
+
+    /// Returns whether the mutex is a recursive one.
+    fn is_recursive(&self, mutex: MutexNo) -> bool
+        ensures { result ≡ is_recursive (protocol_of self.now mutex) }
+    {
+        self.protocol(mutex)
+            .is_some_and(|protocol| protocol.is_recursive())
+    }
+
+    /// Returns whether the task would lock a mutex that it owns once more, and the mutex is a recursive one.
+    pub fn relocks(&self, task: TaskNo, mutex: MutexNo) -> bool
+        ensures { result ≡ relocks self.now task mutex }
+    {
+        self.is_recursive(mutex) && self.owns(task, mutex)
+    }
+
+    /// Returns whether the task can't have the mutex now: it is owned, and the task doesn't lock it once more.
+    pub fn is_busy(&self, task: TaskNo, mutex: MutexNo) -> bool
+        ensures { result ≡ is_busy self.now task mutex }
+    {
+        self.is_owned(mutex) && !self.relocks(task, mutex)
+    }
+
+    /// Returns whether the task would lock the mutex once more than can be counted.
+    pub fn is_locked_too_often(&self, task: TaskNo, mutex: MutexNo) -> bool
+        ensures { result ≡ locked_too_often self.now task mutex }
+    {
+        self.relocks(task, mutex) && self.count_of(mutex) == MAX_COUNT
+    }
+
+    /// Returns whether the owner keeps the mutex when it unlocks it.
+    pub fn is_kept(&self, mutex: MutexNo) -> bool
+        ensures { result ≡ is_kept self.now mutex }
+    {
+        self.is_recursive(mutex) && self.count_of(mutex) > 1
     }
 
     /// Returns whether a task other than this one owns the mutex.

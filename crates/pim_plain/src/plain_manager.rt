@@ -2,7 +2,8 @@
 
 ghost use Rattle.std.specs.Prelude.{◌≡◌, ◌≤◌, ◌<◌, length, IfOk};
 ghost use Rattle.pim_base.specs.Lists.{nth, put, holds};
-ghost use Rattle.pim_base.specs.State.{start, IsTask, base_of, owner_of, wait_of, protocol_of, with_owner, with_wait, with_base, with_ceiling, queued};
+ghost use Rattle.pim_base.specs.State.{start, IsTask, base_of, owner_of, count_of, wait_of, protocol_of, first_count};
+ghost use Rattle.pim_base.specs.State.{with_owner, with_count, with_wait, with_base, with_ceiling, queued};
 ghost use Rattle.pim_base.specs.Priorities.{ceiling};
 ghost use Rattle.pim_base.specs.declared.limits.TheConstants.{MAX_TASKS, MAX_MUTEXES, LAST_TICKET};
 
@@ -10,7 +11,7 @@ use pim_base::{MutexNo, Prio, Protocol, TaskNo, Wait, nth};
 use std::alloc::{AllocError, Global};
 use std::marker::Model;
 
-/// What is declared, owned and waited for, and the next ticket: no stored priorities and no queues.
+/// What is declared, owned, counted and waited for, and the next ticket: no stored priorities and no queues.
 ///
 /// Its value in contracts is the state of the definitions. It answers every step, and computes each
 /// chain, priority, queue and reason from scratch.
@@ -19,6 +20,7 @@ pub struct PlainManager {
     base: Vec<Prio>,
     protocol: Vec<Protocol>,
     owner: Vec<Option<TaskNo>>,
+    count: Vec<u8>,
     wait: Vec<Option<Wait>>,
     next: u64,
 }
@@ -30,13 +32,21 @@ impl Model for PlainManager {
 
     ghost Value = { State };
 
-    ghost view = { λ p. record { base = p.base.items; protocol = p.protocol.items; owner = p.owner.items; wait = p.wait.items; next = p.next } };
+    ghost view = { λ p. record {
+      base = p.base.items;
+      protocol = p.protocol.items;
+      owner = p.owner.items;
+      count = p.count.items;
+      wait = p.wait.items;
+      next = p.next;
+    } };
 
     ghost invariant = { λ p.
         (length p.base.items ≤ MAX_TASKS)
         × (length p.protocol.items ≤ MAX_MUTEXES)
         × (length p.wait.items ≡ length p.base.items)
-        × (length p.owner.items ≡ length p.protocol.items) };
+        × (length p.owner.items ≡ length p.protocol.items)
+        × (length p.count.items ≡ length p.protocol.items) };
 }
 
 impl PlainManager {
@@ -60,6 +70,7 @@ impl PlainManager {
             base: bases.to_vec(alloc)?,
             protocol: protocols.to_vec(alloc)?,
             owner: vec![in alloc; None; protocols.len()]?,
+            count: vec![in alloc; 0; protocols.len()]?,
             wait: vec![in alloc; None; bases.len()]?,
             next,
         })
@@ -91,6 +102,14 @@ impl PlainManager {
         ensures { result ≡ owner_of self.now mutex }
     {
         nth(&self.owner, mutex.get()).flatten()
+    }
+
+    /// Returns how often the owner of a mutex has locked it and not yet unlocked it, 0 of a free one; `None` for an
+    /// unknown one.
+    pub fn count(&self, mutex: MutexNo) -> Option<u16>
+        ensures { result ≡ nth self.now.count mutex }
+    {
+        nth(&self.count, mutex.get()).map(|count| count as u16)
     }
 
     /// Returns the mutex that a task waits for, with its ticket; `None` where it doesn't wait, and for an unknown one.
@@ -130,6 +149,13 @@ impl PlainManager {
         self.owner_of(mutex) == Some(task)
     }
 
+    /// Returns how often the owner of a mutex has locked it and not yet unlocked it; 0 of a free and of an unknown one.
+    pub(crate) fn count_of(&self, mutex: MutexNo) -> u8
+        ensures { result ≡ count_of self.now mutex }
+    {
+        nth(&self.count, mutex.get()).unwrap_or(0)
+    }
+
     /// Returns the base of a known task.
     pub(crate) fn base_of(&self, task: TaskNo) -> Prio
         requires { IsTask self.now task }
@@ -138,11 +164,19 @@ impl PlainManager {
         self.base[task.get() as usize - 1]
     }
 
-    /// Gives the mutex this owner, or none; an unknown mutex changes nothing.
+    /// Gives the mutex this owner, who has locked it once, or none; an unknown mutex changes nothing.
     pub(crate) fn put_owner(&mut self, mutex: MutexNo, owner: Option<TaskNo>)
         ensures { self.new ≡ with_owner self.old mutex owner }
     {
+        put(&mut self.count, mutex.get(), first_count(&owner));
         put(&mut self.owner, mutex.get(), owner);
+    }
+
+    /// Gives the mutex this count; an unknown mutex changes nothing.
+    pub(crate) fn put_count(&mut self, mutex: MutexNo, count: u8)
+        ensures { self.new ≡ with_count self.old mutex count }
+    {
+        put(&mut self.count, mutex.get(), count);
     }
 
     /// Gives the task this base; an unknown task changes nothing.
@@ -177,6 +211,16 @@ impl PlainManager {
         ensures { self.new ≡ with_wait self.old task None }
     {
         put(&mut self.wait, task.get(), None);
+    }
+}
+
+/// Returns how often a new owner has locked its mutex, and 0 without an owner.
+fn first_count(owner: &Option<TaskNo>) -> u8
+    ensures { result ≡ first_count owner.now }
+{
+    match owner {
+        Some(_) => 1,
+        None => 0,
     }
 }
 

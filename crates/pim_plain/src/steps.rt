@@ -1,8 +1,9 @@
 //! One step: its reply, and what it changes.
 
-ghost use Rattle.std.specs.Prelude.{◌≡◌};
+ghost use Rattle.std.specs.Prelude.{◌≡◌, IsFalse};
+ghost use Rattle.pim_base.specs.Checks.{locked_too_often};
 ghost use Rattle.pim_base.specs.Queues.{first_of};
-ghost use Rattle.pim_base.specs.Steps.{answer, after_reply, hand_over, reply_of, after};
+ghost use Rattle.pim_base.specs.Steps.{answer, after_reply, granted, hand_over, reply_of, after};
 
 use crate::plain_manager::PlainManager;
 use pim_base::{LAST_TICKET, MutexNo, Op, Prio, Refusal, Reply, Step, TaskNo, Waiter};
@@ -33,7 +34,7 @@ impl PlainManager {
         }
     }
 
-    /// Gives the actor the mutex where it is free, else lets the actor wait for it.
+    /// Gives the actor the mutex where the actor can have it now, else lets the actor wait for it.
     fn lock(&mut self, actor: TaskNo, mutex: MutexNo) -> Reply
         ensures reply { result ≡ answer self.old actor (Op.Lock mutex) }
         ensures state { self.new ≡ after_reply self.old actor (Op.Lock mutex) result }
@@ -41,14 +42,17 @@ impl PlainManager {
         if self.is_unknown_mutex(mutex) {
             return Reply::Refused(Refusal::NoMutex);
         }
+        if self.is_locked_too_often(actor, mutex) {
+            return Reply::Refused(Refusal::Again);
+        }
         if self.closes_cycle(actor, mutex) {
             return Reply::Refused(Refusal::Deadlock);
         }
         if self.is_above_ceiling(actor, mutex) {
             return Reply::Refused(Refusal::Ceiling);
         }
-        if !self.is_owned(mutex) {
-            self.put_owner(mutex, Some(actor));
+        if !self.is_busy(actor, mutex) {
+            self.grant(actor, mutex);
             return Reply::Granted;
         }
         if self.next_ticket() > LAST_TICKET {
@@ -58,7 +62,7 @@ impl PlainManager {
         Reply::Queued
     }
 
-    /// Gives the actor the mutex where it is free.
+    /// Gives the actor the mutex where the actor can have it now.
     fn try_lock(&mut self, actor: TaskNo, mutex: MutexNo) -> Reply
         ensures reply { result ≡ answer self.old actor (Op.Try mutex) }
         ensures state { self.new ≡ after_reply self.old actor (Op.Try mutex) result }
@@ -66,17 +70,20 @@ impl PlainManager {
         if self.is_unknown_mutex(mutex) {
             return Reply::Refused(Refusal::NoMutex);
         }
+        if self.is_locked_too_often(actor, mutex) {
+            return Reply::Refused(Refusal::Again);
+        }
         if self.is_above_ceiling(actor, mutex) {
             return Reply::Refused(Refusal::Ceiling);
         }
-        if self.is_owned(mutex) {
+        if self.is_busy(actor, mutex) {
             return Reply::Refused(Refusal::Busy);
         }
-        self.put_owner(mutex, Some(actor));
+        self.grant(actor, mutex);
         Reply::Granted
     }
 
-    /// Hands the actor's mutex over.
+    /// Hands the actor's mutex over, or lets the actor keep it, which has locked it more often.
     fn unlock(&mut self, actor: TaskNo, mutex: MutexNo) -> Reply
         ensures reply { result ≡ answer self.old actor (Op.Unlock mutex) }
         ensures state { self.new ≡ after_reply self.old actor (Op.Unlock mutex) result }
@@ -86,6 +93,10 @@ impl PlainManager {
         }
         if !self.owns(actor, mutex) {
             return Reply::Refused(Refusal::NotOwner);
+        }
+        if self.is_kept(mutex) {
+            self.put_count(mutex, self.count_of(mutex) - 1);
+            return Reply::Kept;
         }
         match self.hand_over(mutex) {
             Some(waiter) => Reply::Handed(waiter.task),
@@ -160,6 +171,18 @@ impl PlainManager {
         }
         self.put_ceiling(mutex, ceiling);
         Reply::Set
+    }
+
+    /// Gives the actor the mutex, or gives it to the actor once more.
+    fn grant(&mut self, actor: TaskNo, mutex: MutexNo)
+        requires { IsFalse (locked_too_often self.old actor mutex) }
+        ensures { self.new ≡ granted self.old actor mutex }
+    {
+        if self.relocks(actor, mutex) {
+            self.put_count(mutex, self.count_of(mutex) + 1);
+        } else {
+            self.put_owner(mutex, Some(actor));
+        }
     }
 
     /// Gives the mutex to its first waiter, who stops waiting, or frees it; returns that waiter.
