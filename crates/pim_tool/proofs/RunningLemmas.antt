@@ -6,13 +6,18 @@ use Rattle.std.proofs.lemmas.List.{length-map, get_or-map, drop_all}
 use Rattle.pim_base.specs.State.{State, start}
 use Rattle.pim_base.specs.Steps.{after, reply_of}
 use Rattle.pim_base.specs.Texts.{Trace, lines_of}
+use Rattle.pim_base.specs.Runs.{IsRun, IsInterleaving}
+use Rattle.pim_base.specs.Scripts.{scripts_of}
 use Rattle.pim_base.specs.Recordings.{IsRunOf, entry_line}
 use Rattle.pim_base.specs.Reports.{agrees, verdict_from}
 use Rattle.pim_base.specs.declared.steps.Entry.{Entry}
+use Rattle.pim_base.specs.declared.steps.Op.{Op}
 use Rattle.pim_base.specs.declared.steps.Reply.{Reply}
 use Rattle.pim_base.specs.declared.lines.Verdict.{Verdict}
 use Rattle.pim_base.specs.declared.lines.Verdict.TheVariants as verdicts
 use Rattle.pim_base.proofs.Recorded.{recording_law}
+use Rattle.pim_shared.specs.Gathered.{IsLogOf}
+use Rattle.pim_shared.specs.Logs.{History}
 use Rattle.pim_tool.specs.Ends.{Puts, Stops, Prints, Appends, AppendsFront}
 use Rattle.pim_tool.specs.Running.{IsRunnable, SpellsRunnable, run_length, IsVerdictOfRun}
 use Rattle.pim_tool.specs.Running.{Call, Wrote, WroteFront, StandsAfter}
@@ -60,6 +65,20 @@ pub run_verdict :
 run_verdict script es S verdict runnable run begins says =
     let law = recording_law script es runnable.limits runnable.rules run in
     says ∙ ap (λ (T : State). verdict_from 1 T (map entry_line es)) begins ∙ law.1 ∙ ap verdicts.Accepted law.0
+
+-- the log of the scripts is a run of the script
+pub gathered_run :
+    (script : Trace) (log gathered : History) (S end : State) (scripts : List (List Op))
+    → (gathered ≡ log) × IsLogOf S scripts log
+    → S ≡ start script.bases script.protocols 1
+    → scripts ≡ scripts_of script
+    → IsRun log.start log.entries end
+    → IsRunOf script gathered.entries
+gathered_run script log gathered S end scripts (same, is) begins asked run =
+    subst (λ (l : History). IsRunOf script l.entries) (sym same) (record {
+      run = (end, subst (λ T. IsRun T log.entries end) (is.begins ∙ begins) run);
+      interleaving = subst (IsInterleaving log.entries) asked is.interleaved;
+    })
 
 pub few_entries : (script : Trace) (es : List Entry) → IsRunnable script → IsRunOf script es → length es < 2 ^ 32
 few_entries script es runnable run =

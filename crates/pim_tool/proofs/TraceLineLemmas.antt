@@ -5,10 +5,11 @@ use Rattle.std.specs.List.{flat_map}
 use Rattle.std.proofs.lemmas.List.{map-append, at_drop_more}
 use Rattle.std.proofs.lemmas.Grind.{flat_map-append}
 use Rattle.std.specs.List.{join_with_byte}
-use Rattle.pim_base.specs.Spelling.{SPACE, version_line, spelled, op_words, reply_words}
+use Rattle.pim_base.specs.Spelling.{SPACE, version_line, spelled, protocol_words, op_words, reply_words}
 use Rattle.pim_base.specs.Reports.{reply_text}
 use Rattle.pim_base.specs.Texts.{Trace, task_lines, mutex_lines}
 use Rattle.pim_base.specs.Recordings.{ended, entry_line, recording, text_of}
+use Rattle.pim_base.specs.declared.steps.Protocol.{Protocol}
 use Rattle.pim_base.specs.declared.steps.Op.{Op}
 use Rattle.pim_base.specs.declared.steps.Reply.{Reply}
 use Rattle.pim_base.specs.declared.steps.Entry.{Entry}
@@ -16,7 +17,7 @@ use Rattle.pim_base.specs.declared.lines.Line.{Line}
 use Rattle.pim_base.specs.declared.lines.Line.TheVariants as lines
 use Rattle.pim_tool.specs.declared.fault.Fault.{Fault}
 use Rattle.pim_tool.specs.Ends.{Told, Puts, Stops}
-use Rattle.pim_tool.specs.Printed.{op_text, tasks_text, mutexes_text, declarations_text, entry_text}
+use Rattle.pim_tool.specs.Printed.{protocol_text, op_text, tasks_text, mutexes_text, declarations_text, entry_text}
 
 -- a word before a reply
 before_reply : (w : List ℕ) (r : Reply) → join_with_byte SPACE (w ∷ reply_words r) ≡ w ++ (codes " " ++ reply_text r)
@@ -27,6 +28,7 @@ before_reply w (Reply.Handed t) = refl
 before_reply w (Reply.Released k) = refl
 before_reply w Reply.Withdrawn = refl
 before_reply w Reply.Set = refl
+before_reply w Reply.Kept = refl
 before_reply w (Reply.Refused r) = refl
 
 -- a word before an operation
@@ -38,6 +40,23 @@ before_op w Op.ReleaseAll = refl
 before_op w (Op.Cancel t) = refl
 before_op w (Op.SetBase t p) = refl
 before_op w (Op.SetCeiling m p) = refl
+
+-- a word before a protocol
+before_protocol :
+    (w : List ℕ) (p : Protocol)
+    → join_with_byte SPACE (w ∷ protocol_words p) ≡ w ++ (codes " " ++ protocol_text p)
+before_protocol w Protocol.None = refl
+before_protocol w Protocol.Inherit = refl
+before_protocol w Protocol.InheritRecursive = refl
+before_protocol w (Protocol.Protect c) = refl
+
+-- the parts of the line of a mutex
+pub mutex_spelled :
+    (n : ℕ) (p : Protocol)
+    → ended (spelled (lines.Mutex n p))
+    ≡ codes "mutex " ++ (decimal n ++ (codes " " ++ (protocol_text p ++ codes "\n")))
+mutex_spelled n p =
+    ap (λ t. ended (codes "mutex " ++ t)) (before_protocol (decimal n) p) ∙ simp append_assoc
 
 -- words before other words
 join-append :

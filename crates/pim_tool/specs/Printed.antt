@@ -1,7 +1,7 @@
 -- What is printed, by what stands in it.
 use Rattle.std.specs.Prelude.{ℕ, List, ◌++◌, Option, codes, decimal, map, flat_map, if◌then◌else◌}
 use Rattle.std.specs.List.{join_with_byte}
-use Rattle.pim_base.specs.Spelling.{SPACE, version_line, spelled, op_words}
+use Rattle.pim_base.specs.Spelling.{SPACE, version_line, spelled, protocol_words, op_words}
 use Rattle.pim_base.specs.Texts.{Trace, task_lines, mutex_lines}
 use Rattle.pim_base.specs.Recordings.{ended, entry_line}
 use Rattle.pim_base.specs.Reports.{agrees, reason_words, reply_line, rejection_lines, accepted, rejected}
@@ -14,6 +14,9 @@ use Rattle.pim_base.specs.declared.steps.Protocol.{Protocol}
 use Rattle.pim_base.specs.declared.steps.Reply.{Reply}
 use Rattle.pim_base.specs.declared.steps.Reason.{Reason}
 use Rattle.pim_manager.specs.declared.changed_tasks.ChangedTask.{ChangedTask}
+
+abbrev pub protocol_text : Protocol → List ℕ
+protocol_text protocol = join_with_byte SPACE (protocol_words protocol)
 
 abbrev pub op_text : Op → List ℕ
 op_text op = join_with_byte SPACE (op_words op)

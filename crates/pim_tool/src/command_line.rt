@@ -33,13 +33,13 @@ mutexes. Words are one space apart; there is no blank line, no comment and no ca
 
 Lines: task <n> <base>; mutex <n> none | inherit | protect <ceiling>; <task> lock | try | unlock <mutex>;
 <task> release; <task> cancel <task>; <task> base <task> <priority>; and where line 1 is 'pim 2',
-<task> ceil <mutex> <ceiling>.
+<task> ceil <mutex> <ceiling>, and mutex <n> inherit recursive, which its owner may lock up to 255 times.
 Limits: priorities and ceilings 1 to 99, 99 the highest; 256 tasks, 256 mutexes, 65536 steps.
 
 A step may end with ' = <reply>', the reply that was recorded; the report ends at the first that differs.
 Replies: granted, queued, freed, handed <task>, released <count>, withdrawn, set, refused <name>. The names:
 no-task, waiting, no-mutex, deadlock, ceiling, busy, not-owner, not-waiting, priority, tickets; and where line 1 is
-'pim 2', not-protect.
+'pim 2', kept, and the names not-protect and again.
 
 To run a script, with a thread for each of its tasks, of which there are at most 16: pim run < SCRIPT
 

@@ -217,6 +217,7 @@ pub(crate) fn put_reply(numerals: &Numerals, row: &mut [u8], at: usize, reply: &
         }
         Reply::Withdrawn => put(row, at, b"withdrawn"),
         Reply::Set => put(row, at, b"set"),
+        Reply::Kept => put(row, at, b"kept"),
         Reply::Refused(refusal) => {
             let at = put(row, at, b"refused ");
             put_slice(row, at, refusal.name().as_bytes())

@@ -10,6 +10,7 @@ mod failing_ends;
 mod invalid_texts;
 mod odd_sizes;
 mod pages;
+mod recursive;
 mod refusals;
 mod running;
 mod running_ends;

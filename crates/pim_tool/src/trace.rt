@@ -6,7 +6,7 @@ ghost use Rattle.pim_base.specs.Recordings.{ended, recording, text_of};
 ghost use Rattle.pim_base.specs.declared.lines.Line.TheVariants as lines;
 ghost use Rattle.pim_text.specs.Reading.{trace_of};
 ghost use Rattle.pim_tool.specs.Ends.{Prints};
-ghost use Rattle.pim_tool.specs.Printed.{op_text, tasks_text, mutexes_text, declarations_text, entry_text};
+ghost use Rattle.pim_tool.specs.Printed.{protocol_text, op_text, tasks_text, mutexes_text, declarations_text, entry_text};
 
 use crate::ends::Sink;
 use crate::fault::Fault;
@@ -120,6 +120,7 @@ impl Page {
     }
 
     /// Adds the line that declares a mutex.
+    #[tactic(auto, using(crate::proofs::TraceLineLemmas::mutex_spelled))]
     fn mutex(&mut self, number: u32, protocol: Protocol) -> Result<(), AllocError>
         ensures { OnOk result (self.new ≡ self.old ++ ended (spelled (lines.Mutex number protocol))) }
     {
@@ -127,15 +128,9 @@ impl Page {
         let row = self.row.as_mut_slice();
         let at = put(row, self.used, b"mutex ");
         let at = put_number(&self.numerals, row, at, number);
-        self.used = match protocol {
-            Protocol::None => put(row, at, b" none\n"),
-            Protocol::Inherit => put(row, at, b" inherit\n"),
-            Protocol::Protect(ceiling) => {
-                let at = put(row, at, b" protect ");
-                let at = put_number(&self.numerals, row, at, u32::from(ceiling.get()));
-                put(row, at, b"\n")
-            }
-        };
+        let at = put(row, at, b" ");
+        let at = put_protocol(&self.numerals, row, at, protocol);
+        self.used = put(row, at, b"\n");
         Ok(())
     }
 
@@ -157,6 +152,20 @@ impl Page {
         let at = put_reply(&self.numerals, row, at, &entry.reply);
         self.used = put(row, at, b"\n");
         Ok(())
+    }
+}
+
+/// Puts the words of a protocol.
+fn put_protocol(numerals: &Numerals, row: &mut [u8], at: usize, protocol: Protocol) -> usize
+    requires { at + 18 ≤ length row.old }
+    ensures end { result ≤ at + 18 }
+    ensures text { take result row.new ≡ take at row.old ++ protocol_text protocol }
+{
+    match protocol {
+        Protocol::None => put(row, at, b"none"),
+        Protocol::Inherit => put(row, at, b"inherit"),
+        Protocol::InheritRecursive => put(row, at, b"inherit recursive"),
+        Protocol::Protect(ceiling) => put_with(numerals, row, at, b"protect ", ceiling.get()),
     }
 }
 
