@@ -2,7 +2,7 @@
 
 ghost use Rattle.std.specs.Prelude.{◌≤◌, ◌<◌};
 
-use crate::scene::{Both, INHERIT, NONE, protect};
+use crate::scene::{Both, INHERIT, NONE, RECURSIVE, protect};
 use pim_base::{MutexNo, Op, Prio, Step, TaskNo};
 use pim_manager::ChangedTasks;
 use pim_plain::PlainManager;
@@ -56,10 +56,28 @@ fn ceiling_step(random: &mut Pcg32, plain: &PlainManager) -> Step {
     Step { actor, op }
 }
 
+// a lock or an unlock of one of the two recursive mutexes, which are the first, mostly by the owner where there is one
+fn relock_step(random: &mut Pcg32, plain: &PlainManager) -> Step {
+    let mutex = MutexNo(1 + below(random, 2));
+    let by_owner = below(random, 4) > 0;
+    let actor = match plain.owner_of(mutex) {
+        Some(owner) if by_owner => owner,
+        _ => task(random),
+    };
+    let op = match below(random, 8) {
+        0..=3 => Op::Lock(mutex),
+        4 => Op::Try(mutex),
+        _ => Op::Unlock(mutex),
+    };
+    Step { actor, op }
+}
+
 // any operation with numbers like these
 fn any_step(random: &mut Pcg32, plain: &PlainManager) -> Step {
-    if below(random, 6) == 0 {
-        return ceiling_step(random, plain);
+    match below(random, 6) {
+        0 => return ceiling_step(random, plain),
+        1 => return relock_step(random, plain),
+        _ => {}
     }
     let actor = task(random);
     let op = match below(random, 12) {
@@ -96,7 +114,7 @@ fn expect_same_tasks(
     }
 }
 
-// every mutex has the same protocol, the same owner and the same queue
+// every mutex has the same protocol, the same owner, the same count and the same queue
 fn expect_same_mutexes(rt: &impl Abort, both: &Both<'_, impl Abort>) -> Result<(), Fail> {
     for number in 1..MUTEXES + 1 {
         let mutex = MutexNo(number);
@@ -107,6 +125,11 @@ fn expect_same_mutexes(rt: &impl Abort, both: &Both<'_, impl Abort>) -> Result<(
         );
         let owner = both.plain.owner_of(mutex);
         assert_eq!(rt; both.manager.owner(mutex), Some(owner), "{mutex:?}");
+        assert_eq!(rt;
+            both.manager.count(mutex),
+            both.plain.count(mutex),
+            "{mutex:?}"
+        );
         both.queue(mutex)?;
     }
     Ok(())
@@ -137,8 +160,8 @@ fn expect_agreement(
 fn managers_agree_over_5000_random_steps(rt: HostRuntime) -> Result<(), Fail> {
     let bases = [10, 20, 30, 30, 50, 90];
     let protocols = [
-        INHERIT,
-        INHERIT,
+        RECURSIVE,
+        RECURSIVE,
         INHERIT,
         INHERIT,
         NONE,

@@ -2,13 +2,14 @@
 //! it, with its reason, as worked out by hand from the definitions.
 
 use crate::scene::{
-    Both, INHERIT, NONE, base, cancel, ceiling, handed, lock, protect, release, set_base,
-    set_ceiling, try_lock, unlock, waiter,
+    Both, INHERIT, NONE, RECURSIVE, base, cancel, ceiling, handed, lock, protect, release,
+    set_base, set_ceiling, try_lock, unlock, waiter,
 };
 use Refusal::{
-    Busy, Deadlock, NoMutex, NoTask, NotOwner, NotProtect, NotWaiting, Priority, Tickets, Waiting,
+    Again, Busy, Deadlock, NoMutex, NoTask, NotOwner, NotProtect, NotWaiting, Priority, Tickets,
+    Waiting,
 };
-use Reply::{Freed, Granted, Queued, Refused, Released, Set, Withdrawn};
+use Reply::{Freed, Granted, Kept, Queued, Refused, Released, Set, Withdrawn};
 use pim_base::{MutexNo, Prio, Refusal, Reply, TaskNo};
 use std::test::Fail;
 
@@ -340,6 +341,70 @@ fn last_ticket_is_given_out_and_no_more(rt: HostRuntime) -> Result<(), Fail> {
     assert_eq!(rt; wait.map(|wait| wait.ticket), Some(u64::MAX - 1));
     assert_eq!(rt; both.manager.next_ticket(), u64::MAX);
     assert_eq!(rt; both.plain.next_ticket(), u64::MAX);
+    Ok(())
+}
+
+#[test]
+fn recursive_mutex_goes_to_its_waiter_at_the_last_unlock(rt: HostRuntime) -> Result<(), Fail> {
+    let mut both = Both::new(&rt, rt.alloc(), &[10, 50], &[RECURSIVE])?;
+    let bases = [base(10), base(50)];
+    let boosted = [waiter(50, 2, 1), base(50)];
+    for (step, reply, visits, tasks) in [
+        (lock(1, 1), Granted, 1, bases),
+        (lock(1, 1), Granted, 0, bases),
+        (try_lock(1, 1), Granted, 0, bases),
+        (try_lock(2, 1), Refused(Busy), 0, bases),
+        (lock(2, 1), Queued, 1, boosted),
+        (unlock(1, 1), Kept, 0, boosted),
+        (lock(1, 1), Granted, 0, boosted),
+        (unlock(1, 1), Kept, 0, boosted),
+        (unlock(1, 1), Kept, 0, boosted),
+        (unlock(1, 1), handed(2), 2, bases),
+        (unlock(1, 1), Refused(NotOwner), 0, bases),
+        (lock(2, 1), Granted, 0, bases),
+        (release(2), Released(1), 1, bases),
+    ] {
+        both.expect_step(step, reply, visits, &tasks);
+    }
+    Ok(())
+}
+
+#[test]
+fn relocks_end_at_255_and_the_deadlock_of_another_stays(rt: HostRuntime) -> Result<(), Fail> {
+    let mut both = Both::new(&rt, rt.alloc(), &[10, 20], &[RECURSIVE, RECURSIVE])?;
+    for _time in 0..255 {
+        both.step(lock(1, 1));
+    }
+    for (step, reply) in [
+        (lock(1, 1), Refused(Again)),
+        (try_lock(1, 1), Refused(Again)),
+        (lock(2, 2), Granted),
+        (lock(2, 1), Queued),
+        (lock(1, 2), Refused(Deadlock)),
+        (release(1), Released(1)),
+    ] {
+        assert_eq!(rt; both.step(step).reply, reply, "{step:?}");
+    }
+    assert_eq!(rt; both.manager.count(MutexNo(1)), Some(1));
+    Ok(())
+}
+
+#[test]
+fn plain_manager_counts_locks(rt: HostRuntime) -> Result<(), Fail> {
+    let mut both = Both::new(&rt, rt.alloc(), &[20, 40], &[RECURSIVE, INHERIT])?;
+    for step in [lock(1, 1), lock(1, 1), lock(1, 2)] {
+        both.step(step);
+    }
+    let plain = &both.plain;
+    let [one, two] = [TaskNo(1), TaskNo(2)];
+    let [recursive, once] = [MutexNo(1), MutexNo(2)];
+    assert_eq!(rt; plain.count(recursive), Some(2));
+    assert_eq!(rt; plain.count(once), Some(1));
+    assert!(rt; plain.is_kept(recursive) && !plain.is_kept(once));
+    assert!(rt; plain.relocks(one, recursive) && !plain.relocks(one, once));
+    assert!(rt; plain.is_busy(two, recursive) && !plain.is_busy(one, recursive));
+    assert!(rt; !plain.is_locked_too_often(one, recursive));
+    assert!(rt; plain.leads_back(one, recursive) && !plain.closes_cycle(one, recursive));
     Ok(())
 }
 

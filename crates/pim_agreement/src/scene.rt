@@ -17,6 +17,9 @@ pub const NONE: Protocol = Protocol::None;
 /// A PRIO_INHERIT mutex.
 pub const INHERIT: Protocol = Protocol::Inherit;
 
+/// A recursive PRIO_INHERIT mutex.
+pub const RECURSIVE: Protocol = Protocol::InheritRecursive;
+
 /// Returns the protocol of a PRIO_PROTECT mutex with this ceiling.
 pub fn protect(rt: &impl Abort, ceiling: u16) -> Protocol {
     Protocol::Protect(Prio::new(ceiling).expect(rt, "a ceiling"))

@@ -11,7 +11,7 @@ use std::fs::File;
 use std::{fs, io};
 
 /// The names of the traces in data/, each with its report beside it.
-const EXAMPLES: [&str; 7] = [
+const EXAMPLES: [&str; 8] = [
     "boost_through_a_chain",
     "ceiling_lowered",
     "ceilings",
@@ -19,6 +19,7 @@ const EXAMPLES: [&str; 7] = [
     "inversion_avoided",
     "inversion_suffered",
     "recording_rejected",
+    "recursive_with_a_waiter",
 ];
 
 fn main(rt: HostRuntime) -> io::Result<()> {

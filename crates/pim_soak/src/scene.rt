@@ -113,7 +113,7 @@ impl Draw {
         Prio::new(level).unwrap()
     }
 
-    /// Draws a protocol: every other one is PRIO_INHERIT, and ceilings are high enough for most tasks.
+    /// Draws a protocol: most are PRIO_INHERIT, some of them recursive, and ceilings are high enough for most tasks.
     fn protocol(&mut self) -> Protocol {
         match self.below(8) {
             0 => Protocol::None,
@@ -121,6 +121,7 @@ impl Draw {
                 let level = 40 + self.below(60);
                 Protocol::Protect(Prio::new(level).unwrap())
             }
+            3 | 4 => Protocol::InheritRecursive,
             _ => Protocol::Inherit,
         }
     }
