@@ -7,36 +7,32 @@ use crate::{Fault, Text, judge_bytes, parse, parse_script, status};
 use pim_shared::SharedFault;
 use std::test::Fail;
 
+/// Each fault, with its words.
+const FAULTS: [(Fault, &str); 10] = [
+    (Fault::Line(258), "line 258"),
+    (Fault::Read, "read"),
+    (Fault::Write, "write"),
+    (Fault::Memory, "memory"),
+    (Fault::Shared(SharedFault::Full), "shared full"),
+    (Fault::Shared(SharedFault::Memory), "shared memory"),
+    (Fault::Shared(SharedFault::Closed), "shared closed"),
+    (Fault::Shared(SharedFault::Torn), "shared torn"),
+    (Fault::Shared(SharedFault::NoPlace), "shared no place"),
+    (Fault::TooManyWorkers, "too many workers"),
+];
+
 #[test]
 fn statuses_of_verdicts_and_faults(rt: HostRuntime) {
     assert_eq!(rt; status(&Ok(Accepted(3))), 0);
     assert_eq!(rt; status(&Ok(Rejected(3))), 1);
-    for fault in [
-        Fault::Line(1),
-        Fault::Read,
-        Fault::Write,
-        Fault::Memory,
-        Fault::Shared(SharedFault::Torn),
-        Fault::TooManyWorkers,
-    ] {
-        assert_eq!(rt; status(&Err(fault)), 2, "{fault:?}");
+    for (fault, words) in FAULTS {
+        assert_eq!(rt; status(&Err(fault)), 2, "{words}");
     }
 }
 
 #[test]
 fn faults_are_printed_in_words(rt: HostRuntime) -> Result<(), Fail> {
-    for (fault, words) in [
-        (Fault::Line(258), "line 258"),
-        (Fault::Read, "read"),
-        (Fault::Write, "write"),
-        (Fault::Memory, "memory"),
-        (Fault::Shared(SharedFault::Full), "shared full"),
-        (Fault::Shared(SharedFault::Memory), "shared memory"),
-        (Fault::Shared(SharedFault::Closed), "shared closed"),
-        (Fault::Shared(SharedFault::Torn), "shared torn"),
-        (Fault::Shared(SharedFault::NoPlace), "shared no place"),
-        (Fault::TooManyWorkers, "too many workers"),
-    ] {
+    for (fault, words) in FAULTS {
         let printed = format!(in rt.alloc(); "{fault}")?;
         assert_eq!(rt; printed.as_str(), words);
     }

@@ -6,14 +6,17 @@ use std::alloc::AllocGlobal;
 use std::process::Abort;
 use std::test::Fail;
 
+/// The program's name, the word behind it, and the job that they name.
+const JOBS: [(&str, Option<&str>, Job); 4] = [
+    ("pim", None, Job::Judge),
+    ("bin/pim", Some("judge"), Job::Judge),
+    ("pim", Some("run"), Job::Run),
+    ("", Some("check"), Job::Check),
+];
+
 #[test]
 fn words_name_the_job(rt: HostRuntime) {
-    for (name, word, job) in [
-        ("pim", None, Job::Judge),
-        ("bin/pim", Some("judge"), Job::Judge),
-        ("pim", Some("run"), Job::Run),
-        ("", Some("check"), Job::Check),
-    ] {
+    for (name, word, job) in JOBS {
         let answer = match word {
             None => command(rt.alloc(), &[name]).ok(),
             Some(word) => command(rt.alloc(), &[name, word]).ok(),
@@ -42,27 +45,29 @@ fn expect_error<'a>(
     Ok(())
 }
 
+/// What help says, among other things.
+const TAUGHT: &[&str] = &[
+    "Usage: pim [COMMAND]\n",
+    "judge",
+    "run",
+    "check",
+    "task <n> <base>; mutex <n> none | inherit | protect <ceiling>",
+    "where line 1 is 'pim 2',\n<task> ceil <mutex> <ceiling>, and mutex <n> inherit recursive, which",
+    "where line 1 is\n'pim 2', kept, and the names not-protect and again.\n",
+    "    $ printf 'pim 1\\ntask 1 10\\ntask 2 50\\nmutex 1 inherit\\n1 lock 1\\n2 lock 1\\n' | pim\n",
+    "    2 queued\n      task 1 at 50 waiter 2 mutex 1\n    accepted 2\n",
+    "    $ printf 'pim 1\\ntask 1 10\\nmutex 1 protect 40\\n1 lock 1\\n' | pim run\n    pim 1\n",
+    "    1 lock 1 = granted\n    1 release = released 1\n",
+    "pim run < SCRIPT | pim judge",
+    "Exit status: 0 accepted, 1 rejected, 2 any fault",
+];
+
 #[test]
 fn help_teaches_the_text_and_the_statuses(rt: HostRuntime) -> Result<(), Fail> {
-    let parts = [
-        "Usage: pim [COMMAND]\n",
-        "judge",
-        "run",
-        "check",
-        "task <n> <base>; mutex <n> none | inherit | protect <ceiling>",
-        "where line 1 is 'pim 2',\n<task> ceil <mutex> <ceiling>, and mutex <n> inherit recursive, which",
-        "where line 1 is\n'pim 2', kept, and the names not-protect and again.\n",
-        "    $ printf 'pim 1\\ntask 1 10\\ntask 2 50\\nmutex 1 inherit\\n1 lock 1\\n2 lock 1\\n' | pim\n",
-        "    2 queued\n      task 1 at 50 waiter 2 mutex 1\n    accepted 2\n",
-        "    $ printf 'pim 1\\ntask 1 10\\nmutex 1 protect 40\\n1 lock 1\\n' | pim run\n    pim 1\n",
-        "    1 lock 1 = granted\n    1 release = released 1\n",
-        "pim run < SCRIPT | pim judge",
-        "Exit status: 0 accepted, 1 rejected, 2 any fault",
-    ];
     let kind = ErrorKind::DisplayHelp;
-    expect_error(&rt, &["pim", "--help"], kind, false, &parts)?;
-    expect_error(&rt, &["pim", "-h"], kind, false, &parts)?;
-    expect_error(&rt, &["pim", "help"], kind, false, &parts)
+    expect_error(&rt, &["pim", "--help"], kind, false, TAUGHT)?;
+    expect_error(&rt, &["pim", "-h"], kind, false, TAUGHT)?;
+    expect_error(&rt, &["pim", "help"], kind, false, TAUGHT)
 }
 
 #[test]

@@ -12,7 +12,7 @@ use std::test::Fail;
 use std::thread::Threads;
 
 /// The script is neither run nor checked, and this is its first invalid line.
-fn expect_not_run<T: Threads + Wait + Sync + Abort + AllocGlobal>(
+pub fn expect_not_run<T: Threads + Wait + Sync + Abort + AllocGlobal>(
     rt: &T,
     script: &[u8],
     line: u32,

@@ -3,26 +3,28 @@
 use crate::page::Page;
 use std::test::Fail;
 
+const NUMBERS: [u32; 16] = [
+    0,
+    1,
+    9,
+    10,
+    99,
+    100,
+    999,
+    1000,
+    1001,
+    9999,
+    10_000,
+    65_535,
+    65_536,
+    999_999,
+    1_000_000,
+    u32::MAX,
+];
+
 #[test]
 fn numbers_are_put_at_their_edges(rt: HostRuntime) -> Result<(), Fail> {
-    for number in [
-        0,
-        1,
-        9,
-        10,
-        99,
-        100,
-        999,
-        1000,
-        1001,
-        9999,
-        10_000,
-        65_535,
-        65_536,
-        999_999,
-        1_000_000,
-        u32::MAX,
-    ] {
+    for number in NUMBERS {
         let mut page = Page::new(rt.alloc())?;
         page.accepted(number)?;
         page.rejected(number)?;

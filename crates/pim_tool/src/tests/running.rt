@@ -1,10 +1,33 @@
 //! Scripts that are run: the traces of their runs, and the verdicts of these.
 
 use crate::Verdict::Accepted;
+use crate::tests::invalid_texts::expect_not_run;
 use crate::tests::scripts::{checked, in_opposite_orders, of_tasks, ran};
-use crate::{Fault, judge_bytes, status};
+use crate::{Fault, Judged, judge_bytes, status};
 use std::alloc::AllocGlobal;
+use std::process::Abort;
+use std::sync::Wait;
 use std::test::Fail;
+use std::thread::Threads;
+
+/// The script is run, and this is the trace of its run.
+fn expect_trace<T: Threads + Wait + Sync + Abort + AllocGlobal>(rt: &T, script: &str, trace: &str) {
+    let (answer, written) = ran(rt, rt.alloc(), script.as_bytes());
+    assert_eq!(rt; answer, Ok(()), "{script}");
+    assert_eq!(rt; written.text(), Some(trace), "{script}");
+}
+
+/// The script is run, its run has so many entries, and this line is all that is written of it.
+fn expect_verdict<T: Threads + Wait + Sync + Abort + AllocGlobal>(
+    rt: &T,
+    script: &[u8],
+    entries: u32,
+    line: &str,
+) {
+    let (answer, written) = checked(rt, rt.alloc(), script);
+    assert_eq!(rt; answer, Ok(Accepted(entries)), "{script:?}");
+    assert_eq!(rt; written.text(), Some(line), "{script:?}");
+}
 
 /// Two tasks that lock two mutexes in the same order, and unlock them.
 const SAME_ORDER: &str = "\
@@ -33,9 +56,8 @@ mutex 1 protect 20
 1 lock 1 = granted
 1 release = released 1
 ";
-    let (answer, written) = ran(&rt, rt.alloc(), script.as_bytes());
-    assert_eq!(rt; answer, Ok(()));
-    assert_eq!(rt; written.text(), Some(trace));
+    expect_trace(&rt, script, trace);
+    let (answer, _written) = ran(&rt, rt.alloc(), script.as_bytes());
     assert_eq!(rt; status(&answer.map(|()| Accepted(0))), 0);
 }
 
@@ -84,13 +106,11 @@ mutex 3 protect 40
 1 release
 1 lock 3
 ";
-    let (answer, written) = ran(&rt, rt.alloc(), script.as_bytes());
-    assert_eq!(rt; answer, Ok(()));
-    assert_eq!(rt; written.text(), Some(trace));
+    expect_trace(&rt, script, trace);
 }
 
 #[test]
-fn trace_has_the_version_of_its_script(rt: HostRuntime) -> Result<(), Fail> {
+fn trace_has_the_version_of_its_script(rt: HostRuntime) {
     // A mutex line says the ceiling that the script declares, and not the one that was set last.
     let trace = "\
 pim 2
@@ -119,15 +139,11 @@ mutex 2 none
 1 ceil 65535 65535
 1 lock 1
 ";
-    let (answer, written) = ran(&rt, rt.alloc(), script.as_bytes());
-    assert_eq!(rt; answer, Ok(()));
-    assert_eq!(rt; written.text(), Some(trace));
-    let judged = judge_bytes(rt.alloc(), written.bytes())?;
-    assert_eq!(rt; judged.verdict, Accepted(8));
-    let (answer, written) = checked(&rt, rt.alloc(), script.as_bytes());
-    assert_eq!(rt; answer, Ok(Accepted(8)));
-    assert_eq!(rt; written.text(), Some("accepted 8\n"));
-    Ok(())
+    expect_trace(&rt, script, trace);
+    let judged = judge_bytes(rt.alloc(), trace.as_bytes());
+    let verdict = judged.map(|judged: Judged| judged.verdict);
+    assert_eq!(rt; verdict, Ok(Accepted(8)));
+    expect_verdict(&rt, script.as_bytes(), 8, "accepted 8\n");
 }
 
 #[test]
@@ -145,19 +161,14 @@ mutex 1 protect 40
 2 ceil 1 50
 2 unlock 1
 ";
-    for turn in 0..100 {
-        let (answer, written) = checked(&rt, rt.alloc(), script.as_bytes());
-        assert_eq!(rt; answer, Ok(Accepted(8)), "{turn}");
-        assert_eq!(rt; written.text(), Some("accepted 8\n"), "{turn}");
+    for _ in 0..100 {
+        expect_verdict(&rt, script.as_bytes(), 8, "accepted 8\n");
     }
 }
 
 #[test]
 fn check_accepts_the_steps_and_the_releases(rt: HostRuntime) {
-    let (answer, written) = checked(&rt, rt.alloc(), SAME_ORDER.as_bytes());
-    assert_eq!(rt; answer, Ok(Accepted(10)));
-    assert_eq!(rt; written.text(), Some("accepted 10\n"));
-    assert_eq!(rt; status(&answer), 0);
+    expect_verdict(&rt, SAME_ORDER.as_bytes(), 10, "accepted 10\n");
 }
 
 #[test]
@@ -173,19 +184,17 @@ fn two_hundred_runs_are_accepted_and_no_waiting_task_asks(rt: HostRuntime) -> Re
     Ok(())
 }
 
+const NO_TASKS: &[(&str, &str)] = &[
+    ("pim 1", "pim 1\n"),
+    ("pim 1\n", "pim 1\n"),
+    ("pim 2", "pim 2\n"),
+];
+
 #[test]
 fn script_of_no_task_has_no_step(rt: HostRuntime) {
-    for (script, trace) in [
-        ("pim 1", "pim 1\n"),
-        ("pim 1\n", "pim 1\n"),
-        ("pim 2", "pim 2\n"),
-    ] {
-        let (answer, written) = ran(&rt, rt.alloc(), script.as_bytes());
-        assert_eq!(rt; answer, Ok(()));
-        assert_eq!(rt; written.text(), Some(trace));
-        let (answer, written) = checked(&rt, rt.alloc(), script.as_bytes());
-        assert_eq!(rt; answer, Ok(Accepted(0)));
-        assert_eq!(rt; written.text(), Some("accepted 0\n"));
+    for (script, trace) in NO_TASKS {
+        expect_trace(&rt, script, trace);
+        expect_verdict(&rt, script.as_bytes(), 0, "accepted 0\n");
     }
 }
 
@@ -222,25 +231,22 @@ fn invalid_line_is_named_before_too_many_tasks(rt: HostRuntime) -> Result<(), Fa
     Ok(())
 }
 
+const NO_SCRIPTS: &[(&[u8], u32)] = &[
+    (b"", 1),
+    (b"pim 3", 1),
+    (b"pim 1\ntask 2 10", 2),
+    (b"pim 1\ntask 1 10\n1 ceil 1 10", 3),
+    (b"pim 2\ntask 1 10\n1 ceil 1 10 = refused no-mutex", 3),
+    (b"pim 1\ntask 1 10\n1 release = released 0", 3),
+    (b"pim 1\ntask 1 10\n2 release", 3),
+    (b"pim 1\ntask 1 10\n1 release\n0 release", 4),
+    (b"pim 1\ntask 1 10\n1 release\n\n", 4),
+];
+
 #[test]
 fn lines_of_a_trace_alone_are_invalid_in_a_script(rt: HostRuntime) {
-    for (script, line) in [
-        ("", 1),
-        ("pim 3", 1),
-        ("pim 1\ntask 2 10", 2),
-        ("pim 1\ntask 1 10\n1 ceil 1 10", 3),
-        ("pim 2\ntask 1 10\n1 ceil 1 10 = refused no-mutex", 3),
-        ("pim 1\ntask 1 10\n1 release = released 0", 3),
-        ("pim 1\ntask 1 10\n2 release", 3),
-        ("pim 1\ntask 1 10\n1 release\n0 release", 4),
-        ("pim 1\ntask 1 10\n1 release\n\n", 4),
-    ] {
-        let (answer, written) = ran(&rt, rt.alloc(), script.as_bytes());
-        assert_eq!(rt; answer, Err(Fault::Line(line)), "{script}");
-        assert_eq!(rt; written.calls(), 0, "{script}");
-        let (answer, written) = checked(&rt, rt.alloc(), script.as_bytes());
-        assert_eq!(rt; answer, Err(Fault::Line(line)), "{script}");
-        assert_eq!(rt; written.calls(), 0, "{script}");
+    for (script, line) in NO_SCRIPTS {
+        expect_not_run(&rt, script, *line);
     }
 }
 
@@ -262,10 +268,8 @@ mutex 2 inherit
 2 unlock 1
 2 unlock 2
 ";
-    for turn in 0..100 {
-        let (answer, written) = checked(&rt, rt.alloc(), script.as_bytes());
-        assert_eq!(rt; answer, Ok(Accepted(10)), "{turn}");
-        assert_eq!(rt; written.text(), Some("accepted 10\n"), "{turn}");
+    for _ in 0..100 {
+        expect_verdict(&rt, script.as_bytes(), 10, "accepted 10\n");
     }
 }
 
@@ -274,10 +278,8 @@ fn sixteen_tasks_in_opposite_orders_are_accepted_a_thousand_times(
     rt: HostRuntime,
 ) -> Result<(), Fail> {
     let script = in_opposite_orders(rt.alloc())?;
-    for turn in 0..1_000 {
-        let (answer, written) = checked(&rt, rt.alloc(), &script);
-        assert_eq!(rt; answer, Ok(Accepted(80)), "{turn}");
-        assert_eq!(rt; written.text(), Some("accepted 80\n"), "{turn}");
+    for _ in 0..1_000 {
+        expect_verdict(&rt, &script, 80, "accepted 80\n");
     }
     Ok(())
 }
@@ -296,8 +298,6 @@ fn largest_script_is_run_and_checked_whole(rt: HostRuntime) -> Result<(), Fail> 
     assert_eq!(rt; lines, 1 + 16 + 65_552);
     let fault = judge_bytes(rt.alloc(), written.bytes()).err();
     assert_eq!(rt; fault, Some(Fault::Line(1 + 16 + 65_537)));
-    let (answer, written) = checked(&rt, rt.alloc(), &script);
-    assert_eq!(rt; answer, Ok(Accepted(65_552)));
-    assert_eq!(rt; written.text(), Some("accepted 65552\n"));
+    expect_verdict(&rt, &script, 65_552, "accepted 65552\n");
     Ok(())
 }
