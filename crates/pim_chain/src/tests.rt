@@ -493,7 +493,7 @@ fn count_up(rt: &impl Abort, tables: &mut Tables, times: u16) {
 
 #[test]
 fn recursive_mutex_is_counted(rt: HostRuntime) -> Result<(), Fail> {
-    let mut tables = locked_again(&rt, rt.alloc)?;
+    let mut tables = locked_again(&rt, rt.alloc())?;
     assert_eq!(rt; tables.count(MutexNo(1)), Some(1));
     assert!(rt; !tables.is_kept(MutexNo(1)));
     count_up(&rt, &mut tables, 2);
@@ -507,7 +507,7 @@ fn recursive_mutex_is_counted(rt: HostRuntime) -> Result<(), Fail> {
 
 #[test]
 fn recursive_mutex_is_counted_up_to_255(rt: HostRuntime) -> Result<(), Fail> {
-    let mut tables = locked_again(&rt, rt.alloc)?;
+    let mut tables = locked_again(&rt, rt.alloc())?;
     count_up(&rt, &mut tables, 254);
     assert_eq!(rt; tables.count(MutexNo(1)), Some(255));
     assert!(rt; tables.is_locked_too_often(TaskNo(1), MutexNo(1)));
@@ -516,17 +516,17 @@ fn recursive_mutex_is_counted_up_to_255(rt: HostRuntime) -> Result<(), Fail> {
 
 #[test]
 fn other_mutexes_have_the_count_of_their_owner(rt: HostRuntime) -> Result<(), Fail> {
-    let tables = locked_again(&rt, rt.alloc)?;
-    assert_eq!(rt; tables.count(MutexNo(2)), Some(1));
-    assert_eq!(rt; tables.count(MutexNo(3)), None);
-    let free = tables(&rt, rt.alloc, &[10], &[Protocol::None])?;
+    let locked = locked_again(&rt, rt.alloc())?;
+    assert_eq!(rt; locked.count(MutexNo(2)), Some(1));
+    assert_eq!(rt; locked.count(MutexNo(3)), None);
+    let free = tables(&rt, rt.alloc(), &[10], &[Protocol::None])?;
     assert_eq!(rt; free.count(MutexNo(1)), Some(0));
     Ok(())
 }
 
 #[test]
 fn a_relock_leads_back_and_closes_no_cycle(rt: HostRuntime) -> Result<(), Fail> {
-    let tables = locked_again(&rt, rt.alloc)?;
+    let tables = locked_again(&rt, rt.alloc())?;
     assert!(rt; tables.is_recursive(MutexNo(1)) && !tables.is_recursive(MutexNo(2)));
     assert!(rt; tables.leads_back(TaskNo(1), MutexNo(1)));
     assert!(rt; !tables.closes_cycle(TaskNo(1), MutexNo(1)));
