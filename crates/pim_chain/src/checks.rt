@@ -2,11 +2,11 @@
 
 ghost use Rattle.std.specs.Prelude.{◌≡◌, ◌↔◌, IsTrue, ℕ, Some};
 ghost use Rattle.pim_base.specs.Lists.{holds};
-ghost use Rattle.pim_base.specs.State.{owner_of, wait_of};
+ghost use Rattle.pim_base.specs.State.{IsTask, IsMutex, owner_of, wait_of};
 ghost use Rattle.pim_base.specs.Checks.{unknown_task, unknown_mutex, is_waiting, is_owned, owned_by_another, above_ceiling};
 
 use crate::tables::Tables;
-use pim_base::{MutexNo, TaskNo};
+use pim_base::{MutexNo, Protocol, TaskNo};
 
 impl Tables {
     /// Returns whether no task has this number.
@@ -51,6 +51,14 @@ impl Tables {
         self.owner(mutex) == Some(task)
     }
 
+    /// Returns whether the task owns the known mutex.
+    pub fn known_owns(&self, task: TaskNo, mutex: MutexNo) -> bool
+        requires { IsMutex self.now.state mutex }
+        ensures { result ≡ holds (owner_of self.now.state mutex) task }
+    {
+        self.known_owner(mutex) == Some(task)
+    }
+
     /// Returns whether a task waits for the mutex with this ticket. Looks at each waiter.
     pub fn has_ticket(&self, mutex: MutexNo, ticket: u64) -> bool
         ensures { IsTrue result ↔ ((t : ℕ) × (wait_of self.now.state t ≡ Some (record { mutex = mutex; ticket = ticket }))) }
@@ -70,6 +78,18 @@ impl Tables {
         match (self.ceiling(mutex), self.base(task)) {
             (Some(ceiling), Some(base)) => ceiling < base,
             _ => false,
+        }
+    }
+
+    /// Returns whether the base of the known task is above the ceiling of the known mutex.
+    pub fn known_above_ceiling(&self, task: TaskNo, mutex: MutexNo) -> bool
+        requires known { IsTask self.now.state task }
+        requires mutex { IsMutex self.now.state mutex }
+        ensures { result ≡ above_ceiling self.now.state task mutex }
+    {
+        match self.known_protocol(mutex) {
+            Protocol::Protect(ceiling) => ceiling < self.known_base(task),
+            Protocol::None | Protocol::Inherit => false,
         }
     }
 }

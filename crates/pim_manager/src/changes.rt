@@ -2,12 +2,14 @@
 //! changed.
 
 ghost use Rattle.std.specs.Prelude.{◌≡◌, ◌≤◌, ◌<◌, ◌+◌, ◌-◌, ◌^◌, Some, None, false};
+ghost use Rattle.std.specs.Option.{option_map};
 ghost use Rattle.pim_base.specs.State.{IsTask, IsMutex, owner_of, wait_of, with_owner, with_wait, with_base, with_ceiling, queued};
 ghost use Rattle.pim_base.specs.Chains.{blocker, closes_cycle};
 ghost use Rattle.pim_base.specs.Checks.{not_protect};
 ghost use Rattle.pim_base.specs.Counts.{changed_task_count, handed_mutex_count};
 ghost use Rattle.pim_base.specs.Queues.{first_of};
 ghost use Rattle.pim_base.specs.Steps.{hand_over};
+ghost use Rattle.pim_base.specs.declared.steps.Waiter.{Waiter};
 ghost use Rattle.pim_base.specs.declared.limits.TheConstants.{LAST_TICKET, MAX_TASKS};
 ghost use Rattle.pim_manager.specs.Settled.{Worked};
 
@@ -95,18 +97,18 @@ impl Manager {
     }
 
     /// Takes the mutex from its owner, who doesn't wait, and hands it to the first waiter, if
-    /// there is one. Returns that waiter.
+    /// there is one. Returns that task.
     pub(crate) fn hand_over(
         &mut self,
         mutex: MutexNo,
         owner: TaskNo,
         visits: &mut Visits,
-    ) -> Option<Waiter>
+    ) -> Option<TaskNo>
         requires mutex { IsMutex self.old mutex }
         requires owned { owner_of self.old mutex ≡ Some owner }
         requires idle { wait_of self.old owner ≡ None }
         requires room { visits.old.count ≤ 2 ^ 32 - 2 - MAX_TASKS }
-        ensures first { result ≡ first_of self.old mutex }
+        ensures first { result ≡ option_map (λ (w : Waiter). w.task) (first_of self.old mutex) }
         ensures state { self.new ≡ hand_over self.old mutex }
         ensures work { Worked self.old visits.old self.new visits.new }
         ensures most { visits.new.count ≤ visits.old.count + 2 }
@@ -117,14 +119,16 @@ impl Manager {
         if let Some(waiter) = &first {
             self.tables.leave(waiter.task);
             self.tables.gain(mutex, waiter.task, visits);
+            return Some(waiter.task);
         }
-        first
+        None
     }
+
     /// Returns the first waiter for the mutex.
     fn first_of(&self, mutex: MutexNo) -> Option<Waiter>
         requires { IsMutex self.now mutex }
         ensures { result ≡ first_of self.now mutex }
     {
-        self.tables.first_waiter(mutex)
+        self.tables.known_first(mutex)
     }
 }

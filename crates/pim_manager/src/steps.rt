@@ -24,7 +24,7 @@ impl Manager {
         if self.tables.is_unknown_task(actor) {
             return Reply::Refused(Refusal::NoTask);
         }
-        if self.tables.is_waiting(actor) && !op.withdraws(actor) {
+        if self.tables.known_wait(actor).is_some() && !op.withdraws(actor) {
             return Reply::Refused(Refusal::Waiting);
         }
         match op {
@@ -41,6 +41,7 @@ impl Manager {
     /// Answers a lock by a known task that does not wait: the mutex is granted if it is free,
     /// else the actor queues for it. The deadlock test makes at most as many hops as there are
     /// tasks.
+    #[inline(always)]
     fn answer_lock(&mut self, actor: TaskNo, mutex: MutexNo, visits: &mut Visits) -> Reply
         requires known { IsTask self.old actor }
         requires idle { wait_of self.old actor ≡ None }
@@ -56,10 +57,10 @@ impl Manager {
         if self.tables.closes_cycle(actor, mutex) {
             return Reply::Refused(Refusal::Deadlock);
         }
-        if self.tables.is_above_ceiling(actor, mutex) {
+        if self.tables.known_above_ceiling(actor, mutex) {
             return Reply::Refused(Refusal::Ceiling);
         }
-        let Some(owner) = self.tables.owner(mutex) else {
+        let Some(owner) = self.tables.known_owner(mutex) else {
             self.grant(mutex, actor, visits);
             return Reply::Granted;
         };
@@ -71,6 +72,7 @@ impl Manager {
     }
 
     /// Answers a try by a known task that does not wait: the mutex is granted if it is free.
+    #[inline(always)]
     fn answer_try(&mut self, actor: TaskNo, mutex: MutexNo, visits: &mut Visits) -> Reply
         requires known { IsTask self.old actor }
         requires idle { wait_of self.old actor ≡ None }
@@ -83,10 +85,10 @@ impl Manager {
         if self.tables.is_unknown_mutex(mutex) {
             return Reply::Refused(Refusal::NoMutex);
         }
-        if self.tables.is_above_ceiling(actor, mutex) {
+        if self.tables.known_above_ceiling(actor, mutex) {
             return Reply::Refused(Refusal::Ceiling);
         }
-        if self.tables.is_owned(mutex) {
+        if self.tables.known_owner(mutex).is_some() {
             return Reply::Refused(Refusal::Busy);
         }
         self.grant(mutex, actor, visits);
@@ -95,6 +97,7 @@ impl Manager {
 
     /// Answers an unlock by a task that does not wait: the mutex goes to the first waiter, or is
     /// free.
+    #[inline(always)]
     fn answer_unlock(&mut self, actor: TaskNo, mutex: MutexNo, visits: &mut Visits) -> Reply
         requires idle { wait_of self.old actor ≡ None }
         requires fresh { visits.old.count ≡ 0 }
@@ -106,11 +109,11 @@ impl Manager {
         if self.tables.is_unknown_mutex(mutex) {
             return Reply::Refused(Refusal::NoMutex);
         }
-        if !self.tables.owns(actor, mutex) {
+        if !self.tables.known_owns(actor, mutex) {
             return Reply::Refused(Refusal::NotOwner);
         }
         match self.hand_over(mutex, actor, visits) {
-            Some(waiter) => Reply::Handed(waiter.task),
+            Some(task) => Reply::Handed(task),
             None => Reply::Freed,
         }
     }
