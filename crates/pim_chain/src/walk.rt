@@ -1,10 +1,10 @@
 //! The walk that restores the stored priorities, and stops early.
 
-ghost use Rattle.std.specs.Prelude.{◌≡◌, ◌≢◌, ◌≤◌, ◌<◌, ◌+◌, ◌-◌, ◌^◌, None, Some, length, unwrap_or, ℕ};
-ghost use Rattle.std.specs.Option.{option_and_then, option_map_or};
+ghost use Rattle.std.specs.Prelude.{◌≡◌, ◌≢◌, ◌≤◌, ◌<◌, ◌+◌, ◌-◌, ◌^◌, None, Some, false, length, unwrap_or, ℕ};
+ghost use Rattle.std.specs.Option.{option_and_then, option_map, option_map_or};
 ghost use Rattle.pim_base.specs.declared.limits.TheConstants.{MAX_TASKS};
-ghost use Rattle.pim_base.specs.State.{IsTask, IsMutex, owner_of, wait_of, with_owner};
-ghost use Rattle.pim_base.specs.Chains.{heir};
+ghost use Rattle.pim_base.specs.State.{IsTask, IsMutex, owner_of, wait_of, with_owner, with_wait};
+ghost use Rattle.pim_base.specs.Chains.{heir, closes_cycle};
 ghost use Rattle.pim_base.specs.Priorities.{local_priority, effective_priority};
 ghost use Rattle.pim_base.specs.Queues.{queue_of};
 ghost use Rattle.pim_base.specs.declared.steps.Wait.{Wait};
@@ -239,6 +239,72 @@ impl Tables {
         let lent = self.lent_level(mutex);
         self.unbind(mutex);
         if lent < self.known_stored(owner).get() {
+            visits.add();
+        } else {
+            self.settle_from(owner, visits);
+        }
+    }
+
+    /// Lets the task wait as `join` does, for the mutex that has this owner, and restores all stored priorities. They must
+    /// be settled before.
+    ///
+    /// Where the mutex then lends no more than its owner has, one look at it shows that nothing else changes, and counts as
+    /// a visit; else a walk begins with the owner.
+    #[inline(always)]
+    pub fn enter(
+        &mut self,
+        task: TaskNo,
+        mutex: MutexNo,
+        owner: TaskNo,
+        ticket: u64,
+        visits: &mut Visits,
+    )
+        requires settled { SettledBut self.old.state (stored_at self.old) None }
+        requires known { IsTask self.old.state task }
+        requires mutex { IsMutex self.old.state mutex }
+        requires owned { owner_of self.old.state mutex ≡ Some owner }
+        requires idle { wait_of self.old.state task ≡ None }
+        requires closes_none { closes_cycle self.old.state task mutex ≡ false }
+        requires fresh { (u : ℕ) → wait_of self.old.state u ≢ Some (record { mutex = mutex; ticket = ticket }) }
+        requires room { visits.old.count ≤ 2 ^ 32 - 1 - MAX_TASKS }
+        ensures state { self.new.state ≡ with_wait self.old.state task (Some (record { mutex = mutex; ticket = ticket })) }
+        ensures settled { SettledBut self.new.state (stored_at self.new) None }
+        ensures ready { Ready self.new }
+        ensures work { Tells (length self.old.state.base) (stored_at self.old) visits.old (stored_at self.new) visits.new }
+        ensures at_most { visits.new.count ≤ visits.old.count + changed self.old self.new + 1 }
+    {
+        // Its contract tells the proof what always holds of the tables.
+        let _tasks = self.tasks();
+        self.join(task, mutex, ticket);
+        if self.lent_level(mutex) <= self.known_stored(owner).get() {
+            visits.add();
+        } else {
+            self.settle_from(owner, visits);
+        }
+    }
+
+    /// Lets the task, which waits for this mutex, stop waiting, and restores all stored priorities. They must be settled
+    /// before.
+    ///
+    /// Where the mutex then lends its owner what it did, that counts as a visit, and nothing else changes; else a walk
+    /// begins with the owner.
+    #[inline(always)]
+    pub fn exit(&mut self, task: TaskNo, mutex: MutexNo, owner: TaskNo, visits: &mut Visits)
+        requires settled { SettledBut self.old.state (stored_at self.old) None }
+        requires owned { owner_of self.old.state mutex ≡ Some owner }
+        requires waits { option_map (λ (w : Wait). w.mutex) (wait_of self.old.state task) ≡ Some mutex }
+        requires room { visits.old.count ≤ 2 ^ 32 - 1 - MAX_TASKS }
+        ensures state { self.new.state ≡ with_wait self.old.state task None }
+        ensures settled { SettledBut self.new.state (stored_at self.new) None }
+        ensures ready { Ready self.new }
+        ensures work { Tells (length self.old.state.base) (stored_at self.old) visits.old (stored_at self.new) visits.new }
+        ensures at_most { visits.new.count ≤ visits.old.count + changed self.old self.new + 1 }
+    {
+        // Its contract tells the proof what always holds of the tables.
+        let _tasks = self.tasks();
+        let before = self.lent_level(mutex);
+        self.leave(task);
+        if self.lent_level(mutex) == before {
             visits.add();
         } else {
             self.settle_from(owner, visits);

@@ -34,6 +34,7 @@ impl Manager {
 
     /// Lets the task, which doesn't wait, wait with the next ticket for the mutex, which has this
     /// owner. That closes no cycle.
+    #[inline(always)]
     pub(crate) fn enqueue(
         &mut self,
         task: TaskNo,
@@ -54,11 +55,11 @@ impl Manager {
     {
         let ticket = self.tables.next_ticket();
         self.tables.put_next_ticket(ticket + 1);
-        self.tables.join(task, mutex, ticket);
-        self.tables.settle_from(owner, visits);
+        self.tables.enter(task, mutex, owner, ticket, visits);
     }
 
     /// Ends the wait of the task, which waits for this owner.
+    #[inline(always)]
     pub(crate) fn withdraw(&mut self, task: TaskNo, owner: TaskNo, visits: &mut Visits)
         requires blocked { blocker self.old task ≡ Some owner }
         requires room { visits.old.count ≤ 2 ^ 32 - 1 - MAX_TASKS }
@@ -66,8 +67,9 @@ impl Manager {
         ensures work { Worked self.old visits.old self.new visits.new }
         ensures most { visits.new.count ≤ visits.old.count + 1 + changed_task_count self.old self.new }
     {
-        self.tables.leave(task);
-        self.tables.settle_from(owner, visits);
+        if let Some(wait) = self.tables.waits_for(task) {
+            self.tables.exit(task, wait.mutex, owner, visits);
+        }
     }
 
     /// Gives the task this base.
@@ -98,6 +100,7 @@ impl Manager {
 
     /// Takes the mutex from its owner, who doesn't wait, and hands it to the first waiter, if
     /// there is one. Returns that task.
+    #[inline(always)]
     pub(crate) fn hand_over(
         &mut self,
         mutex: MutexNo,

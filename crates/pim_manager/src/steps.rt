@@ -138,6 +138,7 @@ impl Manager {
     }
 
     /// Answers the cancel of a wait: the task leaves the queue that it waits in.
+    #[inline(always)]
     fn answer_cancel(&mut self, actor: TaskNo, task: TaskNo, visits: &mut Visits) -> Reply
         requires { visits.old.count ≡ 0 }
         ensures reply { result ≡ answer self.old actor (Op.Cancel task) }
@@ -157,6 +158,7 @@ impl Manager {
     }
 
     /// Answers the change of a base priority.
+    #[inline(always)]
     fn answer_set_base(
         &mut self,
         actor: TaskNo,
@@ -183,6 +185,7 @@ impl Manager {
     }
 
     /// Answers the change of a ceiling, which the owner may ask for, too.
+    #[inline(always)]
     fn answer_set_ceiling(
         &mut self,
         actor: TaskNo,
