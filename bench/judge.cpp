@@ -360,7 +360,8 @@ public:
         touched.reserve(MOST_TASKS);
     }
 
-    Reply step(const Step& step) {
+    // Inlined: where the caller knows the kind of step, no other is left of it.
+    [[gnu::always_inline]] Reply step(const Step& step) {
         if (!has_task(step.actor)) return {Answer::NoTask};
         const bool withdraws = step.op == Op::Cancel && step.first == step.actor;
         if (tasks[step.actor].waits_for && !withdraws) return {Answer::Waiting};

@@ -15,8 +15,9 @@
 //                                  with its list
 //
 // Both make the same checks in the same order, note the tasks whose priority a step changes, and
-// list them into the same kind of array, in ascending order, with priorities and reasons. libpim
-// is called as C calls it; the plain manager is compiled into the loop.
+// list them into the same kind of array, in ascending order, with priorities and reasons. Both are
+// libraries, which are called alike: libpim by the C functions of pim.h, and the plain manager by
+// those of plain.h, compiled by itself. What isn't the same: libpim counts its visits.
 #define main judge_main
 #include "../../bench/judge.cpp"
 #undef main
@@ -24,15 +25,38 @@
 #include <cstdlib>
 #include <ctime>
 
-#include "../pim.h"
+#include "plain.h"
 
 namespace {
 
 using Changes = std::array<pim_changed_task, PIM_MAX_TASKS>;
 
-class Libpim {
+// The functions of a library.
+struct Functions {
+    decltype(&pim_make) make;
+    decltype(&pim_drop) drop;
+    decltype(&pim_lock) lock, try_lock, unlock;
+    decltype(&pim_release_all) release_all;
+    decltype(&pim_cancel) cancel;
+    decltype(&pim_set_base) set_base;
+    decltype(&pim_set_ceiling) set_ceiling;
+    decltype(&pim_changed) changed;
+};
+
+constexpr Functions LIBPIM = {
+    pim_make,   pim_drop,     pim_lock,        pim_try,    pim_unlock, pim_release_all,
+    pim_cancel, pim_set_base, pim_set_ceiling, pim_changed,
+};
+constexpr Functions PLAIN = {
+    plain_make,   plain_drop,     plain_lock,        plain_try,    plain_unlock, plain_release_all,
+    plain_cancel, plain_set_base, plain_set_ceiling, plain_changed,
+};
+
+// A manager of one of the two.
+template <const Functions& CALLS>
+class Managed {
 public:
-    explicit Libpim(const Text& text) {
+    explicit Managed(const Text& text) {
         std::vector<uint16_t> bases(text.bases.begin(), text.bases.end());
         std::vector<pim_protocol> protocols;
         for (const Declared& d : text.mutexes)
@@ -40,67 +64,39 @@ public:
         bases.reserve(1);
         protocols.reserve(1);
         const size_t tasks = bases.size(), mutexes = protocols.size();
-        if (pim_make(&h, bases.data(), tasks, protocols.data(), mutexes) != PIM_MADE) std::exit(2);
+        if (CALLS.make(&h, bases.data(), tasks, protocols.data(), mutexes) != PIM_MADE)
+            std::exit(2);
     }
-    Libpim(const Libpim&) = delete;
-    ~Libpim() { pim_drop(&h); }
+    Managed(const Managed&) = delete;
+    ~Managed() { CALLS.drop(&h); }
 
     pim_answer step(const Step& step) {
         switch (step.op) {
-            case Op::Lock: return pim_lock(&h, step.actor, step.first);
-            case Op::Try: return pim_try(&h, step.actor, step.first);
-            case Op::Unlock: return pim_unlock(&h, step.actor, step.first);
-            case Op::Release: return pim_release_all(&h, step.actor);
-            case Op::Cancel: return pim_cancel(&h, step.actor, step.first);
-            case Op::Base: return pim_set_base(&h, step.actor, step.first, step.second);
-            case Op::Ceil: return pim_set_ceiling(&h, step.actor, step.first, step.second);
+            case Op::Lock: return CALLS.lock(&h, step.actor, step.first);
+            case Op::Try: return CALLS.try_lock(&h, step.actor, step.first);
+            case Op::Unlock: return CALLS.unlock(&h, step.actor, step.first);
+            case Op::Release: return CALLS.release_all(&h, step.actor);
+            case Op::Cancel: return CALLS.cancel(&h, step.actor, step.first);
+            case Op::Base: return CALLS.set_base(&h, step.actor, step.first, step.second);
+            case Op::Ceil: return CALLS.set_ceiling(&h, step.actor, step.first, step.second);
         }
         std::exit(2);
     }
 
-    size_t list(Changes& to) { return pim_changed(&h, to.data(), to.size()); }
+    size_t list(Changes& to) { return CALLS.changed(&h, to.data(), to.size()); }
 
 private:
     pim_handle h = PIM_HANDLE_INIT;
 };
 
-class Plain : public Manager {
-public:
-    using Manager::Manager;
+using Libpim = Managed<LIBPIM>;
+using Plain = Managed<PLAIN>;
 
-    // Forgets what the step before changed, as libpim does.
-    Reply step(const Step& step) {
-        for (uint16_t t : touched) tasks[t].is_touched = false;
-        touched.clear();
-        return Manager::step(step);
-    }
-
-    size_t list(Changes& to) {
-        size_t count = 0;
-        sort_touched();
-        for (uint16_t t : touched) {
-            const Task& task = tasks[t];
-            if (task.stored == task.stored_before) continue;
-            to[count++] = {t, task.stored, reason(cause(task))};
-        }
-        return count;
-    }
-
-private:
-    static pim_reason reason(Cause from) {
-        if (!from.mutex) return {PIM_OF_BASE, 0, 0};
-        return {uint16_t(from.waiter ? PIM_OF_WAITER : PIM_OF_CEILING), from.waiter, from.mutex};
-    }
-};
-
-Reply reply_of(const pim_answer& answer) {
-    constexpr Answer KINDS[] = {Answer::NoTask, Answer::Granted,  Answer::Queued,    Answer::Freed,
-                                Answer::Handed, Answer::Released, Answer::Withdrawn, Answer::Set};
-    if (answer.kind != PIM_REFUSED) return {KINDS[answer.kind], answer.number};
-    return {Answer(unsigned(Answer::NoTask) + answer.refusal - 1u), answer.number};
+bool is_same(const pim_answer& one, const pim_answer& other) {
+    return one.kind == other.kind && one.refusal == other.refusal && one.number == other.number;
 }
 
-bool is_same(const pim_changed_task& one, const pim_changed_task& other) {
+bool is_same_task(const pim_changed_task& one, const pim_changed_task& other) {
     const pim_reason &why = one.reason, &its = other.reason;
     return one.task == other.task && one.prio == other.prio && why.kind == its.kind &&
            why.task == its.task && why.mutex == its.mutex;
@@ -112,11 +108,11 @@ int check(const Text& text) {
     Libpim pim(text);
     Plain plain(text);
     for (const Step& step : text.steps) {
-        bool is_equal = reply_of(pim.step(step)) == plain.step(step);
+        bool is_equal = is_same(pim.step(step), plain.step(step));
         const size_t count = pim.list(ours);
         is_equal &= count == plain.list(theirs);
-        if (is_equal && std::equal(ours.begin(), ours.begin() + count, theirs.begin(), is_same))
-            continue;
+        const auto end = ours.begin() + count;
+        if (is_equal && std::equal(ours.begin(), end, theirs.begin(), is_same_task)) continue;
         std::printf("they differ in step %zu\n", size_t(&step - &text.steps[0]) + 1);
         return 1;
     }

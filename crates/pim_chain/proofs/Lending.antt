@@ -1,19 +1,25 @@
 -- One mutex more or less, which lends its owner no more than others give it.
-use Rattle.std.proofs.Common.{◌≡◌, ◌≢◌, ℕ, ◌<◌, ◌≤◌, max, true, is_some, cond, ◌⊎◌, inl, inr, refl, sym, ◌∙◌, ap, subst, arith, le_antisymm, le_trans, Option, Some, None, length}
+use Rattle.std.proofs.Common.{◌≡◌, ◌≢◌, ℕ, ◌<◌, ◌≤◌, max, Bool, true, false, is_some, cond, if◌then◌else◌, ◌⊎◌, inl, inr, refl, sym, ◌∙◌, ap, subst, arith, le_antisymm, le_trans, Option, Some, None, List, [], ◌∷◌, length}
 use Rattle.std.proofs.lemmas.Bool.{cases_eq}
 use Rattle.std.proofs.lemmas.Option.{none-some}
 use Rattle.std.proofs.Math.Nat.{le-max_left, le-max_right, max-le}
-use Rattle.pim_base.specs.Lists.{holds}
-use Rattle.pim_base.specs.State.{IsTask, base_of, owner_of, protocol_of, with_owner}
-use Rattle.pim_base.specs.Chains.{heir_in}
+use Rattle.pim_base.specs.Lists.{holds, insert_by}
+use Rattle.pim_base.specs.State.{IsTask, IsMutex, base_of, owner_of, protocol_of, with_owner, with_wait}
+use Rattle.pim_base.specs.Queues.{precedes}
+use Rattle.pim_base.specs.declared.steps.Wait.{Wait}
+use Rattle.pim_base.specs.declared.steps.Waiter.{Waiter}
+use Rattle.pim_queue.specs.QueueView.{QueueView}
+use Rattle.pim_queue.proofs.Order.{before_prio}
+use Rattle.pim_base.specs.Chains.{heir_in, heir_of}
 use Rattle.pim_base.specs.Priorities.{local_priority, ceiling_of}
 use Rattle.pim_base.proofs.Greatest.{greatest_of, greatest_of-le, le-greatest_of}
-use Rattle.pim_base.proofs.Stored.{from_holds}
+use Rattle.pim_base.proofs.Stored.{from_holds, holds_from}
 use Rattle.pim_base.proofs.NoCycle.{unwrap_or-put_same}
-use Rattle.pim_chain.specs.Views.{View, Ready, stored_at, queue_at, first_prio, with_state}
+use Rattle.pim_chain.specs.Views.{View, Ready, stored_at, queue_at, queue_in, put_queue, first_prio, with_state}
 use Rattle.pim_chain.specs.Owned.{worth}
 use Rattle.pim_chain.specs.Settled.{SettledBut}
-use Rattle.pim_chain.proofs.Changes.{owner_other}
+use Rattle.pim_chain.proofs.Changes.{owner_other, view_other, view_same}
+use Rattle.pim_chain.proofs.Known.{owned_mutex}
 use Rattle.pim_chain.proofs.Lent.{local_by_owned}
 use Rattle.pim_chain.proofs.Visit.{visited_same}
 
@@ -126,3 +132,114 @@ lost_settled v w t m ready after is owned before but low =
         local_under v w t m _ ready after same (λ _. le-max_right _ _) (le-max_left _ _) in
         let less : worth v m < local_priority v.state (stored_at v) t = subst (λ n. worth v m < n) (had ∙ right) low in
         omega (arith, under, less)
+
+-- what an owned mutex lends is no more than its owner has locally
+worth_under : (v : View) (t m : ℕ) → Ready v → owner_of v.state m ≡ Some t → worth v m ≤ local_priority v.state (stored_at v) t
+worth_under v t m ready mine =
+    let known = owned_mutex v.state m t ready.sound.lists mine in
+    le_trans (le-greatest_of (worth v) (λ k. holds (owner_of v.state k) t) (length v.state.protocol) m known.0 known.1 (holds_from (owner_of v.state m) t mine))
+    (subst (λ n. greatest_of (worth v) (λ k. holds (owner_of v.state k) t) (length v.state.protocol) ≤ n) (local_by_owned v t ready) (le-max_right _ _))
+
+-- where only what one mutex lends its owner may be another, no less than it was and no more than the owner has
+lent_settled :
+    (v w : View) (t m : ℕ)
+    → Ready v
+    → Ready w
+    → Alike v w t m
+    → owner_of v.state m ≡ Some t
+    → owner_of w.state m ≡ Some t
+    → stored_at w t ≡ stored_at v t
+    → SettledBut v.state (stored_at v) None
+    → SettledBut w.state (stored_at w) (Some t)
+    → worth v m ≤ worth w m
+    → worth w m ≤ stored_at v t
+    → SettledBut w.state (stored_at w) None
+lent_settled v w t m ready after same was is had before but low high =
+    (visited_same w t but (had ∙ right ∙ le_antisymm
+    (local_under v w t m _ ready after same (λ _. le_trans low (worth_under w t m after is)) (omega arith))
+    (local_under w v t m _ after ready (back same) (λ _. subst (λ n. worth w m ≤ n) right high) (omega arith)))).settled
+  where
+    right : stored_at v t ≡ local_priority v.state (stored_at v) t
+    right = before t (ready.waits.owners m t was) (λ e. none-some t e)
+
+-- another wait of a task, and another queue of this mutex
+abbrev requeued : View → ℕ → Option Wait → ℕ → List Waiter → View
+requeued v x o m ws = record v { state = with_wait v.state x o; queues = put_queue v.queues m ws }
+
+alike_requeued : (v : View) (t x m : ℕ) (o : Option Wait) (ws : List Waiter) → Alike v (requeued v x o m ws) t m
+alike_requeued v t x m o ws = record {
+  base = refl;
+  mutexes = refl;
+  owner = λ k ne. refl;
+  worth = λ k ne.
+      ap (λ (q : QueueView). max (ceiling_of v.state k) (cond (is_some (heir_in (protocol_of v.state k) (owner_of v.state k))) (first_prio q.waiters) 0))
+      (sym (view_other v.queues m k ws ne));
+}
+
+first_prio-insert_by : (x : Waiter) (ws : List Waiter) → first_prio ws ≤ first_prio (insert_by precedes ws x)
+first_prio-insert_by x [] = omega arith
+first_prio-insert_by x (y ∷ ys) = go (precedes x y) refl
+  where
+    go : (b : Bool) → precedes x y ≡ b → y.prio ≤ first_prio (if b then x ∷ y ∷ ys else y ∷ insert_by precedes ys x)
+    go true before = before_prio x y before
+    go false behind = omega arith
+
+-- one waiter more doesn't lower what a mutex lends
+worth_joined :
+    (v : View) (x m : ℕ) (o : Option Wait) (u : Waiter)
+    → Ready v
+    → IsMutex v.state m
+    → worth v m ≤ worth (requeued v x o m (insert_by precedes (queue_at v m) u)) m
+worth_joined v x m o u ready known = go (is_some (heir_of v.state m))
+  where
+    ws : List Waiter
+    ws = insert_by precedes (queue_at v m) u
+
+    now : first_prio (queue_in (put_queue v.queues m ws) m) ≡ first_prio ws
+    now = ap (λ (q : QueueView). first_prio q.waiters) (view_same v.queues m ws known.0 (subst (λ n. m ≤ n) (sym ready.queues_len) known.1))
+
+    go :
+        (b : Bool)
+        → max (ceiling_of v.state m) (cond b (first_prio (queue_at v m)) 0)
+        ≤ max (ceiling_of v.state m) (cond b (first_prio (queue_in (put_queue v.queues m ws) m)) 0)
+    go true = let more = first_prio-insert_by u (queue_at v m) in omega (arith, more, now)
+    go false = omega arith
+
+-- a waiter more that raises the owner to no more than it has
+pub joined_settled :
+    (v w : View) (x t m : ℕ) (o : Option Wait) (u : Waiter)
+    → Ready v
+    → Ready w
+    → w ≡ requeued v x o m (insert_by precedes (queue_at v m) u)
+    → IsMutex v.state m
+    → owner_of v.state m ≡ Some t
+    → SettledBut v.state (stored_at v) None
+    → SettledBut w.state (stored_at w) (Some t)
+    → worth w m ≤ stored_at w t
+    → SettledBut w.state (stored_at w) None
+joined_settled v w x t m o u ready after is known owned before but low =
+    lent_settled v w t m ready after (subst (λ z. Alike v z t m) (sym is) (alike_requeued v t x m o _)) owned
+    (ap (λ (z : View). owner_of z.state m) is ∙ owned) had before but
+    (subst (λ (z : View). worth v m ≤ worth z m) (sym is) (worth_joined v x m o u ready known))
+    (subst (λ n. worth w m ≤ n) had low)
+  where
+    had : stored_at w t ≡ stored_at v t
+    had = ap (λ (z : View). stored_at z t) is
+
+-- a waiter less, where the mutex lends what it did
+pub left_settled :
+    (v w : View) (x t m : ℕ) (o : Option Wait) (ws : List Waiter)
+    → Ready v
+    → Ready w
+    → w ≡ requeued v x o m ws
+    → owner_of v.state m ≡ Some t
+    → SettledBut v.state (stored_at v) None
+    → SettledBut w.state (stored_at w) (Some t)
+    → worth w m ≡ worth v m
+    → SettledBut w.state (stored_at w) None
+left_settled v w x t m o ws ready after is owned before but same =
+    lent_settled v w t m ready after (subst (λ z. Alike v z t m) (sym is) (alike_requeued v t x m o ws)) owned
+    (ap (λ (z : View). owner_of z.state m) is ∙ owned) (ap (λ (z : View). stored_at z t) is) before but
+    (omega (arith, same))
+    (subst (λ n. n ≤ stored_at v t) (sym same)
+    (subst (λ n. worth v m ≤ n) (sym (before t (ready.waits.owners m t owned) (λ e. none-some t e))) (worth_under v t m ready owned)))

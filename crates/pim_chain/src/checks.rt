@@ -2,12 +2,12 @@
 
 ghost use Rattle.std.specs.Prelude.{◌≡◌, ◌↔◌, IsTrue, ℕ, Some};
 ghost use Rattle.pim_base.specs.Lists.{holds};
-ghost use Rattle.pim_base.specs.State.{owner_of, wait_of, protocol_of, is_recursive, relocks};
+ghost use Rattle.pim_base.specs.State.{IsTask, IsMutex, owner_of, wait_of, protocol_of, is_recursive, relocks};
 ghost use Rattle.pim_base.specs.Checks.{unknown_task, unknown_mutex, is_waiting, is_owned, owned_by_another, locked_too_often, above_ceiling};
 ghost use Rattle.pim_base.specs.Steps.{is_kept};
 
 use crate::tables::Tables;
-use pim_base::{MAX_COUNT, MutexNo, TaskNo};
+use pim_base::{MAX_COUNT, MutexNo, Protocol, TaskNo};
 
 impl Tables {
     /// Returns whether no task has this number.
@@ -52,6 +52,14 @@ impl Tables {
         self.owner(mutex) == Some(task)
     }
 
+    /// Returns whether the task owns the known mutex.
+    pub fn known_owns(&self, task: TaskNo, mutex: MutexNo) -> bool
+        requires { IsMutex self.now.state mutex }
+        ensures { result ≡ holds (owner_of self.now.state mutex) task }
+    {
+        self.known_owner(mutex) == Some(task)
+    }
+
     /// Returns whether the owner of the mutex may lock it again.
     pub fn is_recursive(&self, mutex: MutexNo) -> bool
         ensures { result ≡ is_recursive (protocol_of self.now.state mutex) }
@@ -67,6 +75,14 @@ impl Tables {
         self.is_recursive(mutex) && self.owns(task, mutex)
     }
 
+    /// Returns whether the task owns the known mutex and may lock it again.
+    pub fn known_relocks(&self, task: TaskNo, mutex: MutexNo) -> bool
+        requires { IsMutex self.now.state mutex }
+        ensures { result ≡ relocks self.now.state task mutex }
+    {
+        self.known_protocol(mutex).is_recursive() && self.known_owns(task, mutex)
+    }
+
     /// Returns whether the task would lock the mutex once more than can be counted.
     pub fn is_locked_too_often(&self, task: TaskNo, mutex: MutexNo) -> bool
         ensures { result ≡ locked_too_often self.now.state task mutex }
@@ -74,11 +90,12 @@ impl Tables {
         self.relocks(task, mutex) && self.count_of(mutex) == MAX_COUNT
     }
 
-    /// Returns whether its owner keeps the mutex when it unlocks it once.
-    pub fn is_kept(&self, mutex: MutexNo) -> bool
+    /// Returns whether its owner keeps the known mutex when it unlocks it once.
+    pub fn known_kept(&self, mutex: MutexNo) -> bool
+        requires { IsMutex self.now.state mutex }
         ensures { result ≡ is_kept self.now.state mutex }
     {
-        self.is_recursive(mutex) && 1 < self.count_of(mutex)
+        self.known_protocol(mutex).is_recursive() && 1 < self.count_of(mutex)
     }
 
     /// Returns whether a task waits for the mutex with this ticket. Looks at each waiter.
@@ -100,6 +117,18 @@ impl Tables {
         match (self.ceiling(mutex), self.base(task)) {
             (Some(ceiling), Some(base)) => ceiling < base,
             _ => false,
+        }
+    }
+
+    /// Returns whether the base of the known task is above the ceiling of the known mutex.
+    pub fn known_above_ceiling(&self, task: TaskNo, mutex: MutexNo) -> bool
+        requires known { IsTask self.now.state task }
+        requires mutex { IsMutex self.now.state mutex }
+        ensures { result ≡ above_ceiling self.now.state task mutex }
+    {
+        match self.known_protocol(mutex) {
+            Protocol::Protect(ceiling) => ceiling < self.known_base(task),
+            Protocol::None | Protocol::Inherit | Protocol::InheritRecursive => false,
         }
     }
 }

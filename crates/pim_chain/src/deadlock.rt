@@ -12,7 +12,9 @@ impl Tables {
     pub fn blocker(&self, task: TaskNo) -> Option<TaskNo>
         ensures { result ≡ blocker self.now.state task }
     {
-        self.owner(self.waits_for(task)?.mutex)
+        // Its contract tells the proof what always holds of the tables.
+        let _tasks = self.tasks();
+        self.known_owner(self.waits_for(task)?.mutex)
     }
 
     /// Returns whether the task is `from`, or is reached from it by hops to the owner of the mutex that a task waits for.

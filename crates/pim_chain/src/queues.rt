@@ -75,6 +75,15 @@ impl Queues {
         self.queues.get(place)?.front()
     }
 
+    /// Returns the first waiter for a known mutex, if a task waits.
+    pub fn known_first(&self, mutex: MutexNo) -> Option<Waiter>
+        requires least { 1 ≤ mutex }
+        requires most { mutex ≤ length self.now }
+        ensures { result ≡ first_item (queue_in self.now mutex) }
+    {
+        self.queues[mutex.get() as usize - 1].front()
+    }
+
     /// Puts the waiter in the queue of the mutex.
     pub fn insert(&mut self, mutex: MutexNo, waiter: Waiter)
         requires least { 1 ≤ mutex }

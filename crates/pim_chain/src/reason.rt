@@ -1,7 +1,7 @@
 //! Why a task has its priority.
 
 ghost use Rattle.std.specs.Prelude.{◌≡◌, None};
-ghost use Rattle.pim_base.specs.State.{IsTask, owned, protocol_of};
+ghost use Rattle.pim_base.specs.State.{IsTask, IsMutex, owned, protocol_of};
 ghost use Rattle.pim_base.specs.Priorities.{ceiling_of};
 ghost use Rattle.pim_base.specs.Reasons.{is_inherit, reason_of};
 ghost use Rattle.pim_chain.specs.Views.{stored_at};
@@ -17,6 +17,7 @@ impl Tables {
     /// The reason is the base, where that is the priority; else the least owned PROTECT mutex with this ceiling; else the
     /// least owned INHERIT mutex with a waiter of this priority, and its first waiter. Looks once at each mutex that the
     /// task owns.
+    #[inline(always)]
     pub fn reason(&self, task: TaskNo) -> Reason
         requires settled { SettledBut self.now.state (stored_at self.now) None }
         requires known { IsTask self.now.state task }
@@ -33,10 +34,13 @@ impl Tables {
 
     // the least mutex of the task with this ceiling, else the first waiter for the least INHERIT one that lends this
     // priority, as a reason; one look at each mutex finds both
+    #[inline(always)]
     fn owned_reason(&self, task: TaskNo, level: u16) -> Reason
         requires { IsTask self.now.state task }
         ensures { result ≡ owned_reason self.now level None (owned self.now.state task) }
     {
+        // Its contract tells the proof what always holds of the tables.
+        let _tasks = self.tasks();
         let mut lender = None;
         for mutex in self.owned(task) {
             if self.ceiling_level(mutex) == level {
@@ -62,6 +66,7 @@ impl Tables {
 
     // whether it is an INHERIT mutex whose first waiter has this priority
     fn lends(&self, mutex: MutexNo, level: u16) -> bool
+        requires { IsMutex self.now.state mutex }
         ensures { result ≡ lends_now self.now level mutex }
     {
         self.is_inherit(mutex) && self.first_level(mutex) == level
@@ -69,16 +74,18 @@ impl Tables {
 
     // the ceiling of the mutex as a number, 0 where it has none
     fn ceiling_level(&self, mutex: MutexNo) -> u16
+        requires { IsMutex self.now.state mutex }
         ensures { result ≡ ceiling_of self.now.state mutex }
     {
-        self.ceiling(mutex).map_or(0, |prio| prio.get())
+        let ceiling = self.known_protocol(mutex).ceiling();
+        ceiling.map_or(0, |prio| prio.get())
     }
 
     // whether it is an INHERIT mutex
     fn is_inherit(&self, mutex: MutexNo) -> bool
+        requires { IsMutex self.now.state mutex }
         ensures { result ≡ is_inherit (protocol_of self.now.state mutex) }
     {
-        self.protocol(mutex)
-            .is_some_and(|protocol| protocol.is_inherit())
+        self.known_protocol(mutex).is_inherit()
     }
 }

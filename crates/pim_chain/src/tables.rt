@@ -254,6 +254,44 @@ impl Tables {
         nth(&self.count, mutex.get()).unwrap_or(0)
     }
 
+    /// Returns the owner of a known mutex, `None` where it is free.
+    pub fn known_owner(&self, mutex: MutexNo) -> Option<TaskNo>
+        requires { IsMutex self.now.state mutex }
+        ensures { result ≡ owner_of self.now.state mutex }
+    {
+        // Its contract tells the proof what always holds of the tables.
+        let _tasks = self.tasks();
+        self.owner[mutex.get() as usize - 1]
+    }
+
+    /// Returns the protocol of a known mutex.
+    pub fn known_protocol(&self, mutex: MutexNo) -> Protocol
+        requires { IsMutex self.now.state mutex }
+        ensures { result ≡ protocol_of self.now.state mutex }
+    {
+        self.protocol[mutex.get() as usize - 1]
+    }
+
+    /// Returns the mutex that a known task waits for, with its ticket there, `None` where it waits for nothing.
+    pub fn known_wait(&self, task: TaskNo) -> Option<Wait>
+        requires { IsTask self.now.state task }
+        ensures { result ≡ wait_of self.now.state task }
+    {
+        // Its contract tells the proof what always holds of the tables.
+        let _tasks = self.tasks();
+        self.wait[task.get() as usize - 1]
+    }
+
+    /// Returns the first waiter for a known mutex, `None` where no task waits.
+    pub fn known_first(&self, mutex: MutexNo) -> Option<Waiter>
+        requires { IsMutex self.now.state mutex }
+        ensures { result ≡ first_item (queue_at self.now mutex) }
+    {
+        // Its contract tells the proof what always holds of the tables.
+        let _tasks = self.tasks();
+        self.queues.known_first(mutex)
+    }
+
     /// Returns the known task as a waiter with this ticket.
     pub(crate) fn waiter(&self, task: TaskNo, ticket: u64) -> Waiter
         requires { IsTask self.now.state task }
@@ -305,7 +343,9 @@ impl Tables {
         ensures unsettles { Unsettles self.old self.new (owner_of self.old.state mutex) }
         ensures ready { Ready self.new }
     {
-        if let Some(owner) = self.owner(mutex) {
+        // Its contract tells the proof what always holds of the tables.
+        let _tasks = self.tasks();
+        if let Some(owner) = self.known_owner(mutex) {
             put(&mut self.owner, mutex.get(), None);
             put(&mut self.count, mutex.get(), 0);
             self.owned.remove(owner, mutex);

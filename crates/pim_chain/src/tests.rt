@@ -81,7 +81,7 @@ fn lock(
             tables.gain(mutex, task, visits);
         }
         Some(owner) => {
-            assert!(rt; !tables.closes_cycle(task, mutex));
+            assert!(rt; !tables.leads_back(task, mutex));
             assert!(rt; !tables.has_ticket(mutex, ticket));
             tables.join(task, mutex, ticket);
             settle(rt, tables, owner, visits);
@@ -495,10 +495,11 @@ fn count_up(rt: &impl Abort, tables: &mut Tables, times: u16) {
 fn recursive_mutex_is_counted(rt: HostRuntime) -> Result<(), Fail> {
     let mut tables = locked_again(&rt, rt.alloc())?;
     assert_eq!(rt; tables.count(MutexNo(1)), Some(1));
-    assert!(rt; !tables.is_kept(MutexNo(1)));
+    assert!(rt; !tables.is_unknown_mutex(MutexNo(1)));
+    assert!(rt; !tables.known_kept(MutexNo(1)));
     count_up(&rt, &mut tables, 2);
     assert_eq!(rt; tables.count(MutexNo(1)), Some(3));
-    assert!(rt; tables.is_kept(MutexNo(1)));
+    assert!(rt; tables.known_kept(MutexNo(1)));
     tables.count_down(MutexNo(1));
     assert_eq!(rt; tables.count(MutexNo(1)), Some(2));
     assert_eq!(rt; tables.stored(TaskNo(1)), Prio::new(50));

@@ -1,12 +1,13 @@
 //! The walk that restores the stored priorities, and stops early.
 
-ghost use Rattle.std.specs.Prelude.{◌≡◌, ◌≤◌, ◌<◌, ◌+◌, ◌-◌, ◌^◌, None, Some, length, unwrap_or, ℕ};
-ghost use Rattle.std.specs.Option.{option_and_then};
+ghost use Rattle.std.specs.Prelude.{◌≡◌, ◌≢◌, ◌≤◌, ◌<◌, ◌+◌, ◌-◌, ◌^◌, None, Some, false, length, unwrap_or, ℕ};
+ghost use Rattle.std.specs.Option.{option_and_then, option_map, option_map_or};
 ghost use Rattle.pim_base.specs.declared.limits.TheConstants.{MAX_TASKS};
-ghost use Rattle.pim_base.specs.State.{IsTask, IsMutex, owner_of, wait_of, with_owner};
-ghost use Rattle.pim_base.specs.Chains.{heir};
+ghost use Rattle.pim_base.specs.State.{IsTask, IsMutex, owner_of, wait_of, with_owner, with_wait};
+ghost use Rattle.pim_base.specs.Chains.{heir, leads_back};
 ghost use Rattle.pim_base.specs.Priorities.{local_priority, effective_priority};
 ghost use Rattle.pim_base.specs.Queues.{queue_of};
+ghost use Rattle.pim_base.specs.declared.steps.Wait.{Wait};
 ghost use Rattle.pim_chain.specs.Views.{Ready, stored_at, queue_at, first_prio};
 ghost use Rattle.pim_chain.specs.Owned.{worth};
 ghost use Rattle.pim_chain.specs.Settled.{SettledBut, Visited, onward_from, next_of, changed, restored};
@@ -15,35 +16,42 @@ ghost use Rattle.pim_chain.specs.Work.{Tells, VisitedOnce};
 use crate::numbered::put;
 use crate::tables::Tables;
 use crate::visits::Visits;
-use pim_base::{MutexNo, Prio, TaskNo, Wait, higher};
+use pim_base::{MutexNo, Prio, Protocol, TaskNo, Wait, higher};
 
 impl Tables {
-    // the priority of the first waiter for the mutex
+    // the priority of the first waiter for the known mutex
     fn first_prio(&self, mutex: MutexNo) -> Option<Prio>
+        requires { IsMutex self.now.state mutex }
         ensures { unwrap_or result 0 ≡ first_prio (queue_at self.now mutex) }
     {
-        self.first_waiter(mutex).map(|first| first.prio)
+        self.known_first(mutex).map(|first| first.prio)
     }
 
     // this priority as a number, 0 where no task waits
     pub(crate) fn first_level(&self, mutex: MutexNo) -> u16
+        requires { IsMutex self.now.state mutex }
         ensures { result ≡ first_prio (queue_at self.now mutex) }
     {
         self.first_prio(mutex).map_or(0, |prio| prio.get())
     }
 
-    // the priority that the mutex lends to its owner
+    // the priority that the owned mutex lends to its owner
     fn lent(&self, mutex: MutexNo) -> Option<Prio>
+        requires { owner_of self.now.state mutex ≢ None }
         ensures { unwrap_or result 0 ≡ worth self.now mutex }
     {
-        match self.heir_of(mutex) {
-            Some(_heir) => self.first_prio(mutex),
-            None => self.ceiling(mutex),
+        // Its contract tells the proof what always holds of the tables.
+        let _tasks = self.tasks();
+        match self.known_protocol(mutex) {
+            Protocol::Inherit | Protocol::InheritRecursive => self.first_prio(mutex),
+            Protocol::Protect(ceiling) => Some(ceiling),
+            Protocol::None => None,
         }
     }
 
     // this priority as a number, 0 where it lends none
     fn lent_level(&self, mutex: MutexNo) -> u16
+        requires { owner_of self.now.state mutex ≢ None }
         ensures { result ≡ worth self.now mutex }
     {
         self.lent(mutex).map_or(0, |prio| prio.get())
@@ -72,8 +80,20 @@ impl Tables {
         prio
     }
 
+    // the priority of the first waiter in the queue that a task waits in, 0 where it waits in none
+    fn level_there(&self, wait: &Option<Wait>) -> u16
+        requires { (w : Wait) → wait.now ≡ Some w → IsMutex self.now.state w.mutex }
+        ensures { result ≡ option_map_or (λ (w : Wait). first_prio (queue_at self.now w.mutex)) wait.now 0 }
+    {
+        match wait {
+            Some(wait) => self.first_level(wait.mutex),
+            None => 0,
+        }
+    }
+
     // where the walk goes on from the queue that a task waits in, whose first waiter had this priority before: [5] and [6]
     fn onward(&self, wait: &Option<Wait>, before: u16) -> Option<TaskNo>
+        requires { (w : Wait) → wait.now ≡ Some w → IsMutex self.now.state w.mutex }
         ensures { result ≡ option_and_then (onward_from before self.now) wait.now }
     {
         let mutex = wait.as_ref()?.mutex;
@@ -82,7 +102,10 @@ impl Tables {
             return None;
         }
         // [6]
-        self.heir_of(mutex)
+        match self.known_protocol(mutex) {
+            Protocol::Inherit | Protocol::InheritRecursive => self.known_owner(mutex),
+            Protocol::None | Protocol::Protect(_) => None,
+        }
     }
 
     // [3] and [4]: stores the priority, and moves the task to its place in the queue that it waits in
@@ -101,6 +124,7 @@ impl Tables {
     }
 
     // one turn of the walk, [2] to [6]: restores one task's priority, and returns the task to go on with
+    #[inline(always)]
     fn visit(&mut self, task: TaskNo, visits: &mut Visits) -> Option<TaskNo>
         requires settled { SettledBut self.old.state (stored_at self.old) (Some task) }
         requires known { IsTask self.old.state task }
@@ -118,8 +142,8 @@ impl Tables {
         }
         visits.note(task, had);
         // [3] and [4]
-        let wait = self.waits_for(task);
-        let before = wait.map_or(0, |wait| self.first_level(wait.mutex));
+        let wait = self.known_wait(task);
+        let before = self.level_there(&wait);
         self.restore(task, wait, prio);
         // [5] and [6]
         self.onward(&wait, before)
@@ -169,6 +193,7 @@ impl Tables {
     ///
     /// This is one visit. Where the mutex lends no more than the task has, one look at the mutex shows that nothing else
     /// changes; else the visit looks at each mutex that the task owns.
+    #[inline(always)]
     pub fn gain(&mut self, mutex: MutexNo, task: TaskNo, visits: &mut Visits)
         requires settled { SettledBut self.old.state (stored_at self.old) None }
         requires mutex { IsMutex self.old.state mutex }
@@ -197,6 +222,7 @@ impl Tables {
     ///
     /// This is one visit. Where the mutex lent less than the owner has, one look at the mutex shows that nothing else
     /// changes; else the visit looks at each mutex that the owner still has.
+    #[inline(always)]
     pub fn lose(&mut self, mutex: MutexNo, owner: TaskNo, visits: &mut Visits)
         requires settled { SettledBut self.old.state (stored_at self.old) None }
         requires owned { owner_of self.old.state mutex ≡ Some owner }
@@ -213,6 +239,72 @@ impl Tables {
         let lent = self.lent_level(mutex);
         self.unbind(mutex);
         if lent < self.known_stored(owner).get() {
+            visits.add();
+        } else {
+            self.settle_from(owner, visits);
+        }
+    }
+
+    /// Lets the task wait as `join` does, for the mutex that has this owner, and restores all stored priorities. They must
+    /// be settled before.
+    ///
+    /// Where the mutex then lends no more than its owner has, one look at it shows that nothing else changes, and counts as
+    /// a visit; else a walk begins with the owner.
+    #[inline(always)]
+    pub fn enter(
+        &mut self,
+        task: TaskNo,
+        mutex: MutexNo,
+        owner: TaskNo,
+        ticket: u64,
+        visits: &mut Visits,
+    )
+        requires settled { SettledBut self.old.state (stored_at self.old) None }
+        requires known { IsTask self.old.state task }
+        requires mutex { IsMutex self.old.state mutex }
+        requires owned { owner_of self.old.state mutex ≡ Some owner }
+        requires idle { wait_of self.old.state task ≡ None }
+        requires closes_none { leads_back self.old.state task mutex ≡ false }
+        requires fresh { (u : ℕ) → wait_of self.old.state u ≢ Some (record { mutex = mutex; ticket = ticket }) }
+        requires room { visits.old.count ≤ 2 ^ 32 - 1 - MAX_TASKS }
+        ensures state { self.new.state ≡ with_wait self.old.state task (Some (record { mutex = mutex; ticket = ticket })) }
+        ensures settled { SettledBut self.new.state (stored_at self.new) None }
+        ensures ready { Ready self.new }
+        ensures work { Tells (length self.old.state.base) (stored_at self.old) visits.old (stored_at self.new) visits.new }
+        ensures at_most { visits.new.count ≤ visits.old.count + changed self.old self.new + 1 }
+    {
+        // Its contract tells the proof what always holds of the tables.
+        let _tasks = self.tasks();
+        self.join(task, mutex, ticket);
+        if self.lent_level(mutex) <= self.known_stored(owner).get() {
+            visits.add();
+        } else {
+            self.settle_from(owner, visits);
+        }
+    }
+
+    /// Lets the task, which waits for this mutex, stop waiting, and restores all stored priorities. They must be settled
+    /// before.
+    ///
+    /// Where the mutex then lends its owner what it did, that counts as a visit, and nothing else changes; else a walk
+    /// begins with the owner.
+    #[inline(always)]
+    pub fn exit(&mut self, task: TaskNo, mutex: MutexNo, owner: TaskNo, visits: &mut Visits)
+        requires settled { SettledBut self.old.state (stored_at self.old) None }
+        requires owned { owner_of self.old.state mutex ≡ Some owner }
+        requires waits { option_map (λ (w : Wait). w.mutex) (wait_of self.old.state task) ≡ Some mutex }
+        requires room { visits.old.count ≤ 2 ^ 32 - 1 - MAX_TASKS }
+        ensures state { self.new.state ≡ with_wait self.old.state task None }
+        ensures settled { SettledBut self.new.state (stored_at self.new) None }
+        ensures ready { Ready self.new }
+        ensures work { Tells (length self.old.state.base) (stored_at self.old) visits.old (stored_at self.new) visits.new }
+        ensures at_most { visits.new.count ≤ visits.old.count + changed self.old self.new + 1 }
+    {
+        // Its contract tells the proof what always holds of the tables.
+        let _tasks = self.tasks();
+        let before = self.lent_level(mutex);
+        self.leave(task);
+        if self.lent_level(mutex) == before {
             visits.add();
         } else {
             self.settle_from(owner, visits);

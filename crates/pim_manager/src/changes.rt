@@ -2,12 +2,14 @@
 //! changed.
 
 ghost use Rattle.std.specs.Prelude.{◌≡◌, ◌≤◌, ◌<◌, ◌+◌, ◌-◌, ◌^◌, Some, None, true, false};
+ghost use Rattle.std.specs.Option.{option_map};
 ghost use Rattle.pim_base.specs.State.{IsTask, IsMutex, owner_of, count_of, wait_of, relocks, with_owner, with_count, with_wait, with_base, with_ceiling, queued};
 ghost use Rattle.pim_base.specs.Chains.{blocker, leads_back};
 ghost use Rattle.pim_base.specs.Checks.{not_protect, locked_too_often};
 ghost use Rattle.pim_base.specs.Counts.{changed_task_count, handed_mutex_count};
 ghost use Rattle.pim_base.specs.Queues.{first_of};
 ghost use Rattle.pim_base.specs.Steps.{is_kept, hand_over};
+ghost use Rattle.pim_base.specs.declared.steps.Waiter.{Waiter};
 ghost use Rattle.pim_base.specs.declared.limits.TheConstants.{LAST_TICKET, MAX_TASKS};
 ghost use Rattle.pim_manager.specs.Settled.{Worked};
 
@@ -51,6 +53,7 @@ impl Manager {
 
     /// Lets the task, which doesn't wait, wait with the next ticket for the mutex, which has this
     /// owner. That closes no cycle.
+    #[inline(always)]
     pub(crate) fn enqueue(
         &mut self,
         task: TaskNo,
@@ -71,11 +74,11 @@ impl Manager {
     {
         let ticket = self.tables.next_ticket();
         self.tables.put_next_ticket(ticket + 1);
-        self.tables.join(task, mutex, ticket);
-        self.tables.settle_from(owner, visits);
+        self.tables.enter(task, mutex, owner, ticket, visits);
     }
 
     /// Ends the wait of the task, which waits for this owner.
+    #[inline(always)]
     pub(crate) fn withdraw(&mut self, task: TaskNo, owner: TaskNo, visits: &mut Visits)
         requires blocked { blocker self.old task ≡ Some owner }
         requires room { visits.old.count ≤ 2 ^ 32 - 1 - MAX_TASKS }
@@ -83,8 +86,9 @@ impl Manager {
         ensures work { Worked self.old visits.old self.new visits.new }
         ensures most { visits.new.count ≤ visits.old.count + 1 + changed_task_count self.old self.new }
     {
-        self.tables.leave(task);
-        self.tables.settle_from(owner, visits);
+        if let Some(wait) = self.tables.waits_for(task) {
+            self.tables.exit(task, wait.mutex, owner, visits);
+        }
     }
 
     /// Gives the task this base.
@@ -114,18 +118,19 @@ impl Manager {
     }
 
     /// Takes the mutex from its owner, who doesn't wait, and hands it to the first waiter, if
-    /// there is one. Returns that waiter.
+    /// there is one. Returns that task.
+    #[inline(always)]
     pub(crate) fn hand_over(
         &mut self,
         mutex: MutexNo,
         owner: TaskNo,
         visits: &mut Visits,
-    ) -> Option<Waiter>
+    ) -> Option<TaskNo>
         requires mutex { IsMutex self.old mutex }
         requires owned { owner_of self.old mutex ≡ Some owner }
         requires idle { wait_of self.old owner ≡ None }
         requires room { visits.old.count ≤ 2 ^ 32 - 2 - MAX_TASKS }
-        ensures first { result ≡ first_of self.old mutex }
+        ensures first { result ≡ option_map (λ (w : Waiter). w.task) (first_of self.old mutex) }
         ensures state { self.new ≡ hand_over self.old mutex }
         ensures work { Worked self.old visits.old self.new visits.new }
         ensures most { visits.new.count ≤ visits.old.count + 2 }
@@ -136,14 +141,16 @@ impl Manager {
         if let Some(waiter) = &first {
             self.tables.leave(waiter.task);
             self.tables.gain(mutex, waiter.task, visits);
+            return Some(waiter.task);
         }
-        first
+        None
     }
+
     /// Returns the first waiter for the mutex.
     fn first_of(&self, mutex: MutexNo) -> Option<Waiter>
         requires { IsMutex self.now mutex }
         ensures { result ≡ first_of self.now mutex }
     {
-        self.tables.first_waiter(mutex)
+        self.tables.known_first(mutex)
     }
 }

@@ -25,7 +25,7 @@ impl Manager {
         if self.tables.is_unknown_task(actor) {
             return Reply::Refused(Refusal::NoTask);
         }
-        if self.tables.is_waiting(actor) && !op.withdraws(actor) {
+        if self.tables.known_wait(actor).is_some() && !op.withdraws(actor) {
             return Reply::Refused(Refusal::Waiting);
         }
         match op {
@@ -40,8 +40,9 @@ impl Manager {
     }
 
     /// Answers a lock by a known task that does not wait: the mutex is granted if it is free, or
-    /// once more to its owner if it is recursive, else the actor queues for it. The deadlock test makes at most as many hops as there are
-    /// tasks.
+    /// once more to its owner if it is recursive, else the actor queues for it. The deadlock test
+    /// makes at most as many hops as there are tasks.
+    #[inline(always)]
     fn answer_lock(&mut self, actor: TaskNo, mutex: MutexNo, visits: &mut Visits) -> Reply
         requires known { IsTask self.old actor }
         requires idle { wait_of self.old actor ≡ None }
@@ -54,16 +55,16 @@ impl Manager {
         if self.tables.is_unknown_mutex(mutex) {
             return Reply::Refused(Refusal::NoMutex);
         }
-        if self.tables.relocks(actor, mutex) {
+        if self.tables.known_relocks(actor, mutex) {
             return self.answer_relock(actor, mutex, visits);
         }
         if self.tables.leads_back(actor, mutex) {
             return Reply::Refused(Refusal::Deadlock);
         }
-        if self.tables.is_above_ceiling(actor, mutex) {
+        if self.tables.known_above_ceiling(actor, mutex) {
             return Reply::Refused(Refusal::Ceiling);
         }
-        let Some(owner) = self.tables.owner(mutex) else {
+        let Some(owner) = self.tables.known_owner(mutex) else {
             self.grant(mutex, actor, visits);
             return Reply::Granted;
         };
@@ -76,6 +77,7 @@ impl Manager {
 
     /// Answers a try by a known task that does not wait: the mutex is granted if it is free, or
     /// once more to its owner if it is recursive.
+    #[inline(always)]
     fn answer_try(&mut self, actor: TaskNo, mutex: MutexNo, visits: &mut Visits) -> Reply
         requires known { IsTask self.old actor }
         requires idle { wait_of self.old actor ≡ None }
@@ -88,13 +90,13 @@ impl Manager {
         if self.tables.is_unknown_mutex(mutex) {
             return Reply::Refused(Refusal::NoMutex);
         }
-        if self.tables.relocks(actor, mutex) {
+        if self.tables.known_relocks(actor, mutex) {
             return self.answer_relock(actor, mutex, visits);
         }
-        if self.tables.is_above_ceiling(actor, mutex) {
+        if self.tables.known_above_ceiling(actor, mutex) {
             return Reply::Refused(Refusal::Ceiling);
         }
-        if self.tables.is_owned(mutex) {
+        if self.tables.known_owner(mutex).is_some() {
             return Reply::Refused(Refusal::Busy);
         }
         self.grant(mutex, actor, visits);
@@ -118,6 +120,7 @@ impl Manager {
 
     /// Answers an unlock by a task that does not wait: a mutex that the task has locked more often
     /// stays with it; else the mutex goes to the first waiter, or is free.
+    #[inline(always)]
     fn answer_unlock(&mut self, actor: TaskNo, mutex: MutexNo, visits: &mut Visits) -> Reply
         requires idle { wait_of self.old actor ≡ None }
         requires fresh { visits.old.count ≡ 0 }
@@ -129,15 +132,15 @@ impl Manager {
         if self.tables.is_unknown_mutex(mutex) {
             return Reply::Refused(Refusal::NoMutex);
         }
-        if !self.tables.owns(actor, mutex) {
+        if !self.tables.known_owns(actor, mutex) {
             return Reply::Refused(Refusal::NotOwner);
         }
-        if self.tables.is_kept(mutex) {
+        if self.tables.known_kept(mutex) {
             self.unlock_once(mutex, visits);
             return Reply::Kept;
         }
         match self.hand_over(mutex, actor, visits) {
-            Some(waiter) => Reply::Handed(waiter.task),
+            Some(task) => Reply::Handed(task),
             None => Reply::Freed,
         }
     }
@@ -162,6 +165,7 @@ impl Manager {
     }
 
     /// Answers the cancel of a wait: the task leaves the queue that it waits in.
+    #[inline(always)]
     fn answer_cancel(&mut self, actor: TaskNo, task: TaskNo, visits: &mut Visits) -> Reply
         requires { visits.old.count ≡ 0 }
         ensures reply { result ≡ answer self.old actor (Op.Cancel task) }
@@ -181,6 +185,7 @@ impl Manager {
     }
 
     /// Answers the change of a base priority.
+    #[inline(always)]
     fn answer_set_base(
         &mut self,
         actor: TaskNo,
@@ -207,6 +212,7 @@ impl Manager {
     }
 
     /// Answers the change of a ceiling, which the owner may ask for, too.
+    #[inline(always)]
     fn answer_set_ceiling(
         &mut self,
         actor: TaskNo,

@@ -1,8 +1,9 @@
 -- Waiters of different tasks with different tickets, and what keeps them so.
-use Rattle.std.proofs.Common.{◌≡◌, ◌≢◌, ℕ, suc, ◌<◌, ◌≤◌, Bool, true, false, ◌||◌, cond, refl, sym, ◌∙◌, ap, arith, List, [], ◌∷◌, length, Some}
+use Rattle.std.proofs.Common.{◌≡◌, ◌≢◌, ℕ, suc, ◌<◌, ◌≤◌, Bool, true, false, ◌||◌, cond, refl, sym, ◌∙◌, ap, arith, List, [], ◌∷◌, length, None, Some, set}
 use Rattle.std.specs.List.{list_any, AllByRecursion, find, insert, remove, position_or_len}
 use Rattle.std.specs.Option.{option_map_or}
-use Rattle.std.proofs.lemmas.Bool.{both_ways, eqb-true, eq-eqb, or_parts, cond_both}
+use Rattle.std.proofs.lemmas.Bool.{both_ways, cond-true, eqb-true, eq-eqb, or_parts, cond_both}
+use Rattle.std.proofs.lemmas.Option.{none-some}
 use Rattle.pim_base.specs.declared.steps.Waiter.{Waiter}
 use Rattle.pim_base.specs.Lists.{insert_by}
 use Rattle.pim_base.specs.Queues.{precedes}
@@ -177,3 +178,18 @@ pub is_repositioned :
     → to ≡ position_or_len (precedes v) (remove ws from)
     → insert (remove ws from) to v ≡ repositioned task prio ws
 is_repositioned task prio w v ws from to was out now place = grind (arith, found_is_of, insert_by_is)
+
+-- the only one stays where it is
+pub alone :
+    (task prio : ℕ) (w v : Waiter) (ws : List Waiter)
+    → find (is_of task) ws ≡ Some w
+    → v ≡ record w { prio = prio }
+    → length ws ≡ 1
+    → set ws 0 v ≡ repositioned task prio ws
+alone task prio w v [] was now one = absurd (none-some w was)
+alone task prio w v (u ∷ us ∷ rest) was now one = absurd (omega arith)
+alone task prio w v (u ∷ []) was now one = go (is_of task u) refl was
+  where
+    go : (b : Bool) → is_of task u ≡ b → cond b (Some u) None ≡ Some w → v ∷ [] ≡ repositioned task prio (u ∷ [])
+    go true its same = is_repositioned task prio w v (u ∷ []) 0 0 was (cond-true _ _ _ its) now refl
+    go false not same = absurd (none-some w same)

@@ -1,10 +1,12 @@
 -- The place of a waiter in its queue.
 use Rattle.std.proofs.lemmas.Grind.{common_steps}
-use Rattle.std.proofs.Common.{◌≡◌, ℕ, zero, suc, ◌<◌, ◌≤◌, Bool, true, false, not, ◌⊎◌, inl, inr, refl, sym, ◌∙◌, ap, subst, arith, Some, List, [], ◌∷◌, ◌++◌, length, get_or, if◌then◌else◌, ◌+◌, ◌-◌, cond, set, take, rules}
+use Rattle.std.proofs.Common.{◌≡◌, ℕ, zero, suc, ◌<◌, ◌≤◌, Bool, true, false, not, ◌⊎◌, inl, inr, refl, sym, ◌∙◌, ap, subst, arith, Some, List, [], ◌∷◌, ◌++◌, length, get_or, if◌then◌else◌, ◌+◌, ◌-◌, cond, set, take, drop, rules}
 use Rattle.std.specs.List.{AllByRecursion, find, insert, remove, between, copy_within, position_or_len}
 use Rattle.std.specs.List.Sorted.{IsPartitionedBy, IsPartitionPoint}
 use Rattle.std.proofs.lemmas.Bool.{cases_eq, not-true, not-false, cond-true, cond-false}
 use Rattle.std.proofs.lemmas.List.{same_lists, places, length-set, get_or-set_other, length-take, length-take-le}
+use Rattle.std.proofs.lemmas.List.{take-append-drop}
+use Rattle.std.proofs.lemmas.List.Edits.{insert-append_left, insert-append_right, remove-append_left, remove-append_right, length-remove}
 use Rattle.std.proofs.lemmas.List.Folds.{prefix_len-append}
 use Rattle.std.proofs.lemmas.List.Sums.{prefix_len-le-length, position_or_len_is}
 use Rattle.std.proofs.lemmas.Option.{none-some, same_Some}
@@ -114,7 +116,15 @@ own_place_out w ws ordered found =
     let it : Here w ws = here w ws ordered found in
     it.out ∙ ap (remove ws) (omega (arith, it.next))
 
-pub ruleset own_place = (own_place_some, own_place_out)
+pub found_some : (w : Waiter) (ws : List Waiter) → find (is_of w.task) ws ≡ Some w → 0 < length ws
+found_some w [] found = absurd (none-some w found)
+found_some w (v ∷ vs) found = omega arith
+
+pub front_out : (t : ℕ) (ws : List Waiter) (d : Waiter) → 0 < length ws → is_of t (get_or ws 0 d) ≡ true → without t ws ≡ remove ws 0
+front_out t [] d some its = absurd (omega arith)
+front_out t (v ∷ vs) d some its = cond-true _ _ _ its
+
+pub ruleset own_place = (own_place_some, own_place_out, found_some, front_out)
 
 -- ---- one moved
 -- its place once it is taken out: before where it was, or else behind
@@ -169,10 +179,73 @@ pub moved_back :
 moved_back w ws from to behind low =
     written w (copy_within ws (from + 1) (to + 1) from) ws from to (omega arith) low (search (rules, places)) (λ k d h ne. grind (arith, places))
 
+pub all_moved_back :
+    (w : Waiter) (ws us : List Waiter)
+    → 1 < length ws
+    → us ≡ copy_within ws 1 (length ws - 1 + 1) 0
+    → set us (length ws - 1) w ≡ insert (remove ws 0) (length ws - 1) w
+all_moved_back w ws us some is = ap (λ vs. set vs (length ws - 1) w) is ∙ moved_back w ws 0 (length ws - 1) (omega arith) (omega arith)
+
 pub stayed : (w : Waiter) (ws : List Waiter) (from : ℕ) → from < length ws → set ws from w ≡ insert (remove ws from) from w
 stayed w ws from low = written w ws ws from from low low refl (λ k d h ne. grind (arith, places))
 
 pub ruleset moved = (moved_forward, moved_back, stayed)
+
+-- a move within a part of the list
+inside :
+    (w : Waiter) (ls ms rs : List Waiter) (a i j : ℕ)
+    → length ls ≡ a
+    → i < length ms
+    → j < length ms
+    → ls ++ (insert (remove ms i) j w ++ rs) ≡ insert (remove (ls ++ (ms ++ rs)) (a + i)) (a + j) w
+inside w ls ms rs a i j len low within =
+    ap (λ xs. ls ++ xs) (sym (insert-append_left (remove ms i) rs j w (omega (arith, length-remove ms i low)))
+    ∙ ap (λ xs. insert xs j w) (sym (remove-append_left ms rs i low)))
+    ∙ ap (λ n. ls ++ insert (remove (ms ++ rs) i) n w) (omega arith)
+    ∙ sym (insert-append_right ls (remove (ms ++ rs) i) a (a + j) w len (omega arith))
+    ∙ ap (λ n. insert (ls ++ remove (ms ++ rs) n) (a + j) w) (omega arith)
+    ∙ ap (λ xs. insert xs (a + j) w) (sym (remove-append_right ls (ms ++ rs) a (a + i) len (omega arith)))
+
+-- a move within the part of n from a on
+moved_inside :
+    (w : Waiter) (ws : List Waiter) (a n i j : ℕ)
+    → a + n ≤ length ws
+    → i < n
+    → j < n
+    → take a ws ++ (insert (remove (take n (drop a ws)) i) j w ++ drop n (drop a ws)) ≡ insert (remove ws (a + i)) (a + j) w
+moved_inside w ws a n i j fits low within =
+    let part : length (take n (drop a ws)) ≡ n = search (rules, places, arith) in
+    inside w (take a ws) (take n (drop a ws)) (drop n (drop a ws)) a i j (length-take-le a ws (omega arith)) (omega (arith, part)) (omega (arith, part))
+    ∙ ap (λ xs. insert (remove xs (a + i)) (a + j) w)
+    (ap (λ xs. take a ws ++ xs) (take-append-drop n (drop a ws)) ∙ take-append-drop a ws)
+
+pub part_forward :
+    (w : Waiter) (ws : List Waiter) (from to n : ℕ)
+    → to < from
+    → from < length ws
+    → n ≡ from + 1 - to
+    → take to ws ++ (insert (remove (take n (drop to ws)) (length (take n (drop to ws)) - 1)) 0 w ++ drop n (drop to ws))
+    ≡ insert (remove ws from) to w
+part_forward w ws from to n before low is =
+    let part : length (take n (drop to ws)) ≡ n = search (rules, places, arith) in
+    ap (λ k. take to ws ++ (insert (remove (take n (drop to ws)) k) 0 w ++ drop n (drop to ws))) (omega (arith, part))
+    ∙ moved_inside w ws to n (from - to) 0 (omega arith) (omega arith) (omega arith)
+    ∙ ap (λ k. insert (remove ws k) (to + 0) w) (omega arith)
+    ∙ ap (λ k. insert (remove ws from) k w) (omega arith)
+
+pub part_back :
+    (w : Waiter) (ws : List Waiter) (from to n : ℕ)
+    → from < to
+    → to < length ws
+    → n ≡ to + 1 - from
+    → take from ws ++ (insert (remove (take n (drop from ws)) 0) (length (take n (drop from ws)) - 1) w ++ drop n (drop from ws))
+    ≡ insert (remove ws from) to w
+part_back w ws from to n behind low is =
+    let part : length (take n (drop from ws)) ≡ n = search (rules, places, arith) in
+    ap (λ k. take from ws ++ (insert (remove (take n (drop from ws)) 0) k w ++ drop n (drop from ws))) (omega (arith, part))
+    ∙ moved_inside w ws from n 0 (to - from) (omega arith) (omega arith) (omega arith)
+    ∙ ap (λ k. insert (remove ws k) (from + (to - from)) w) (omega arith)
+    ∙ ap (λ k. insert (remove ws from) k w) (omega arith)
 
 -- one more at the end, taken out again
 pub added : (w : Waiter) (ws : List Waiter) → remove (ws ++ w ∷ []) (length ws) ≡ ws

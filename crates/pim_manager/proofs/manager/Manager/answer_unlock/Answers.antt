@@ -4,5 +4,5 @@ use Rattle.pim_manager.proofs.manager.Manager.answer_unlock.Goals as goal
 pub returns-then-is_unknown_mutex-clause-work : goal.returns-then-is_unknown_mutex-clause-work
 returns-then-is_unknown_mutex-clause-work c = worked_none c.args.self.now c.args.visits.now
 
-pub returns-then-not-owns-clause-work : goal.returns-then-not-owns-clause-work
-returns-then-not-owns-clause-work c = worked_none c.args.self.now c.args.visits.now
+pub returns-then-not-known_owns-clause-work : goal.returns-then-not-known_owns-clause-work
+returns-then-not-known_owns-clause-work c = worked_none c.args.self.now c.args.visits.now

@@ -4,52 +4,60 @@ use Rattle.pim_base.specs.State.{State, queued, wait_of, with_wait}
 use Rattle.pim_base.specs.Chains.{leads_back}
 use Rattle.pim_base.specs.declared.steps.Wait.{Wait}
 use Rattle.pim_base.proofs.Steady.{steady_kept}
-use Rattle.pim_chain.specs.Views.{View}
+use Rattle.pim_chain.specs.Views.{View, with_state}
 use Rattle.pim_manager.proofs.Works.{Walked, walked, steady_shown}
 use Rattle.pim_manager.proofs.manager.Manager.enqueue.Goals as goal
 
-pub join-requires-clause-fresh : goal.join-requires-clause-fresh
-join-requires-clause-fresh c u e =
+pub enter-requires-clause-fresh : goal.enter-requires-clause-fresh
+enter-requires-clause-fresh c u e =
     let new : Wait = record { mutex = c.args.mutex; ticket = c.next_ticket-ticket.result } in
     let given = c.self.invariant.steady.tickets.given u new (sym (ap (λ (w : View). wait_of w.state u) c.put_next_ticket.ensures.state) ∙ e) in
     omega (arith, given, c.next_ticket-ticket.ensures)
 
-pub join-requires-clause-closes_none : goal.join-requires-clause-closes_none
-join-requires-clause-closes_none c =
+pub enter-requires-clause-closes_none : goal.enter-requires-clause-closes_none
+enter-requires-clause-closes_none c =
     ap (λ (w : View). leads_back w.state c.args.task c.args.mutex) c.put_next_ticket.ensures.state
     ∙ ap (λ (U : State). leads_back U c.args.task c.args.mutex) c.self.view_is
     ∙ c.requires.closes_none
 
+pub enter-requires-clause-settled : goal.enter-requires-clause-settled
+enter-requires-clause-settled c = c.put_next_ticket.ensures.unsettles c.self.invariant.calm.settled
+
+-- the tables when the task has just begun to wait
+abbrev waiting : (c : goal.After-enter) → View
+waiting c =
+    let x : View = c.put_next_ticket.new.self in
+    with_state x (with_wait x.state c.args.task (Some (record { mutex = c.args.mutex; ticket = c.next_ticket-ticket.result })))
+
 -- the state once the task has joined the queue
-shown : (c : goal.After-settle_from) → c.join.new.self.state ≡ queued c.args.self.now c.args.task c.args.mutex
+shown : (c : goal.After-enter) → (waiting c).state ≡ queued c.args.self.now c.args.task c.args.mutex
 shown c =
-    ap (λ (w : View). w.state) c.join.ensures.joined
-    ∙ ap (λ (w : View). with_wait w.state c.args.task (Some (record { mutex = c.args.mutex; ticket = c.next_ticket-ticket.result }))) c.put_next_ticket.ensures.state
+    ap (λ (w : View). with_wait w.state c.args.task (Some (record { mutex = c.args.mutex; ticket = c.next_ticket-ticket.result }))) c.put_next_ticket.ensures.state
     ∙ ap (λ n. record c.self.inside.tables.state { wait = put c.self.inside.tables.state.wait c.args.task (Some (record { mutex = c.args.mutex; ticket = n })); next = n + 1 })
     c.next_ticket-ticket.ensures
     ∙ ap (λ (U : State). queued U c.args.task c.args.mutex) c.self.view_is
 
 enqueued :
-    (c : goal.After-settle_from)
-    → Walked c.args.self.now c.join.new.self c.settle_from.new.self c.args.visits.now c.settle_from.new.visits
+    (c : goal.After-enter)
+    → Walked c.args.self.now (waiting c) c.enter.new.self c.args.visits.now c.enter.new.visits
 enqueued c =
     let S : State = c.args.self.now in
-    walked c.self.inside.tables _ _ S (queued S c.args.task c.args.mutex) _ _ c.self.invariant c.self.view_is
+    walked c.self.inside.tables (waiting c) _ S (queued S c.args.task c.args.mutex) _ _ c.self.invariant c.self.view_is
     (steady_kept.enqueue S c.args.task c.args.mutex (steady_shown c.self.invariant c.self.view_is)
     c.requires.known c.requires.idle c.requires.closes_none (ap is_some c.requires.owned))
     refl
     (shown c)
-    (ap (λ (w : View). w.stored) c.join.ensures.joined ∙ ap (λ (w : View). w.stored) c.put_next_ticket.ensures.state)
-    c.settle_from.ensures.state c.settle_from.ensures.settled c.settle_from.ensures.ready c.settle_from.ensures.work
+    (ap (λ (w : View). w.stored) c.put_next_ticket.ensures.state)
+    c.enter.ensures.state c.enter.ensures.settled c.enter.ensures.ready c.enter.ensures.work
 
 pub invariant_of-self : goal.invariant_of-self
 invariant_of-self c = (enqueued c).settled
 
 pub returns-clause-state : goal.returns-clause-state
-returns-clause-state c = c.settle_from.ensures.state ∙ shown c
+returns-clause-state c = c.enter.ensures.state ∙ shown c
 
 pub returns-clause-work : goal.returns-clause-work
 returns-clause-work c = (enqueued c).work
 
 pub returns-clause-most : goal.returns-clause-most
-returns-clause-most c = let most = c.settle_from.ensures.at_most in omega (arith, most, (enqueued c).count)
+returns-clause-most c = let most = c.enter.ensures.at_most in omega (arith, most, (enqueued c).count)

@@ -1,6 +1,8 @@
 use Rattle.std.proofs.Common.{◌≡◌, ℕ, None, Some, sym, refl, ◌∙◌, ap, arith, length}
 use Rattle.std.proofs.lemmas.Option.{none-some}
+use Rattle.std.specs.Option.{option_map}
 use Rattle.pim_base.specs.State.{State, with_owner}
+use Rattle.pim_base.specs.declared.steps.Waiter.{Waiter}
 use Rattle.pim_base.specs.Steps.{hand_over, hand_over_to}
 use Rattle.pim_base.proofs.HandOvers.{base-hand_over}
 use Rattle.pim_base.proofs.Steady.{steady_kept}
@@ -9,6 +11,7 @@ use Rattle.pim_manager.proofs.Works.{Walked, walked, steady_shown}
 use Rattle.pim_manager.proofs.Handing.{Passed, first_blocked, passed, passed_state, two_walks}
 use Rattle.pim_manager.proofs.Releases.{handed_once}
 use Rattle.pim_manager.proofs.manager.Manager.hand_over.Goals as goal
+use Rattle.pim_manager.proofs.manager.Manager.hand_over.Goals.{In_default}
 
 -- the tables when the mutex has just become free
 abbrev unbound : View → ℕ → View
@@ -34,21 +37,21 @@ gain-requires c =
     }
 
 -- the mutex has left its owner, and the first waiter its queue
-left : (c : goal.After-gain) → Passed c.args.self.now c.lose.new.self c.leave.new.self c.args.mutex c.in-Some.waiter.task
+left : (c : goal.After-result-1) → Passed c.args.self.now c.lose.new.self c.leave.new.self c.args.mutex c.in-Some.waiter.task
 left c =
     passed (unbound c.self.inside.tables c.args.mutex) _ _ _ c.self.invariant c.self.view_is c.requires.mutex
     (sym c.first_of-first.ensures ∙ c.in-Some.is) refl c.lose.ensures.state c.lose.ensures.settled c.leave.ensures.left c.leave.ensures.unsettles
 
 -- the tables when the first waiter has just got the mutex
-abbrev bound : (c : goal.After-gain) → View
+abbrev bound : (c : goal.After-result-1) → View
 bound c = let x : View = c.leave.new.self in with_state x (with_owner x.state c.args.mutex (Some c.in-Some.waiter.task))
 
 -- the mutex has gone to the first waiter
-handed : (c : goal.After-gain) → (bound c).state ≡ hand_over c.args.self.now c.args.mutex
+handed : (c : goal.After-result-1) → (bound c).state ≡ hand_over c.args.self.now c.args.mutex
 handed c = passed_state {y = bound c} (left c) (sym c.first_of-first.ensures ∙ c.in-Some.is) refl
 
 gone :
-    (c : goal.After-gain)
+    (c : goal.After-result-1)
     → Walked c.args.self.now (record c.self.inside.tables { state = c.gain.new.self.state }) c.gain.new.self c.args.visits.now c.gain.new.visits
 gone c =
     two_walks _ (unbound c.self.inside.tables c.args.mutex) c.lose.new.self _ (bound c) _ _ _ c.args.mutex c.in-Some.waiter.task _ _ _ c.self.invariant c.self.view_is
@@ -67,7 +70,7 @@ returns-in-Some c =
     let two = c.gain.ensures.single in
     let is : c.gain.new.self.state ≡ hand_over c.args.self.now c.args.mutex = c.gain.ensures.state ∙ handed c in
     record {
-      first = c.first_of-first.ensures;
+      first = ap (option_map (λ (w : Waiter). w.task)) (sym c.in-Some.is ∙ c.first_of-first.ensures);
       state = is;
       work = (gone c).work;
       most = omega (arith, one, two);
@@ -77,13 +80,13 @@ returns-in-Some c =
     }
 
 -- no task waited, and the mutex is free
-freed_state : (c : goal.In_default) → (unbound c.self.inside.tables c.args.mutex).state ≡ hand_over c.args.self.now c.args.mutex
+freed_state : (c : In_default) → (unbound c.self.inside.tables c.args.mutex).state ≡ hand_over c.args.self.now c.args.mutex
 freed_state c =
     ap (λ (U : State). with_owner U c.args.mutex None) c.self.view_is
     ∙ ap (hand_over_to c.args.self.now c.args.mutex) (sym c.in_default.is ∙ c.first_of-first.ensures)
 
 freed :
-    (c : goal.In_default)
+    (c : In_default)
     → Walked c.args.self.now (unbound c.self.inside.tables c.args.mutex) c.lose.new.self c.args.visits.now c.lose.new.visits
 freed c =
     let S : State = c.args.self.now in
@@ -96,11 +99,11 @@ freed c =
 pub invariant_of-self-in_default : goal.invariant_of-self-in_default
 invariant_of-self-in_default c = (freed c).settled
 
-pub returns-in_default : goal.returns-in_default
-returns-in_default c =
+pub returns : goal.returns
+returns c =
     let one = c.lose.ensures.single in
     record {
-      first = c.first_of-first.ensures;
+      first = ap (option_map (λ (w : Waiter). w.task)) (sym c.in_default.is ∙ c.first_of-first.ensures);
       state = c.lose.ensures.state ∙ freed_state c;
       work = (freed c).work;
       most = omega (arith, one);

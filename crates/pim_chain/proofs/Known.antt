@@ -1,0 +1,38 @@
+-- What a task owns is known.
+use Rattle.std.proofs.Common.{◌≡◌, ℕ, ◌≤◌, Bool, true, false, cond, refl, sym, ◌∙◌, ap, subst, Option, Some, None, List, [], ◌∷◌, unwrap_or}
+use Rattle.std.specs.List.{AllByRecursion, filter}
+use Rattle.std.proofs.lemmas.Option.{none-some}
+use Rattle.pim_base.specs.Lists.{nth, holds}
+use Rattle.pim_base.specs.State.{State, IsState, IsMutex, owner_of, owned, mutex_numbers}
+use Rattle.pim_base.proofs.Places.{nth_within}
+use Rattle.pim_base.proofs.Stored.{from_holds}
+
+-- what has an owner, is a known mutex
+pub owned_mutex : (S : State) (m t : ℕ) → IsState S → owner_of S m ≡ Some t → IsMutex S m
+owned_mutex S m t lists owns = go (nth S.owner m) refl
+  where
+    go : (o : Option (Option ℕ)) → nth S.owner m ≡ o → IsMutex S m
+    go None e = absurd (none-some t (sym (ap (λ x. unwrap_or x None) e) ∙ owns))
+    go (Some x) e =
+        let within = nth_within S.owner m x e in
+        (within.0, subst (λ n. m ≤ n) lists.owners within.1)
+
+-- a task is the owner of each mutex that it owns
+pub owned_all : (S : State) (t : ℕ) → AllByRecursion (λ m. owner_of S m ≡ Some t) (owned S t)
+owned_all S t = all (mutex_numbers S)
+  where
+    all : (ms : List ℕ) → AllByRecursion (λ m. owner_of S m ≡ Some t) (filter (λ m. holds (owner_of S m) t) ms)
+    all [] = tt
+    all (m ∷ ms) = go (holds (owner_of S m) t) refl (all ms)
+      where
+        go :
+            (b : Bool)
+            → holds (owner_of S m) t ≡ b
+            → AllByRecursion (λ k. owner_of S k ≡ Some t) (filter (λ k. holds (owner_of S k) t) ms)
+            → AllByRecursion (λ k. owner_of S k ≡ Some t) (cond b (m ∷ filter (λ k. holds (owner_of S k) t) ms) (filter (λ k. holds (owner_of S k) t) ms))
+        go true mine rest = (from_holds (owner_of S m) t mine, rest)
+        go false away rest = rest
+
+-- what holds of all that are left, holds of the next and of all behind it
+pub next_all : (P : ℕ → Type 0) (xs ys : List ℕ) (m : ℕ) → xs ≡ m ∷ ys → AllByRecursion P xs → P m × AllByRecursion P ys
+next_all P xs ys m is all = subst (AllByRecursion P) is all

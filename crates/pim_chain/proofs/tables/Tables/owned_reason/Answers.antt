@@ -1,0 +1,25 @@
+use Rattle.std.proofs.Common.{◌≡◌, sym, subst, ◌∙◌, ap, Some, None}
+use Rattle.std.specs.List.{AllByRecursion}
+use Rattle.pim_base.specs.State.{owner_of}
+use Rattle.pim_chain.specs.Owned.{owned_reason}
+use Rattle.pim_chain.proofs.Known.{owned_all, owned_mutex, next_all}
+use Rattle.pim_chain.proofs.tables.Tables.owned_reason.Goals as goal
+
+pub loop-mutex-init : goal.loop-mutex-init
+loop-mutex-init c =
+    let v = c.args.self.now in
+    let all = c.into_iter-mutex-iterator.ensures.into_iter_gives ∙ c.owned-mutex-items.ensures in
+    record {
+      tells = ap (owned_reason v c.args.level None) all;
+      mine = subst (AllByRecursion (λ m. owner_of v.state m ≡ Some c.args.task)) (sym all) (owned_all v.state c.args.task);
+    }
+
+pub ceiling_level-requires : goal.ceiling_level-requires
+ceiling_level-requires c =
+    owned_mutex c.args.self.now.state c.in-Some.mutex c.args.task c.tasks-tasks.ensures.ready.sound.lists
+    (next_all _ _ _ _ c.in-Some.ensures.steps c.loop-mutex.invariant.mine).0
+
+pub lends-requires : goal.lends-requires
+lends-requires c =
+    owned_mutex c.args.self.now.state c.in-Some.mutex c.args.task c.tasks-tasks.ensures.ready.sound.lists
+    (next_all _ _ _ _ c.in-Some.ensures.steps c.loop-mutex.invariant.mine).0
