@@ -47,6 +47,11 @@ impl Hoard {
         let _grain = self.grains.pop();
     }
 
+    /// Gives back the smallest block, or nothing where none is left.
+    fn give_block_back(&mut self) {
+        let _block = self.blocks.pop();
+    }
+
     /// Takes blocks of this size until none is left.
     fn take_blocks(&mut self, alloc: Global, size: usize) -> Result<(), AllocError> {
         for _ in 0..BLOCKS {
@@ -77,6 +82,35 @@ pub fn served_at_last<T: Drop, F: FnMut() -> Option<T>>(
     }
     for _ in 0..GRAINS {
         hoard.give_back();
+        if let Some(answer) = call() {
+            return Ok(answer);
+        }
+    }
+    Err("it was refused with enough memory")?
+}
+
+/// Returns what a call that starts threads answers once there is enough memory. It is tried as by `served_at_last`, and
+/// then again after each block that is given back, since a stack is larger than all grains.
+///
+/// # Errors
+///
+/// Where memory is not refused at first, or still is with all of it given back.
+pub fn started_at_last<T: Drop, F: FnMut() -> Option<T>>(
+    alloc: Global,
+    mut call: F,
+) -> Result<T, Fail>
+    requires { F.IsAlwaysCallable call }
+{
+    let mut hoard = Hoard::new(alloc)?;
+    if call().is_some() {
+        return Err("it was served with no memory")?;
+    }
+    for round in 0..GRAINS + BLOCKS {
+        if round < GRAINS {
+            hoard.give_back();
+        } else {
+            hoard.give_block_back();
+        }
         if let Some(answer) = call() {
             return Ok(answer);
         }

@@ -21,49 +21,60 @@ fn book<R: Wait + Abort>(rt: &R, alloc: Global, room: usize) -> Book {
 #[test]
 fn a_book_shows_the_manager_as_it_is_now(rt: HostRuntime) {
     let mut book = book(&rt, rt.alloc(), 2);
-    assert_eq!(rt; book.manager().base(TaskNo(2)), Some(prio(&rt, 20)));
-    assert_eq!(rt; book.entries().len(), 0);
-    assert_eq!(rt; book.call(&rt, base(2, 70)), Ok(Reply::Set));
-    assert_eq!(rt; book.manager().base(TaskNo(2)), Some(prio(&rt, 70)));
-    assert!(rt; book.entries() == [entry(base(2, 70), Reply::Set)].as_slice());
-    assert!(rt; !book.is_closed());
+    let before = (book.manager().base(TaskNo(2)), book.entries().len());
+    let answer = book.call(&rt, base(2, 70));
+    let after = (book.manager().base(TaskNo(2)), book.is_closed());
+    let is_entry = book.entries() == [entry(base(2, 70), Reply::Set)].as_slice();
     let (_, _log) = book.end(&rt);
+    assert_eq!(rt; before, (Some(prio(&rt, 20)), 0));
+    assert_eq!(rt; answer, Ok(Reply::Set));
+    assert_eq!(rt; after, (Some(prio(&rt, 70)), false));
+    assert!(rt; is_entry);
 }
 
 #[test]
 fn a_full_book_is_closed_and_else_unchanged(rt: HostRuntime) {
     let mut book = book(&rt, rt.alloc(), 1);
-    assert_eq!(rt; book.call(&rt, base(2, 70)), Ok(Reply::Set));
-    assert_eq!(rt; book.call(&rt, base(2, 80)), Err(SharedFault::Full));
-    assert!(rt; book.is_closed());
-    assert_eq!(rt; book.call(&rt, base(2, 90)), Err(SharedFault::Closed));
-    assert!(rt; book.is_closed());
-    assert_eq!(rt; book.entries().len(), 1);
-    assert_eq!(rt; book.manager().base(TaskNo(2)), Some(prio(&rt, 70)));
+    let set = book.call(&rt, base(2, 70));
+    let full = (book.call(&rt, base(2, 80)), book.is_closed());
+    let closed = (book.call(&rt, base(2, 90)), book.is_closed());
+    let after = (book.entries().len(), book.manager().base(TaskNo(2)));
     let (_, _log) = book.end(&rt);
+    assert_eq!(rt; set, Ok(Reply::Set));
+    assert_eq!(rt; full, (Err(SharedFault::Full), true));
+    assert_eq!(rt; closed, (Err(SharedFault::Closed), true));
+    assert_eq!(rt; after, (1, Some(prio(&rt, 70))));
+}
+
+// what the book answers of each task and mutex
+fn expect_settled(rt: &impl Abort, book: &Book, answers: &[(u16, u16, Option<Settled>)]) {
+    for (task, mutex, settled) in answers {
+        let answer = book.settled(TaskNo(*task), MutexNo(*mutex));
+        assert_eq!(rt; answer, *settled, "{task} {mutex}");
+    }
 }
 
 #[test]
 fn a_task_is_settled_unless_it_waits(rt: HostRuntime) {
-    let (one, two) = (TaskNo(1), TaskNo(2));
+    let (owns, withdrawn) = (Some(Settled::Owns), Some(Settled::Withdrawn));
     let mut book = book(&rt, rt.alloc(), 3);
-    assert_eq!(rt; book.settled(one, FIRST), Some(Settled::Withdrawn));
-    assert_eq!(rt; book.call(&rt, by(1, Lock(FIRST))), Ok(Reply::Granted));
-    assert_eq!(rt; book.settled(one, FIRST), Some(Settled::Owns));
-    assert_eq!(rt; book.settled(two, FIRST), Some(Settled::Withdrawn));
-    assert_eq!(rt; book.call(&rt, by(2, Lock(FIRST))), Ok(Reply::Queued));
-    assert_eq!(rt; book.settled(two, FIRST), None);
-    assert_eq!(rt; book.settled(two, MutexNo(2)), None);
-    assert_eq!(rt;
-        book.call(&rt, by(1, Unlock(FIRST))),
-        Ok(Reply::Handed(two))
+    expect_settled(&rt, &book, &[(1, 1, withdrawn)]);
+    let granted = book.call(&rt, by(1, Lock(FIRST)));
+    expect_settled(&rt, &book, &[(1, 1, owns), (2, 1, withdrawn)]);
+    let queued = book.call(&rt, by(2, Lock(FIRST)));
+    expect_settled(&rt, &book, &[(2, 1, None), (2, 2, None)]);
+    let handed = book.call(&rt, by(1, Unlock(FIRST)));
+    expect_settled(
+        &rt,
+        &book,
+        &[
+            (2, 1, owns),
+            (1, 1, withdrawn),
+            (0, 0, withdrawn),
+            (3, 1, withdrawn),
+        ],
     );
-    assert_eq!(rt; book.settled(two, FIRST), Some(Settled::Owns));
-    assert_eq!(rt; book.settled(one, FIRST), Some(Settled::Withdrawn));
-    assert_eq!(rt;
-        book.settled(TaskNo(0), MutexNo(0)),
-        Some(Settled::Withdrawn)
-    );
-    assert_eq!(rt; book.settled(TaskNo(3), FIRST), Some(Settled::Withdrawn));
     let (_, _log) = book.end(&rt);
+    assert_eq!(rt; [granted, queued], [Ok(Reply::Granted), Ok(Reply::Queued)]);
+    assert_eq!(rt; handed, Ok(Reply::Handed(TaskNo(2))));
 }

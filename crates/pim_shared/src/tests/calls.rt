@@ -9,20 +9,26 @@ use pim_base::{Refusal, Reply};
 fn a_full_log_closes(rt: HostRuntime) {
     let manager = made(&rt, rt.alloc(), &[10], &[Protocol::None]);
     let (shared, _) = Shared::new(&rt, rt.alloc(), manager, 2, 0).expect(&rt, "memory");
-    assert_eq!(rt; shared.call(&rt, by(1, Lock(FIRST))), Ok(Reply::Granted));
-    assert_eq!(rt; shared.call(&rt, by(1, Unlock(FIRST))), Ok(Reply::Freed));
-    assert_eq!(rt; shared.call(&rt, by(1, Try(FIRST))), Err(SharedFault::Full));
-    assert_eq!(rt;
+    let answers = [
         shared.call(&rt, by(1, Lock(FIRST))),
-        Err(SharedFault::Closed)
-    );
+        shared.call(&rt, by(1, Unlock(FIRST))),
+        shared.call(&rt, by(1, Try(FIRST))),
+        shared.call(&rt, by(1, Lock(FIRST))),
+    ];
     let (manager, log) = shared.finish(&rt);
+    let owner = manager.owner(FIRST);
+    drop(manager);
+    let (full, closed) = (Err(SharedFault::Full), Err(SharedFault::Closed));
+    assert_eq!(rt;
+        answers,
+        [Ok(Reply::Granted), Ok(Reply::Freed), full, closed]
+    );
     let entries = [
         entry(by(1, Lock(FIRST)), Reply::Granted),
         entry(by(1, Unlock(FIRST)), Reply::Freed),
     ];
     assert!(rt; log.entries() == entries.as_slice());
-    assert_eq!(rt; manager.owner(FIRST), Some(None));
+    assert_eq!(rt; owner, Some(None));
 }
 
 #[test]
@@ -49,33 +55,41 @@ fn a_refused_step_is_an_entry_like_any_other(rt: HostRuntime) {
     assert!(rt; log.entries() == entries.as_slice());
 }
 
-#[test]
-fn the_log_begins_at_the_manager_handed_in(rt: HostRuntime) {
-    let mut manager = made(&rt, rt.alloc(), &[10, 20], &[Protocol::None]);
-    manager.run(&[by(1, Lock(FIRST)), by(2, Lock(FIRST)), base(1, 70)]);
-    let (shared, _) = Shared::new(&rt, rt.alloc(), manager, 4, 0).expect(&rt, "memory");
-    assert_eq!(rt;
-        shared.call(&rt, by(1, Unlock(FIRST))),
-        Ok(Reply::Handed(TaskNo(2)))
-    );
-    let (manager, log) = shared.finish(&rt);
-    assert_eq!(rt; log.start().owner(FIRST), Some(Some(TaskNo(1))));
-    assert_eq!(rt; log.start().waits_for(TaskNo(2)), Some(Some(FIRST)));
-    assert_eq!(rt; log.start().base(TaskNo(1)), Some(prio(&rt, 70)));
-    assert_eq!(rt; log.start().base(TaskNo(2)), Some(prio(&rt, 20)));
-    assert_eq!(rt; log.start().protocol(FIRST), Some(Protocol::None));
-    assert_eq!(rt; log.start().next_ticket(), 2);
-    assert_eq!(rt; log.entries().len(), 1);
+// task 1 at 70 owns the mutex, and task 2 at 20 waits for it with the first ticket
+fn expect_waiting(rt: &impl Abort, manager: &Manager) {
+    assert_eq!(rt; manager.owner(FIRST), Some(Some(TaskNo(1))));
+    assert_eq!(rt; manager.waits_for(TaskNo(2)), Some(Some(FIRST)));
+    assert_eq!(rt; manager.base(TaskNo(1)), Some(prio(rt, 70)));
+    assert_eq!(rt; manager.base(TaskNo(2)), Some(prio(rt, 20)));
+    assert_eq!(rt; manager.protocol(FIRST), Some(Protocol::None));
+    assert_eq!(rt; manager.next_ticket(), 2);
+}
+
+// the mutex was handed to task 2
+fn expect_handed(rt: &impl Abort, manager: &Manager) {
     assert_eq!(rt; manager.owner(FIRST), Some(Some(TaskNo(2))));
     assert_eq!(rt; manager.waits_for(TaskNo(2)), Some(None));
 }
 
 #[test]
+fn the_log_begins_at_the_manager_handed_in(rt: HostRuntime) {
+    let mut manager = made(&rt, rt.alloc(), &[10, 20], &[Protocol::None]);
+    manager.run(&[by(1, Lock(FIRST)), by(2, Lock(FIRST)), base(1, 70)]);
+    let (shared, _) = Shared::new(&rt, rt.alloc(), manager, 4, 0).expect(&rt, "memory");
+    let answer = shared.call(&rt, by(1, Unlock(FIRST)));
+    let (manager, log) = shared.finish(&rt);
+    expect_waiting(&rt, log.start());
+    expect_handed(&rt, &manager);
+    assert_eq!(rt; answer, Ok(Reply::Handed(TaskNo(2))));
+    assert_eq!(rt; log.entries().len(), 1);
+}
+
+#[test]
 fn nothing_called_leaves_the_manager_and_an_empty_log(rt: HostRuntime) {
     let (shared, lookers) = shared(&rt, rt.alloc(), &[Protocol::None], 4, 8);
-    assert_eq!(rt; lookers.len(), 8);
+    let lookers = lookers.len();
     let (manager, log) = shared.finish(&rt);
-    assert_eq!(rt; log.entries().len(), 0);
-    assert_eq!(rt; log.start().tasks(), 2);
-    assert_eq!(rt; manager.mutexes(), 1);
+    let entries = log.entries().len();
+    let sizes = (log.start().tasks(), manager.mutexes());
+    assert_eq!(rt; (lookers, entries, sizes), (8, 0, (2, 1)));
 }

@@ -9,45 +9,75 @@ const SECOND: TaskNo = TaskNo(2);
 fn a_looker_sees_the_call_made_with_it(rt: HostRuntime) {
     let (shared, mut lookers) = shared(&rt, rt.alloc(), &[], 3, 1);
     let looker = lookers.get_mut(0).expect(&rt, "a looker");
-    assert_eq!(rt; shared.call_with(&rt, looker, base(2, 70)), Ok(Reply::Set));
-    assert_eq!(rt; looker.look(SECOND), at_base(&rt, 1, 70));
-    assert_eq!(rt; looker.look(TaskNo(3)), Ok(None));
+    let answer = shared.call_with(&rt, looker, base(2, 70));
+    let seen = [looker.look(SECOND), looker.look(TaskNo(3))];
     let (_, log) = shared.finish(&rt);
-    assert_eq!(rt; log.entries().len(), 1);
+    assert_eq!(rt; (answer, log.entries().len()), (Ok(Reply::Set), 1));
+    assert_eq!(rt; seen, [at_base(&rt, 1, 70), Ok(None)]);
+}
+
+/// A shared manager with room for three entries, and two lookers of it.
+fn with_two_lookers<R: Wait + Abort>(rt: &R, alloc: Global) -> (Shared, Looker, Looker) {
+    let (shared, mut lookers) = shared(rt, alloc, &[], 3, 2);
+    let b = lookers.pop().expect(rt, "a looker");
+    let a = lookers.pop().expect(rt, "a looker");
+    (shared, a, b)
+}
+
+/// What a call is answered, and what its looker then sees of task 2.
+type Found = (
+    Result<Reply, SharedFault>,
+    Result<Option<Seen>, SharedFault>,
+);
+
+/// Makes the call with the looker, and then looks.
+fn find<R: Wait>(rt: &R, shared: &Shared, looker: &mut Looker, step: Step) -> Found {
+    (shared.call_with(rt, looker, step), looker.look(SECOND))
 }
 
 #[test]
 fn two_lookers_learn_of_their_own_calls_and_of_others(rt: HostRuntime) {
-    let (shared, mut lookers) = shared(&rt, rt.alloc(), &[], 3, 2);
-    let mut b = lookers.pop().expect(&rt, "a looker");
-    let mut a = lookers.pop().expect(&rt, "a looker");
-    assert_eq!(rt; shared.call_with(&rt, &mut a, base(2, 70)), Ok(Reply::Set));
-    assert_eq!(rt; a.look(SECOND), at_base(&rt, 1, 70));
-    assert_eq!(rt; shared.call(&rt, base(2, 30)), Ok(Reply::Set));
-    assert_eq!(rt; a.look(SECOND), at_base(&rt, 2, 30));
-    let unknown = by(2, Op::SetBase(TaskNo(9), 5));
-    let refused = Reply::Refused(Refusal::NoTask);
-    assert_eq!(rt; shared.call_with(&rt, &mut b, unknown), Ok(refused));
-    assert_eq!(rt; b.look(SECOND), at_base(&rt, 3, 30));
-    let full = Err(SharedFault::Full);
-    assert_eq!(rt; shared.call_with(&rt, &mut a, base(2, 40)), full);
-    assert_eq!(rt; a.look(SECOND), at_base(&rt, 3, 30));
-    let closed = Err(SharedFault::Closed);
-    assert_eq!(rt; shared.call_with(&rt, &mut b, base(2, 40)), closed);
+    let (shared, mut a, mut b) = with_two_lookers(&rt, rt.alloc());
+    let own = find(&rt, &shared, &mut a, base(2, 70));
+    let other = (shared.call(&rt, base(2, 30)), a.look(SECOND));
+    let unknown = find(&rt, &shared, &mut b, by(2, Op::SetBase(TaskNo(9), 5)));
+    let full = find(&rt, &shared, &mut a, base(2, 40));
+    let closed = find(&rt, &shared, &mut b, base(2, 40));
     let (_, log) = shared.finish(&rt);
     assert_eq!(rt; log.entries().len(), 3);
+    assert_eq!(rt;
+        [own, other],
+        [
+            (Ok(Reply::Set), at_base(&rt, 1, 70)),
+            (Ok(Reply::Set), at_base(&rt, 2, 30)),
+        ]
+    );
+    assert_eq!(rt;
+        [unknown, full, closed],
+        [
+            (Ok(Reply::Refused(Refusal::NoTask)), at_base(&rt, 3, 30)),
+            (Err(SharedFault::Full), at_base(&rt, 3, 30)),
+            (Err(SharedFault::Closed), at_base(&rt, 3, 30)),
+        ]
+    );
 }
 
 #[test]
 fn two_equal_calls_are_two_entries(rt: HostRuntime) {
-    let (shared, mut lookers) = shared(&rt, rt.alloc(), &[], 3, 2);
-    let mut b = lookers.pop().expect(&rt, "a looker");
-    let mut a = lookers.pop().expect(&rt, "a looker");
-    assert_eq!(rt; shared.call_with(&rt, &mut a, base(2, 70)), Ok(Reply::Set));
-    assert_eq!(rt; shared.call_with(&rt, &mut b, base(2, 70)), Ok(Reply::Set));
-    assert_eq!(rt; b.look(SECOND), at_base(&rt, 2, 70));
+    let (shared, mut a, mut b) = with_two_lookers(&rt, rt.alloc());
+    let found = [
+        find(&rt, &shared, &mut a, base(2, 70)),
+        find(&rt, &shared, &mut b, base(2, 70)),
+    ];
     let (_, log) = shared.finish(&rt);
     assert_eq!(rt; log.entries().len(), 2);
+    assert_eq!(rt;
+        found,
+        [
+            (Ok(Reply::Set), at_base(&rt, 1, 70)),
+            (Ok(Reply::Set), at_base(&rt, 2, 70)),
+        ]
+    );
 }
 
 #[test]
@@ -55,16 +85,20 @@ fn a_looker_of_another_manager_finds_no_place(rt: HostRuntime) {
     let (one, _) = shared(&rt, rt.alloc(), &[], 3, 1);
     let (other, mut lookers) = shared(&rt, rt.alloc(), &[], 3, 1);
     let strange = lookers.get_mut(0).expect(&rt, "a looker");
-    let no_place = Err(SharedFault::NoPlace);
-    assert_eq!(rt; one.call_with(&rt, strange, base(2, 70)), no_place);
-    assert_eq!(rt; strange.look(SECOND), at_base(&rt, 0, 20));
+    let open = find(&rt, &one, strange, base(2, 70));
     let (_, other_log) = other.finish(&rt);
-    assert_eq!(rt; other_log.entries().len(), 0);
-    assert_eq!(rt; one.call_with(&rt, strange, base(2, 80)), no_place);
-    assert_eq!(rt; strange.look(SECOND), Err(SharedFault::Closed));
+    let ended = find(&rt, &one, strange, base(2, 80));
     let (manager, log) = one.finish(&rt);
-    assert_eq!(rt; log.entries().len(), 2);
-    assert_eq!(rt; manager.base(SECOND), Some(prio(&rt, 80)));
+    let entries = (other_log.entries().len(), log.entries().len());
+    let prio_now = manager.base(SECOND);
+    assert_eq!(rt;
+        [open, ended],
+        [
+            (Err(SharedFault::NoPlace), at_base(&rt, 0, 20)),
+            (Err(SharedFault::NoPlace), Err(SharedFault::Closed)),
+        ]
+    );
+    assert_eq!(rt; (entries, prio_now), ((0, 2), Some(prio(&rt, 80))));
 }
 
 #[test]
@@ -72,12 +106,10 @@ fn a_looker_sees_what_a_look_would_when_it_finds_no_place(rt: HostRuntime) {
     let (one, _) = shared(&rt, rt.alloc(), &[], 3, 1);
     let (other, mut lookers) = shared(&rt, rt.alloc(), &[], 3, 1);
     let strange = lookers.get_mut(0).expect(&rt, "a looker");
-    assert_eq!(rt; other.call(&rt, base(2, 30)), Ok(Reply::Set));
-    assert_eq!(rt;
-        one.call_with(&rt, strange, base(2, 70)),
-        Err(SharedFault::NoPlace)
-    );
-    assert_eq!(rt; strange.look(SECOND), at_base(&rt, 1, 30));
+    let answer = other.call(&rt, base(2, 30));
+    let found = find(&rt, &one, strange, base(2, 70));
     let (_, _log) = one.finish(&rt);
     let (_, _log) = other.finish(&rt);
+    assert_eq!(rt; answer, Ok(Reply::Set));
+    assert_eq!(rt; found, (Err(SharedFault::NoPlace), at_base(&rt, 1, 30)));
 }

@@ -11,43 +11,53 @@ const NINTH: MutexNo = MutexNo(9);
 #[test]
 fn a_waiter_is_let_go_when_a_fault_closes(rt: HostRuntime) {
     let (shared, _) = shared(&rt, rt.alloc(), &[Protocol::None], 2, 0);
-    assert_eq!(rt; shared.call(&rt, by(1, Lock(FIRST))), Ok(Reply::Granted));
-    assert_eq!(rt; shared.settle(&rt, TaskNo(1), FIRST), Ok(Settled::Owns));
-    assert_eq!(rt;
+    let granted = shared.call(&rt, by(1, Lock(FIRST)));
+    let open = [
+        shared.settle(&rt, TaskNo(1), FIRST),
         shared.settle(&rt, TaskNo(2), FIRST),
-        Ok(Settled::Withdrawn)
-    );
-    assert_eq!(rt;
         shared.settle(&rt, TaskNo(9), NINTH),
-        Ok(Settled::Withdrawn)
-    );
-    assert_eq!(rt; shared.call(&rt, by(2, Lock(FIRST))), Ok(Reply::Queued));
-    assert_eq!(rt; shared.call(&rt, by(1, Try(FIRST))), Err(SharedFault::Full));
-    assert_eq!(rt;
+    ];
+    let queued = shared.call(&rt, by(2, Lock(FIRST)));
+    let full = shared.call(&rt, by(1, Try(FIRST)));
+    let closed = [
         shared.settle(&rt, TaskNo(2), FIRST),
-        Err(SharedFault::Closed)
-    );
-    assert_eq!(rt; shared.settle(&rt, TaskNo(1), FIRST), Ok(Settled::Owns));
+        shared.settle(&rt, TaskNo(1), FIRST),
+    ];
     let (_, log) = shared.finish(&rt);
+    let (owns, withdrawn) = (Ok(Settled::Owns), Ok(Settled::Withdrawn));
     assert_eq!(rt; log.entries().len(), 2);
+    assert_eq!(rt;
+        [granted, queued, full],
+        [
+            Ok(Reply::Granted),
+            Ok(Reply::Queued),
+            Err(SharedFault::Full)
+        ]
+    );
+    assert_eq!(rt; open, [owns, withdrawn, withdrawn]);
+    assert_eq!(rt; closed, [Err(SharedFault::Closed), owns]);
 }
 
 #[test]
 fn a_waiter_owns_after_the_hand_over(rt: HostRuntime) {
     let (shared, _) = shared(&rt, rt.alloc(), &[Protocol::None], 3, 0);
-    assert_eq!(rt; shared.call(&rt, by(1, Lock(FIRST))), Ok(Reply::Granted));
-    assert_eq!(rt; shared.call(&rt, by(2, Lock(FIRST))), Ok(Reply::Queued));
-    assert_eq!(rt;
+    let replies = [
+        shared.call(&rt, by(1, Lock(FIRST))),
+        shared.call(&rt, by(2, Lock(FIRST))),
         shared.call(&rt, by(1, Unlock(FIRST))),
-        Ok(Reply::Handed(TaskNo(2)))
-    );
-    assert_eq!(rt; shared.settle(&rt, TaskNo(2), FIRST), Ok(Settled::Owns));
-    assert_eq!(rt;
+    ];
+    let settled = [
+        shared.settle(&rt, TaskNo(2), FIRST),
         shared.settle(&rt, TaskNo(1), FIRST),
-        Ok(Settled::Withdrawn)
-    );
+    ];
     let (_, log) = shared.finish(&rt);
     assert_eq!(rt; log.entries().len(), 3);
+    let handed = Reply::Handed(TaskNo(2));
+    assert_eq!(rt;
+        replies,
+        [Ok(Reply::Granted), Ok(Reply::Queued), Ok(handed)]
+    );
+    assert_eq!(rt; settled, [Ok(Settled::Owns), Ok(Settled::Withdrawn)]);
 }
 
 /// What task 2, queued behind task 1 in a thread of its own, is answered when task 1 makes this step.

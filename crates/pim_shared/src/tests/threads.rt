@@ -43,6 +43,16 @@ fn entries_of(alloc: Global, entries: &[Entry], task: u16) -> Result<Vec<Entry>,
     Ok(own)
 }
 
+// two tasks at 10 and 20 and a free mutex
+fn expect_start(rt: &impl Abort, start: &Manager) {
+    assert_eq!(rt; (start.tasks(), start.mutexes()), (2, 1));
+    assert_eq!(rt; start.base(TaskNo(1)), Some(prio(rt, 10)));
+    assert_eq!(rt; start.base(TaskNo(2)), Some(prio(rt, 20)));
+    assert_eq!(rt; start.protocol(FIRST), Some(Protocol::None));
+    assert_eq!(rt; start.owner(FIRST), Some(None));
+    assert_eq!(rt; start.next_ticket(), 1);
+}
+
 #[test]
 fn two_threads_have_all_their_calls_in_the_log(rt: HostRuntime) {
     let (shared, _) = shared(&rt, rt.alloc(), &[Protocol::None], 2 * CALLS, 0);
@@ -54,17 +64,11 @@ fn two_threads_have_all_their_calls_in_the_log(rt: HostRuntime) {
     let one = one.expect(&rt, "100 replies");
     let two = two.expect(&rt, "100 replies");
     let (_, log) = shared.finish(&rt);
-    assert_eq!(rt; log.entries().len(), 200);
-    assert_eq!(rt; one.len(), CALLS);
-    assert_eq!(rt; two.len(), CALLS);
-    let start = log.start();
-    assert_eq!(rt; start.tasks(), 2);
-    assert_eq!(rt; start.mutexes(), 1);
-    assert_eq!(rt; start.base(TaskNo(1)), Some(prio(&rt, 10)));
-    assert_eq!(rt; start.base(TaskNo(2)), Some(prio(&rt, 20)));
-    assert_eq!(rt; start.protocol(FIRST), Some(Protocol::None));
-    assert_eq!(rt; start.owner(FIRST), Some(None));
-    assert_eq!(rt; start.next_ticket(), 1);
+    expect_start(&rt, log.start());
+    assert_eq!(rt;
+        (log.entries().len(), one.len(), two.len()),
+        (200, CALLS, CALLS)
+    );
     let own = entries_of(rt.alloc(), log.entries(), 1).expect(&rt, "memory");
     assert!(rt; own == one);
     let own = entries_of(rt.alloc(), log.entries(), 2).expect(&rt, "memory");
