@@ -33,7 +33,7 @@ public:
 private:
     static pim_answer as_answer(Reply reply) {
         const Answer told = reply.answer;
-        if (Answer::NoTask <= told && told <= Answer::NotProtect)
+        if (Answer::NoTask <= told && told <= Answer::Again)
             return {PIM_REFUSED, uint8_t(unsigned(told) - unsigned(Answer::NoTask) + 1), 0, 0};
         return {kind(told), 0, reply.number, 0};
     }
@@ -46,6 +46,7 @@ private:
             case Answer::Handed: return PIM_HANDED;
             case Answer::Released: return PIM_RELEASED;
             case Answer::Withdrawn: return PIM_WITHDRAWN;
+            case Answer::Kept: return PIM_KEPT;
             default: return PIM_SET;
         }
     }

@@ -487,6 +487,7 @@ fn count_up(rt: &impl Abort, tables: &mut Tables, times: u16) {
     for _time in 0..times {
         assert!(rt; tables.relocks(TaskNo(1), MutexNo(1)));
         assert!(rt; !tables.is_locked_too_often(TaskNo(1), MutexNo(1)));
+        assert!(rt; tables.count_of(MutexNo(1)) < 255);
         tables.count_up(MutexNo(1));
     }
 }
