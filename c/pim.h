@@ -1,5 +1,5 @@
 /* pim.h - a proved manager of mutexes with the three protocols of POSIX.1-2017: NONE, INHERIT and
- * PROTECT.
+ * PROTECT. An INHERIT mutex may be recursive.
  *
  * The manager decides and keeps books; it blocks nobody and switches nothing. The caller, a kernel
  * or a run-time library, asks it about each lock and unlock, does what the answer says, and gives
@@ -24,7 +24,18 @@
  * unknown kind of protocol is refused. Between two calls no cycle of waits stands, each queue is in
  * order, and each task has exactly the priority that the protocols give it: the greatest of its
  * base, the ceilings of the PROTECT mutexes that it owns, and the effective priorities of those who
- * wait for the INHERIT mutexes that it owns.
+ * wait for the INHERIT mutexes that it owns, recursive ones included.
+ *
+ *
+ * Recursive mutexes
+ *
+ * A mutex of the kind PIM_INHERIT_RECURSIVE is an INHERIT mutex of the type
+ * PTHREAD_MUTEX_RECURSIVE: its owner may lock it again, by pim_lock or pim_try, up to PIM_MAX_COUNT
+ * times in all, and has it until it has unlocked it as often. pim_count tells how often that is.
+ * Each further lock is PIM_GRANTED at once, whoever waits. Each unlock but the last is PIM_KEPT: the
+ * task goes on and owns the mutex still, nobody is to run on, and no priority changed, so a
+ * scheduler has nothing to queue anew. The last one is PIM_HANDED or PIM_FREED, as of any mutex. A
+ * mutex that is handed over counts 1, and pim_release_all unlocks one wholly, whatever its count.
  *
  *
  * What the caller must keep
@@ -68,6 +79,7 @@
  *   pim_base_prio         64   a few loads
  *   pim_waits_for         64   a few loads
  *   pim_owner             64   a few loads
+ *   pim_count             64   a few loads
  *   pim_mutex_protocol    64   a few loads
  *   pim_task_count        64   a few loads
  *   pim_mutex_count       64   a few loads
@@ -99,8 +111,11 @@ extern "C" {
 #define PIM_MAX_TASKS 256u
 #define PIM_MAX_MUTEXES 256u
 
-/* What stands for the owner of an unknown mutex, what an unknown task waits for, and the protocol
- * of an unknown mutex. */
+/* How often a recursive mutex may be locked at the same time. */
+#define PIM_MAX_COUNT 255u
+
+/* What stands for the owner, the count and the protocol of an unknown mutex, and for what an
+ * unknown task waits for. */
 #define PIM_UNKNOWN 65535u
 
 /* The most bytes of stack that any call takes, without what memmove, memset and the heap's
@@ -110,7 +125,7 @@ extern "C" {
 /* The most bytes that a manager takes from heap/static.c or heap/given.c, where the memory is
  * aligned to 16. */
 #define PIM_MEMORY(tasks, mutexes) \
-    (1056u + 88u * (tasks) + 64u * (mutexes) + 16u * (tasks) * (mutexes))
+    (1088u + 88u * (tasks) + 64u * (mutexes) + 16u * (tasks) * (mutexes))
 
 /* ---- the handle ------------------------------------------------------------------------------ */
 
@@ -125,9 +140,10 @@ struct pim_handle {
 
 /* How owning a mutex affects its owner's priority. */
 enum {
-    PIM_NONE = 0,    /* not at all */
-    PIM_INHERIT = 1, /* the owner executes at least at the priority of each waiter */
-    PIM_PROTECT = 2  /* the owner executes at least at the mutex's ceiling */
+    PIM_NONE = 0,             /* not at all */
+    PIM_INHERIT = 1,          /* the owner executes at least at the priority of each waiter */
+    PIM_PROTECT = 2,          /* the owner executes at least at the mutex's ceiling */
+    PIM_INHERIT_RECURSIVE = 3 /* as PIM_INHERIT; and the owner may lock the mutex again */
 };
 
 /* What pim_make returns: the first of these that holds. */
@@ -151,23 +167,27 @@ enum {
     PIM_RELEASED = 5,   /* `number` mutexes were unlocked; pim_owner says who owns one that had waiters */
     PIM_WITHDRAWN = 6,  /* the target waits no more: it is to run on, without the mutex */
     PIM_SET = 7,        /* the target has the new base priority, or the mutex the new ceiling */
-    PIM_REFUSED = 8     /* nothing changed at all; `refusal` says why */
+    PIM_REFUSED = 8,    /* nothing changed at all; `refusal` says why */
+    PIM_KEPT = 9        /* the task locked the mutex more often, and owns it still */
 };
 
 /* Why a step is refused: the first of its tests that fails. In brackets the error that POSIX has
  * for the call. */
 enum {
-    PIM_NO_TASK = 1,     /* the task or the target is unknown (ESRCH) */
-    PIM_WAITING = 2,     /* the task waits, and the step isn't the withdrawal of itself */
-    PIM_NO_MUTEX = 3,    /* the mutex is unknown (EINVAL) */
-    PIM_DEADLOCK = 4,    /* the request would close a cycle of waits, its own mutex included (EDEADLK) */
-    PIM_CEILING = 5,     /* the task's base priority is above the ceiling of a PROTECT mutex (EINVAL) */
-    PIM_BUSY = 6,        /* a try on an owned mutex (EBUSY); a new ceiling of one that another owns */
-    PIM_NOT_OWNER = 7,   /* the task doesn't own the mutex (EPERM) */
-    PIM_NOT_WAITING = 8, /* the target of a cancel doesn't wait */
-    PIM_PRIORITY = 9,    /* the new base priority or the new ceiling isn't 1 to 99 (EINVAL) */
-    PIM_TICKETS = 10,    /* 2^64 - 2 waits were queued */
-    PIM_NOT_PROTECT = 11 /* a new ceiling of a mutex that isn't a PROTECT one (EINVAL) */
+    PIM_NO_TASK = 1,      /* the task or the target is unknown (ESRCH) */
+    PIM_WAITING = 2,      /* the task waits, and the step isn't the withdrawal of itself */
+    PIM_NO_MUTEX = 3,     /* the mutex is unknown (EINVAL) */
+    PIM_DEADLOCK = 4,     /* the request would close a cycle of waits, its own mutex included, unless
+                           * that is recursive (EDEADLK) */
+    PIM_CEILING = 5,      /* the task's base priority is above the ceiling of a PROTECT mutex (EINVAL) */
+    PIM_BUSY = 6,         /* a try on an owned mutex, its own recursive one excepted (EBUSY); a new
+                           * ceiling of one that another owns */
+    PIM_NOT_OWNER = 7,    /* the task doesn't own the mutex (EPERM) */
+    PIM_NOT_WAITING = 8,  /* the target of a cancel doesn't wait */
+    PIM_PRIORITY = 9,     /* the new base priority or the new ceiling isn't 1 to 99 (EINVAL) */
+    PIM_TICKETS = 10,     /* 2^64 - 2 waits were queued */
+    PIM_NOT_PROTECT = 11, /* a new ceiling of a mutex that isn't a PROTECT one (EINVAL) */
+    PIM_AGAIN = 12        /* the task has locked the recursive mutex PIM_MAX_COUNT times (EAGAIN) */
 };
 
 /* Why a task has its effective priority: the first of these that gives it. */
@@ -181,13 +201,13 @@ enum {
 /* ---- what is passed -------------------------------------------------------------------------- */
 
 struct pim_protocol {
-    uint16_t kind;    /* PIM_NONE, PIM_INHERIT or PIM_PROTECT */
+    uint16_t kind;    /* PIM_NONE .. PIM_INHERIT_RECURSIVE */
     uint16_t ceiling; /* of a PROTECT mutex, 1 to 99; that of the others isn't read */
 };
 
 struct pim_answer {
-    uint8_t kind;    /* PIM_NO_MANAGER .. PIM_REFUSED */
-    uint8_t refusal; /* PIM_NO_TASK .. PIM_NOT_PROTECT, or 0 */
+    uint8_t kind;    /* PIM_NO_MANAGER .. PIM_KEPT */
+    uint8_t refusal; /* PIM_NO_TASK .. PIM_AGAIN, or 0 */
     uint16_t number; /* the task that was handed the mutex, or how many mutexes were released, or 0 */
     uint32_t visits; /* how many priorities were computed */
 };
@@ -226,21 +246,23 @@ void pim_drop(struct pim_handle *h);
 
 /* ---- steps ----------------------------------------------------------------------------------- */
 
-/* pthread_mutex_lock: the task owns the mutex if it is free (PIM_GRANTED), else waits for it
- * (PIM_QUEUED). Refused: PIM_NO_TASK, PIM_WAITING, PIM_NO_MUTEX, PIM_DEADLOCK, PIM_CEILING,
- * PIM_TICKETS. */
+/* pthread_mutex_lock: the task owns the mutex if it is free, or recursive and its own already
+ * (PIM_GRANTED), else waits for it (PIM_QUEUED). Refused: PIM_NO_TASK, PIM_WAITING, PIM_NO_MUTEX,
+ * PIM_AGAIN, PIM_DEADLOCK, PIM_CEILING, PIM_TICKETS. */
 struct pim_answer pim_lock(struct pim_handle *h, uint16_t task, uint16_t mutex);
 
-/* pthread_mutex_trylock: the task owns the mutex if it is free (PIM_GRANTED). Refused: PIM_NO_TASK,
- * PIM_WAITING, PIM_NO_MUTEX, PIM_CEILING, PIM_BUSY. */
+/* pthread_mutex_trylock: the task owns the mutex if it is free, or recursive and its own already
+ * (PIM_GRANTED). Refused: PIM_NO_TASK, PIM_WAITING, PIM_NO_MUTEX, PIM_AGAIN, PIM_CEILING, PIM_BUSY.
+ */
 struct pim_answer pim_try(struct pim_handle *h, uint16_t task, uint16_t mutex);
 
 /* pthread_mutex_unlock: the mutex goes to the first of its queue (PIM_HANDED), or is free
- * (PIM_FREED). Refused: PIM_NO_TASK, PIM_WAITING, PIM_NO_MUTEX, PIM_NOT_OWNER. */
+ * (PIM_FREED); or it was locked more often, and is the task's still (PIM_KEPT). Refused:
+ * PIM_NO_TASK, PIM_WAITING, PIM_NO_MUTEX, PIM_NOT_OWNER. */
 struct pim_answer pim_unlock(struct pim_handle *h, uint16_t task, uint16_t mutex);
 
-/* Unlocks all mutexes of the task in ascending order (PIM_RELEASED), as where a thread ends.
- * Refused: PIM_NO_TASK, PIM_WAITING. */
+/* Unlocks all mutexes of the task in ascending order (PIM_RELEASED), as where a thread ends, each
+ * wholly, however often it was locked. Refused: PIM_NO_TASK, PIM_WAITING. */
 struct pim_answer pim_release_all(struct pim_handle *h, uint16_t task);
 
 /* Withdraws the target, which waits, from its queue (PIM_WITHDRAWN), as where a time is out or a
@@ -293,6 +315,10 @@ uint16_t pim_waits_for(struct pim_handle *h, uint16_t task);
 
 /* Returns the owner of the mutex, 0 where it is free, PIM_UNKNOWN for an unknown mutex. */
 uint16_t pim_owner(struct pim_handle *h, uint16_t mutex);
+
+/* Returns how often the owner of the mutex has locked it, 0 where it is free, PIM_UNKNOWN for an
+ * unknown mutex. It is above 1 of a recursive mutex alone. */
+uint16_t pim_count(struct pim_handle *h, uint16_t mutex);
 
 /* Returns the protocol of the mutex; its kind is PIM_UNKNOWN for an unknown mutex. */
 struct pim_protocol pim_mutex_protocol(struct pim_handle *h, uint16_t mutex);

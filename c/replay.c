@@ -11,15 +11,16 @@
 #include <stdlib.h>
 #include <string.h>
 
-static const char *const REPLIES[] = { "no-manager", "granted", "queued", "freed", "handed", "released", "withdrawn", "set", "refused" };
-static const char *const REFUSALS[] = { "", "no-task", "waiting", "no-mutex", "deadlock", "ceiling", "busy", "not-owner", "not-waiting", "priority", "tickets", "not-protect" };
+static const char *const REPLIES[] = { "no-manager", "granted", "queued", "freed", "handed", "released", "withdrawn", "set", "refused", "kept" };
+static const char *const REFUSALS[] = { "", "no-task", "waiting", "no-mutex", "deadlock", "ceiling", "busy", "not-owner", "not-waiting", "priority", "tickets", "not-protect", "again" };
 
 static struct pim_handle locks = PIM_HANDLE_INIT;
 static uint16_t bases[PIM_MAX_TASKS + 1];
 static struct pim_protocol protocols[PIM_MAX_MUTEXES + 1];
 static size_t tasks, mutexes;
-static uint16_t listed[PIM_MAX_TASKS + 1]; /* the priority of each task, as the lists alone tell it */
-static unsigned long number;               /* of the step */
+static uint16_t listed[PIM_MAX_TASKS + 1];   /* the priority of each task, as the lists alone tell it */
+static uint16_t counts[PIM_MAX_MUTEXES + 1]; /* how often each mutex is locked, as the answers tell it */
+static unsigned long number;                 /* of the step */
 
 /* ---- what the getters say hangs together ----------------------------------------------------- */
 
@@ -50,7 +51,8 @@ static void check_task(uint16_t task) {
         must(protocol.kind == PIM_PROTECT && protocol.ceiling == prio, "reason ceiling");
         return;
     }
-    must(why.kind == PIM_OF_WAITER && protocol.kind == PIM_INHERIT, "reason waiter");
+    must(why.kind == PIM_OF_WAITER, "reason waiter");
+    must(protocol.kind == PIM_INHERIT || protocol.kind == PIM_INHERIT_RECURSIVE, "reason waiter of a mutex that lends nothing");
     must(pim_waits_for(&locks, why.task) == why.mutex && pim_effective_prio(&locks, why.task) == prio, "the reason's waiter");
 }
 
@@ -72,6 +74,9 @@ static void check_mutex(uint16_t mutex) {
     struct pim_protocol protocol = pim_mutex_protocol(&locks, mutex);
     must(protocol.kind == protocols[mutex - 1].kind, "protocol");
     must(protocol.ceiling == (protocol.kind == PIM_PROTECT ? protocols[mutex - 1].ceiling : 0), "ceiling");
+    must(pim_count(&locks, mutex) == counts[mutex], "count");
+    must((counts[mutex] == 0) == (pim_owner(&locks, mutex) == 0), "count of a free mutex");
+    must(counts[mutex] <= (protocol.kind == PIM_INHERIT_RECURSIVE ? PIM_MAX_COUNT : 1), "count above the most");
 }
 
 static void check_all(void) {
@@ -80,6 +85,7 @@ static void check_all(void) {
     check_unknown_task(0);
     check_unknown_task((uint16_t)(tasks + 1));
     must(pim_owner(&locks, 0) == PIM_UNKNOWN && pim_owner(&locks, (uint16_t)(mutexes + 1)) == PIM_UNKNOWN, "owner of an unknown mutex");
+    must(pim_count(&locks, 0) == PIM_UNKNOWN && pim_count(&locks, (uint16_t)(mutexes + 1)) == PIM_UNKNOWN, "count of an unknown mutex");
     must(pim_mutex_protocol(&locks, 0).kind == PIM_UNKNOWN, "protocol of an unknown mutex");
     for (uint16_t task = 1; task <= tasks; task++) {
         check_task(task);
@@ -126,13 +132,35 @@ static int read_task(const char *line) {
     return 1;
 }
 
+static uint16_t kind_of(const char *word, const char *next) {
+    if (strcmp(word, "protect") == 0) return PIM_PROTECT;
+    if (strcmp(word, "inherit") != 0) return PIM_NONE;
+    return strcmp(next, "recursive") == 0 ? PIM_INHERIT_RECURSIVE : PIM_INHERIT;
+}
+
 static int read_mutex(const char *line) {
-    unsigned mutex, ceiling = 0;
-    char kind[16];
-    if (mutexes == PIM_MAX_MUTEXES || sscanf(line, "mutex %u %15s %u", &mutex, kind, &ceiling) < 2) return 0;
-    uint16_t number_of_kind = strcmp(kind, "inherit") == 0 ? PIM_INHERIT : strcmp(kind, "protect") == 0 ? PIM_PROTECT : PIM_NONE;
-    protocols[mutexes++] = (struct pim_protocol){ number_of_kind, (uint16_t)ceiling };
+    unsigned mutex;
+    char word[16], next[16] = "";
+    if (mutexes == PIM_MAX_MUTEXES || sscanf(line, "mutex %u %15s %15s", &mutex, word, next) < 2) return 0;
+    protocols[mutexes++] = (struct pim_protocol){ kind_of(word, next), (uint16_t)strtoul(next, NULL, 10) };
     return 1;
+}
+
+/* Counts what an answer says of a mutex. */
+static struct pim_answer counted(uint16_t mutex, struct pim_answer answer) {
+    if (answer.kind == PIM_GRANTED) counts[mutex]++;
+    if (answer.kind == PIM_KEPT || answer.kind == PIM_FREED) counts[mutex]--;
+    return answer;
+}
+
+static struct pim_answer release_all(uint16_t task) {
+    int owned[PIM_MAX_MUTEXES + 1];
+    for (uint16_t mutex = 1; mutex <= mutexes; mutex++) owned[mutex] = pim_owner(&locks, mutex) == task;
+    struct pim_answer answer = pim_release_all(&locks, task);
+    if (answer.kind != PIM_RELEASED) return answer;
+    for (uint16_t mutex = 1; mutex <= mutexes; mutex++)
+        if (owned[mutex]) counts[mutex] = pim_owner(&locks, mutex) != 0;
+    return answer;
 }
 
 static struct pim_answer set_base(uint16_t task, uint16_t target, uint16_t prio) {
@@ -154,10 +182,10 @@ static struct pim_answer step(const char *line) {
     char op[16];
     if (sscanf(line, "%u %15s %u %u", &actor, op, &first, &second) < 2) return none;
     uint16_t task = (uint16_t)actor, target = (uint16_t)first;
-    if (strcmp(op, "lock") == 0) return pim_lock(&locks, task, target);
-    if (strcmp(op, "try") == 0) return pim_try(&locks, task, target);
-    if (strcmp(op, "unlock") == 0) return pim_unlock(&locks, task, target);
-    if (strcmp(op, "release") == 0) return pim_release_all(&locks, task);
+    if (strcmp(op, "lock") == 0) return counted(target, pim_lock(&locks, task, target));
+    if (strcmp(op, "try") == 0) return counted(target, pim_try(&locks, task, target));
+    if (strcmp(op, "unlock") == 0) return counted(target, pim_unlock(&locks, task, target));
+    if (strcmp(op, "release") == 0) return release_all(task);
     if (strcmp(op, "cancel") == 0) return pim_cancel(&locks, task, target);
     if (strcmp(op, "base") == 0) return set_base(task, target, (uint16_t)second);
     if (strcmp(op, "ceil") == 0) return set_ceiling(task, target, (uint16_t)second);

@@ -7,7 +7,7 @@
 #include <stdio.h>
 #include <stdlib.h>
 
-enum { TASKS = 9, MUTEXES = 5, TURNS = 5000 };
+enum { TASKS = 9, MUTEXES = 6, TURNS = 5000 };
 
 static unsigned long calls, refused, outstanding;
 static unsigned char none[16];
@@ -45,7 +45,7 @@ static uint32_t make(struct pim_handle *h) {
     uint16_t bases[TASKS];
     struct pim_protocol protocols[MUTEXES];
     for (int t = 0; t < TASKS; t++) bases[t] = (uint16_t)(10 * t + 5);
-    for (int m = 0; m < MUTEXES; m++) protocols[m] = (struct pim_protocol){ (uint16_t)(m % 3), 90 };
+    for (int m = 0; m < MUTEXES; m++) protocols[m] = (struct pim_protocol){ (uint16_t)(m % 4), 90 };
     return pim_make(h, bases, TASKS, protocols, MUTEXES);
 }
 

@@ -59,7 +59,8 @@ static int error_of(struct pim_answer answer) {
     case PIM_DEADLOCK: return EDEADLK;
     case PIM_BUSY: return EBUSY;
     case PIM_NOT_OWNER: return EPERM;
-    case PIM_TICKETS: return EAGAIN;
+    case PIM_TICKETS:
+    case PIM_AGAIN: return EAGAIN;
     default: return EINVAL;
     }
 }
@@ -124,6 +125,16 @@ int pi_setschedprio(uint16_t thread, uint16_t target, uint16_t prio) {
     pthread_mutex_lock(&guard);
     int error = error_of(pim_set_base(&locks, thread, target, prio));
     apply_changes();
+    pthread_mutex_unlock(&guard);
+    return error;
+}
+
+int pi_setprioceiling(uint16_t thread, uint16_t mutex, uint16_t ceiling, uint16_t *old) {
+    pthread_mutex_lock(&guard);
+    uint16_t before = pim_mutex_protocol(&locks, mutex).ceiling;
+    int error = error_of(pim_set_ceiling(&locks, thread, mutex, ceiling));
+    apply_changes();
+    if (error == 0 && old != NULL) *old = before;
     pthread_mutex_unlock(&guard);
     return error;
 }

@@ -1,4 +1,5 @@
-/* pi_mutex.h - mutexes for POSIX threads, with the protocols NONE, INHERIT and PROTECT, by libpim.
+/* pi_mutex.h - mutexes for POSIX threads, with the protocols NONE, INHERIT and PROTECT, by libpim;
+ * those with INHERIT may be recursive.
  *
  * A small thread library's mutex: libpim decides, and this file turns its answers into blocking,
  * waking and priorities. A thread has a number, and so has a mutex. One lock of the C library
@@ -33,6 +34,10 @@ int pi_trylock(uint16_t thread, uint16_t mutex);
 int pi_timedlock(uint16_t thread, uint16_t mutex, const struct timespec *until);
 int pi_unlock(uint16_t thread, uint16_t mutex);
 int pi_setschedprio(uint16_t thread, uint16_t target, uint16_t prio);
+
+/* As pthread_mutex_setprioceiling, but that it doesn't lock the mutex, and so blocks nobody: EBUSY
+ * where another thread owns it. The ceiling that it had is written to old, unless old is NULL. */
+int pi_setprioceiling(uint16_t thread, uint16_t mutex, uint16_t ceiling, uint16_t *old);
 
 /* Returns the priority at which the thread is to execute. */
 uint16_t pi_priority(uint16_t thread);

@@ -22,6 +22,8 @@ pub enum Protocol {
     None,
     Inherit,
     Protect(u16),
+    /// As `Inherit`; and the owner may lock the mutex again.
+    InheritRecursive,
 }
 
 /// What a step asks for.
@@ -50,6 +52,7 @@ pub enum Refusal {
     Priority,
     Tickets,
     NotProtect,
+    Again,
     /// One of a later version of libpim.
     Other(u8),
 }
@@ -65,6 +68,7 @@ pub enum Reply {
     Withdrawn,
     Set,
     Refused(Refusal),
+    Kept,
     /// One of a later version of libpim.
     Other(u8),
 }
@@ -181,6 +185,12 @@ impl Manager {
         known(unsafe { c::pim_owner(&mut self.handle, mutex) })
     }
 
+    /// Returns how often the owner of the mutex has locked it, 0 where it is free, None for an unknown one.
+    pub fn count(&mut self, mutex: u16) -> Option<u16> {
+        let count = unsafe { c::pim_count(&mut self.handle, mutex) };
+        (count != u16::MAX).then_some(count)
+    }
+
     /// Returns the mutex that the task waits for, if it waits for one.
     pub fn waits_for(&mut self, task: u16) -> Option<u16> {
         known(unsafe { c::pim_waits_for(&mut self.handle, task) })
@@ -205,6 +215,10 @@ impl Protocol {
                 ceiling: 0,
             },
             Protocol::Protect(ceiling) => c::Protocol { kind: 2, ceiling },
+            Protocol::InheritRecursive => c::Protocol {
+                kind: 3,
+                ceiling: 0,
+            },
         }
     }
 }
@@ -220,6 +234,7 @@ impl Reply {
             6 => Reply::Withdrawn,
             7 => Reply::Set,
             8 => Reply::Refused(Refusal::of(answer.refusal)),
+            9 => Reply::Kept,
             other => Reply::Other(other),
         }
     }
@@ -239,6 +254,7 @@ impl Refusal {
             9 => Refusal::Priority,
             10 => Refusal::Tickets,
             11 => Refusal::NotProtect,
+            12 => Refusal::Again,
             other => Refusal::Other(other),
         }
     }
@@ -269,6 +285,24 @@ mod tests {
         );
         assert_eq!(locks.step(1, Op::Unlock(1)), Reply::Handed(3));
         assert_eq!((locks.effective(1), locks.effective(4)), (Some(10), None));
+    }
+
+    #[test]
+    fn recursive_mutex_is_kept_until_it_is_unlocked_as_often() {
+        let mut locks = Manager::new(&[10, 90], &[Protocol::InheritRecursive]).unwrap();
+        assert_eq!((locks.count(1), locks.count(2)), (Some(0), None));
+        for _ in 0..255 {
+            assert_eq!(locks.step(1, Op::Lock(1)), Reply::Granted);
+        }
+        assert_eq!(locks.step(1, Op::Lock(1)), Reply::Refused(Refusal::Again));
+        assert_eq!(locks.step(2, Op::Lock(1)), Reply::Queued);
+        for count in (1..255).rev() {
+            assert_eq!(locks.step(1, Op::Unlock(1)), Reply::Kept);
+            assert_eq!(locks.changed().count(), 0);
+            assert_eq!(locks.count(1), Some(count));
+        }
+        assert_eq!(locks.step(1, Op::Unlock(1)), Reply::Handed(2));
+        assert_eq!(locks.count(1), Some(1));
     }
 
     #[test]

@@ -1,7 +1,7 @@
 -- What C may ask of a manager, where there may be none.
 use Rattle.std.specs.Prelude.{ℕ, length, Option, unwrap_or}
 use Rattle.std.specs.Option.{option_map_or, option_map}
-use Rattle.pim_base.specs.State.{State, base_of, owner_of, protocol_of, wait_of}
+use Rattle.pim_base.specs.State.{State, base_of, count_of, owner_of, protocol_of, wait_of}
 use Rattle.pim_base.specs.Priorities.{effective_priority}
 use Rattle.pim_base.specs.Reasons.{reason_of}
 use Rattle.pim_base.specs.declared.steps.Wait.{Wait}
@@ -49,6 +49,10 @@ waits_for_in held t =
 -- the owner of the mutex, 0 of a free one, UNKNOWN of an unknown one
 abbrev pub owner_in : Option HeldView → ℕ → ℕ
 owner_in held m = in_manager held UNKNOWN (λ S. option_map_or or_zero (of_mutex S m (owner_of S m)) UNKNOWN)
+
+-- how often the owner of the mutex has locked it, 0 of a free one, UNKNOWN of an unknown one
+abbrev pub count_in : Option HeldView → ℕ → ℕ
+count_in held m = in_manager held UNKNOWN (λ S. unwrap_or (of_mutex S m (count_of S m)) UNKNOWN)
 
 -- the protocol of the mutex
 abbrev pub protocol_in : Option HeldView → ℕ → CProtocol

@@ -6,7 +6,7 @@ use Rattle.pim_base.specs.declared.steps.Reason.{Reason}
 use Rattle.pim_base.specs.declared.steps.Waiter.{Waiter}
 use Rattle.pim_manager.specs.declared.changed_tasks.ChangedTask.{ChangedTask}
 use Rattle.pim_c.specs.Numbers.{priority_meant}
-use Rattle.pim_c.specs.declared.numbers.TheConstants.{NONE, INHERIT, PROTECT, UNKNOWN, OF_NOTHING, OF_BASE, OF_CEILING, OF_WAITER}
+use Rattle.pim_c.specs.declared.numbers.TheConstants.{NONE, INHERIT, PROTECT, INHERIT_RECURSIVE, UNKNOWN, OF_NOTHING, OF_BASE, OF_CEILING, OF_WAITER}
 use Rattle.pim_c.specs.declared.reason.CReason.{CReason}
 use Rattle.pim_c.specs.declared.waiter.CWaiter.{CWaiter}
 use Rattle.pim_c.specs.declared.changed_task.CChangedTask.{CChangedTask}
@@ -33,6 +33,7 @@ abbrev pub c_protocol : Protocol → CProtocol
 c_protocol Protocol.None = record { kind = NONE; ceiling = 0 }
 c_protocol Protocol.Inherit = record { kind = INHERIT; ceiling = 0 }
 c_protocol (Protocol.Protect c) = record { kind = PROTECT; ceiling = c }
+c_protocol Protocol.InheritRecursive = record { kind = INHERIT_RECURSIVE; ceiling = 0 }
 
 -- the protocol of an unknown mutex
 abbrev pub no_protocol : CProtocol
@@ -44,6 +45,7 @@ protocol_meant p =
     if p.kind == NONE then Some Protocol.None
     else if p.kind == INHERIT then Some Protocol.Inherit
     else if p.kind == PROTECT then option_map (λ ceiling. Protocol.Protect ceiling) (priority_meant p.ceiling)
+    else if p.kind == INHERIT_RECURSIVE then Some Protocol.InheritRecursive
     else None
 
 -- the list with its first items in place of those of another, as far as that goes

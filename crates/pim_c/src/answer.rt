@@ -42,7 +42,8 @@ impl CAnswer {
             Reply::Handed(task) => (0, task.get()),
             Reply::Released(count) => (0, count),
             Reply::Refused(refusal) => (number_of_refusal(refusal), 0),
-            Reply::Granted | Reply::Queued | Reply::Freed | Reply::Withdrawn | Reply::Set => (0, 0),
+            Reply::Granted | Reply::Queued | Reply::Freed | Reply::Kept => (0, 0),
+            Reply::Withdrawn | Reply::Set => (0, 0),
         };
         CAnswer {
             kind: number_of_reply(reply),

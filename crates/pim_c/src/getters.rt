@@ -1,7 +1,7 @@
 //! What C may ask without changing anything.
 
 ghost use Rattle.std.specs.Prelude.{◌≡◌};
-ghost use Rattle.pim_c.specs.Getters.{base_in, effective_in, mutex_count, or_zero, owner_in, protocol_in, reason_in, task_count, ticket_in, waits_for_in};
+ghost use Rattle.pim_c.specs.Getters.{base_in, count_in, effective_in, mutex_count, or_zero, owner_in, protocol_in, reason_in, task_count, ticket_in, waits_for_in};
 
 use crate::handle::Handle;
 use crate::numbers::UNKNOWN;
@@ -145,6 +145,22 @@ pub extern "C" fn pim_owner(alloc: Global, handle: &mut Handle, mutex: u16) -> u
                 Some(None) => 0,
                 Some(Some(task)) => task.get(),
             }
+        }
+    }
+}
+
+/// Returns how often the owner of the mutex has locked it, 0 where it is free, `UNKNOWN` for an unknown one.
+#[unsafe(no_mangle)]
+pub extern "C" fn pim_count(alloc: Global, handle: &mut Handle, mutex: u16) -> u16
+    ensures count { result ≡ count_in handle.old.held mutex }
+    ensures same { handle.new.held ≡ handle.old.held }
+{
+    match handle.take(alloc) {
+        None => UNKNOWN,
+        Some(held) => {
+            let count = held.manager().count(MutexNo(mutex));
+            handle.put(held);
+            count.unwrap_or(UNKNOWN)
         }
     }
 }

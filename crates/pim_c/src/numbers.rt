@@ -15,6 +15,8 @@ pub const INHERIT: u16 = 1;
 
 pub const PROTECT: u16 = 2;
 
+pub const INHERIT_RECURSIVE: u16 = 3;
+
 // ---- what a step is answered
 
 pub const NO_MANAGER: u8 = 0;
@@ -34,6 +36,8 @@ pub const WITHDRAWN: u8 = 6;
 pub const SET: u8 = 7;
 
 pub const REFUSED: u8 = 8;
+
+pub const KEPT: u8 = 9;
 
 // ---- why a step is refused, 0 where it isn't
 
@@ -58,6 +62,8 @@ pub const PRIORITY: u8 = 9;
 pub const TICKETS: u8 = 10;
 
 pub const NOT_PROTECT: u8 = 11;
+
+pub const AGAIN: u8 = 12;
 
 // ---- why a task has its effective priority
 
@@ -102,6 +108,7 @@ pub fn number_of_reply(reply: Reply) -> u8
         Reply::Withdrawn => WITHDRAWN,
         Reply::Set => SET,
         Reply::Refused(_) => REFUSED,
+        Reply::Kept => KEPT,
     }
 }
 
@@ -121,5 +128,6 @@ pub fn number_of_refusal(refusal: Refusal) -> u8
         Refusal::Priority => PRIORITY,
         Refusal::Tickets => TICKETS,
         Refusal::NotProtect => NOT_PROTECT,
+        Refusal::Again => AGAIN,
     }
 }

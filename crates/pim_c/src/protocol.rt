@@ -3,7 +3,7 @@
 ghost use Rattle.std.specs.Prelude.{◌≡◌};
 ghost use Rattle.pim_c.specs.Shapes.{c_protocol, no_protocol, protocol_meant};
 
-use crate::numbers::{INHERIT, NONE, PROTECT, UNKNOWN};
+use crate::numbers::{INHERIT, INHERIT_RECURSIVE, NONE, PROTECT, UNKNOWN};
 use pim_base::{Prio, Protocol};
 
 /// The protocol of a mutex, in C.
@@ -44,6 +44,10 @@ impl CProtocol {
                 kind: PROTECT,
                 ceiling: ceiling.get(),
             },
+            Protocol::InheritRecursive => CProtocol {
+                kind: INHERIT_RECURSIVE,
+                ceiling: 0,
+            },
         }
     }
 
@@ -57,6 +61,8 @@ impl CProtocol {
             Some(Protocol::Inherit)
         } else if self.kind == PROTECT {
             Some(Protocol::Protect(Prio::new(self.ceiling)?))
+        } else if self.kind == INHERIT_RECURSIVE {
+            Some(Protocol::InheritRecursive)
         } else {
             None
         }

@@ -3,16 +3,17 @@
 use crate::answer::CAnswer;
 use crate::changed_task::CChangedTask;
 use crate::getters::{
-    pim_base_prio, pim_effective_prio, pim_mutex_count, pim_mutex_protocol, pim_next_ticket,
-    pim_owner, pim_task_count, pim_task_reason, pim_waits_for,
+    pim_base_prio, pim_count, pim_effective_prio, pim_mutex_count, pim_mutex_protocol,
+    pim_next_ticket, pim_owner, pim_task_count, pim_task_reason, pim_waits_for,
 };
 use crate::handle::Handle;
 use crate::lists::{pim_changed, pim_waiters};
 use crate::making::{pim_drop, pim_make};
 use crate::numbers::{
-    BAD_BASE, BAD_PROTOCOL, BUSY, CEILING, FREED, GRANTED, HANDED, INHERIT, MADE, NO_MANAGER,
-    NO_MEMORY, NONE, NOT_OWNER, NOT_PROTECT, OCCUPIED, OF_BASE, OF_CEILING, OF_NOTHING, OF_WAITER,
-    PROTECT, QUEUED, REFUSED, RELEASED, SET, TOO_MANY_MUTEXES, TOO_MANY_TASKS, UNKNOWN, WITHDRAWN,
+    AGAIN, BAD_BASE, BAD_PROTOCOL, BUSY, CEILING, FREED, GRANTED, HANDED, INHERIT,
+    INHERIT_RECURSIVE, KEPT, MADE, NO_MANAGER, NO_MEMORY, NONE, NOT_OWNER, NOT_PROTECT, OCCUPIED,
+    OF_BASE, OF_CEILING, OF_NOTHING, OF_WAITER, PROTECT, QUEUED, REFUSED, RELEASED, SET,
+    TOO_MANY_MUTEXES, TOO_MANY_TASKS, UNKNOWN, WITHDRAWN,
 };
 use crate::protocol::CProtocol;
 use crate::reason::CReason;
@@ -25,6 +26,11 @@ use std::test::Fail;
 
 const AN_INHERIT_MUTEX: CProtocol = CProtocol {
     kind: INHERIT,
+    ceiling: 0,
+};
+
+const A_RECURSIVE_MUTEX: CProtocol = CProtocol {
+    kind: INHERIT_RECURSIVE,
     ceiling: 0,
 };
 
@@ -205,6 +211,40 @@ fn ceiling_is_set_while_the_mutex_is_owned(rt: HostRuntime) -> Result<(), Fail> 
 }
 
 #[test]
+fn owner_of_a_recursive_mutex_locks_it_again(rt: HostRuntime) -> Result<(), Fail> {
+    let alloc = rt.alloc();
+    let mut handle = Handle::empty(alloc);
+    let h = &mut handle;
+    assert_eq!(rt; pim_make(alloc, h, &[10, 90], &[A_RECURSIVE_MUTEX]), MADE);
+    assert_eq!(rt; pim_mutex_protocol(alloc, h, 1), A_RECURSIVE_MUTEX);
+    assert!(rt; says(pim_lock(alloc, h, 1, 1), GRANTED, 0, 0));
+    assert!(rt; says(pim_lock(alloc, h, 1, 1), GRANTED, 0, 0));
+    assert_eq!(rt; pim_count(alloc, h, 1), 2);
+    assert!(rt; says(pim_unlock(alloc, h, 1, 1), KEPT, 0, 0));
+    assert_eq!(rt; (pim_owner(alloc, h, 1), pim_count(alloc, h, 1)), (1, 1));
+    assert!(rt; says(pim_unlock(alloc, h, 1, 1), FREED, 0, 0));
+    assert_eq!(rt; pim_count(alloc, h, 1), 0);
+    pim_drop(alloc, h);
+    Ok(())
+}
+
+#[test]
+fn mutex_that_was_locked_255_times_is_not_locked_again(rt: HostRuntime) -> Result<(), Fail> {
+    let alloc = rt.alloc();
+    let mut handle = Handle::empty(alloc);
+    let h = &mut handle;
+    assert_eq!(rt; pim_make(alloc, h, &[10], &[A_RECURSIVE_MUTEX]), MADE);
+    for _lock in 0..255 {
+        assert!(rt; says(pim_lock(alloc, h, 1, 1), GRANTED, 0, 0));
+    }
+    assert!(rt; says(pim_lock(alloc, h, 1, 1), REFUSED, AGAIN, 0));
+    assert!(rt; says(pim_try(alloc, h, 1, 1), REFUSED, AGAIN, 0));
+    assert_eq!(rt; pim_count(alloc, h, 1), 255);
+    pim_drop(alloc, h);
+    Ok(())
+}
+
+#[test]
 fn getters_tell_what_is_unknown(rt: HostRuntime) -> Result<(), Fail> {
     let alloc = rt.alloc();
     let mut handle = Handle::empty(alloc);
@@ -224,6 +264,10 @@ fn getters_tell_what_is_unknown(rt: HostRuntime) -> Result<(), Fail> {
     assert_eq!(rt; pim_mutex_protocol(alloc, h, 1), AN_INHERIT_MUTEX);
     assert_eq!(rt; pim_mutex_protocol(alloc, h, 2), CEILING_60);
     assert_eq!(rt; pim_mutex_protocol(alloc, h, 3).kind, UNKNOWN);
+    assert_eq!(rt;
+        (pim_count(alloc, h, 1), pim_count(alloc, h, 3)),
+        (1, UNKNOWN)
+    );
     pim_drop(alloc, h);
     Ok(())
 }
@@ -236,7 +280,7 @@ fn faults_are_told_in_their_order(rt: HostRuntime) -> Result<(), Fail> {
     let tasks = [1; 257];
     let mutexes = [AN_INHERIT_MUTEX; 257];
     let unknown = CProtocol {
-        kind: 3,
+        kind: 4,
         ceiling: 1,
     };
     let too_high = CProtocol {
