@@ -500,6 +500,7 @@ fn recursive_mutex_is_counted(rt: HostRuntime) -> Result<(), Fail> {
     assert!(rt; !tables.known_kept(MutexNo(1)));
     count_up(&rt, &mut tables, 2);
     assert_eq!(rt; tables.count(MutexNo(1)), Some(3));
+    assert!(rt; !tables.is_unknown_mutex(MutexNo(1)));
     assert!(rt; tables.known_kept(MutexNo(1)));
     tables.count_down(MutexNo(1));
     assert_eq!(rt; tables.count(MutexNo(1)), Some(2));
