@@ -528,6 +528,66 @@ fn other_mutexes_have_the_count_of_their_owner(rt: HostRuntime) -> Result<(), Fa
 }
 
 #[test]
+fn known_numbers_are_looked_up_without_a_test(rt: HostRuntime) -> Result<(), Fail> {
+    let tables = locked_again(&rt, rt.alloc())?;
+    assert!(rt; !tables.is_unknown_task(TaskNo(2)));
+    assert!(rt; !tables.is_unknown_mutex(MutexNo(1)));
+    assert_eq!(rt; tables.known_owner(MutexNo(1)), Some(TaskNo(1)));
+    assert_eq!(rt;
+        tables.known_protocol(MutexNo(1)),
+        Protocol::InheritRecursive
+    );
+    let wait = tables.known_wait(TaskNo(2)).map(|wait| wait.ticket);
+    assert_eq!(rt; wait, Some(3));
+    let first = tables.known_first(MutexNo(1)).map(|first| first.task);
+    assert_eq!(rt; first, Some(TaskNo(2)));
+    assert!(rt; !tables.known_owns(TaskNo(2), MutexNo(1)));
+    assert!(rt; !tables.known_relocks(TaskNo(2), MutexNo(1)));
+    assert!(rt; !tables.known_above_ceiling(TaskNo(2), MutexNo(1)));
+    Ok(())
+}
+
+// task 2 begins to wait for mutex 1 of task 1
+fn enter(rt: &impl Abort, tables: &mut Tables, visits: &mut Visits)
+    requires { SettledBut tables.old.state (stored_at tables.old) None }
+    ensures { SettledBut tables.new.state (stored_at tables.new) None }
+{
+    assert!(rt; !tables.is_unknown_task(TaskNo(2)));
+    assert!(rt; !tables.is_unknown_mutex(MutexNo(1)));
+    assert!(rt; !tables.is_waiting(TaskNo(2)));
+    assert!(rt; tables.owner(MutexNo(1)) == Some(TaskNo(1)));
+    assert!(rt; !tables.leads_back(TaskNo(2), MutexNo(1)));
+    assert!(rt; !tables.has_ticket(MutexNo(1), 2));
+    assert!(rt; visits.get() < 1000);
+    tables.enter(TaskNo(2), MutexNo(1), TaskNo(1), 2, visits);
+}
+
+// task 2 stops waiting for it
+fn exit(rt: &impl Abort, tables: &mut Tables, visits: &mut Visits)
+    requires { SettledBut tables.old.state (stored_at tables.old) None }
+    ensures { SettledBut tables.new.state (stored_at tables.new) None }
+{
+    assert!(rt; tables.owner(MutexNo(1)) == Some(TaskNo(1)));
+    assert!(rt; tables.waits_for(TaskNo(2)).map(|wait| wait.mutex) == Some(MutexNo(1)));
+    assert!(rt; visits.get() < 1000);
+    tables.exit(TaskNo(2), MutexNo(1), TaskNo(1), visits);
+}
+
+#[test]
+fn lower_waiter_comes_and_goes_by_a_look_each(rt: HostRuntime) -> Result<(), Fail> {
+    let mut tables = tables(&rt, rt.alloc(), &[50, 10], &[Protocol::Inherit])?;
+    let mut visits = Visits::new();
+    lock(&rt, &mut tables, TaskNo(1), MutexNo(1), 1, &mut visits);
+    assert_eq!(rt; visits.get(), 1);
+    enter(&rt, &mut tables, &mut visits);
+    assert_eq!(rt; (visits.get(), tables.is_waiting(TaskNo(2))), (2, true));
+    exit(&rt, &mut tables, &mut visits);
+    assert_eq!(rt; (visits.get(), tables.is_waiting(TaskNo(2))), (3, false));
+    assert_eq!(rt; tables.stored(TaskNo(1)), Prio::new(50));
+    Ok(())
+}
+
+#[test]
 fn a_relock_leads_back_and_closes_no_cycle(rt: HostRuntime) -> Result<(), Fail> {
     let tables = locked_again(&rt, rt.alloc())?;
     assert!(rt; tables.is_recursive(MutexNo(1)) && !tables.is_recursive(MutexNo(2)));
