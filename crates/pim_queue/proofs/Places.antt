@@ -5,10 +5,11 @@ use Rattle.std.specs.List.{AllByRecursion, find, insert, remove, between, copy_w
 use Rattle.std.specs.List.Sorted.{IsPartitionedBy, IsPartitionPoint}
 use Rattle.std.proofs.lemmas.Bool.{cases_eq, not-true, not-false, cond-true, cond-false}
 use Rattle.std.proofs.lemmas.List.{same_lists, places, length-set, get_or-set_other, length-take, length-take-le}
-use Rattle.std.proofs.lemmas.List.{take-append-drop}
+use Rattle.std.proofs.lemmas.List.{take-append-drop, take-append-le, take_rest}
 use Rattle.std.proofs.lemmas.List.Edits.{insert-append_left, insert-append_right, remove-append_left, remove-append_right, length-remove}
 use Rattle.std.proofs.lemmas.List.Folds.{prefix_len-append}
 use Rattle.std.proofs.lemmas.List.Sums.{prefix_len-le-length, position_or_len_is}
+use Rattle.std.proofs.Math.Seq.{take-append-add}
 use Rattle.std.proofs.lemmas.Option.{none-some, same_Some}
 use Rattle.std.proofs.lemmas.Slice.{between_to_end}
 use Rattle.pim_base.specs.declared.steps.Waiter.{Waiter}
@@ -182,9 +183,12 @@ moved_back w ws from to behind low =
 pub all_moved_back :
     (w : Waiter) (ws us : List Waiter)
     → 1 < length ws
-    → us ≡ copy_within ws 1 (length ws - 1 + 1) 0
+    → us ≡ copy_within ws 1 (length ws) 0
     → set us (length ws - 1) w ≡ insert (remove ws 0) (length ws - 1) w
-all_moved_back w ws us some is = ap (λ vs. set vs (length ws - 1) w) is ∙ moved_back w ws 0 (length ws - 1) (omega arith) (omega arith)
+all_moved_back w ws us some is =
+    let upto : length ws ≡ length ws - 1 + 1 = omega arith in
+    ap (λ vs. set vs (length ws - 1) w) (is ∙ ap (λ n. copy_within ws 1 n 0) upto)
+    ∙ moved_back w ws 0 (length ws - 1) (omega arith) (omega arith)
 
 pub stayed : (w : Waiter) (ws : List Waiter) (from : ℕ) → from < length ws → set ws from w ≡ insert (remove ws from) from w
 stayed w ws from low = written w ws ws from from low low refl (λ k d h ne. grind (arith, places))
@@ -246,6 +250,29 @@ part_back w ws from to n behind low is =
     ∙ moved_inside w ws from n 0 (to - from) (omega arith) (omega arith) (omega arith)
     ∙ ap (λ k. insert (remove ws k) (from + (to - from)) w) (omega arith)
     ∙ ap (λ k. insert (remove ws from) k w) (omega arith)
+
+-- the part of n from a place on, which is all of the rest, without its first, and the last place dropped
+pub gap_closed :
+    (ws us : List Waiter) (place n : ℕ)
+    → place < length ws
+    → n ≡ length ws - place
+    → length us ≡ length (take n (drop place ws))
+    → take (length (take n (drop place ws)) - 1) us ≡ remove (take n (drop place ws)) 0
+    → take (length ws - 1) (take place ws ++ (us ++ drop n (drop place ws))) ≡ remove ws place
+gap_closed ws us place n low is same moved =
+    let front : length (take place ws) ≡ place = length-take-le place ws (omega arith) in
+    let part : length (take n (drop place ws)) ≡ n = search (rules, places, arith) in
+    let len : length ws - 1 ≡ length (take place ws) + (length (take n (drop place ws)) - 1) = omega (arith, is, front, part) in
+    let none : 0 ≡ place - place = omega arith in
+    ap (λ k. take k (take place ws ++ (us ++ drop n (drop place ws)))) len
+    ∙ take-append-add (take place ws) (us ++ drop n (drop place ws)) (length (take n (drop place ws)) - 1)
+    ∙ ap (λ xs. take place ws ++ xs)
+    (take-append-le _ us (drop n (drop place ws)) (omega (arith, same))
+    ∙ moved
+    ∙ ap (λ xs. remove xs 0) (ap (λ k. take k (drop place ws)) is ∙ take_rest ws place)
+    ∙ ap (remove (drop place ws)) none)
+    ∙ sym (remove-append_right (take place ws) (drop place ws) place place front (omega arith))
+    ∙ ap (λ xs. remove xs place) (take-append-drop place ws)
 
 -- one more at the end, taken out again
 pub added : (w : Waiter) (ws : List Waiter) → remove (ws ++ w ∷ []) (length ws) ≡ ws
