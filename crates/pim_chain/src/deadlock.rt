@@ -48,6 +48,7 @@ impl Tables {
 
     /// Returns whether a wait of the task for the mutex would lead back to it: whether the mutex is owned, and the task is on
     /// the chain of its owner.
+    #[inline(always)]
     pub fn leads_back(&self, task: TaskNo, mutex: MutexNo) -> bool
         ensures { result ≡ leads_back self.now.state task mutex }
     {

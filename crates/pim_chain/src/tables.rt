@@ -322,6 +322,7 @@ impl Tables {
     }
 
     /// Makes the task, which must wait for nothing, the owner of the mutex, which must be free.
+    #[inline(always)]
     pub fn bind(&mut self, mutex: MutexNo, task: TaskNo)
         requires mutex { IsMutex self.old.state mutex }
         requires free { owner_of self.old.state mutex ≡ None }
@@ -337,6 +338,7 @@ impl Tables {
     }
 
     /// Makes the mutex, which must be owned, free.
+    #[inline(always)]
     pub fn unbind(&mut self, mutex: MutexNo)
         requires owned { owner_of self.old.state mutex ≢ None }
         ensures state { self.new ≡ with_state self.old (with_owner self.old.state mutex None) }
@@ -401,6 +403,7 @@ impl Tables {
     /// wait must close no cycle. The next ticket stays.
     ///
     /// Shifts the waiters behind its place in the queue.
+    #[inline(always)]
     pub fn join(&mut self, task: TaskNo, mutex: MutexNo, ticket: u64)
         requires known { IsTask self.old.state task }
         requires mutex { IsMutex self.old.state mutex }

@@ -36,6 +36,7 @@ impl Tables {
     }
 
     // the priority that the owned mutex lends to its owner
+    #[inline(always)]
     fn lent(&self, mutex: MutexNo) -> Option<Prio>
         requires { owner_of self.now.state mutex ≢ None }
         ensures { unwrap_or result 0 ≡ worth self.now mutex }
@@ -50,6 +51,7 @@ impl Tables {
     }
 
     // this priority as a number, 0 where it lends none
+    #[inline(always)]
     fn lent_level(&self, mutex: MutexNo) -> u16
         requires { owner_of self.now.state mutex ≢ None }
         ensures { result ≡ worth self.now mutex }

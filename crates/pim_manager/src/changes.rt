@@ -19,6 +19,7 @@ use pim_chain::Visits;
 
 impl Manager {
     /// Makes the task, which doesn't wait, the owner of the free mutex.
+    #[inline(always)]
     pub(crate) fn grant(&mut self, mutex: MutexNo, task: TaskNo, visits: &mut Visits)
         requires mutex { IsMutex self.old mutex }
         requires known { IsTask self.old task }
