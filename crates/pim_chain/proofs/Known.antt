@@ -1,9 +1,10 @@
 -- What a task owns is known.
-use Rattle.std.proofs.Common.{◌≡◌, ℕ, ◌≤◌, Bool, true, false, cond, refl, sym, ◌∙◌, ap, subst, Option, Some, None, List, [], ◌∷◌, unwrap_or}
+use Rattle.std.proofs.Common.{◌≡◌, ℕ, ◌≤◌, ◌==◌, ◌||◌, nat_lt, Bool, true, false, cond, refl, sym, ◌∙◌, ap, subst, arith, Option, Some, None, List, [], ◌∷◌, length, unwrap_or}
 use Rattle.std.specs.List.{AllByRecursion, filter}
 use Rattle.std.proofs.lemmas.Option.{none-some}
 use Rattle.pim_base.specs.Lists.{nth, holds}
 use Rattle.pim_base.specs.State.{State, IsState, IsMutex, owner_of, owned, mutex_numbers}
+use Rattle.std.proofs.lemmas.Bool.Decides.{nat_tests}
 use Rattle.pim_base.proofs.Places.{nth_within}
 use Rattle.pim_base.proofs.Stored.{from_holds}
 
@@ -16,6 +17,18 @@ owned_mutex S m t lists owns = go (nth S.owner m) refl
     go (Some x) e =
         let within = nth_within S.owner m x e in
         (within.0, subst (λ n. m ≤ n) lists.owners within.1)
+
+-- an unknown number has no entry
+pub unwrap_or-nth_unknown :
+    {X : Type 0} → (xs : List (Option X)) (n k : ℕ)
+    → length xs ≡ n
+    → (k == 0 || nat_lt n k) ≡ true
+    → unwrap_or (nth xs k) None ≡ None
+unwrap_or-nth_unknown {X = X} xs n k len unknown = go (nth xs k) refl
+  where
+    go : (o : Option (Option X)) → nth xs k ≡ o → unwrap_or o None ≡ None
+    go None e = refl
+    go (Some x) e = let within = nth_within xs k x e in grind (arith, nat_tests)
 
 -- a task is the owner of each mutex that it owns
 pub owned_all : (S : State) (t : ℕ) → AllByRecursion (λ m. owner_of S m ≡ Some t) (owned S t)

@@ -1,22 +1,26 @@
 -- One mutex more or less, which lends its owner no more than others give it.
 use Rattle.std.proofs.Common.{◌≡◌, ◌≢◌, ℕ, ◌<◌, ◌≤◌, max, Bool, true, false, is_some, cond, if◌then◌else◌, ◌⊎◌, inl, inr, refl, sym, ◌∙◌, ap, subst, arith, le_antisymm, le_trans, Option, Some, None, List, [], ◌∷◌, length}
-use Rattle.std.proofs.lemmas.Bool.{cases_eq}
+use Rattle.std.specs.List.{AllByRecursion}
+use Rattle.std.proofs.lemmas.Bool.{cases_eq, eqb-true}
 use Rattle.std.proofs.lemmas.Option.{none-some}
 use Rattle.std.proofs.Math.Nat.{le-max_left, le-max_right, max-le}
 use Rattle.pim_base.specs.Lists.{holds, insert_by}
-use Rattle.pim_base.specs.State.{IsTask, IsMutex, base_of, owner_of, protocol_of, with_owner, with_wait}
+use Rattle.pim_base.specs.State.{IsTask, IsMutex, base_of, owner_of, protocol_of, wait_of, with_owner, with_wait}
 use Rattle.pim_base.specs.Queues.{precedes}
 use Rattle.pim_base.specs.declared.steps.Wait.{Wait}
 use Rattle.pim_base.specs.declared.steps.Waiter.{Waiter}
+use Rattle.pim_base.specs.declared.steps.Protocol.{Protocol}
+use Rattle.pim_base.specs.Reasons.{is_inherit}
 use Rattle.pim_queue.specs.QueueView.{QueueView}
+use Rattle.pim_queue.specs.Waiters.{is_of, without, IsOrdered}
 use Rattle.pim_queue.proofs.Order.{before_prio}
 use Rattle.pim_base.specs.Chains.{heir_in, heir_of}
 use Rattle.pim_base.specs.Priorities.{local_priority, ceiling_of}
 use Rattle.pim_base.proofs.Greatest.{greatest_of, greatest_of-le, le-greatest_of}
 use Rattle.pim_base.proofs.Stored.{from_holds, holds_from}
 use Rattle.pim_base.proofs.NoCycle.{unwrap_or-put_same}
-use Rattle.pim_chain.specs.Views.{View, Ready, stored_at, queue_at, queue_in, put_queue, first_prio, with_state}
-use Rattle.pim_chain.specs.Owned.{worth}
+use Rattle.pim_chain.specs.Views.{View, Ready, Shows, IsQueue, stored_at, queue_at, queue_in, put_queue, first_prio, with_state}
+use Rattle.pim_chain.specs.Owned.{worth, lent_by}
 use Rattle.pim_chain.specs.Settled.{SettledBut}
 use Rattle.pim_chain.proofs.Changes.{owner_other, view_other, view_same}
 use Rattle.pim_chain.proofs.Known.{owned_mutex}
@@ -226,20 +230,112 @@ joined_settled v w x t m o u ready after is known owned before but low =
     had : stored_at w t ≡ stored_at v t
     had = ap (λ (z : View). stored_at z t) is
 
--- a waiter less, where the mutex lends what it did
+first_prio-without : (x : ℕ) (ws : List Waiter) → IsOrdered ws → first_prio (without x ws) ≤ first_prio ws
+first_prio-without x [] ordered = omega arith
+first_prio-without x (y ∷ ys) ordered = go (is_of x y)
+  where
+    behind : (zs : List Waiter) → AllByRecursion (λ z. precedes y z ≡ true) zs → first_prio zs ≤ y.prio
+    behind [] h = omega arith
+    behind (z ∷ zs) h = before_prio y z h.0
+
+    go : (b : Bool) → first_prio (cond b ys (y ∷ without x ys)) ≤ y.prio
+    go true = behind ys ordered.0
+    go false = omega arith
+
+-- the first is still there, unless it was the one that is gone
+first_prio-le-without :
+    (wait : ℕ → Option Wait) (stored : ℕ → ℕ) (m x : ℕ) (ws : List Waiter)
+    → AllByRecursion (Shows wait stored m) ws
+    → first_prio ws ≤ max (first_prio (without x ws)) (stored x)
+first_prio-le-without wait stored m x [] shown = omega arith
+first_prio-le-without wait stored m x (y ∷ ys) shown = go (is_of x y) refl
+  where
+    go : (b : Bool) → is_of x y ≡ b → y.prio ≤ max (first_prio (cond b ys (y ∷ without x ys))) (stored x)
+    go true its = let same : y.prio ≡ stored x = shown.0.prio ∙ ap stored (eqb-true y.task x its) in omega (arith, same)
+    go false other = omega arith
+
+is_some-heir_in : (p : Protocol) (t : ℕ) → is_some (heir_in p (Some t)) ≡ is_inherit p
+is_some-heir_in Protocol.None t = refl
+is_some-heir_in Protocol.Inherit t = refl
+is_some-heir_in Protocol.InheritRecursive t = refl
+is_some-heir_in (Protocol.Protect c) t = refl
+
+-- without one waiter a mutex lends no more, and less only by what that one lent
+record WorthLeft (before after lent : ℕ) : Type 0 where
+  less : after ≤ before
+  by_lent : before ≤ max after lent
+
+worth_left :
+    (v : View) (x t m : ℕ) (o : Option Wait)
+    → Ready v
+    → IsMutex v.state m
+    → owner_of v.state m ≡ Some t
+    → WorthLeft (worth v m) (worth (requeued v x o m (without x (queue_at v m))) m) (lent_by v x m)
+worth_left v x t m o ready known owned = go (is_some (heir_of v.state m)) inherits
+  where
+    queue : IsQueue (wait_of v.state) (stored_at v) m (queue_at v m)
+    queue = ready.queues m known
+
+    left : List Waiter
+    left = without x (queue_at v m)
+
+    now : first_prio (queue_in (put_queue v.queues m left) m) ≡ first_prio left
+    now = ap (λ (q : QueueView). first_prio q.waiters) (view_same v.queues m left known.0 (subst (λ n. m ≤ n) (sym ready.queues_len) known.1))
+
+    inherits : is_some (heir_of v.state m) ≡ is_inherit (protocol_of v.state m)
+    inherits = ap (λ h. is_some (heir_in (protocol_of v.state m) h)) owned ∙ is_some-heir_in (protocol_of v.state m) t
+
+    less : first_prio left ≤ first_prio (queue_at v m)
+    less = first_prio-without x (queue_at v m) queue.ordered
+
+    by_lent : first_prio (queue_at v m) ≤ max (first_prio left) (stored_at v x)
+    by_lent = first_prio-le-without (wait_of v.state) (stored_at v) m x (queue_at v m) queue.sound
+
+    go :
+        (b : Bool)
+        → b ≡ is_inherit (protocol_of v.state m)
+        → WorthLeft (max (ceiling_of v.state m) (cond b (first_prio (queue_at v m)) 0))
+        (max (ceiling_of v.state m) (cond b (first_prio (queue_in (put_queue v.queues m left) m)) 0))
+        (cond (is_inherit (protocol_of v.state m)) (stored_at v x) 0)
+    go true is =
+        subst (λ b. WorthLeft (max (ceiling_of v.state m) (first_prio (queue_at v m)))
+        (max (ceiling_of v.state m) (first_prio (queue_in (put_queue v.queues m left) m))) (cond b (stored_at v x) 0)) is
+        (record { less = omega (arith, less, now); by_lent = omega (arith, by_lent, now) })
+    go false is = record { less = omega arith; by_lent = omega arith }
+
+-- a waiter less, which lent the owner less than it has
 pub left_settled :
-    (v w : View) (x t m : ℕ) (o : Option Wait) (ws : List Waiter)
+    (v w : View) (x t m : ℕ) (o : Option Wait)
     → Ready v
     → Ready w
-    → w ≡ requeued v x o m ws
+    → w ≡ requeued v x o m (without x (queue_at v m))
+    → IsMutex v.state m
     → owner_of v.state m ≡ Some t
     → SettledBut v.state (stored_at v) None
     → SettledBut w.state (stored_at w) (Some t)
-    → worth w m ≡ worth v m
+    → lent_by v x m < stored_at w t
     → SettledBut w.state (stored_at w) None
-left_settled v w x t m o ws ready after is owned before but same =
-    lent_settled v w t m ready after (subst (λ z. Alike v z t m) (sym is) (alike_requeued v t x m o ws)) owned
-    (ap (λ (z : View). owner_of z.state m) is ∙ owned) (ap (λ (z : View). stored_at z t) is) before but
-    (omega (arith, same))
-    (subst (λ n. n ≤ stored_at v t) (sym same)
-    (subst (λ n. worth v m ≤ n) (sym (before t (ready.waits.owners m t owned) (λ e. none-some t e))) (worth_under v t m ready owned)))
+left_settled v w x t m o ready after is known owned before but low =
+    (visited_same w t but (had ∙ right ∙ le_antisymm lower
+    (local_under w v t m _ after ready (back same) (λ _. le_trans worths.less (worth_under v t m ready owned)) (omega arith)))).settled
+  where
+    same : Alike v w t m
+    same = subst (λ z. Alike v z t m) (sym is) (alike_requeued v t x m o _)
+
+    had : stored_at w t ≡ stored_at v t
+    had = ap (λ (z : View). stored_at z t) is
+
+    right : stored_at v t ≡ local_priority v.state (stored_at v) t
+    right = before t (ready.waits.owners m t owned) (λ e. none-some t e)
+
+    worths : WorthLeft (worth v m) (worth w m) (lent_by v x m)
+    worths = subst (λ (z : View). WorthLeft (worth v m) (worth z m) (lent_by v x m)) (sym is) (worth_left v x t m o ready known owned)
+
+    lower : local_priority v.state (stored_at v) t ≤ local_priority w.state (stored_at w) t
+    lower =
+        let mine : worth w m ≤ local_priority w.state (stored_at w) t =
+        worth_under w t m after (ap (λ (z : View). owner_of z.state m) is ∙ owned) in
+        let under : local_priority v.state (stored_at v) t ≤ max (local_priority w.state (stored_at w) t) (lent_by v x m) =
+        local_under v w t m _ ready after same (λ _. omega (arith, worths.by_lent, mine)) (le-max_left _ _) in
+        let less : lent_by v x m < local_priority v.state (stored_at v) t = subst (λ n. lent_by v x m < n) (had ∙ right) low in
+        omega (arith, under, less)

@@ -9,11 +9,15 @@ use Rattle.pim_base.specs.Priorities.{ceiling_of}
 use Rattle.pim_base.specs.Reasons.{is_inherit}
 use Rattle.pim_base.specs.declared.steps.Reason.{Reason}
 use Rattle.pim_base.specs.declared.steps.Waiter.{Waiter}
-use Rattle.pim_chain.specs.Views.{View, queue_at, first_prio}
+use Rattle.pim_chain.specs.Views.{View, stored_at, queue_at, first_prio}
 
 -- what a mutex lends to its owner: its ceiling, or the priority of its first waiter
 abbrev pub worth : View → ℕ → ℕ
 worth v m = max (ceiling_of v.state m) (cond (is_some (heir_of v.state m)) (first_prio (queue_at v m)) 0)
+
+-- what a task that waits for the mutex lends to its owner: its priority, where that is inherited
+abbrev pub lent_by : View → ℕ → ℕ → ℕ
+lent_by v t m = cond (is_inherit (protocol_of v.state m)) (stored_at v t) 0
 
 -- the mutex is a PRIO_INHERIT one, and its first waiter has the priority
 abbrev pub lends_now : View → ℕ → ℕ → Bool

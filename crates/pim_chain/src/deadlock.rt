@@ -1,7 +1,8 @@
 //! The deadlock test.
 
-ghost use Rattle.std.specs.Prelude.{◌≡◌};
+ghost use Rattle.std.specs.Prelude.{◌≡◌, IfSome};
 ghost use Rattle.pim_base.specs.Lists.{contains};
+ghost use Rattle.pim_base.specs.State.{IsTask};
 ghost use Rattle.pim_base.specs.Chains.{blocker, waits_chain, leads_back, closes_cycle};
 
 use crate::tables::Tables;
@@ -17,11 +18,40 @@ impl Tables {
         self.known_owner(self.waits_for(task)?.mutex)
     }
 
+    // the same of a known task
+    #[inline(always)]
+    fn known_blocker(&self, task: TaskNo) -> Option<TaskNo>
+        requires { IsTask self.now.state task }
+        ensures blocker { result ≡ blocker self.now.state task }
+        ensures known { IfSome result (IsTask self.now.state) }
+    {
+        // Its contract tells the proof what always holds of the tables.
+        let _tasks = self.tasks();
+        self.known_owner(self.known_wait(task)?.mutex)
+    }
+
     /// Returns whether the task is `from`, or is reached from it by hops to the owner of the mutex that a task waits for.
     ///
     /// Makes at most as many hops as there are tasks, through mutexes of any protocol.
-    #[tactic(auto, using(crate::proofs::Hopping::contains_onward))]
     pub fn on_chain(&self, from: TaskNo, task: TaskNo) -> bool
+        ensures { result ≡ contains (waits_chain self.now.state from) task }
+    {
+        // Its contract tells the proof what always holds of the tables.
+        let _tasks = self.tasks();
+        if task == from {
+            return true;
+        }
+        if self.is_unknown_task(from) {
+            return false;
+        }
+        self.known_on_chain(from, task)
+    }
+
+    // the same from a known task
+    #[tactic(auto, using(crate::proofs::Hopping::contains_onward))]
+    #[inline(always)]
+    fn known_on_chain(&self, from: TaskNo, task: TaskNo) -> bool
+        requires { IsTask self.now.state from }
         ensures { result ≡ contains (waits_chain self.now.state from) task }
     {
         let mut at = from;
@@ -30,7 +60,7 @@ impl Tables {
             if task == at {
                 return true;
             }
-            match self.blocker(at) {
+            match self.known_blocker(at) {
                 Some(next) => at = next,
                 None => return false,
             }
@@ -52,7 +82,11 @@ impl Tables {
     pub fn leads_back(&self, task: TaskNo, mutex: MutexNo) -> bool
         ensures { result ≡ leads_back self.now.state task mutex }
     {
-        self.owner(mutex)
-            .is_some_and(|owner| self.on_chain(owner, task))
+        // Its contract tells the proof what always holds of the tables.
+        let _tasks = self.tasks();
+        match self.owner(mutex) {
+            Some(owner) => self.known_on_chain(owner, task),
+            None => false,
+        }
     }
 }

@@ -85,6 +85,7 @@ impl Queues {
     }
 
     /// Puts the waiter in the queue of the mutex.
+    #[inline(always)]
     pub fn insert(&mut self, mutex: MutexNo, waiter: Waiter)
         requires least { 1 ≤ mutex }
         requires most { mutex ≤ length self.old }

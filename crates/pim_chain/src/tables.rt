@@ -168,7 +168,12 @@ impl Tables {
     pub fn owner(&self, mutex: MutexNo) -> Option<TaskNo>
         ensures { result ≡ owner_of self.now.state mutex }
     {
-        nth(&self.owner, mutex.get()).flatten()
+        // Its contract tells the proof what always holds of the tables.
+        let _tasks = self.tasks();
+        if self.is_unknown_mutex(mutex) {
+            return None;
+        }
+        self.known_owner(mutex)
     }
 
     /// Returns how often its owner has locked the mutex and not yet unlocked it, 0 of a free one, `None` for an unknown one.
@@ -207,7 +212,12 @@ impl Tables {
     pub fn waits_for(&self, task: TaskNo) -> Option<Wait>
         ensures { result ≡ wait_of self.now.state task }
     {
-        nth(&self.wait, task.get()).flatten()
+        // Its contract tells the proof what always holds of the tables.
+        let _tasks = self.tasks();
+        if self.is_unknown_task(task) {
+            return None;
+        }
+        self.known_wait(task)
     }
 
     /// Returns the stored priority of the task, `None` for an unknown one.
@@ -422,6 +432,7 @@ impl Tables {
     /// Lets the task, which must wait, stop waiting.
     ///
     /// Shifts the waiters behind its place in the queue.
+    #[inline(always)]
     pub fn leave(&mut self, task: TaskNo)
         requires { wait_of self.old.state task ≢ None }
         ensures left { (w : Wait) → wait_of self.old.state task ≡ Some w → self.new ≡ left self.old task w.mutex }

@@ -9,7 +9,7 @@ ghost use Rattle.pim_base.specs.Priorities.{local_priority, effective_priority};
 ghost use Rattle.pim_base.specs.Queues.{queue_of};
 ghost use Rattle.pim_base.specs.declared.steps.Wait.{Wait};
 ghost use Rattle.pim_chain.specs.Views.{Ready, stored_at, queue_at, first_prio};
-ghost use Rattle.pim_chain.specs.Owned.{worth};
+ghost use Rattle.pim_chain.specs.Owned.{worth, lent_by};
 ghost use Rattle.pim_chain.specs.Settled.{SettledBut, Visited, onward_from, next_of, changed, restored};
 ghost use Rattle.pim_chain.specs.Work.{Tells, VisitedOnce};
 
@@ -57,6 +57,20 @@ impl Tables {
         ensures { result ≡ worth self.now mutex }
     {
         self.lent(mutex).map_or(0, |prio| prio.get())
+    }
+
+    // the priority that a known task lends to the owner of the known mutex, where it waits for that, as a number
+    #[inline(always)]
+    fn lent_by(&self, task: TaskNo, mutex: MutexNo) -> u16
+        requires known { IsTask self.now.state task }
+        requires mutex { IsMutex self.now.state mutex }
+        ensures { result ≡ lent_by self.now task mutex }
+    {
+        if self.known_protocol(mutex).is_inherit() {
+            self.known_stored(task).get()
+        } else {
+            0
+        }
     }
 
     /// Computes the local priority of the task: the greatest of its base and what its mutexes lend it, the ceilings of
@@ -288,8 +302,8 @@ impl Tables {
     /// Lets the task, which waits for this mutex, stop waiting, and restores all stored priorities. They must be settled
     /// before.
     ///
-    /// Where the mutex then lends its owner what it did, that counts as a visit, and nothing else changes; else a walk
-    /// begins with the owner.
+    /// Where the task lent the owner less than the owner has, one look at both shows that nothing else changes, and counts
+    /// as a visit; else a walk begins with the owner.
     #[inline(always)]
     pub fn exit(&mut self, task: TaskNo, mutex: MutexNo, owner: TaskNo, visits: &mut Visits)
         requires settled { SettledBut self.old.state (stored_at self.old) None }
@@ -304,9 +318,9 @@ impl Tables {
     {
         // Its contract tells the proof what always holds of the tables.
         let _tasks = self.tasks();
-        let before = self.lent_level(mutex);
+        let lent = self.lent_by(task, mutex);
         self.leave(task);
-        if self.lent_level(mutex) == before {
+        if lent < self.known_stored(owner).get() {
             visits.add();
         } else {
             self.settle_from(owner, visits);
