@@ -98,6 +98,7 @@ impl Queues {
     }
 
     /// Removes the waiter from the queue of the mutex, where it must wait.
+    #[inline(always)]
     pub fn remove(&mut self, mutex: MutexNo, waiter: &Waiter)
         requires least { 1 ≤ mutex }
         requires most { mutex ≤ length self.old }

@@ -413,7 +413,7 @@ impl Tables {
     /// wait must close no cycle. The next ticket stays.
     ///
     /// Shifts the waiters behind its place in the queue.
-    #[inline(always)]
+    #[inline(never)]
     pub fn join(&mut self, task: TaskNo, mutex: MutexNo, ticket: u64)
         requires known { IsTask self.old.state task }
         requires mutex { IsMutex self.old.state mutex }
@@ -432,7 +432,7 @@ impl Tables {
     /// Lets the task, which must wait, stop waiting.
     ///
     /// Shifts the waiters behind its place in the queue.
-    #[inline(always)]
+    #[inline(never)]
     pub fn leave(&mut self, task: TaskNo)
         requires { wait_of self.old.state task ≢ None }
         ensures left { (w : Wait) → wait_of self.old.state task ≡ Some w → self.new ≡ left self.old task w.mutex }
