@@ -50,11 +50,18 @@ impl Handle {
         }
     }
 
-    /// Puts a manager in. One that was there is dropped.
+    /// Puts a manager in, where there is none.
+    // A plain assignment would test at run time whether there is one to drop.
+    #[inline(always)]
     pub fn put(&mut self, held: Box<Held, Global>)
+        requires { self.old.held ≡ None }
         ensures { self.new.held ≡ Some held.value }
     {
-        *self = Handle::from_raw(RawBox::of(held));
+        let before = replace(self, Handle::from_raw(RawBox::of(held)));
+        match before.into_raw() {
+            None => {}
+            Some(_raw) => unreachable!(),
+        }
     }
 
     /// Takes the manager out, if there is one.

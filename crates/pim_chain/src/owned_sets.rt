@@ -61,6 +61,7 @@ impl OwnedSets {
     }
 
     /// Puts the mutex in the task's set.
+    #[inline(always)]
     pub fn insert(&mut self, task: TaskNo, mutex: MutexNo)
         requires least { 1 ≤ task }
         requires most { task ≤ length self.old }
@@ -73,6 +74,7 @@ impl OwnedSets {
     }
 
     /// Takes the mutex out of the task's set.
+    #[inline(always)]
     pub fn remove(&mut self, task: TaskNo, mutex: MutexNo)
         requires least { 1 ≤ task }
         requires most { task ≤ length self.old }
