@@ -45,7 +45,10 @@ impl Notes {
     pub fn clear(&mut self)
         ensures { (t : ℕ) → noted_in self.new t ≡ None }
     {
-        self.tasks = NumberSet::new();
+        // Most steps note nothing.
+        if !self.tasks.is_empty() {
+            self.tasks = NumberSet::new();
+        }
     }
 
     /// Notes that the task had this priority, unless it is noted already.
