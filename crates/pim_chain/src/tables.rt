@@ -432,7 +432,7 @@ impl Tables {
     /// Lets the task, which must wait, stop waiting.
     ///
     /// Shifts the waiters behind its place in the queue.
-    #[inline(never)]
+    #[inline(always)]
     pub fn leave(&mut self, task: TaskNo)
         requires { wait_of self.old.state task ≢ None }
         ensures left { (w : Wait) → wait_of self.old.state task ≡ Some w → self.new ≡ left self.old task w.mutex }
@@ -440,9 +440,22 @@ impl Tables {
         ensures ready { Ready self.new }
     {
         if let Some(wait) = self.waits_for(task) {
-            let waiter = self.waiter(task, wait.ticket);
-            self.queues.remove(wait.mutex, &waiter);
-            put(&mut self.wait, task.get(), None);
+            self.end_wait(task, wait.mutex, wait.ticket);
         }
+    }
+
+    // lets the task stop waiting for this mutex, where it has this ticket
+    #[inline(never)]
+    fn end_wait(&mut self, task: TaskNo, mutex: MutexNo, ticket: u64)
+        requires { wait_of self.old.state task ≡ Some (record { mutex = mutex; ticket = ticket }) }
+        ensures left { self.new ≡ left self.old task mutex }
+        ensures unsettles { Unsettles self.old self.new (blocker self.old.state task) }
+        ensures ready { Ready self.new }
+    {
+        // Its contract tells the proof what always holds of the tables.
+        let _tasks = self.tasks();
+        let leaver = self.waiter(task, ticket);
+        self.queues.remove(mutex, &leaver);
+        put(&mut self.wait, task.get(), None);
     }
 }
