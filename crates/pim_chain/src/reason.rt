@@ -56,11 +56,12 @@ impl Tables {
         }
     }
 
-    // the first waiter for the mutex, as a reason
+    // the first waiter for the known mutex, as a reason
     fn waiter_reason(&self, mutex: MutexNo) -> Reason
+        requires { IsMutex self.now.state mutex }
         ensures { result ≡ first_reason self.now mutex }
     {
-        let first = self.first_waiter(mutex);
+        let first = self.known_first(mutex);
         first.map_or(Reason::Base, |first| Reason::Waiter(first.task, mutex))
     }
 

@@ -1,6 +1,7 @@
-use Rattle.std.proofs.Common.{◌≡◌, sym, subst, ◌∙◌, ap, Some, None}
+use Rattle.std.proofs.Common.{◌≡◌, sym, subst, ◌∙◌, ap, Some, None, rules}
 use Rattle.std.specs.List.{AllByRecursion}
-use Rattle.pim_base.specs.State.{owner_of}
+use Rattle.std.proofs.lemmas.Option.{none-some, same_Some}
+use Rattle.pim_base.specs.State.{IsMutex, owner_of}
 use Rattle.pim_chain.specs.Owned.{owned_reason}
 use Rattle.pim_chain.proofs.Known.{owned_all, owned_mutex, next_all}
 use Rattle.pim_chain.proofs.tables.Tables.owned_reason.Goals as goal
@@ -12,6 +13,7 @@ loop-mutex-init c =
     record {
       tells = ap (owned_reason v c.args.level None) all;
       mine = subst (AllByRecursion (λ m. owner_of v.state m ≡ Some c.args.task)) (sym all) (owned_all v.state c.args.task);
+      known = λ m e. absurd (none-some m e);
     }
 
 pub ceiling_level-requires : goal.ceiling_level-requires
@@ -23,3 +25,15 @@ pub lends-requires : goal.lends-requires
 lends-requires c =
     owned_mutex c.args.self.now.state c.in-Some.mutex c.args.task c.tasks-tasks.ensures.ready.sound.lists
     (next_all _ _ _ _ c.in-Some.ensures.steps c.loop-mutex.invariant.mine).0
+
+pub loop-mutex-preserved-then-lends : goal.loop-mutex-preserved-then-lends
+loop-mutex-preserved-then-lends c =
+    let S = c.args.self.now.state in
+    record {
+      tells = search rules;
+      mine = (next_all _ _ _ _ c.in-Some.ensures.steps c.loop-mutex.invariant.mine).1;
+      known = λ m e.
+          subst (IsMutex S) (same_Some _ _ e)
+          (owned_mutex S c.in-Some.mutex c.args.task c.tasks-tasks.ensures.ready.sound.lists
+          (next_all _ _ _ _ c.in-Some.ensures.steps c.loop-mutex.invariant.mine).0);
+    }

@@ -1,13 +1,14 @@
-use Rattle.std.proofs.Common.{◌≡◌, None, Some}
+use Rattle.std.proofs.Common.{◌≡◌, ℕ, None, Some}
 use Rattle.std.specs.List.{AllByRecursion}
-use Rattle.pim_base.specs.State.{owned, owner_of}
+use Rattle.pim_base.specs.State.{IsMutex, owned, owner_of}
 use Rattle.pim_chain.specs.Owned.{owned_reason}
 use Rattle.pim_chain.proofs.tables.Tables.owned_reason.Given as goal
 
--- with the lender so far, the mutexes that are left tell what all of them do, and the task owns each of them
+-- with the lender so far, which is known, the mutexes that are left tell what all of them do, and the task owns each of them
 abbrev pub invariant-loop-mutex : goal.invariant-loop-mutex
 invariant-loop-mutex l = record {
   tells :
       owned_reason l.self l.level l.lender l.mutex-iterator ≡ owned_reason l.self l.level None (owned l.self.state l.fn.task);
   mine : AllByRecursion (λ m. owner_of l.self.state m ≡ Some l.fn.task) l.mutex-iterator;
+  known : (m : ℕ) → l.lender ≡ Some m → IsMutex l.self.state m;
 }
