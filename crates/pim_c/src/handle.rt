@@ -10,7 +10,7 @@ use crate::held::Held;
 use crate::raw_box::RawBox;
 use std::alloc::Global;
 use std::marker::Model;
-use std::mem::replace;
+use std::mem::{forget, replace};
 use std::ptr::null_mut;
 
 /// A pointer to a manager, null where there is none. C copies it nowhere, and reads nothing behind it.
@@ -51,17 +51,13 @@ impl Handle {
     }
 
     /// Puts a manager in, where there is none.
-    // A plain assignment would test at run time whether there is one to drop.
+    // A plain assignment would test at run time whether there is one to drop, which is proved not to be.
     #[inline(always)]
     pub fn put(&mut self, held: Box<Held, Global>)
         requires { self.old.held ≡ None }
         ensures { self.new.held ≡ Some held.value }
     {
-        let before = replace(self, Handle::from_raw(RawBox::of(held)));
-        match before.into_raw() {
-            None => {}
-            Some(_raw) => unreachable!(),
-        }
+        forget(replace(self, Handle::from_raw(RawBox::of(held))));
     }
 
     /// Takes the manager out, if there is one.
