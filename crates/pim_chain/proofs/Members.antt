@@ -1,12 +1,12 @@
 -- The numbers of a set, in ascending order.
-use Rattle.std.proofs.Common.{◌≡◌, ◌≢◌, ℕ, zero, suc, ◌+◌, ◌*◌, ◌-◌, ◌/◌, ◌%◌, ◌<◌, ◌≤◌, ◌==◌, ◌&&◌, Bool, true, false, not, cond, ◌⊎◌, inl, inr, refl, sym, ◌∙◌, ap, subst, arith, List, [], ◌∷◌, filter, length, set, Some, None, slice_index}
+use Rattle.std.proofs.Common.{◌≡◌, ◌≢◌, ℕ, zero, suc, ◌+◌, ◌*◌, ◌-◌, ◌/◌, ◌%◌, ◌<◌, ◌≤◌, ◌==◌, ◌&&◌, Bool, true, false, not, cond, if◌then◌else◌, ◌⊎◌, inl, inr, refl, sym, ◌∙◌, ap, subst, arith, List, [], ◌∷◌, filter, length, set, Some, None, slice_index}
 use Rattle.std.specs.Int.{bit_at}
 use Rattle.std.specs.List.{range_with_len}
-use Rattle.std.proofs.lemmas.Bool.{both_ways, cases_eq, cases_lt, eq-eqb, eqb-true, ne_eqb, not-false}
-use Rattle.std.proofs.lemmas.List.{get_or_past, get_or-set_same, get_or-set_other}
+use Rattle.std.proofs.lemmas.Bool.{cases_eq, cases_lt, eq-eqb, ne_eqb}
+use Rattle.std.proofs.lemmas.List.{get_or-set_same, get_or-set_other, set-get_or, length-set}
 use Rattle.std.proofs.lemmas.Nat.Bits.{bit_at-zero}
 use Rattle.pim_base.specs.Lists.{numbers}
-use Rattle.pim_chain.specs.Numbers.{bit_of, has, members, AreTold, IsLeast}
+use Rattle.pim_chain.specs.Numbers.{bit_of, has, members, rest_words, IsBehind, IsLeast}
 
 -- ---- the numbers of a range that pass a test
 pub filter_none : (p : ℕ → Bool) (a n : ℕ) → ((k : ℕ) → a ≤ k → k < a + n → p k ≡ false) → filter p (range_with_len a n) ≡ []
@@ -119,68 +119,6 @@ has_there words index k low high =
     let is : 64 * index + (k - 64 * index) ≡ k = omega (arith, low) in
     ap (λ b. b == 1) (ap (bit_of words) (sym is) ∙ bit_there words index (k - 64 * index) (omega (arith, low, high)))
 
--- a word that isn't told has no number
-none_untold : (words : List ℕ) (filled index k : ℕ) → AreTold words filled → index < 64 → bit_at filled index ≡ 0 → 64 * index ≤ k → k < 64 * index + 64 → has words k ≡ false
-none_untold words filled index k told within clear low high =
-    let empty : slice_index words index ≡ 0 =
-    eqb-true (slice_index words index) 0 (not-false _ (sym (told index within) ∙ ap (λ b. b == 1) clear)) in
-    has_there words index k low high
-    ∙ ap (λ b. b == 1) (ap (λ w. bit_at w (k - 64 * index)) empty ∙ bit_at-zero (k - 64 * index))
-
--- no number is in a word behind the last
-none_past : (words : List ℕ) (k : ℕ) → length words ≡ 5 → 320 ≤ k → has words k ≡ false
-none_past words k len far =
-    ap (λ b. b == 1) (ap (λ w. bit_at w (k % 64)) (get_or_past words (k / 64) 0 (omega (arith, len, far))) ∙ bit_at-zero (k % 64))
-
--- where no word is told, the set is empty
-pub none_told : (words : List ℕ) → length words ≡ 5 → AreTold words 0 → (k : ℕ) → has words k ≡ false
-none_told words len told k = go (cases_lt k 320)
-  where
-    go : (k < 320) ⊎ (320 ≤ k) → has words k ≡ false
-    go (inl near) = none_untold words 0 (k / 64) k told (omega (arith, near)) (bit_at-zero (k / 64)) (omega arith) (omega arith)
-    go (inr far) = none_past words k len far
-
--- a word that is told is one of the five
-pub told_within : (words : List ℕ) (filled index : ℕ) → length words ≡ 5 → AreTold words filled → index < 64 → bit_at filled index ≡ 1 → index < 5
-told_within words filled index len told far is_told = there (cases_lt index 5)
-  where
-    there : (index < 5) ⊎ (5 ≤ index) → index < 5
-    there (inl near) = near
-    there (inr past) =
-        absurd (both_ways (bit_at filled index == 1) (told index far ∙ ap (λ w. not (w == 0)) (get_or_past words index 0 (omega (arith, len, past)))) (ap (λ b. b == 1) is_told))
-
--- the first number of the first word that is told is the least of all
-pub least_told :
-    (words : List ℕ) (filled index place x : ℕ)
-    → length words ≡ 5
-    → AreTold words filled
-    → index < 64
-    → bit_at filled index ≡ 1
-    → ((i : ℕ) → i < index → bit_at filled i ≡ 0)
-    → place < 64
-    → bit_at (slice_index words index) place ≡ 1
-    → ((i : ℕ) → i < place → bit_at (slice_index words index) i ≡ 0)
-    → index * 64 + place ≡ x
-    → IsLeast words (Some x)
-least_told words filled index place x len told far is_told none small is_set none_below is = (
-  omega (arith, within, small, is),
-  ap (has words) (sym at) ∙ ap (λ b. b == 1) (bit_there words index place small ∙ is_set),
-  λ k less. go k less (cases_lt k (64 * index)),
-)
-  where
-    within : index < 5
-    within = told_within words filled index len told far is_told
-
-    at : 64 * index + place ≡ x
-    at = omega (arith, is)
-
-    go : (k : ℕ) → k < x → (k < 64 * index) ⊎ (64 * index ≤ k) → has words k ≡ false
-    go k less (inl before) =
-        none_untold words filled (k / 64) k told (omega (arith, before, within)) (none (k / 64) (omega (arith, before))) (omega arith) (omega arith)
-    go k less (inr low) =
-        has_there words index k low (omega (arith, less, small, at))
-        ∙ ap (λ b. b == 1) (none_below (k - 64 * index) (omega (arith, less, low, at)))
-
 -- what is left when one number was taken out of its word
 pub taken :
     (words : List ℕ) (index place rest x k : ℕ)
@@ -211,6 +149,96 @@ taken words index place rest x k len within small is clear others = go (cases_eq
         ∙ ap (λ b. b == 1) (others (k % 64) (omega arith) (λ p. ne (omega (arith, e, is, p))))
         ∙ sym (ap (λ i. bit_at (slice_index words i) (k % 64) == 1) e)
         ∙ sym (ap (λ b. not b && has words k) (ne_eqb k x ne))
+
+-- ---- what is left, word by word
+rest_words_is : (words : List ℕ) (index word : ℕ) → word ≢ 0 → rest_words words index word ≡ set words index word
+rest_words_is words index word some = ap (λ b. if b then words else set words index word) (ne_eqb word 0 some)
+
+set-set : (words : List ℕ) (index v w : ℕ) → set (set words index v) index w ≡ set words index w
+set-set [] index v w = refl
+set-set (x ∷ xs) zero v w = refl
+set-set (x ∷ xs) (suc index) v w = ap (λ ys. x ∷ ys) (set-set xs index v w)
+
+-- another word in the place of the one that is gone through
+rest_words-set :
+    (words : List ℕ) (index word rest : ℕ)
+    → IsBehind words index word
+    → word ≢ 0
+    → rest_words words index rest ≡ set (rest_words words index word) index rest
+rest_words-set words index word rest behind some =
+    go (cases_eq rest 0) ∙ sym (ap (λ ws. set ws index rest) (rest_words_is words index word some) ∙ set-set words index word rest)
+  where
+    go : (rest ≡ 0) ⊎ (rest ≡ 0 → ⊥) → rest_words words index rest ≡ set words index rest
+    go (inl none) =
+        ap (λ b. if b then words else set words index rest) (eq-eqb rest 0 none)
+        ∙ sym (ap (set words index) (none ∙ sym ((behind some).1 index (omega arith))) ∙ set-get_or words index 0)
+    go (inr more) = rest_words_is words index rest more
+
+word_there : (words : List ℕ) (index word : ℕ) → length words ≡ 5 → IsBehind words index word → word ≢ 0 → slice_index (rest_words words index word) index ≡ word
+word_there words index word len behind some =
+    ap (λ ws. slice_index ws index) (rest_words_is words index word some)
+    ∙ get_or-set_same words index word 0 (omega (arith, len, (behind some).0))
+
+-- the first number of the word that is gone through is the least that is left
+pub least_rest :
+    (words : List ℕ) (index word place x : ℕ)
+    → length words ≡ 5
+    → IsBehind words index word
+    → word ≢ 0
+    → place < 64
+    → bit_at word place ≡ 1
+    → ((i : ℕ) → i < place → bit_at word i ≡ 0)
+    → index * 64 + place ≡ x
+    → IsLeast (rest_words words index word) (Some x)
+least_rest words index word place x len behind some small is_set none_below is = (
+  omega (arith, (behind some).0, small, is),
+  ap (has left) (sym at) ∙ ap (λ b. b == 1) (bit_there left index place small ∙ ap (λ w. bit_at w place) here ∙ is_set),
+  λ k less. go k less (cases_lt k (64 * index)),
+)
+  where
+    left : List ℕ
+    left = rest_words words index word
+
+    here : slice_index left index ≡ word
+    here = word_there words index word len behind some
+
+    at : 64 * index + place ≡ x
+    at = omega (arith, is)
+
+    go : (k : ℕ) → k < x → (k < 64 * index) ⊎ (64 * index ≤ k) → has left k ≡ false
+    go k less (inl before) =
+        let empty : slice_index left (k / 64) ≡ 0 =
+        ap (λ ws. slice_index ws (k / 64)) (rest_words_is words index word some)
+        ∙ get_or-set_other words index (k / 64) word 0 (λ e. absurd (omega (arith, e, before)))
+        ∙ (behind some).1 (k / 64) (omega (arith, before))
+        in
+        ap (λ w. bit_at w (k % 64) == 1) empty ∙ ap (λ b. b == 1) (bit_at-zero (k % 64))
+    go k less (inr low) =
+        has_there left index k low (omega (arith, less, small, at))
+        ∙ ap (λ w. bit_at w (k - 64 * index) == 1) here
+        ∙ ap (λ b. b == 1) (none_below (k - 64 * index) (omega (arith, less, low, at)))
+
+-- what is left then
+pub taken_rest :
+    (words : List ℕ) (index word rest place x k : ℕ)
+    → length words ≡ 5
+    → IsBehind words index word
+    → word ≢ 0
+    → place < 64
+    → index * 64 + place ≡ x
+    → bit_at rest place ≡ 0
+    → ((i : ℕ) → i < 64 → i ≢ place → bit_at rest i ≡ bit_at word i)
+    → has (rest_words words index rest) k ≡ (not (k == x) && has (rest_words words index word) k)
+taken_rest words index word rest place x k len behind some small is clear others =
+    ap (λ ws. has ws k) (rest_words-set words index word rest behind some)
+    ∙ taken left index place rest x k long (behind some).0 small is clear
+    (λ i low ne. others i low ne ∙ sym (ap (λ w. bit_at w i) (word_there words index word len behind some)))
+  where
+    left : List ℕ
+    left = rest_words words index word
+
+    long : length left ≡ 5
+    long = ap length (rest_words_is words index word some) ∙ length-set words index word ∙ len
 
 -- the least number is the first, and the others are those of the set without it
 pub least_first :

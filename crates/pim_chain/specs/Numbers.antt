@@ -1,5 +1,5 @@
 -- Sets of numbers below 320, a bit for each.
-use Rattle.std.specs.Prelude.{◌≡◌, ◌<◌, ◌==◌, ◌/◌, ◌%◌, ℕ, Bool, true, false, not, List, Option, Some, None, slice_index}
+use Rattle.std.specs.Prelude.{◌≡◌, ◌≢◌, ◌<◌, ◌≤◌, ◌==◌, ◌/◌, ◌%◌, ℕ, Bool, true, false, not, if◌then◌else◌, List, Option, Some, None, set, slice_index}
 use Rattle.std.specs.Int.{bit_at}
 use Rattle.std.specs.List.{filter, range_with_len}
 
@@ -23,3 +23,16 @@ AreTold words filled = (i : ℕ) → i < 64 → (bit_at filled i == 1) ≡ not (
 abbrev pub IsLeast : List ℕ → Option ℕ → Type 0
 IsLeast words None = (k : ℕ) → has words k ≡ false
 IsLeast words (Some n) = (n < 320) × (has words n ≡ true) × ((k : ℕ) → k < n → has words k ≡ false)
+
+-- the first word that has a number, or none of an empty set
+abbrev pub IsFirstWord : List ℕ → Option ℕ → Type 0
+IsFirstWord words None = (k : ℕ) → has words k ≡ false
+IsFirstWord words (Some i) = (i < 5) × (slice_index words i ≢ 0) × ((j : ℕ) → j < i → slice_index words j ≡ 0)
+
+-- the words of what is left: the one that is gone through stands in its place
+abbrev pub rest_words : List ℕ → ℕ → ℕ → List ℕ
+rest_words words index word = if word == 0 then words else set words index word
+
+-- while a word is gone through, neither its place nor any in front of it has another one
+abbrev pub IsBehind : List ℕ → ℕ → ℕ → Type 0
+IsBehind words index word = word ≢ 0 → (index < 5) × ((j : ℕ) → j ≤ index → slice_index words j ≡ 0)

@@ -1,8 +1,8 @@
 //! Sets of the numbers of tasks or mutexes.
 
-ghost use Rattle.std.specs.Prelude.{◌≡◌, ◌==◌, ◌<◌, ◌&&◌, ◌||◌, ◌↔◌, IsTrue, ℕ, None, IfSome, not, false, set};
+ghost use Rattle.std.specs.Prelude.{◌≡◌, ◌≢◌, ◌==◌, ◌<◌, ◌&&◌, ◌||◌, ◌↔◌, IsTrue, ℕ, None, IfSome, not, true, false, set};
 ghost use Rattle.std.specs.Iterator.{YieldsFirst, item_count};
-ghost use Rattle.pim_chain.specs.Numbers.{has, members, AreTold, IsLeast};
+ghost use Rattle.pim_chain.specs.Numbers.{has, members, rest_words, AreTold, IsBehind, IsFirstWord, IsLeast};
 
 use crate::bits::{has_bit, lowest_bit, with_bit, without_bit};
 use std::marker::Model;
@@ -33,8 +33,7 @@ impl NumberSet {
     pub fn is_empty(&self) -> bool
         ensures { IsTrue result ↔ ((k : ℕ) → has self.now.words k ≡ false) }
     {
-        let mut rest = *self;
-        match rest.take_least() {
+        match self.rest().take_least() {
             Some(_least) => false,
             None => true,
         }
@@ -79,31 +78,82 @@ impl NumberSet {
         };
     }
 
-    /// Takes out the least number, and returns it; `None` of an empty set.
-    pub fn take_least(&mut self) -> Option<u16>
-        ensures least { IsLeast self.old.words result }
-        ensures others { IfSome result (λ n. (k : ℕ) → has self.new.words k ≡ (not (k == n) && has self.old.words k)) }
-        ensures none { result ≡ None → self.new.words ≡ self.old.words }
+    // the first word that has a number
+    fn first_word(&self) -> Option<u32>
+        ensures { IsFirstWord self.now.words result }
     {
         if self.filled == 0 {
-            return None;
+            None
+        } else {
+            Some(lowest_bit(self.filled))
         }
-        let index = lowest_bit(self.filled);
-        let word = self.words[index as usize];
-        let place = lowest_bit(word);
-        let rest = without_bit(word, place);
-        self.words[index as usize] = rest;
-        if rest == 0 {
-            self.filled = without_bit(self.filled, index);
+    }
+
+    // all numbers of the set, of which none was taken out yet
+    fn rest(&self) -> Rest
+        ensures { rest_words result.others.words result.index result.word ≡ self.now.words }
+    {
+        Rest {
+            others: *self,
+            index: 0,
+            word: 0,
         }
-        Some(index as u16 * 64 + place as u16)
     }
 
     /// Returns the numbers of the set, in ascending order.
     pub fn iter(&self) -> Numbers
         ensures { result ≡ members self.now.words }
     {
-        Numbers { left: *self }
+        Numbers { left: self.rest() }
+    }
+}
+
+/// What is left of a set whose numbers are taken out in ascending order.
+///
+/// The word that is gone through is kept by itself, where it stays in a register.
+#[derive(Clone, Copy, Debug)]
+struct Rest {
+    // the other words
+    others: NumberSet,
+    // the place of the word that is gone through, and what is left of it
+    index: u32,
+    word: u64,
+    ghost behind: { IsBehind others.words index word },
+}
+
+impl Rest {
+    // goes on to the next word where nothing is left of this one, and returns whether a number is left
+    fn find_word(&mut self) -> bool
+        ensures same { rest_words self.new.others.words self.new.index self.new.word ≡ rest_words self.old.others.words self.old.index self.old.word }
+        ensures some { result ≡ true → self.new.word ≢ 0 }
+        ensures none { result ≡ false → (k : ℕ) → has (rest_words self.old.others.words self.old.index self.old.word) k ≡ false }
+    {
+        if self.word != 0 {
+            return true;
+        }
+        match self.others.first_word() {
+            Some(index) => {
+                self.index = index;
+                self.word = self.others.words[index as usize];
+                self.others.put_word(index as usize, 0);
+                true
+            }
+            None => false,
+        }
+    }
+
+    // takes out the least number, and returns it
+    fn take_least(&mut self) -> Option<u16>
+        ensures least { IsLeast (rest_words self.old.others.words self.old.index self.old.word) result }
+        ensures others { IfSome result (λ n. (k : ℕ) → has (rest_words self.new.others.words self.new.index self.new.word) k ≡ (not (k == n) && has (rest_words self.old.others.words self.old.index self.old.word) k)) }
+        ensures none { result ≡ None → rest_words self.new.others.words self.new.index self.new.word ≡ rest_words self.old.others.words self.old.index self.old.word }
+    {
+        if !self.find_word() {
+            return None;
+        }
+        let place = lowest_bit(self.word);
+        self.word = without_bit(self.word, place);
+        Some(self.index as u16 * 64 + place as u16)
     }
 }
 
@@ -113,16 +163,16 @@ impl NumberSet {
 /// meanwhile, and takes the least number out of that at each call.
 #[derive(Drop)]
 pub struct Numbers {
-    left: NumberSet,
+    left: Rest,
 }
 
 impl Model for Numbers {
     ghost use Rattle.std.specs.Prelude.{List, ℕ};
-    ghost use Rattle.pim_chain.specs.Numbers.{members};
+    ghost use Rattle.pim_chain.specs.Numbers.{members, rest_words};
 
     ghost Value = { List ℕ };
 
-    ghost view = { λ n. members n.left.words };
+    ghost view = { λ n. members (rest_words n.left.others.words n.left.index n.left.word) };
 }
 
 impl Iterator for Numbers {

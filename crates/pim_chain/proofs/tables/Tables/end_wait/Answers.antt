@@ -1,5 +1,5 @@
-use Rattle.std.proofs.Common.{◌≡◌, ◌∙◌, sym, subst, Some, rules}
-use Rattle.pim_base.specs.State.{IsState, wait_of}
+use Rattle.std.proofs.Common.{sym, subst, rules}
+use Rattle.pim_base.specs.State.{IsState}
 use Rattle.pim_chain.specs.Shown.{shown}
 use Rattle.pim_chain.specs.Views.{View, stored_at}
 use Rattle.pim_chain.proofs.Changes.{ready_left}
