@@ -1,5 +1,7 @@
 //! What a soak comes to, in numbers.
 
+ghost use Rattle.std.specs.Prelude.{◌≡◌, ◌+◌, ◌-◌, ◌^◌, min, if◌then◌else◌};
+
 use std::fmt;
 
 /// How much was run and seen, and how often it differed from what the plain manager says.
@@ -22,7 +24,9 @@ pub struct Figures {
 
 impl Figures {
     /// Adds those of another soak.
-    pub fn add(&mut self, other: &Figures) {
+    pub fn add(&mut self, other: &Figures)
+        ensures { self.new.differences ≡ min (self.old.differences + other.now.differences) (2 ^ 64 - 1) }
+    {
         count(&mut self.scripts, other.scripts);
         count(&mut self.steps, other.steps);
         count(&mut self.queued, other.queued);
@@ -34,7 +38,9 @@ impl Figures {
     }
 
     /// Counts a difference, unless both are the same.
-    pub fn expect(&mut self, is_same: bool) {
+    pub fn expect(&mut self, is_same: bool)
+        ensures { self.new.differences ≡ (if is_same then self.old.differences else min (self.old.differences + 1) (2 ^ 64 - 1)) }
+    {
         if !is_same {
             count(&mut self.differences, 1);
         }
@@ -42,7 +48,9 @@ impl Figures {
 }
 
 /// Adds to a count, which stays at its largest value.
-pub fn count(sum: &mut u64, more: u64) {
+pub fn count(sum: &mut u64, more: u64)
+    ensures { sum.new ≡ min (sum.old + more) (2 ^ 64 - 1) }
+{
     *sum = sum.saturating_add(more);
 }
 
