@@ -1,6 +1,6 @@
 //! What a soak comes to, in numbers.
 
-ghost use Rattle.std.specs.Prelude.{◌≡◌, ◌+◌, ◌-◌, ◌^◌, min, if◌then◌else◌};
+ghost use Rattle.std.specs.Prelude.{◌≡◌, ◌+◌, ◌-◌, ◌^◌, IsFalse, IsTrue, min};
 
 use std::fmt;
 
@@ -25,7 +25,14 @@ pub struct Figures {
 impl Figures {
     /// Adds those of another soak.
     pub fn add(&mut self, other: &Figures)
-        ensures { self.new.differences ≡ min (self.old.differences + other.now.differences) (2 ^ 64 - 1) }
+        ensures scripts { self.new.scripts ≡ min (self.old.scripts + other.now.scripts) (2 ^ 64 - 1) }
+        ensures steps { self.new.steps ≡ min (self.old.steps + other.now.steps) (2 ^ 64 - 1) }
+        ensures queued { self.new.queued ≡ min (self.old.queued + other.now.queued) (2 ^ 64 - 1) }
+        ensures deadlocks { self.new.deadlocks ≡ min (self.old.deadlocks + other.now.deadlocks) (2 ^ 64 - 1) }
+        ensures ceilings { self.new.ceilings ≡ min (self.old.ceilings + other.now.ceilings) (2 ^ 64 - 1) }
+        ensures looks { self.new.looks ≡ min (self.old.looks + other.now.looks) (2 ^ 64 - 1) }
+        ensures distinct { self.new.distinct ≡ min (self.old.distinct + other.now.distinct) (2 ^ 64 - 1) }
+        ensures differences { self.new.differences ≡ min (self.old.differences + other.now.differences) (2 ^ 64 - 1) }
     {
         count(&mut self.scripts, other.scripts);
         count(&mut self.steps, other.steps);
@@ -39,7 +46,8 @@ impl Figures {
 
     /// Counts a difference, unless both are the same.
     pub fn expect(&mut self, is_same: bool)
-        ensures { self.new.differences ≡ (if is_same then self.old.differences else min (self.old.differences + 1) (2 ^ 64 - 1)) }
+        ensures same { IsTrue is_same → self.new ≡ self.old }
+        ensures differs { IsFalse is_same → self.new ≡ record self.old { differences = min (self.old.differences + 1) (2 ^ 64 - 1) } }
     {
         if !is_same {
             count(&mut self.differences, 1);
