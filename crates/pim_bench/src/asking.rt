@@ -1,8 +1,11 @@
 //! Who asks for a priority, who changes priorities, and what stands between them.
 
+ghost use Rattle.std.specs.Prelude.{◌≡◌, is_ok};
+
 use pim_base::{Prio, Reason, Step, TaskNo};
 use pim_manager::Manager;
 use pim_shared::{Looker, Shared};
+use std::io;
 use std::sync::{Mutex, RwLock, Wait};
 
 /// What is asked of a manager: the priority of a task and its reason, and how many steps were made before.
@@ -66,5 +69,16 @@ impl Ask for Looker {
 impl Change for Shared {
     fn change<R: Wait>(&self, rt: &R, step: Step) -> bool {
         self.call(rt, step).is_ok()
+    }
+}
+
+/// Returns an error where what was to be timed wasn't done: what is refused or closed answers sooner.
+pub fn expect(is_done: bool) -> io::Result<()>
+    ensures { is_ok result ≡ is_done }
+{
+    if is_done {
+        Ok(())
+    } else {
+        Err(io::Error::from(io::ErrorKind::InvalidInput))
     }
 }

@@ -1,6 +1,6 @@
 //! Calls by several threads.
 
-use crate::asking::Change;
+use crate::asking::{Change, expect};
 use crate::scene::change;
 use crate::timed::{Timed, all_of};
 use std::alloc::Global;
@@ -39,10 +39,14 @@ where
 }
 
 /// Times the calls of one thread.
+///
+/// # Errors
+///
+/// A clock that fails, or a step that isn't made.
 fn time_of<C: Change, R: Wait + Clock>(rt: &R, changed: &C, calls: u32) -> io::Result<Timed> {
     let start = Instant::now(rt)?;
     for turn in 0..calls {
-        changed.change(rt, change(u64::from(turn)));
+        expect(changed.change(rt, change(u64::from(turn))))?;
     }
     Ok(Timed {
         count: u64::from(calls),

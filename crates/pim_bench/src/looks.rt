@@ -1,6 +1,6 @@
 //! Looks by several threads, beside a writer that never rests.
 
-use crate::asking::{Ask, Change};
+use crate::asking::{Ask, Change, expect};
 use crate::scene::change;
 use crate::timed::{Timed, all_of};
 use pim_base::TaskNo;
@@ -54,17 +54,21 @@ fn write_until<C: Change, R: Wait>(rt: &R, changed: &C, done: &AtomicBool) {
 }
 
 /// Times the looks of one looker, at first all together, then some of them one by one.
+///
+/// # Errors
+///
+/// A clock that fails, or a look that isn't answered.
 fn time_of<A: Ask + Drop, R: Wait + Clock>(rt: &R, looker: A, looks: u32) -> io::Result<Timed> {
     let mut looker = looker;
     let start = Instant::now(rt)?;
     for _ in 0..looks {
-        let _answer = looker.ask(rt, TaskNo(1));
+        expect(looker.ask(rt, TaskNo(1)).is_some())?;
     }
     let time = start.elapsed(rt)?;
     let mut longest = Duration::ZERO;
     for _ in 0..looks {
         let start = Instant::now(rt)?;
-        let _answer = looker.ask(rt, TaskNo(1));
+        expect(looker.ask(rt, TaskNo(1)).is_some())?;
         longest = longest.max(start.elapsed(rt)?);
     }
     Ok(Timed {

@@ -1,5 +1,7 @@
 //! What a soak comes to, in numbers.
 
+ghost use Rattle.std.specs.Prelude.{◌≡◌, ◌+◌, ◌-◌, ◌^◌, IsFalse, IsTrue, min};
+
 use std::fmt;
 
 /// How much was run and seen, and how often it differed from what the plain manager says.
@@ -22,7 +24,16 @@ pub struct Figures {
 
 impl Figures {
     /// Adds those of another soak.
-    pub fn add(&mut self, other: &Figures) {
+    pub fn add(&mut self, other: &Figures)
+        ensures scripts { self.new.scripts ≡ min (self.old.scripts + other.now.scripts) (2 ^ 64 - 1) }
+        ensures steps { self.new.steps ≡ min (self.old.steps + other.now.steps) (2 ^ 64 - 1) }
+        ensures queued { self.new.queued ≡ min (self.old.queued + other.now.queued) (2 ^ 64 - 1) }
+        ensures deadlocks { self.new.deadlocks ≡ min (self.old.deadlocks + other.now.deadlocks) (2 ^ 64 - 1) }
+        ensures ceilings { self.new.ceilings ≡ min (self.old.ceilings + other.now.ceilings) (2 ^ 64 - 1) }
+        ensures looks { self.new.looks ≡ min (self.old.looks + other.now.looks) (2 ^ 64 - 1) }
+        ensures distinct { self.new.distinct ≡ min (self.old.distinct + other.now.distinct) (2 ^ 64 - 1) }
+        ensures differences { self.new.differences ≡ min (self.old.differences + other.now.differences) (2 ^ 64 - 1) }
+    {
         count(&mut self.scripts, other.scripts);
         count(&mut self.steps, other.steps);
         count(&mut self.queued, other.queued);
@@ -34,7 +45,10 @@ impl Figures {
     }
 
     /// Counts a difference, unless both are the same.
-    pub fn expect(&mut self, is_same: bool) {
+    pub fn expect(&mut self, is_same: bool)
+        ensures same { IsTrue is_same → self.new ≡ self.old }
+        ensures differs { IsFalse is_same → self.new ≡ record self.old { differences = min (self.old.differences + 1) (2 ^ 64 - 1) } }
+    {
         if !is_same {
             count(&mut self.differences, 1);
         }
@@ -42,7 +56,9 @@ impl Figures {
 }
 
 /// Adds to a count, which stays at its largest value.
-pub fn count(sum: &mut u64, more: u64) {
+pub fn count(sum: &mut u64, more: u64)
+    ensures { sum.new ≡ min (sum.old + more) (2 ^ 64 - 1) }
+{
     *sum = sum.saturating_add(more);
 }
 

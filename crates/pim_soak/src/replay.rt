@@ -90,7 +90,9 @@ pub fn compare_ends(
     for number in 1..=plain.mutexes() {
         let mutex = MutexNo(number);
         let queue = plain.queue_of(alloc, mutex)?;
+        figures.expect(manager.protocol(mutex) == plain.protocol(mutex));
         figures.expect(manager.owner(mutex) == Some(plain.owner_of(mutex)));
+        figures.expect(manager.count(mutex) == plain.count(mutex));
         figures.expect(manager.waiters(mutex) == Some(queue.as_slice()));
     }
     Ok(())

@@ -14,11 +14,15 @@ use std::test::Fail;
 
 #[test]
 fn random_scripts_agree_with_the_plain_manager(rt: HostRuntime) -> Result<(), Fail> {
+    let mut all = Figures::default();
     for seed in 1u64..31 {
         let found = drawn(&rt, rt.alloc(), seed)?;
         assert_eq!(rt; found.differences, 0, "seed {seed}");
         assert!(rt; found.distinct > 0, "seed {seed}");
+        all.add(&found);
     }
+    // Scripts in which nobody meets would agree, too.
+    assert!(rt; all.queued > 0 && all.deadlocks > 0 && all.ceilings > 0);
     Ok(())
 }
 
@@ -144,10 +148,20 @@ fn another_manager_at_the_end_is_a_difference(rt: HostRuntime) -> Result<(), Fai
         Prio::new(10).ok_or("a base")?,
         Prio::new(20).ok_or("a base")?,
     ];
-    let mut plain = PlainManager::new(rt.alloc(), &bases, &[Protocol::Inherit], 1)?;
-    let mut manager = Manager::new(rt.alloc(), &bases, &[Protocol::Inherit])?;
-    // The owner; what it waits for, the next ticket, the queue, and the owner's priority with its reason.
-    for (step, differences) in boost().into_iter().zip([1, 5]) {
+    let protocols = [
+        Protocol::Inherit,
+        Protocol::Protect(Prio::new(30).ok_or("a ceiling")?),
+    ];
+    let mut plain = PlainManager::new(rt.alloc(), &bases, &protocols, 1)?;
+    let mut manager = Manager::new(rt.alloc(), &bases, &protocols)?;
+    let [first, second] = boost();
+    let raised = Step {
+        actor: TaskNo(1),
+        op: Op::SetCeiling(MutexNo(2), 40),
+    };
+    // The owner and how often it locked; what it waits for, the next ticket, the queue, and the owner's priority with its
+    // reason; the ceiling.
+    for (step, differences) in [(first, 2), (second, 5), (raised, 1)] {
         let mut figures = Figures::default();
         plain.step(step);
         compare_ends(rt.alloc(), &mut figures, &manager, &plain)?;

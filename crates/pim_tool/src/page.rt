@@ -1,8 +1,9 @@
 //! The bytes of a report that are not yet written.
-ghost use Rattle.std.specs.Prelude.{◌≡◌, ◌++◌, ◌≤◌, ◌+◌, [], length, take, flat_map, OnOk, IfOk};
+ghost use Rattle.std.specs.Prelude.{◌≡◌, ◌↔◌, ◌++◌, ◌≤◌, ◌+◌, [], length, take, flat_map, IsTrue, OnOk, IfOk};
 ghost use Rattle.pim_base.specs.Spelling.{refusal_word};
 ghost use Rattle.pim_base.specs.Reports.{reply_text, reply_line, differing_line, rejected, accepted};
 ghost use Rattle.pim_tool.specs.Printed.{reason_text, line_of};
+ghost use Rattle.pim_tool.specs.declared.page.TheConstants.{FULL};
 
 use crate::numerals::Numerals;
 use crate::puts::{put, put_number, put_slice};
@@ -55,7 +56,9 @@ impl Page {
     }
 
     /// Returns whether so much was gathered that it is to be written.
-    pub fn is_full(&self) -> bool {
+    pub fn is_full(&self) -> bool
+        ensures { IsTrue result ↔ FULL ≤ length self.now }
+    {
         self.used >= FULL
     }
 

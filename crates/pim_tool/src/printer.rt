@@ -1,5 +1,6 @@
 //! Lines on their way to their writer.
-ghost use Rattle.std.specs.Prelude.{◌≡◌, []};
+ghost use Rattle.std.specs.Prelude.{◌≡◌, ◌<◌, length, []};
+ghost use Rattle.pim_tool.specs.declared.page.TheConstants.{FULL};
 
 use crate::ends::Sink;
 use crate::fault::Fault;
@@ -35,7 +36,8 @@ impl<'a, W: Sink> Printer<'a, W> {
 
     /// Writes all that is not yet written, if the page is full.
     pub fn write_if_full(&mut self) -> Result<(), Fault>
-        ensures { Takes W.told self.old self.new [] result }
+        ensures takes { Takes W.told self.old self.new [] result }
+        ensures room { length self.new.page.now < FULL }
     {
         if self.page.is_full() {
             self.write()?;

@@ -1,9 +1,20 @@
 //! Ends of one byte a call, and ends of which each call in turn goes wrong.
 
 use crate::tests::worked::{REPORT, TEXT};
-use crate::{Fault, MemoryReader, MemoryWriter, Trouble, Verdict, judge};
+use crate::{Fault, MemoryReader, MemoryWriter, Sink, Source, Trouble, Verdict, judge};
 use std::alloc::AllocGlobal;
 use std::process::Abort;
+
+#[test]
+fn ends_in_memory_move_so_many_bytes_a_call(rt: HostRuntime) {
+    for (most, read, written) in [(0, 1, 0), (1, 1, 1), (3, 3, 3), (9, 6, 6)] {
+        let mut buffer = [0; 8];
+        let mut reader = MemoryReader::piecewise(b"pim 1\n", most, 0);
+        let mut writer = MemoryWriter::piecewise(rt.alloc(), most, Trouble::Fails, 0);
+        assert_eq!(rt; reader.read(&mut buffer), Ok(read), "{most}");
+        assert_eq!(rt; writer.write(b"pim 1\n"), Ok(written), "{most}");
+    }
+}
 
 /// The report is written whole by ends that take so many bytes a call.
 fn expect_whole(rt: &(impl Abort + AllocGlobal), read: usize, written: usize) {
