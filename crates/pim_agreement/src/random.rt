@@ -2,7 +2,8 @@
 
 ghost use Rattle.std.specs.Prelude.{◌≤◌, ◌<◌};
 
-use crate::scene::{Both, INHERIT, NONE, RECURSIVE, protect};
+use crate::scene::{Both, INHERIT, Kind, NONE, RECURSIVE};
+use Kind::Protect;
 use pim_base::{MutexNo, Op, Prio, Step, TaskNo};
 use pim_manager::ChangedTasks;
 use pim_plain::PlainManager;
@@ -158,19 +159,19 @@ fn expect_agreement(
 
 #[test]
 fn managers_agree_over_5000_random_steps(rt: HostRuntime) -> Result<(), Fail> {
-    let bases = [10, 20, 30, 30, 50, 90];
-    let protocols = [
+    const BASES: &[u16] = &[10, 20, 30, 30, 50, 90];
+    const KINDS: &[Kind] = &[
         RECURSIVE,
         RECURSIVE,
         INHERIT,
         INHERIT,
         NONE,
-        protect(&rt, 40),
-        protect(&rt, 95),
+        Protect(40),
+        Protect(95),
     ];
     let mut changed = ChangedTasks::new(rt.alloc())?;
     for seed in 1u64..6 {
-        let mut both = Both::new(&rt, rt.alloc(), &bases, &protocols)?;
+        let mut both = Both::new(&rt, rt.alloc(), BASES, KINDS)?;
         expect_agreement(&rt, &mut both, &mut changed, seed)?;
         assert_eq!(rt; both.manager.next_ticket(), both.plain.next_ticket());
     }

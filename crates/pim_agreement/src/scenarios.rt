@@ -2,450 +2,454 @@
 //! it, with its reason, as worked out by hand from the definitions.
 
 use crate::scene::{
-    Both, INHERIT, NONE, RECURSIVE, base, cancel, ceiling, handed, lock, protect, release,
-    set_base, set_ceiling, try_lock, unlock, waiter,
+    Act, Answer, Both, INHERIT, Kind, NONE, Part, RECURSIVE, Row, Seen, lock, play, play_parts,
 };
+use Act::{Cancel, Lock, Release, SetBase, SetCeiling, Try, Unlock};
+use Answer::{Freed, Granted, Handed, Kept, Queued, Refused, Released, Set, Withdrawn};
+use Kind::Protect;
 use Refusal::{
     Again, Busy, Deadlock, NoMutex, NoTask, NotOwner, NotProtect, NotWaiting, Priority, Tickets,
     Waiting,
 };
-use Reply::{Freed, Granted, Kept, Queued, Refused, Released, Set, Withdrawn};
-use pim_base::{MutexNo, Prio, Refusal, Reply, TaskNo};
+use Seen::{Base, Ceiling, Lent};
+use pim_base::{MutexNo, Prio, Protocol, Refusal, TaskNo};
+use pim_plain::PlainManager;
+use std::process::Abort;
 use std::test::Fail;
 
 #[test]
 fn unknown_numbers_are_refused(rt: HostRuntime) -> Result<(), Fail> {
-    let mut both = Both::new(&rt, rt.alloc(), &[10], &[NONE])?;
-    for (step, reply, visits, tasks) in [
-        (lock(2, 1), Refused(NoTask), 0, [base(10)]),
-        (lock(0, 1), Refused(NoTask), 0, [base(10)]),
-        (lock(1, 9), Refused(NoMutex), 0, [base(10)]),
-        (try_lock(1, 2), Refused(NoMutex), 0, [base(10)]),
-        (unlock(1, 0), Refused(NoMutex), 0, [base(10)]),
-        (cancel(1, 2), Refused(NoTask), 0, [base(10)]),
-        (set_base(1, 2, 50), Refused(NoTask), 0, [base(10)]),
-        (set_ceiling(1, 2, 0), Refused(NoMutex), 0, [base(10)]),
-    ] {
-        both.expect_step(step, reply, visits, &tasks);
-    }
-    Ok(())
+    const ROWS: &[Row] = &[
+        Row(Lock(2, 1), Refused(NoTask), 0, &[Base(10)]),
+        Row(Lock(0, 1), Refused(NoTask), 0, &[Base(10)]),
+        Row(Lock(1, 9), Refused(NoMutex), 0, &[Base(10)]),
+        Row(Try(1, 2), Refused(NoMutex), 0, &[Base(10)]),
+        Row(Unlock(1, 0), Refused(NoMutex), 0, &[Base(10)]),
+        Row(Cancel(1, 2), Refused(NoTask), 0, &[Base(10)]),
+        Row(SetBase(1, 2, 50), Refused(NoTask), 0, &[Base(10)]),
+        Row(SetCeiling(1, 2, 0), Refused(NoMutex), 0, &[Base(10)]),
+    ];
+    play(&rt, rt.alloc(), &[10], &[NONE], ROWS)
 }
 
 #[test]
 fn waiters_are_served_by_priority_and_ask_for_nothing(rt: HostRuntime) -> Result<(), Fail> {
-    let mut both = Both::new(&rt, rt.alloc(), &[10, 30, 20], &[NONE])?;
-    let bases = [base(10), base(30), base(20)];
-    for (step, reply, visits, tasks) in [
-        (lock(1, 1), Granted, 1, bases),
-        (lock(3, 1), Queued, 1, bases),
-        (lock(2, 1), Queued, 1, bases),
-        (unlock(2, 1), Refused(Waiting), 0, bases),
-        (unlock(1, 1), handed(2), 2, bases),
-        (unlock(2, 1), handed(3), 2, bases),
-        (unlock(3, 1), Freed, 1, bases),
-        (unlock(3, 1), Refused(NotOwner), 0, bases),
-    ] {
-        both.expect_step(step, reply, visits, &tasks);
-    }
-    Ok(())
+    const BASES: &[Seen] = &[Base(10), Base(30), Base(20)];
+    const ROWS: &[Row] = &[
+        Row(Lock(1, 1), Granted, 1, BASES),
+        Row(Lock(3, 1), Queued, 1, BASES),
+        Row(Lock(2, 1), Queued, 1, BASES),
+        Row(Unlock(2, 1), Refused(Waiting), 0, BASES),
+        Row(Unlock(1, 1), Handed(2), 2, BASES),
+        Row(Unlock(2, 1), Handed(3), 2, BASES),
+        Row(Unlock(3, 1), Freed, 1, BASES),
+        Row(Unlock(3, 1), Refused(NotOwner), 0, BASES),
+    ];
+    play(&rt, rt.alloc(), &[10, 30, 20], &[NONE], ROWS)
 }
 
 #[test]
 fn medium_task_cannot_delay_boosted_owner(rt: HostRuntime) -> Result<(), Fail> {
-    let mut both = Both::new(&rt, rt.alloc(), &[10, 50, 90], &[INHERIT])?;
-    let bases = [base(10), base(50), base(90)];
-    let boosted = [waiter(90, 3, 1), base(50), base(90)];
-    for (step, reply, visits, tasks) in [
-        (lock(1, 1), Granted, 1, bases),
-        (lock(3, 1), Queued, 1, boosted),
-        (unlock(1, 1), handed(3), 2, bases),
-    ] {
-        both.expect_step(step, reply, visits, &tasks);
-    }
-    Ok(())
+    const BASES: &[Seen] = &[Base(10), Base(50), Base(90)];
+    const BOOSTED: &[Seen] = &[Lent(90, 3, 1), Base(50), Base(90)];
+    const ROWS: &[Row] = &[
+        Row(Lock(1, 1), Granted, 1, BASES),
+        Row(Lock(3, 1), Queued, 1, BOOSTED),
+        Row(Unlock(1, 1), Handed(3), 2, BASES),
+    ];
+    play(&rt, rt.alloc(), &[10, 50, 90], &[INHERIT], ROWS)
 }
 
 #[test]
 fn deadlock_is_refused_across_two_mutexes_and_to_the_owner(rt: HostRuntime) -> Result<(), Fail> {
-    let mut both = Both::new(&rt, rt.alloc(), &[10, 20], &[INHERIT, INHERIT])?;
-    let bases = [base(10), base(20)];
-    let boosted = [waiter(20, 2, 1), base(20)];
-    for (step, reply, visits, tasks) in [
-        (lock(1, 1), Granted, 1, bases),
-        (lock(2, 2), Granted, 1, bases),
-        (lock(2, 1), Queued, 1, boosted),
-        (lock(1, 2), Refused(Deadlock), 0, boosted),
-        (lock(1, 1), Refused(Deadlock), 0, boosted),
-    ] {
-        both.expect_step(step, reply, visits, &tasks);
-    }
-    Ok(())
+    const BASES: &[Seen] = &[Base(10), Base(20)];
+    const BOOSTED: &[Seen] = &[Lent(20, 2, 1), Base(20)];
+    const ROWS: &[Row] = &[
+        Row(Lock(1, 1), Granted, 1, BASES),
+        Row(Lock(2, 2), Granted, 1, BASES),
+        Row(Lock(2, 1), Queued, 1, BOOSTED),
+        Row(Lock(1, 2), Refused(Deadlock), 0, BOOSTED),
+        Row(Lock(1, 1), Refused(Deadlock), 0, BOOSTED),
+    ];
+    play(&rt, rt.alloc(), &[10, 20], &[INHERIT, INHERIT], ROWS)
 }
 
 #[test]
 fn try_answers_busy_where_lock_answers_deadlock(rt: HostRuntime) -> Result<(), Fail> {
-    let mut both = Both::new(&rt, rt.alloc(), &[10, 20, 30], &[INHERIT, NONE, INHERIT])?;
-    let bases = [base(10), base(20), base(30)];
-    let boosted = [waiter(20, 2, 1), base(20), base(30)];
-    for (step, reply, visits, tasks) in [
-        (lock(1, 1), Granted, 1, bases),
-        (lock(2, 2), Granted, 1, bases),
-        (lock(3, 3), Granted, 1, bases),
-        (lock(2, 1), Queued, 1, boosted),
-        (lock(3, 2), Queued, 1, boosted),
-        (lock(1, 3), Refused(Deadlock), 0, boosted),
-        (try_lock(1, 3), Refused(Busy), 0, boosted),
-        (try_lock(1, 1), Refused(Busy), 0, boosted),
-    ] {
-        both.expect_step(step, reply, visits, &tasks);
-    }
-    Ok(())
+    const BASES: &[Seen] = &[Base(10), Base(20), Base(30)];
+    const BOOSTED: &[Seen] = &[Lent(20, 2, 1), Base(20), Base(30)];
+    const ROWS: &[Row] = &[
+        Row(Lock(1, 1), Granted, 1, BASES),
+        Row(Lock(2, 2), Granted, 1, BASES),
+        Row(Lock(3, 3), Granted, 1, BASES),
+        Row(Lock(2, 1), Queued, 1, BOOSTED),
+        Row(Lock(3, 2), Queued, 1, BOOSTED),
+        Row(Lock(1, 3), Refused(Deadlock), 0, BOOSTED),
+        Row(Try(1, 3), Refused(Busy), 0, BOOSTED),
+        Row(Try(1, 1), Refused(Busy), 0, BOOSTED),
+    ];
+    play(
+        &rt,
+        rt.alloc(),
+        &[10, 20, 30],
+        &[INHERIT, NONE, INHERIT],
+        ROWS,
+    )
 }
 
 #[test]
 fn deadlock_is_refused_through_mutexes_that_lend_nothing(rt: HostRuntime) -> Result<(), Fail> {
-    let mut both = Both::new(&rt, rt.alloc(), &[10, 20], &[NONE, protect(&rt, 30)])?;
-    for (step, reply, visits, tasks) in [
-        (lock(1, 1), Granted, 1, [base(10), base(20)]),
-        (lock(2, 2), Granted, 1, [base(10), ceiling(30, 2)]),
-        (lock(2, 1), Queued, 1, [base(10), ceiling(30, 2)]),
-        (lock(1, 2), Refused(Deadlock), 0, [base(10), ceiling(30, 2)]),
-    ] {
-        both.expect_step(step, reply, visits, &tasks);
-    }
-    Ok(())
+    const ROWS: &[Row] = &[
+        Row(Lock(1, 1), Granted, 1, &[Base(10), Base(20)]),
+        Row(Lock(2, 2), Granted, 1, &[Base(10), Ceiling(30, 2)]),
+        Row(Lock(2, 1), Queued, 1, &[Base(10), Ceiling(30, 2)]),
+        Row(
+            Lock(1, 2),
+            Refused(Deadlock),
+            0,
+            &[Base(10), Ceiling(30, 2)],
+        ),
+    ];
+    play(&rt, rt.alloc(), &[10, 20], &[NONE, Protect(30)], ROWS)
 }
 
 #[test]
 fn boost_stops_at_a_protect_mutex(rt: HostRuntime) -> Result<(), Fail> {
-    let mut both = Both::new(&rt, rt.alloc(), &[20, 40, 90], &[protect(&rt, 50), INHERIT])?;
-    let [t1, t2, t3] = [ceiling(50, 1), base(40), base(90)];
-    let boosted = waiter(90, 3, 2);
-    for (step, reply, visits, tasks) in [
-        (lock(1, 1), Granted, 1, [t1, t2, t3]),
-        (lock(2, 2), Granted, 1, [t1, t2, t3]),
-        (lock(2, 1), Queued, 1, [t1, t2, t3]),
-        (lock(3, 2), Queued, 1, [t1, boosted, t3]),
-        (unlock(1, 1), handed(2), 2, [base(20), boosted, t3]),
-    ] {
-        both.expect_step(step, reply, visits, &tasks);
-    }
-    Ok(())
+    const T1: Seen = Ceiling(50, 1);
+    const T2: Seen = Base(40);
+    const T3: Seen = Base(90);
+    const BOOSTED: Seen = Lent(90, 3, 2);
+    const ROWS: &[Row] = &[
+        Row(Lock(1, 1), Granted, 1, &[T1, T2, T3]),
+        Row(Lock(2, 2), Granted, 1, &[T1, T2, T3]),
+        Row(Lock(2, 1), Queued, 1, &[T1, T2, T3]),
+        Row(Lock(3, 2), Queued, 1, &[T1, BOOSTED, T3]),
+        Row(Unlock(1, 1), Handed(2), 2, &[Base(20), BOOSTED, T3]),
+    ];
+    play(
+        &rt,
+        rt.alloc(),
+        &[20, 40, 90],
+        &[Protect(50), INHERIT],
+        ROWS,
+    )
 }
 
 #[test]
 fn raised_waiter_is_handed_a_mutex_that_lends_nothing(rt: HostRuntime) -> Result<(), Fail> {
-    let mut both = Both::new(&rt, rt.alloc(), &[10, 40, 30, 90], &[NONE, INHERIT])?;
-    let bases = [base(10), base(40), base(30), base(90)];
-    let boosted = [base(10), base(40), waiter(90, 4, 2), base(90)];
-    for (step, reply, visits, tasks) in [
-        (lock(1, 1), Granted, 1, bases),
-        (lock(3, 2), Granted, 1, bases),
-        (lock(2, 1), Queued, 1, bases),
-        (lock(3, 1), Queued, 1, bases),
-    ] {
-        both.expect_step(step, reply, visits, &tasks);
-    }
-    both.expect_queue(1, &[2, 3])?;
-    both.expect_step(lock(4, 2), Queued, 1, &boosted);
-    both.expect_queue(1, &[3, 2])?;
-    both.expect_step(unlock(1, 1), handed(3), 2, &boosted);
-    both.expect_queue(1, &[2])?;
-    Ok(())
+    const BASES: &[Seen] = &[Base(10), Base(40), Base(30), Base(90)];
+    const BOOSTED: &[Seen] = &[Base(10), Base(40), Lent(90, 4, 2), Base(90)];
+    const FIRST: &[Row] = &[
+        Row(Lock(1, 1), Granted, 1, BASES),
+        Row(Lock(3, 2), Granted, 1, BASES),
+        Row(Lock(2, 1), Queued, 1, BASES),
+        Row(Lock(3, 1), Queued, 1, BASES),
+    ];
+    const RAISED: &[Row] = &[Row(Lock(4, 2), Queued, 1, BOOSTED)];
+    const HANDED: &[Row] = &[Row(Unlock(1, 1), Handed(3), 2, BOOSTED)];
+    const PARTS: &[Part] = &[
+        Part(FIRST, 1, &[2, 3]),
+        Part(RAISED, 1, &[3, 2]),
+        Part(HANDED, 1, &[2]),
+    ];
+    play_parts(&rt, rt.alloc(), &[10, 40, 30, 90], &[NONE, INHERIT], PARTS)
 }
 
 #[test]
 fn boost_lasts_until_the_last_equal_waiter_withdraws(rt: HostRuntime) -> Result<(), Fail> {
-    let mut both = Both::new(&rt, rt.alloc(), &[10, 50, 50], &[INHERIT])?;
-    let [t1, t2, t3] = [base(10), base(50), base(50)];
-    for (step, reply, visits, tasks) in [
-        (lock(1, 1), Granted, 1, [t1, t2, t3]),
-        (lock(2, 1), Queued, 1, [waiter(50, 2, 1), t2, t3]),
-        (lock(3, 1), Queued, 1, [waiter(50, 2, 1), t2, t3]),
-        (cancel(2, 2), Withdrawn, 1, [waiter(50, 3, 1), t2, t3]),
-        (cancel(3, 3), Withdrawn, 1, [t1, t2, t3]),
-    ] {
-        both.expect_step(step, reply, visits, &tasks);
-    }
-    Ok(())
+    const T1: Seen = Base(10);
+    const T2: Seen = Base(50);
+    const T3: Seen = Base(50);
+    const ROWS: &[Row] = &[
+        Row(Lock(1, 1), Granted, 1, &[T1, T2, T3]),
+        Row(Lock(2, 1), Queued, 1, &[Lent(50, 2, 1), T2, T3]),
+        Row(Lock(3, 1), Queued, 1, &[Lent(50, 2, 1), T2, T3]),
+        Row(Cancel(2, 2), Withdrawn, 1, &[Lent(50, 3, 1), T2, T3]),
+        Row(Cancel(3, 3), Withdrawn, 1, &[T1, T2, T3]),
+    ];
+    play(&rt, rt.alloc(), &[10, 50, 50], &[INHERIT], ROWS)
 }
 
 #[test]
 fn ceiling_is_compared_with_the_base_at_the_lock_alone(rt: HostRuntime) -> Result<(), Fail> {
-    let mut both = Both::new(
-        &rt,
-        rt.alloc(),
-        &[60],
-        &[protect(&rt, 59), protect(&rt, 60)],
-    )?;
-    for (step, reply, visits, tasks) in [
-        (lock(1, 1), Refused(Refusal::Ceiling), 0, [base(60)]),
-        (lock(1, 2), Granted, 1, [base(60)]),
-        (set_base(1, 1, 99), Set, 1, [base(99)]),
-        (set_base(1, 1, 100), Refused(Priority), 0, [base(99)]),
-        (set_base(1, 1, 0), Refused(Priority), 0, [base(99)]),
-        (set_base(1, 1, 59), Set, 1, [ceiling(60, 2)]),
-        (try_lock(1, 1), Granted, 1, [ceiling(60, 2)]),
-    ] {
-        both.expect_step(step, reply, visits, &tasks);
-    }
-    Ok(())
+    const ROWS: &[Row] = &[
+        Row(Lock(1, 1), Refused(Refusal::Ceiling), 0, &[Base(60)]),
+        Row(Lock(1, 2), Granted, 1, &[Base(60)]),
+        Row(SetBase(1, 1, 99), Set, 1, &[Base(99)]),
+        Row(SetBase(1, 1, 100), Refused(Priority), 0, &[Base(99)]),
+        Row(SetBase(1, 1, 0), Refused(Priority), 0, &[Base(99)]),
+        Row(SetBase(1, 1, 59), Set, 1, &[Ceiling(60, 2)]),
+        Row(Try(1, 1), Granted, 1, &[Ceiling(60, 2)]),
+    ];
+    play(&rt, rt.alloc(), &[60], &[Protect(59), Protect(60)], ROWS)
 }
 
 #[test]
 fn ceiling_is_set_by_the_owner_or_of_a_free_mutex(rt: HostRuntime) -> Result<(), Fail> {
-    let mut both = Both::new(&rt, rt.alloc(), &[20, 40], &[protect(&rt, 50), NONE])?;
-    let lowered = [ceiling(30, 1), base(40)];
-    let bases = [base(20), base(40)];
-    for (step, reply, visits, tasks) in [
-        (lock(1, 1), Granted, 1, [ceiling(50, 1), base(40)]),
-        (set_ceiling(1, 1, 30), Set, 1, lowered),
-        (set_ceiling(2, 1, 60), Refused(Busy), 0, lowered),
-        (lock(2, 1), Refused(Refusal::Ceiling), 0, lowered),
-        (set_ceiling(1, 1, 10), Set, 1, bases),
-        (set_ceiling(1, 2, 30), Refused(NotProtect), 0, bases),
-        (set_ceiling(1, 1, 100), Refused(Priority), 0, bases),
-        (unlock(1, 1), Freed, 1, bases),
-        (set_ceiling(2, 1, 45), Set, 0, bases),
-        (lock(2, 1), Granted, 1, [base(20), ceiling(45, 1)]),
-    ] {
-        both.expect_step(step, reply, visits, &tasks);
-    }
-    Ok(())
+    const LOWERED: &[Seen] = &[Ceiling(30, 1), Base(40)];
+    const BASES: &[Seen] = &[Base(20), Base(40)];
+    const ROWS: &[Row] = &[
+        Row(Lock(1, 1), Granted, 1, &[Ceiling(50, 1), Base(40)]),
+        Row(SetCeiling(1, 1, 30), Set, 1, LOWERED),
+        Row(SetCeiling(2, 1, 60), Refused(Busy), 0, LOWERED),
+        Row(Lock(2, 1), Refused(Refusal::Ceiling), 0, LOWERED),
+        Row(SetCeiling(1, 1, 10), Set, 1, BASES),
+        Row(SetCeiling(1, 2, 30), Refused(NotProtect), 0, BASES),
+        Row(SetCeiling(1, 1, 100), Refused(Priority), 0, BASES),
+        Row(Unlock(1, 1), Freed, 1, BASES),
+        Row(SetCeiling(2, 1, 45), Set, 0, BASES),
+        Row(Lock(2, 1), Granted, 1, &[Base(20), Ceiling(45, 1)]),
+    ];
+    play(&rt, rt.alloc(), &[20, 40], &[Protect(50), NONE], ROWS)
 }
 
 #[test]
 fn lowered_ceiling_leaves_what_a_waiter_lends(rt: HostRuntime) -> Result<(), Fail> {
-    let protocols = [protect(&rt, 70), INHERIT];
-    let mut both = Both::new(&rt, rt.alloc(), &[10, 60], &protocols)?;
-    for (step, reply, visits, tasks) in [
-        (lock(1, 1), Granted, 1, [ceiling(70, 1), base(60)]),
-        (lock(1, 2), Granted, 1, [ceiling(70, 1), base(60)]),
-        (lock(2, 2), Queued, 1, [ceiling(70, 1), base(60)]),
-        (set_ceiling(1, 1, 40), Set, 1, [waiter(60, 2, 2), base(60)]),
-        (set_ceiling(1, 1, 60), Set, 1, [ceiling(60, 1), base(60)]),
-        (set_ceiling(1, 1, 65), Set, 1, [ceiling(65, 1), base(60)]),
-        (unlock(1, 1), Freed, 1, [waiter(60, 2, 2), base(60)]),
-    ] {
-        both.expect_step(step, reply, visits, &tasks);
-    }
-    Ok(())
+    const KINDS: &[Kind] = &[Protect(70), INHERIT];
+    const ROWS: &[Row] = &[
+        Row(Lock(1, 1), Granted, 1, &[Ceiling(70, 1), Base(60)]),
+        Row(Lock(1, 2), Granted, 1, &[Ceiling(70, 1), Base(60)]),
+        Row(Lock(2, 2), Queued, 1, &[Ceiling(70, 1), Base(60)]),
+        Row(SetCeiling(1, 1, 40), Set, 1, &[Lent(60, 2, 2), Base(60)]),
+        Row(SetCeiling(1, 1, 60), Set, 1, &[Ceiling(60, 1), Base(60)]),
+        Row(SetCeiling(1, 1, 65), Set, 1, &[Ceiling(65, 1), Base(60)]),
+        Row(Unlock(1, 1), Freed, 1, &[Lent(60, 2, 2), Base(60)]),
+    ];
+    play(&rt, rt.alloc(), &[10, 60], KINDS, ROWS)
 }
 
 #[test]
 fn owner_executes_at_the_highest_of_ceilings_and_waiters(rt: HostRuntime) -> Result<(), Fail> {
-    let protocols = [protect(&rt, 30), protect(&rt, 50), INHERIT];
-    let mut both = Both::new(&rt, rt.alloc(), &[10, 40], &protocols)?;
-    for (step, reply, visits, tasks) in [
-        (lock(1, 1), Granted, 1, [ceiling(30, 1), base(40)]),
-        (lock(1, 3), Granted, 1, [ceiling(30, 1), base(40)]),
-        (lock(2, 3), Queued, 1, [waiter(40, 2, 3), base(40)]),
-        (lock(1, 2), Granted, 1, [ceiling(50, 2), base(40)]),
-        (unlock(1, 2), Freed, 1, [waiter(40, 2, 3), base(40)]),
-        (unlock(1, 3), handed(2), 2, [ceiling(30, 1), base(40)]),
-    ] {
-        both.expect_step(step, reply, visits, &tasks);
-    }
-    Ok(())
+    const KINDS: &[Kind] = &[Protect(30), Protect(50), INHERIT];
+    const ROWS: &[Row] = &[
+        Row(Lock(1, 1), Granted, 1, &[Ceiling(30, 1), Base(40)]),
+        Row(Lock(1, 3), Granted, 1, &[Ceiling(30, 1), Base(40)]),
+        Row(Lock(2, 3), Queued, 1, &[Lent(40, 2, 3), Base(40)]),
+        Row(Lock(1, 2), Granted, 1, &[Ceiling(50, 2), Base(40)]),
+        Row(Unlock(1, 2), Freed, 1, &[Lent(40, 2, 3), Base(40)]),
+        Row(Unlock(1, 3), Handed(2), 2, &[Ceiling(30, 1), Base(40)]),
+    ];
+    play(&rt, rt.alloc(), &[10, 40], KINDS, ROWS)
 }
 
 #[test]
 fn hand_over_above_the_ceiling_goes_by_ticket(rt: HostRuntime) -> Result<(), Fail> {
-    let mut both = Both::new(&rt, rt.alloc(), &[10, 20, 30], &[protect(&rt, 40)])?;
-    let [t1, t2, t3] = [ceiling(40, 1), base(20), base(30)];
-    let [high2, high3] = [base(50), base(50)];
-    for (step, reply, visits, tasks) in [
-        (lock(1, 1), Granted, 1, [t1, t2, t3]),
-        (lock(2, 1), Queued, 1, [t1, t2, t3]),
-        (lock(3, 1), Queued, 1, [t1, t2, t3]),
-        (set_base(1, 3, 50), Set, 1, [t1, t2, high3]),
-        (set_base(1, 2, 50), Set, 1, [t1, high2, high3]),
-        (unlock(1, 1), handed(2), 2, [base(10), high2, high3]),
-        (unlock(2, 1), handed(3), 2, [base(10), high2, high3]),
-    ] {
-        both.expect_step(step, reply, visits, &tasks);
-    }
-    Ok(())
+    const T1: Seen = Ceiling(40, 1);
+    const T2: Seen = Base(20);
+    const T3: Seen = Base(30);
+    const HIGH2: Seen = Base(50);
+    const HIGH3: Seen = Base(50);
+    const ROWS: &[Row] = &[
+        Row(Lock(1, 1), Granted, 1, &[T1, T2, T3]),
+        Row(Lock(2, 1), Queued, 1, &[T1, T2, T3]),
+        Row(Lock(3, 1), Queued, 1, &[T1, T2, T3]),
+        Row(SetBase(1, 3, 50), Set, 1, &[T1, T2, HIGH3]),
+        Row(SetBase(1, 2, 50), Set, 1, &[T1, HIGH2, HIGH3]),
+        Row(Unlock(1, 1), Handed(2), 2, &[Base(10), HIGH2, HIGH3]),
+        Row(Unlock(2, 1), Handed(3), 2, &[Base(10), HIGH2, HIGH3]),
+    ];
+    play(&rt, rt.alloc(), &[10, 20, 30], &[Protect(40)], ROWS)
 }
 
 #[test]
 fn ceiling_is_the_reason_before_a_waiter(rt: HostRuntime) -> Result<(), Fail> {
-    let mut both = Both::new(&rt, rt.alloc(), &[10, 50], &[protect(&rt, 50), INHERIT])?;
-    for (step, reply, visits, tasks) in [
-        (lock(1, 2), Granted, 1, [base(10), base(50)]),
-        (lock(2, 2), Queued, 1, [waiter(50, 2, 2), base(50)]),
-        (lock(1, 1), Granted, 1, [ceiling(50, 1), base(50)]),
-        (unlock(1, 2), handed(2), 2, [ceiling(50, 1), base(50)]),
-        (unlock(1, 1), Freed, 1, [base(10), base(50)]),
-    ] {
-        both.expect_step(step, reply, visits, &tasks);
-    }
-    Ok(())
+    const ROWS: &[Row] = &[
+        Row(Lock(1, 2), Granted, 1, &[Base(10), Base(50)]),
+        Row(Lock(2, 2), Queued, 1, &[Lent(50, 2, 2), Base(50)]),
+        Row(Lock(1, 1), Granted, 1, &[Ceiling(50, 1), Base(50)]),
+        Row(Unlock(1, 2), Handed(2), 2, &[Ceiling(50, 1), Base(50)]),
+        Row(Unlock(1, 1), Freed, 1, &[Base(10), Base(50)]),
+    ];
+    play(&rt, rt.alloc(), &[10, 50], &[Protect(50), INHERIT], ROWS)
 }
 
 #[test]
 fn release_hands_all_mutexes_over(rt: HostRuntime) -> Result<(), Fail> {
-    let protocols = [protect(&rt, 40), protect(&rt, 50), NONE];
-    let mut both = Both::new(&rt, rt.alloc(), &[10, 20, 30], &protocols)?;
-    let raised = [ceiling(50, 2), base(20), base(30)];
-    let released = [base(10), ceiling(40, 1), ceiling(50, 2)];
-    for (step, reply, visits, tasks) in [
-        (lock(1, 2), Granted, 1, raised),
-        (lock(1, 1), Granted, 1, raised),
-        (lock(1, 3), Granted, 1, raised),
-        (lock(2, 1), Queued, 1, raised),
-        (lock(3, 2), Queued, 1, raised),
-        (release(1), Released(3), 5, released),
-        (release(1), Released(0), 0, released),
-    ] {
-        both.expect_step(step, reply, visits, &tasks);
-    }
-    Ok(())
+    const KINDS: &[Kind] = &[Protect(40), Protect(50), NONE];
+    const RAISED: &[Seen] = &[Ceiling(50, 2), Base(20), Base(30)];
+    const RELEASED: &[Seen] = &[Base(10), Ceiling(40, 1), Ceiling(50, 2)];
+    const ROWS: &[Row] = &[
+        Row(Lock(1, 2), Granted, 1, RAISED),
+        Row(Lock(1, 1), Granted, 1, RAISED),
+        Row(Lock(1, 3), Granted, 1, RAISED),
+        Row(Lock(2, 1), Queued, 1, RAISED),
+        Row(Lock(3, 2), Queued, 1, RAISED),
+        Row(Release(1), Released(3), 5, RELEASED),
+        Row(Release(1), Released(0), 0, RELEASED),
+    ];
+    play(&rt, rt.alloc(), &[10, 20, 30], KINDS, ROWS)
 }
 
 #[test]
 fn only_owners_unlock_and_only_waiters_withdraw(rt: HostRuntime) -> Result<(), Fail> {
-    let mut both = Both::new(&rt, rt.alloc(), &[10, 20], &[NONE, NONE])?;
-    let bases = [base(10), base(20)];
-    for (step, reply, visits, tasks) in [
-        (lock(1, 1), Granted, 1, bases),
-        (unlock(2, 1), Refused(NotOwner), 0, bases),
-        (lock(2, 1), Queued, 1, bases),
-        (try_lock(2, 2), Refused(Waiting), 0, bases),
-        (cancel(2, 1), Refused(Waiting), 0, bases),
-        (cancel(1, 1), Refused(NotWaiting), 0, bases),
-        (unlock(1, 1), handed(2), 2, bases),
-        (unlock(2, 1), Freed, 1, bases),
-    ] {
-        both.expect_step(step, reply, visits, &tasks);
-    }
+    const BASES: &[Seen] = &[Base(10), Base(20)];
+    const ROWS: &[Row] = &[
+        Row(Lock(1, 1), Granted, 1, BASES),
+        Row(Unlock(2, 1), Refused(NotOwner), 0, BASES),
+        Row(Lock(2, 1), Queued, 1, BASES),
+        Row(Try(2, 2), Refused(Waiting), 0, BASES),
+        Row(Cancel(2, 1), Refused(Waiting), 0, BASES),
+        Row(Cancel(1, 1), Refused(NotWaiting), 0, BASES),
+        Row(Unlock(1, 1), Handed(2), 2, BASES),
+        Row(Unlock(2, 1), Freed, 1, BASES),
+    ];
+    play(&rt, rt.alloc(), &[10, 20], &[NONE, NONE], ROWS)
+}
+
+// task 2 has the last ticket but one, and the last one is not given out
+fn expect_last_ticket(rt: &impl Abort, both: &Both<'_, impl Abort>) -> Result<(), Fail> {
+    let first = both.queue(MutexNo(1))?.first().map(|waiter| waiter.ticket);
+    let wait = both.plain.wait_of(TaskNo(2)).map(|wait| wait.ticket);
+    assert_eq!(rt; [first, wait], [Some(u64::MAX - 1); 2]);
+    let next = [both.manager.next_ticket(), both.plain.next_ticket()];
+    assert_eq!(rt; next, [u64::MAX; 2]);
     Ok(())
 }
 
 #[test]
 fn last_ticket_is_given_out_and_no_more(rt: HostRuntime) -> Result<(), Fail> {
-    let bases = [10, 20, 30];
-    let mut both = Both::with_next_ticket(&rt, rt.alloc(), &bases, &[INHERIT], u64::MAX - 1)?;
-    let boosted = [waiter(20, 2, 1), base(20), base(30)];
-    for (step, reply, visits, tasks) in [
-        (lock(1, 1), Granted, 1, [base(10), base(20), base(30)]),
-        (lock(2, 1), Queued, 1, boosted),
-        (lock(3, 1), Refused(Tickets), 0, boosted),
-        (try_lock(3, 1), Refused(Busy), 0, boosted),
-    ] {
-        both.expect_step(step, reply, visits, &tasks);
-    }
-    let first = both.queue(MutexNo(1))?.first();
-    assert_eq!(rt; first.map(|waiter| waiter.ticket), Some(u64::MAX - 1));
-    let wait = both.plain.wait_of(TaskNo(2));
-    assert_eq!(rt; wait.map(|wait| wait.ticket), Some(u64::MAX - 1));
-    assert_eq!(rt; both.manager.next_ticket(), u64::MAX);
-    assert_eq!(rt; both.plain.next_ticket(), u64::MAX);
-    Ok(())
+    const LEVELS: &[u16] = &[10, 20, 30];
+    const BOOSTED: &[Seen] = &[Lent(20, 2, 1), Base(20), Base(30)];
+    const ROWS: &[Row] = &[
+        Row(Lock(1, 1), Granted, 1, &[Base(10), Base(20), Base(30)]),
+        Row(Lock(2, 1), Queued, 1, BOOSTED),
+        Row(Lock(3, 1), Refused(Tickets), 0, BOOSTED),
+        Row(Try(3, 1), Refused(Busy), 0, BOOSTED),
+    ];
+    let mut both = Both::with_next_ticket(&rt, rt.alloc(), LEVELS, &[INHERIT], u64::MAX - 1)?;
+    both.play(ROWS);
+    expect_last_ticket(&rt, &both)
 }
 
 #[test]
 fn recursive_mutex_goes_to_its_waiter_at_the_last_unlock(rt: HostRuntime) -> Result<(), Fail> {
-    let mut both = Both::new(&rt, rt.alloc(), &[10, 50], &[RECURSIVE])?;
-    let bases = [base(10), base(50)];
-    let boosted = [waiter(50, 2, 1), base(50)];
-    for (step, reply, visits, tasks) in [
-        (lock(1, 1), Granted, 1, bases),
-        (lock(1, 1), Granted, 0, bases),
-        (try_lock(1, 1), Granted, 0, bases),
-        (try_lock(2, 1), Refused(Busy), 0, bases),
-        (lock(2, 1), Queued, 1, boosted),
-        (unlock(1, 1), Kept, 0, boosted),
-        (lock(1, 1), Granted, 0, boosted),
-        (unlock(1, 1), Kept, 0, boosted),
-        (unlock(1, 1), Kept, 0, boosted),
-        (unlock(1, 1), handed(2), 2, bases),
-        (unlock(1, 1), Refused(NotOwner), 0, bases),
-        (lock(2, 1), Granted, 0, bases),
-        (release(2), Released(1), 1, bases),
-    ] {
-        both.expect_step(step, reply, visits, &tasks);
-    }
-    Ok(())
+    const BASES: &[Seen] = &[Base(10), Base(50)];
+    const BOOSTED: &[Seen] = &[Lent(50, 2, 1), Base(50)];
+    const ROWS: &[Row] = &[
+        Row(Lock(1, 1), Granted, 1, BASES),
+        Row(Lock(1, 1), Granted, 0, BASES),
+        Row(Try(1, 1), Granted, 0, BASES),
+        Row(Try(2, 1), Refused(Busy), 0, BASES),
+        Row(Lock(2, 1), Queued, 1, BOOSTED),
+        Row(Unlock(1, 1), Kept, 0, BOOSTED),
+        Row(Lock(1, 1), Granted, 0, BOOSTED),
+        Row(Unlock(1, 1), Kept, 0, BOOSTED),
+        Row(Unlock(1, 1), Kept, 0, BOOSTED),
+        Row(Unlock(1, 1), Handed(2), 2, BASES),
+        Row(Unlock(1, 1), Refused(NotOwner), 0, BASES),
+        Row(Lock(2, 1), Granted, 0, BASES),
+        Row(Release(2), Released(1), 1, BASES),
+    ];
+    play(&rt, rt.alloc(), &[10, 50], &[RECURSIVE], ROWS)
 }
 
 #[test]
 fn relocks_end_at_255_and_the_deadlock_of_another_stays(rt: HostRuntime) -> Result<(), Fail> {
+    const BASES: &[Seen] = &[Base(10), Base(20)];
+    const BOOSTED: &[Seen] = &[Lent(20, 2, 1), Base(20)];
+    const ROWS: &[Row] = &[
+        Row(Lock(1, 1), Refused(Again), 0, BASES),
+        Row(Try(1, 1), Refused(Again), 0, BASES),
+        Row(Lock(2, 2), Granted, 1, BASES),
+        Row(Lock(2, 1), Queued, 1, BOOSTED),
+        Row(Lock(1, 2), Refused(Deadlock), 0, BOOSTED),
+        Row(Release(1), Released(1), 2, BASES),
+    ];
     let mut both = Both::new(&rt, rt.alloc(), &[10, 20], &[RECURSIVE, RECURSIVE])?;
     for _time in 0..255 {
         both.step(lock(1, 1));
     }
-    for (step, reply) in [
-        (lock(1, 1), Refused(Again)),
-        (try_lock(1, 1), Refused(Again)),
-        (lock(2, 2), Granted),
-        (lock(2, 1), Queued),
-        (lock(1, 2), Refused(Deadlock)),
-        (release(1), Released(1)),
-    ] {
-        assert_eq!(rt; both.step(step).reply, reply, "{step:?}");
-    }
+    both.play(ROWS);
     assert_eq!(rt; both.manager.count(MutexNo(1)), Some(1));
     Ok(())
 }
 
-#[test]
-fn plain_manager_counts_locks(rt: HostRuntime) -> Result<(), Fail> {
-    let mut both = Both::new(&rt, rt.alloc(), &[20, 40], &[RECURSIVE, INHERIT])?;
-    for step in [lock(1, 1), lock(1, 1), lock(1, 2)] {
-        both.step(step);
-    }
-    let plain = &both.plain;
+// task 1 has locked a recursive mutex twice, and another mutex once
+fn expect_counts(rt: &impl Abort, plain: &PlainManager) {
     let [one, two] = [TaskNo(1), TaskNo(2)];
     let [recursive, once] = [MutexNo(1), MutexNo(2)];
-    assert_eq!(rt; plain.count(recursive), Some(2));
-    assert_eq!(rt; plain.count(once), Some(1));
-    assert!(rt; plain.is_kept(recursive) && !plain.is_kept(once));
-    assert!(rt; plain.relocks(one, recursive) && !plain.relocks(one, once));
-    assert!(rt; plain.is_busy(two, recursive) && !plain.is_busy(one, recursive));
-    assert!(rt; !plain.is_locked_too_often(one, recursive));
-    assert!(rt; plain.leads_back(one, recursive) && !plain.closes_cycle(one, recursive));
+    let counts = [plain.count(recursive), plain.count(once)];
+    assert_eq!(rt; counts, [Some(2), Some(1)]);
+    let is_so = [
+        plain.is_kept(recursive),
+        plain.relocks(one, recursive),
+        plain.is_busy(two, recursive),
+        plain.leads_back(one, recursive),
+    ];
+    assert_eq!(rt; is_so, [true; 4]);
+    let is_not = [
+        plain.is_kept(once),
+        plain.relocks(one, once),
+        plain.is_busy(one, recursive),
+        plain.is_locked_too_often(one, recursive),
+        plain.closes_cycle(one, recursive),
+    ];
+    assert_eq!(rt; is_not, [false; 5]);
+}
+
+#[test]
+fn plain_manager_counts_locks(rt: HostRuntime) -> Result<(), Fail> {
+    const ACTS: &[Act] = &[Lock(1, 1), Lock(1, 1), Lock(1, 2)];
+    let mut both = Both::new(&rt, rt.alloc(), &[20, 40], &[RECURSIVE, INHERIT])?;
+    both.act(ACTS);
+    expect_counts(&rt, &both.plain);
     Ok(())
+}
+
+const ONE: TaskNo = TaskNo(1);
+
+const TWO: TaskNo = TaskNo(2);
+
+const THREE: TaskNo = TaskNo(3);
+
+/// A mutex with ceiling 50, which task 1 owns, and for which task 2 waits.
+const PROTECTED: MutexNo = MutexNo(1);
+
+/// An INHERIT mutex, which task 2 owns, and for which task 3 waits.
+const INHERITED: MutexNo = MutexNo(2);
+
+fn expect_values(rt: &impl Abort, plain: &PlainManager) {
+    assert_eq!(rt; [plain.tasks(), plain.mutexes()], [3, 2]);
+    assert_eq!(rt; plain.next_ticket(), 3);
+    let levels = [plain.base(TWO), plain.ceiling(PROTECTED)];
+    assert_eq!(rt; levels, [Prio::new(40), Prio::new(50)]);
+    assert_eq!(rt; plain.protocol(INHERITED), Some(Protocol::Inherit));
+    let first = plain.first_of(INHERITED).map(|waiter| waiter.task);
+    let tasks = [plain.owner_of(INHERITED), plain.blocker(TWO), first];
+    assert_eq!(rt; tasks, [Some(TWO), Some(ONE), Some(THREE)]);
+    assert_eq!(rt; [plain.heir(TWO), plain.heir(THREE)], [None, Some(TWO)]);
+    let wait = plain.wait_of(THREE).map(|wait| (wait.mutex, wait.ticket));
+    assert_eq!(rt; wait, Some((INHERITED, 2)));
+}
+
+fn expect_tests(rt: &impl Abort, plain: &PlainManager) {
+    let is_so = [
+        plain.owns(ONE, PROTECTED),
+        plain.is_owned(PROTECTED),
+        plain.is_owned_by_another(TWO, PROTECTED),
+        plain.is_waiting(TWO),
+        plain.is_above_ceiling(THREE, PROTECTED),
+        plain.on_chain(THREE, ONE),
+        plain.on_inherit_chain(THREE, TWO),
+        plain.closes_cycle(ONE, INHERITED),
+    ];
+    assert_eq!(rt; is_so, [true; 8]);
+    let is_not = [
+        plain.is_unknown_task(THREE),
+        plain.is_unknown_mutex(INHERITED),
+        plain.is_owned_by_another(ONE, PROTECTED),
+        plain.on_inherit_chain(THREE, ONE),
+    ];
+    assert_eq!(rt; is_not, [false; 4]);
 }
 
 #[test]
 fn plain_manager_shows_each_fact(rt: HostRuntime) -> Result<(), Fail> {
-    let mut both = Both::new(&rt, rt.alloc(), &[20, 40, 90], &[protect(&rt, 50), INHERIT])?;
-    for step in [lock(1, 1), lock(2, 2), lock(2, 1), lock(3, 2)] {
-        both.step(step);
-    }
-    let plain = &both.plain;
-    let [one, two, three] = [TaskNo(1), TaskNo(2), TaskNo(3)];
-    let [protected, inherited] = [MutexNo(1), MutexNo(2)];
-    assert_eq!(rt; plain.tasks(), 3);
-    assert_eq!(rt; plain.mutexes(), 2);
-    assert_eq!(rt; plain.next_ticket(), 3);
-    assert_eq!(rt; plain.base(two), Prio::new(40));
-    assert_eq!(rt; plain.protocol(inherited), Some(INHERIT));
-    assert_eq!(rt; plain.ceiling(protected), Prio::new(50));
-    assert_eq!(rt; plain.owner_of(inherited), Some(two));
-    assert_eq!(rt;
-        plain.wait_of(three).map(|wait| wait.mutex),
-        Some(inherited)
-    );
-    assert!(rt; plain.owns(one, protected));
-    assert!(rt; !plain.is_unknown_task(three));
-    assert!(rt; !plain.is_unknown_mutex(inherited));
-    assert!(rt; plain.is_owned(protected));
-    assert!(rt; plain.is_owned_by_another(two, protected));
-    assert!(rt; !plain.is_owned_by_another(one, protected));
-    assert!(rt; plain.is_waiting(two));
-    assert!(rt; plain.is_above_ceiling(three, protected));
-    assert_eq!(rt; plain.blocker(two), Some(one));
-    assert_eq!(rt; plain.heir(two), None);
-    assert_eq!(rt; plain.heir(three), Some(two));
-    assert!(rt; plain.on_chain(three, one));
-    assert!(rt; plain.on_inherit_chain(three, two));
-    assert!(rt; !plain.on_inherit_chain(three, one));
-    assert!(rt; plain.closes_cycle(one, inherited));
-    assert_eq!(rt; both.effective(one), Prio::new(50));
-    assert_eq!(rt; plain.wait_of(three).map(|wait| wait.ticket), Some(2));
-    let first = plain.first_of(inherited).map(|waiter| waiter.task);
-    assert_eq!(rt; first, Some(three));
+    const ACTS: &[Act] = &[Lock(1, 1), Lock(2, 2), Lock(2, 1), Lock(3, 2)];
+    let mut both = Both::new(&rt, rt.alloc(), &[20, 40, 90], &[Protect(50), INHERIT])?;
+    both.act(ACTS);
+    expect_values(&rt, &both.plain);
+    expect_tests(&rt, &both.plain);
+    assert_eq!(rt; both.effective(ONE), Prio::new(50));
     Ok(())
 }

@@ -3,7 +3,8 @@
 ghost use Rattle.std.specs.Prelude.{◌≤◌};
 
 use pim_base::{
-    MAX_MUTEXES, MAX_TASKS, MutexNo, Op, Prio, Protocol, Reason, Reply, Step, TaskNo, Waiter,
+    MAX_MUTEXES, MAX_TASKS, MutexNo, Op, Prio, Protocol, Reason, Refusal, Reply, Step, TaskNo,
+    Waiter,
 };
 use pim_manager::{ChangedTasks, Done, Manager};
 use pim_plain::PlainManager;
@@ -11,18 +12,63 @@ use std::alloc::Global;
 use std::process::Abort;
 use std::test::Fail;
 
+/// The protocol of a mutex, in plain numbers.
+#[derive(Clone, Copy)]
+pub enum Kind {
+    None,
+    Inherit,
+    Recursive,
+    Protect(u16),
+}
+
 /// A PRIO_NONE mutex.
-pub const NONE: Protocol = Protocol::None;
+pub const NONE: Kind = Kind::None;
 
 /// A PRIO_INHERIT mutex.
-pub const INHERIT: Protocol = Protocol::Inherit;
+pub const INHERIT: Kind = Kind::Inherit;
 
 /// A recursive PRIO_INHERIT mutex.
-pub const RECURSIVE: Protocol = Protocol::InheritRecursive;
+pub const RECURSIVE: Kind = Kind::Recursive;
 
-/// Returns the protocol of a PRIO_PROTECT mutex with this ceiling.
-pub fn protect(rt: &impl Abort, ceiling: u16) -> Protocol {
-    Protocol::Protect(Prio::new(ceiling).expect(rt, "a ceiling"))
+impl Kind {
+    /// Returns the protocol, or None where its ceiling is none.
+    fn protocol(self) -> Option<Protocol> {
+        match self {
+            Kind::None => Some(Protocol::None),
+            Kind::Inherit => Some(Protocol::Inherit),
+            Kind::Recursive => Some(Protocol::InheritRecursive),
+            Kind::Protect(ceiling) => Prio::new(ceiling).map(Protocol::Protect),
+        }
+    }
+}
+
+/// A step, in plain numbers, of which the first is the task that asks.
+#[derive(Clone, Copy)]
+pub enum Act {
+    Lock(u16, u16),
+    Try(u16, u16),
+    Unlock(u16, u16),
+    Release(u16),
+    Cancel(u16, u16),
+    SetBase(u16, u16, u16),
+    SetCeiling(u16, u16, u16),
+}
+
+impl Act {
+    /// Returns the step.
+    pub fn step(self) -> Step {
+        match self {
+            Act::Lock(actor, mutex) => lock(actor, mutex),
+            Act::Try(actor, mutex) => step_of(actor, Op::Try(MutexNo(mutex))),
+            Act::Unlock(actor, mutex) => step_of(actor, Op::Unlock(MutexNo(mutex))),
+            Act::Release(actor) => step_of(actor, Op::ReleaseAll),
+            Act::Cancel(actor, task) => step_of(actor, Op::Cancel(TaskNo(task))),
+            Act::SetBase(actor, task, level) => set_base(actor, task, level),
+            Act::SetCeiling(actor, mutex, level) => {
+                step_of(actor, Op::SetCeiling(MutexNo(mutex), level))
+            }
+        }
+    }
 }
 
 /// Returns the step in which the actor locks the mutex.
@@ -30,34 +76,9 @@ pub fn lock(actor: u16, mutex: u16) -> Step {
     step_of(actor, Op::Lock(MutexNo(mutex)))
 }
 
-/// Returns the step in which the actor tries to lock the mutex.
-pub fn try_lock(actor: u16, mutex: u16) -> Step {
-    step_of(actor, Op::Try(MutexNo(mutex)))
-}
-
-/// Returns the step in which the actor unlocks the mutex.
-pub fn unlock(actor: u16, mutex: u16) -> Step {
-    step_of(actor, Op::Unlock(MutexNo(mutex)))
-}
-
-/// Returns the step in which the actor releases all its mutexes.
-pub fn release(actor: u16) -> Step {
-    step_of(actor, Op::ReleaseAll)
-}
-
-/// Returns the step in which the actor withdraws the task.
-pub fn cancel(actor: u16, task: u16) -> Step {
-    step_of(actor, Op::Cancel(TaskNo(task)))
-}
-
 /// Returns the step in which the actor gives the task this base.
 pub fn set_base(actor: u16, task: u16, level: u16) -> Step {
     step_of(actor, Op::SetBase(TaskNo(task), level))
-}
-
-/// Returns the step in which the actor gives the mutex this ceiling.
-pub fn set_ceiling(actor: u16, mutex: u16, level: u16) -> Step {
-    step_of(actor, Op::SetCeiling(MutexNo(mutex), level))
 }
 
 /// Returns the step in which the actor asks for this.
@@ -68,53 +89,71 @@ fn step_of(actor: u16, op: Op) -> Step {
     }
 }
 
-/// Returns the reply to a hand-over.
-pub fn handed(task: u16) -> Reply {
-    Reply::Handed(TaskNo(task))
-}
-
-/// What a task shows: its effective priority and why it has that, in plain numbers.
+/// A reply, in plain numbers.
 #[derive(Clone, Copy)]
-pub struct Seen {
-    prio: u16,
-    why: Why,
+pub enum Answer {
+    Granted,
+    Queued,
+    Kept,
+    Freed,
+    Handed(u16),
+    Released(u16),
+    Withdrawn,
+    Set,
+    Refused(Refusal),
 }
 
-#[derive(Clone, Copy)]
-enum Why {
-    Base,
-    Ceiling(u16),
-    Waiter(u16, u16),
-}
-
-impl Seen {
-    /// Returns why the task has its effective priority, as a manager says it.
-    fn reason(self) -> Reason {
-        match self.why {
-            Why::Base => Reason::Base,
-            Why::Ceiling(mutex) => Reason::Ceiling(MutexNo(mutex)),
-            Why::Waiter(task, mutex) => Reason::Waiter(TaskNo(task), MutexNo(mutex)),
+impl Answer {
+    /// Returns the reply.
+    pub fn reply(self) -> Reply {
+        match self {
+            Answer::Granted => Reply::Granted,
+            Answer::Queued => Reply::Queued,
+            Answer::Kept => Reply::Kept,
+            Answer::Freed => Reply::Freed,
+            Answer::Handed(task) => Reply::Handed(TaskNo(task)),
+            Answer::Released(mutexes) => Reply::Released(mutexes),
+            Answer::Withdrawn => Reply::Withdrawn,
+            Answer::Set => Reply::Set,
+            Answer::Refused(refusal) => Reply::Refused(refusal),
         }
     }
 }
 
-/// Returns what a task at its base shows.
-pub fn base(prio: u16) -> Seen {
-    let why = Why::Base;
-    Seen { prio, why }
+/// What a task shows, in plain numbers: its effective priority, and why it has that.
+#[derive(Clone, Copy)]
+pub enum Seen {
+    /// It is at its base.
+    Base(u16),
+    /// It is at the ceiling of this mutex, which it owns.
+    Ceiling(u16, u16),
+    /// It is at the priority of this task, which waits for this mutex of its own.
+    Lent(u16, u16, u16),
 }
 
-/// Returns what a task at the ceiling of this mutex, which it owns, shows.
-pub fn ceiling(prio: u16, mutex: u16) -> Seen {
-    let why = Why::Ceiling(mutex);
-    Seen { prio, why }
+impl Seen {
+    /// Returns the effective priority.
+    fn prio(self) -> Option<Prio> {
+        match self {
+            Seen::Base(level) | Seen::Ceiling(level, _) | Seen::Lent(level, _, _) => {
+                Prio::new(level)
+            }
+        }
+    }
+
+    /// Returns why the task has its effective priority, as a manager says it.
+    fn reason(self) -> Reason {
+        match self {
+            Seen::Base(_) => Reason::Base,
+            Seen::Ceiling(_, mutex) => Reason::Ceiling(MutexNo(mutex)),
+            Seen::Lent(_, task, mutex) => Reason::Waiter(TaskNo(task), MutexNo(mutex)),
+        }
+    }
 }
 
-/// Returns what a task at the priority of this one, which waits for a mutex that it owns, shows.
-pub fn waiter(prio: u16, task: u16, mutex: u16) -> Seen {
-    let why = Why::Waiter(task, mutex);
-    Seen { prio, why }
-}
+/// A step, its reply, its visits, and what task 1, task 2 and so on show after it.
+#[derive(Drop)]
+pub struct Row(pub Act, pub Answer, pub u32, pub &'static [Seen]);
 
 /// The manager and the plain one, which make the same steps. What is asked of both, both must answer alike.
 #[derive(Drop)]
@@ -131,9 +170,9 @@ impl<'a, R: Abort> Both<'a, R> {
         rt: &'a R,
         alloc: Global,
         bases: &[u16],
-        protocols: &[Protocol],
+        kinds: &[Kind],
     ) -> Result<Both<'a, R>, Fail> {
-        Both::with_next_ticket(rt, alloc, bases, protocols, 1)
+        Both::with_next_ticket(rt, alloc, bases, kinds, 1)
     }
 
     /// Makes both with these bases and protocols and this next ticket.
@@ -141,7 +180,7 @@ impl<'a, R: Abort> Both<'a, R> {
         rt: &'a R,
         alloc: Global,
         bases: &[u16],
-        protocols: &[Protocol],
+        kinds: &[Kind],
         next: u64,
     ) -> Result<Both<'a, R>, Fail>
         requires { 1 ≤ next }
@@ -150,12 +189,16 @@ impl<'a, R: Abort> Both<'a, R> {
         for level in bases {
             prios.push(Prio::new(*level).ok_or("a base")?)?;
         }
+        let mut protocols = Vec::new(alloc);
+        for kind in kinds {
+            protocols.push(kind.protocol().ok_or("a ceiling")?)?;
+        }
         if MAX_TASKS < prios.len() || MAX_MUTEXES < protocols.len() {
             return Err("at most 256 tasks and 256 mutexes")?;
         }
         Ok(Both {
-            manager: Manager::with_next_ticket(alloc, &prios, protocols, next)?,
-            plain: PlainManager::new(alloc, &prios, protocols, next)?,
+            manager: Manager::with_next_ticket(alloc, &prios, &protocols, next)?,
+            plain: PlainManager::new(alloc, &prios, &protocols, next)?,
             rt,
             alloc,
         })
@@ -204,8 +247,22 @@ impl<'a, R: Abort> Both<'a, R> {
         for (number, seen) in (1u16..257).zip(tasks) {
             let task = TaskNo(number);
             let shown = (self.effective(task), self.reason(task));
-            let expected = (Prio::new(seen.prio), Some(seen.reason()));
+            let expected = (seen.prio(), Some(seen.reason()));
             assert_eq!(self.rt; shown, expected, "{task:?} after {step:?}");
+        }
+    }
+
+    /// Makes the step of each row, and tests what it says.
+    pub fn play(&mut self, rows: &[Row]) {
+        for row in rows {
+            self.expect_step(row.0.step(), row.1.reply(), row.2, row.3);
+        }
+    }
+
+    /// Makes these steps.
+    pub fn act(&mut self, acts: &[Act]) {
+        for act in acts {
+            self.step(act.step());
         }
     }
 
@@ -218,4 +275,37 @@ impl<'a, R: Abort> Both<'a, R> {
         }
         Ok(())
     }
+}
+
+/// Makes both managers with these bases and protocols, and plays the rows.
+pub fn play<R: Abort>(
+    rt: &R,
+    alloc: Global,
+    bases: &[u16],
+    kinds: &[Kind],
+    rows: &[Row],
+) -> Result<(), Fail> {
+    Both::new(rt, alloc, bases, kinds)?.play(rows);
+    Ok(())
+}
+
+/// Rows, and then the tasks that wait for a mutex, in order.
+#[derive(Drop)]
+pub struct Part(pub &'static [Row], pub u16, pub &'static [u16]);
+
+/// Makes both managers with these bases and protocols, and plays the rows of each part, after which the queue of its mutex is
+/// as it says.
+pub fn play_parts<R: Abort>(
+    rt: &R,
+    alloc: Global,
+    bases: &[u16],
+    kinds: &[Kind],
+    parts: &[Part],
+) -> Result<(), Fail> {
+    let mut both = Both::new(rt, alloc, bases, kinds)?;
+    for part in parts {
+        both.play(part.0);
+        both.expect_queue(part.1, part.2)?;
+    }
+    Ok(())
 }

@@ -1,164 +1,186 @@
 //! Scenarios of the walk, on both managers: where it goes, and where it stops early.
 
-use crate::scene::{Both, INHERIT, base, cancel, handed, lock, set_base, unlock, waiter};
+use crate::scene::{Act, Answer, Both, INHERIT, Part, Row, Seen, lock, play, play_parts, set_base};
+use Act::{Cancel, Lock, SetBase, Unlock};
+use Answer::{Granted, Handed, Queued, Refused, Set, Withdrawn};
 use Refusal::{Deadlock, NoTask};
-use Reply::{Granted, Queued, Refused, Set, Withdrawn};
+use Seen::{Base, Lent};
 use pim_base::{MutexNo, Prio, Reason, Refusal, Reply, TaskNo, Waiter};
-use pim_manager::{ChangedTasks, Done};
+use pim_manager::{ChangedTasks, Done, Manager};
 use std::alloc::Global;
 use std::process::Abort;
 use std::test::Fail;
 
-// tasks 1 to 3 own mutexes 1 to 3; 2 waits for 1, 3 for 2 and 4 for 3
-fn chain_of_three<'a, R: Abort>(rt: &'a R, alloc: Global) -> Result<Both<'a, R>, Fail> {
-    let mut both = Both::new(rt, alloc, &[10, 20, 30, 90, 40], &[INHERIT; 3])?;
-    let [t1, t2, t3, t4, t5] = [base(10), base(20), base(30), base(90), base(40)];
-    let raised = [waiter(30, 2, 1), waiter(30, 3, 2), t3, t4, t5];
-    let boosted = [waiter(90, 2, 1), waiter(90, 3, 2), waiter(90, 4, 3), t4, t5];
-    for (step, reply, visits, tasks) in [
-        (lock(1, 1), Granted, 1, [t1, t2, t3, t4, t5]),
-        (lock(2, 2), Granted, 1, [t1, t2, t3, t4, t5]),
-        (lock(3, 3), Granted, 1, [t1, t2, t3, t4, t5]),
-        (lock(2, 1), Queued, 1, [waiter(20, 2, 1), t2, t3, t4, t5]),
-        (lock(3, 2), Queued, 2, raised),
-        (lock(4, 3), Queued, 3, boosted),
-    ] {
-        both.expect_step(step, reply, visits, &tasks);
-    }
-    Ok(both)
+/// Tasks 1 to 3 own mutexes 1 to 3; 2 waits for 1, 3 for 2 and 4 for 3.
+const CHAIN: &[Row] = &[
+    Row(
+        Lock(1, 1),
+        Granted,
+        1,
+        &[Base(10), Base(20), Base(30), T4, T5],
+    ),
+    Row(
+        Lock(2, 2),
+        Granted,
+        1,
+        &[Base(10), Base(20), Base(30), T4, T5],
+    ),
+    Row(
+        Lock(3, 3),
+        Granted,
+        1,
+        &[Base(10), Base(20), Base(30), T4, T5],
+    ),
+    Row(
+        Lock(2, 1),
+        Queued,
+        1,
+        &[Lent(20, 2, 1), Base(20), Base(30), T4, T5],
+    ),
+    Row(
+        Lock(3, 2),
+        Queued,
+        2,
+        &[Lent(30, 2, 1), Lent(30, 3, 2), Base(30), T4, T5],
+    ),
+    Row(Lock(4, 3), Queued, 3, BOOSTED),
+];
+
+const T4: Seen = Base(90);
+
+const T5: Seen = Base(40);
+
+const BOOSTED: &[Seen] = &[Lent(90, 2, 1), Lent(90, 3, 2), Lent(90, 4, 3), T4, T5];
+
+// plays the rows after those of the chain, and then the queue of mutex 3 has these tasks
+fn play_on_chain(
+    rt: &impl Abort,
+    alloc: Global,
+    rows: &'static [Row],
+    queue: &'static [u16],
+) -> Result<(), Fail> {
+    let parts = [Part(CHAIN, 3, &[4]), Part(rows, 3, queue)];
+    play_parts(rt, alloc, &[10, 20, 30, 90, 40], &[INHERIT; 3], &parts)
 }
 
 #[test]
 fn lower_waiter_changes_no_priority(rt: HostRuntime) -> Result<(), Fail> {
-    let mut both = chain_of_three(&rt, rt.alloc())?;
-    let boosted = [
-        waiter(90, 2, 1),
-        waiter(90, 3, 2),
-        waiter(90, 4, 3),
-        base(90),
-        base(40),
-    ];
-    both.expect_step(lock(5, 3), Queued, 1, &boosted);
-    both.expect_queue(3, &[4, 5])?;
-    Ok(())
+    const ROWS: &[Row] = &[Row(Lock(5, 3), Queued, 1, BOOSTED)];
+    play_on_chain(&rt, rt.alloc(), ROWS, &[4, 5])
 }
 
 #[test]
 fn withdrawal_from_the_middle_cuts_the_chain(rt: HostRuntime) -> Result<(), Fail> {
-    let mut both = chain_of_three(&rt, rt.alloc())?;
-    let tasks = [
-        waiter(20, 2, 1),
-        base(20),
-        waiter(90, 4, 3),
-        base(90),
-        base(40),
+    const CUT: &[Seen] = &[Lent(20, 2, 1), Base(20), Lent(90, 4, 3), T4, T5];
+    const ROWS: &[Row] = &[
+        Row(Cancel(1, 3), Withdrawn, 2, CUT),
+        Row(Cancel(5, 9), Refused(NoTask), 0, CUT),
     ];
-    both.expect_step(cancel(1, 3), Withdrawn, 2, &tasks);
-    both.expect_step(cancel(5, 9), Refused(NoTask), 0, &tasks);
-    Ok(())
+    play_on_chain(&rt, rt.alloc(), ROWS, &[4])
 }
 
 #[test]
 fn new_base_of_the_last_waiter_lowers_the_whole_chain(rt: HostRuntime) -> Result<(), Fail> {
-    let mut both = chain_of_three(&rt, rt.alloc())?;
-    let tasks = [
-        waiter(30, 2, 1),
-        waiter(30, 3, 2),
-        base(30),
-        base(15),
-        base(40),
-    ];
-    both.expect_step(set_base(1, 4, 15), Set, 4, &tasks);
-    Ok(())
+    const LOWERED: &[Seen] = &[Lent(30, 2, 1), Lent(30, 3, 2), Base(30), Base(15), T5];
+    const ROWS: &[Row] = &[Row(SetBase(1, 4, 15), Set, 4, LOWERED)];
+    play_on_chain(&rt, rt.alloc(), ROWS, &[4])
 }
 
 #[test]
 fn lowered_owner_keeps_what_another_waiter_lends(rt: HostRuntime) -> Result<(), Fail> {
-    let mut both = Both::new(&rt, rt.alloc(), &[10, 20, 30, 60, 90], &[INHERIT; 4])?;
-    let [t1, t2, t3, t4, t5] = [base(10), base(20), base(30), base(60), base(90)];
-    let lowered = [waiter(60, 2, 1), waiter(60, 4, 3), t3, t4, t5];
-    let raised = [waiter(90, 2, 1), waiter(90, 3, 2), waiter(90, 5, 4), t4, t5];
-    for (step, reply, visits, tasks) in [
-        (lock(1, 1), Granted, 1, [t1, t2, t3, t4, t5]),
-        (lock(2, 2), Granted, 1, [t1, t2, t3, t4, t5]),
-        (lock(2, 3), Granted, 1, [t1, t2, t3, t4, t5]),
-        (lock(3, 4), Granted, 1, [t1, t2, t3, t4, t5]),
-        (lock(3, 2), Queued, 1, [t1, waiter(30, 3, 2), t3, t4, t5]),
-        (lock(4, 3), Queued, 1, [t1, waiter(60, 4, 3), t3, t4, t5]),
-        (lock(2, 1), Queued, 1, lowered),
-        (lock(5, 4), Queued, 3, raised),
-        (cancel(5, 5), Withdrawn, 3, lowered),
-    ] {
-        both.expect_step(step, reply, visits, &tasks);
-    }
-    Ok(())
+    const T1: Seen = Base(10);
+    const T2: Seen = Base(20);
+    const T3: Seen = Base(30);
+    const T4: Seen = Base(60);
+    const T5: Seen = Base(90);
+    const LOWERED: &[Seen] = &[Lent(60, 2, 1), Lent(60, 4, 3), T3, T4, T5];
+    const RAISED: &[Seen] = &[Lent(90, 2, 1), Lent(90, 3, 2), Lent(90, 5, 4), T4, T5];
+    const ROWS: &[Row] = &[
+        Row(Lock(1, 1), Granted, 1, &[T1, T2, T3, T4, T5]),
+        Row(Lock(2, 2), Granted, 1, &[T1, T2, T3, T4, T5]),
+        Row(Lock(2, 3), Granted, 1, &[T1, T2, T3, T4, T5]),
+        Row(Lock(3, 4), Granted, 1, &[T1, T2, T3, T4, T5]),
+        Row(Lock(3, 2), Queued, 1, &[T1, Lent(30, 3, 2), T3, T4, T5]),
+        Row(Lock(4, 3), Queued, 1, &[T1, Lent(60, 4, 3), T3, T4, T5]),
+        Row(Lock(2, 1), Queued, 1, LOWERED),
+        Row(Lock(5, 4), Queued, 3, RAISED),
+        Row(Cancel(5, 5), Withdrawn, 3, LOWERED),
+    ];
+    play(&rt, rt.alloc(), &[10, 20, 30, 60, 90], &[INHERIT; 4], ROWS)
 }
 
 #[test]
 fn refused_deadlock_changes_no_priority(rt: HostRuntime) -> Result<(), Fail> {
-    let mut both = Both::new(&rt, rt.alloc(), &[10, 20, 30, 60, 90], &[INHERIT; 5])?;
-    let [t1, t2, t3, t4, t5] = [base(10), base(20), base(30), base(60), base(90)];
-    let boosted = [waiter(60, 2, 1), waiter(60, 4, 3), t3, t4, t5];
-    for (step, reply, visits, tasks) in [
-        (lock(5, 5), Granted, 1, [t1, t2, t3, t4, t5]),
-        (lock(1, 1), Granted, 1, [t1, t2, t3, t4, t5]),
-        (lock(2, 2), Granted, 1, [t1, t2, t3, t4, t5]),
-        (lock(2, 3), Granted, 1, [t1, t2, t3, t4, t5]),
-        (lock(3, 4), Granted, 1, [t1, t2, t3, t4, t5]),
-        (lock(3, 2), Queued, 1, [t1, waiter(30, 3, 2), t3, t4, t5]),
-        (lock(4, 3), Queued, 1, [t1, waiter(60, 4, 3), t3, t4, t5]),
-        (lock(2, 1), Queued, 1, boosted),
-        (lock(1, 5), Queued, 1, boosted),
-        (lock(5, 4), Refused(Deadlock), 0, boosted),
-    ] {
-        both.expect_step(step, reply, visits, &tasks);
-    }
-    Ok(())
+    const T1: Seen = Base(10);
+    const T2: Seen = Base(20);
+    const T3: Seen = Base(30);
+    const T4: Seen = Base(60);
+    const T5: Seen = Base(90);
+    const BOOSTED: &[Seen] = &[Lent(60, 2, 1), Lent(60, 4, 3), T3, T4, T5];
+    const ROWS: &[Row] = &[
+        Row(Lock(5, 5), Granted, 1, &[T1, T2, T3, T4, T5]),
+        Row(Lock(1, 1), Granted, 1, &[T1, T2, T3, T4, T5]),
+        Row(Lock(2, 2), Granted, 1, &[T1, T2, T3, T4, T5]),
+        Row(Lock(2, 3), Granted, 1, &[T1, T2, T3, T4, T5]),
+        Row(Lock(3, 4), Granted, 1, &[T1, T2, T3, T4, T5]),
+        Row(Lock(3, 2), Queued, 1, &[T1, Lent(30, 3, 2), T3, T4, T5]),
+        Row(Lock(4, 3), Queued, 1, &[T1, Lent(60, 4, 3), T3, T4, T5]),
+        Row(Lock(2, 1), Queued, 1, BOOSTED),
+        Row(Lock(1, 5), Queued, 1, BOOSTED),
+        Row(Lock(5, 4), Refused(Deadlock), 0, BOOSTED),
+    ];
+    play(&rt, rt.alloc(), &[10, 20, 30, 60, 90], &[INHERIT; 5], ROWS)
 }
 
 #[test]
 fn new_owner_keeps_what_its_waiters_lend(rt: HostRuntime) -> Result<(), Fail> {
-    let mut both = Both::new(&rt, rt.alloc(), &[10, 50, 40], &[INHERIT])?;
-    let [t1, t2, t3] = [base(10), base(50), base(40)];
-    for (step, reply, visits, tasks) in [
-        (lock(1, 1), Granted, 1, [t1, t2, t3]),
-        (lock(2, 1), Queued, 1, [waiter(50, 2, 1), t2, t3]),
-        (lock(3, 1), Queued, 1, [waiter(50, 2, 1), t2, t3]),
-        (unlock(1, 1), handed(2), 2, [t1, t2, t3]),
-        (set_base(1, 2, 20), Set, 1, [t1, waiter(40, 3, 1), t3]),
-        (set_base(1, 2, 21), Set, 1, [t1, waiter(40, 3, 1), t3]),
-    ] {
-        both.expect_step(step, reply, visits, &tasks);
-    }
-    Ok(())
+    const T1: Seen = Base(10);
+    const T2: Seen = Base(50);
+    const T3: Seen = Base(40);
+    const ROWS: &[Row] = &[
+        Row(Lock(1, 1), Granted, 1, &[T1, T2, T3]),
+        Row(Lock(2, 1), Queued, 1, &[Lent(50, 2, 1), T2, T3]),
+        Row(Lock(3, 1), Queued, 1, &[Lent(50, 2, 1), T2, T3]),
+        Row(Unlock(1, 1), Handed(2), 2, &[T1, T2, T3]),
+        Row(SetBase(1, 2, 20), Set, 1, &[T1, Lent(40, 3, 1), T3]),
+        Row(SetBase(1, 2, 21), Set, 1, &[T1, Lent(40, 3, 1), T3]),
+    ];
+    play(&rt, rt.alloc(), &[10, 50, 40], &[INHERIT], ROWS)
 }
 
 #[test]
 fn second_waiter_becomes_first_with_a_changed_priority(rt: HostRuntime) -> Result<(), Fail> {
-    let mut both = Both::new(&rt, rt.alloc(), &[10, 20, 30, 50, 70, 90], &[INHERIT; 4])?;
-    let [t1, t2, t3, t4, t5, t6] = [base(10), base(20), base(30), base(50), base(70), base(90)];
-    for (step, reply, visits, tasks) in [
-        (lock(2, 1), Granted, 1, [t1, t2, t3, t4, t5, t6]),
-        (lock(2, 2), Granted, 1, [t1, t2, t3, t4, t5, t6]),
-        (lock(3, 3), Granted, 1, [t1, t2, t3, t4, t5, t6]),
-        (lock(1, 4), Granted, 1, [t1, t2, t3, t4, t5, t6]),
-    ] {
-        both.expect_step(step, reply, visits, &tasks);
-    }
-    let [by1, by2] = [waiter(70, 1, 3), waiter(90, 2, 3)];
-    let [by4, by5, by6] = [waiter(50, 4, 2), waiter(70, 5, 4), waiter(90, 6, 1)];
-    for (step, reply, visits, tasks) in [
-        (lock(4, 2), Queued, 1, [t1, by4, t3, t4, t5, t6]),
-        (lock(6, 1), Queued, 1, [t1, by6, t3, t4, t5, t6]),
-        (lock(1, 3), Queued, 1, [t1, by6, t3, t4, t5, t6]),
-        (lock(2, 3), Queued, 1, [t1, by6, by2, t4, t5, t6]),
-        (lock(5, 4), Queued, 1, [by5, by6, by2, t4, t5, t6]),
-        (unlock(3, 3), handed(2), 2, [by5, by6, t3, t4, t5, t6]),
-        (unlock(2, 1), handed(6), 2, [by5, by1, t3, t4, t5, t6]),
-    ] {
-        both.expect_step(step, reply, visits, &tasks);
-    }
-    Ok(())
+    const T1: Seen = Base(10);
+    const T2: Seen = Base(20);
+    const T3: Seen = Base(30);
+    const T4: Seen = Base(50);
+    const T5: Seen = Base(70);
+    const T6: Seen = Base(90);
+    const BY1: Seen = Lent(70, 1, 3);
+    const BY2: Seen = Lent(90, 2, 3);
+    const BY4: Seen = Lent(50, 4, 2);
+    const BY5: Seen = Lent(70, 5, 4);
+    const BY6: Seen = Lent(90, 6, 1);
+    const ROWS: &[Row] = &[
+        Row(Lock(2, 1), Granted, 1, &[T1, T2, T3, T4, T5, T6]),
+        Row(Lock(2, 2), Granted, 1, &[T1, T2, T3, T4, T5, T6]),
+        Row(Lock(3, 3), Granted, 1, &[T1, T2, T3, T4, T5, T6]),
+        Row(Lock(1, 4), Granted, 1, &[T1, T2, T3, T4, T5, T6]),
+        Row(Lock(4, 2), Queued, 1, &[T1, BY4, T3, T4, T5, T6]),
+        Row(Lock(6, 1), Queued, 1, &[T1, BY6, T3, T4, T5, T6]),
+        Row(Lock(1, 3), Queued, 1, &[T1, BY6, T3, T4, T5, T6]),
+        Row(Lock(2, 3), Queued, 1, &[T1, BY6, BY2, T4, T5, T6]),
+        Row(Lock(5, 4), Queued, 1, &[BY5, BY6, BY2, T4, T5, T6]),
+        Row(Unlock(3, 3), Handed(2), 2, &[BY5, BY6, T3, T4, T5, T6]),
+        Row(Unlock(2, 1), Handed(6), 2, &[BY5, BY1, T3, T4, T5, T6]),
+    ];
+    play(
+        &rt,
+        rt.alloc(),
+        &[10, 20, 30, 50, 70, 90],
+        &[INHERIT; 4],
+        ROWS,
+    )
 }
 
 // 256 tasks in one chain: each but the last owns the mutex of its number, and waits for the one before
@@ -175,54 +197,75 @@ fn chain_of_all_tasks<'a, R: Abort>(rt: &'a R, alloc: Global) -> Result<Both<'a,
     Ok(both)
 }
 
+// makes the step, which changes as many priorities as it has visits
+fn expect_walk(
+    rt: &impl Abort,
+    both: &mut Both<'_, impl Abort>,
+    changed: &mut ChangedTasks,
+    row: &Row,
+) {
+    let (step, reply, visits) = (row.0.step(), row.1.reply(), row.2);
+    let done = both.step_with_changes(step, changed);
+    assert_eq!(rt; done, Done { reply, visits }, "{step:?}");
+    assert_eq!(rt; changed.as_slice().len(), visits as usize, "{step:?}");
+}
+
+// the effective priorities of the first task and of the last
+fn expect_ends(rt: &impl Abort, both: &Both<'_, impl Abort>, first: u16, last: u16) {
+    let ends = [both.effective(TaskNo(1)), both.effective(TaskNo(256))];
+    assert_eq!(rt; ends, [Prio::new(first), Prio::new(last)]);
+}
+
 // of the plain manager the replies alone are compared: it is too slow for all priorities
 #[test]
 fn chain_of_all_tasks_is_raised_and_lowered(rt: HostRuntime) -> Result<(), Fail> {
+    const RAISED: &[Row] = &[
+        Row(Lock(256, 255), Queued, 255, &[]),
+        Row(Lock(1, 255), Refused(Deadlock), 0, &[]),
+        Row(Cancel(256, 256), Withdrawn, 255, &[]),
+        Row(Lock(256, 255), Queued, 255, &[]),
+    ];
+    const LOWERED: Row = Row(SetBase(1, 256, 5), Set, 256, &[]);
     let mut both = chain_of_all_tasks(&rt, rt.alloc())?;
     let mut changed = ChangedTasks::new(rt.alloc())?;
-    for (step, reply, visits) in [
-        (lock(256, 255), Queued, 255),
-        (lock(1, 255), Refused(Deadlock), 0),
-        (cancel(256, 256), Withdrawn, 255),
-        (lock(256, 255), Queued, 255),
-    ] {
-        let done = both.step_with_changes(step, &mut changed);
-        assert_eq!(rt; done, Done { reply, visits }, "{step:?}");
-        assert_eq!(rt; changed.as_slice().len(), visits as usize, "{step:?}");
+    for row in RAISED {
+        expect_walk(&rt, &mut both, &mut changed, row);
     }
     let lent = Some(Reason::Waiter(TaskNo(101), MutexNo(100)));
     assert_eq!(rt; both.reason(TaskNo(100)), lent);
-    assert_eq!(rt; both.effective(TaskNo(1)), Prio::new(99));
-    let done = both.step_with_changes(set_base(1, 256, 5), &mut changed);
-    assert_eq!(rt; (done.reply, done.visits), (Set, 256));
-    assert_eq!(rt; changed.as_slice().len(), 256);
-    assert_eq!(rt; both.effective(TaskNo(1)), Prio::new(10));
-    assert_eq!(rt; both.effective(TaskNo(256)), Prio::new(5));
+    expect_ends(&rt, &both, 99, 99);
+    expect_walk(&rt, &mut both, &mut changed, &LOWERED);
+    expect_ends(&rt, &both, 10, 5);
     Ok(())
+}
+
+// the tasks up to this one are at their base, and the others have the last task's priority
+fn expect_lowered(rt: &impl Abort, manager: &Manager, lowered: u16) {
+    for number in 1u16..256 {
+        let (prio, reason) = if number <= lowered {
+            (10, Reason::Base)
+        } else {
+            (99, Reason::Waiter(TaskNo(number + 1), MutexNo(number)))
+        };
+        let task = TaskNo(number);
+        let shown = (manager.effective(task), manager.reason(task));
+        assert_eq!(rt; shown, (Prio::new(prio), Some(reason)), "{task:?}");
+    }
 }
 
 #[test]
 fn withdrawal_from_the_middle_of_all_tasks_cuts_their_chain(rt: HostRuntime) -> Result<(), Fail> {
+    const CUTS: &[(Row, u16)] = &[
+        (Row(Lock(256, 255), Queued, 255, &[]), 0),
+        (Row(Cancel(1, 128), Withdrawn, 127, &[]), 127),
+        (Row(Lock(128, 127), Queued, 127, &[]), 0),
+        (Row(Cancel(1, 2), Withdrawn, 1, &[]), 1),
+    ];
     let mut both = chain_of_all_tasks(&rt, rt.alloc())?;
     let mut changed = ChangedTasks::new(rt.alloc())?;
-    let low = (Prio::new(10), Some(Reason::Base));
-    for (step, reply, visits, lowered) in [
-        (lock(256, 255), Queued, 255, 0),
-        (cancel(1, 128), Withdrawn, 127, 127),
-        (lock(128, 127), Queued, 127, 0),
-        (cancel(1, 2), Withdrawn, 1, 1),
-    ] {
-        let done = both.step_with_changes(step, &mut changed);
-        assert_eq!(rt; done, Done { reply, visits }, "{step:?}");
-        assert_eq!(rt; changed.as_slice().len(), visits as usize, "{step:?}");
-        for number in 1u16..256 {
-            let lent = Some(Reason::Waiter(TaskNo(number + 1), MutexNo(number)));
-            let boosted = (Prio::new(99), lent);
-            let expected = if number <= lowered { low } else { boosted };
-            let task = TaskNo(number);
-            let shown = (both.manager.effective(task), both.manager.reason(task));
-            assert_eq!(rt; shown, expected, "{task:?} after {step:?}");
-        }
+    for (row, lowered) in CUTS {
+        expect_walk(&rt, &mut both, &mut changed, row);
+        expect_lowered(&rt, &both.manager, *lowered);
     }
     Ok(())
 }
@@ -232,19 +275,27 @@ fn expect_raised(rt: &impl Abort, queue: &[Waiter], first: u16) {
     assert_eq!(rt; queue.len(), 255);
     for (number, waiter) in (first..257).chain(2..first).zip(queue) {
         let prio = Prio::new(if number < first { 10 } else { 50 });
-        assert_eq!(rt; waiter.task, TaskNo(number), "{first} is raised");
-        assert_eq!(rt; Some(waiter.prio), prio, "{number} when {first} is raised");
-        assert_eq!(rt;
-            waiter.ticket.checked_add(1),
-            Some(u64::from(number)),
-            "{number}"
-        );
+        let shown = (waiter.task, Some(waiter.prio));
+        assert_eq!(rt; shown, (TaskNo(number), prio), "{first} is raised");
+        let next = waiter.ticket.checked_add(1);
+        assert_eq!(rt; next, Some(u64::from(number)), "{number}");
     }
+}
+
+// task 1 owns mutex 1, and has the priority of its first waiter
+fn expect_lent(rt: &impl Abort, manager: &Manager, first: u16) -> Result<(), Fail> {
+    let queue = manager.waiters(MutexNo(1)).ok_or("a known mutex")?;
+    expect_raised(rt, queue, first);
+    let lent = Reason::Waiter(TaskNo(first), MutexNo(1));
+    let shown = (manager.effective(TaskNo(1)), manager.reason(TaskNo(1)));
+    assert_eq!(rt; shown, (Prio::new(50), Some(lent)));
+    Ok(())
 }
 
 // the plain manager compares the replies, and the whole queue at the end alone
 #[test]
 fn waiters_of_a_full_queue_are_raised_one_by_one(rt: HostRuntime) -> Result<(), Fail> {
+    const HANDED: Row = Row(Unlock(1, 1), Handed(2), 2, &[Base(10)]);
     let mut both = Both::new(&rt, rt.alloc(), &[10; 256], &[INHERIT])?;
     for number in 1u16..257 {
         both.step(lock(number, 1));
@@ -253,15 +304,12 @@ fn waiters_of_a_full_queue_are_raised_one_by_one(rt: HostRuntime) -> Result<(), 
     for raised in 0u16..255 {
         let number = 256 - raised;
         let visits = if raised == 0 { 2 } else { 1 };
+        let reply = Reply::Set;
         let done = both.step(set_base(1, number, 50));
-        assert_eq!(rt; done, Done { reply: Set, visits }, "{number}");
-        let queue = both.manager.waiters(MutexNo(1)).ok_or("a known mutex")?;
-        expect_raised(&rt, queue, number);
-        let lent = Some(Reason::Waiter(TaskNo(number), MutexNo(1)));
-        assert_eq!(rt; both.manager.reason(TaskNo(1)), lent);
-        assert_eq!(rt; both.manager.effective(TaskNo(1)), Prio::new(50));
+        assert_eq!(rt; done, Done { reply, visits }, "{number}");
+        expect_lent(&rt, &both.manager, number)?;
     }
     both.queue(MutexNo(1))?;
-    both.expect_step(unlock(1, 1), handed(2), 2, &[base(10)]);
+    both.play(&[HANDED]);
     Ok(())
 }

@@ -47,18 +47,19 @@ fn contended(alloc: Global) -> Result<Manager, Fail> {
 #[test]
 fn counts_and_the_next_ticket_are_shown(rt: HostRuntime) -> Result<(), Fail> {
     let manager = contended(rt.alloc())?;
-    assert_eq!(rt; manager.tasks(), 2);
-    assert_eq!(rt; manager.mutexes(), 2);
-    assert_eq!(rt; manager.next_ticket(), 2);
+    let counts = (manager.tasks(), manager.mutexes(), manager.next_ticket());
+    drop(manager);
+    assert_eq!(rt; counts, (2, 2, 2));
     Ok(())
 }
 
 #[test]
 fn priorities_and_reasons_are_shown(rt: HostRuntime) -> Result<(), Fail> {
     let manager = contended(rt.alloc())?;
-    assert_eq!(rt; manager.effective(TaskNo(1)), Prio::new(90));
-    assert_eq!(rt; manager.base(TaskNo(1)), Prio::new(10));
+    let levels = [manager.effective(TaskNo(1)), manager.base(TaskNo(1))];
     let reasons = [manager.reason(TaskNo(1)), manager.reason(TaskNo(2))];
+    drop(manager);
+    assert_eq!(rt; levels, [Prio::new(90), Prio::new(10)]);
     assert_eq!(rt; reasons, [Some(reason(2, 1)), Some(Reason::Base)]);
     Ok(())
 }
@@ -67,23 +68,27 @@ fn priorities_and_reasons_are_shown(rt: HostRuntime) -> Result<(), Fail> {
 fn waits_and_owners_are_shown(rt: HostRuntime) -> Result<(), Fail> {
     let manager = contended(rt.alloc())?;
     let waits = [1, 2, 3].map(|task| manager.waits_for(TaskNo(task)));
-    assert_eq!(rt; waits, [Some(None), Some(Some(FIRST)), None]);
     let owners = [1, 2, 3].map(|mutex| manager.owner(MutexNo(mutex)));
+    let protocol = manager.protocol(FIRST);
+    drop(manager);
+    assert_eq!(rt; waits, [Some(None), Some(Some(FIRST)), None]);
     assert_eq!(rt; owners, [Some(Some(TaskNo(1))), Some(None), None]);
-    assert_eq!(rt; manager.protocol(FIRST), Some(Inherit));
+    assert_eq!(rt; protocol, Some(Inherit));
     Ok(())
+}
+
+fn expect_waiter(rt: &impl Abort, manager: &Manager) {
+    let second = Waiter {
+        task: TaskNo(2),
+        prio: prio(rt, 90),
+        ticket: 1,
+    };
+    assert!(rt; manager.waiters(FIRST) == Some(&[second][..]));
 }
 
 #[test]
 fn waiters_are_shown(rt: HostRuntime) -> Result<(), Fail> {
-    let manager = contended(rt.alloc())?;
-    let waiters = manager.waiters(FIRST).ok_or("a known mutex")?;
-    let second = Waiter {
-        task: TaskNo(2),
-        prio: prio(&rt, 90),
-        ticket: 1,
-    };
-    assert!(rt; waiters == &[second][..]);
+    expect_waiter(&rt, &contended(rt.alloc())?);
     Ok(())
 }
 
@@ -103,13 +108,17 @@ const ROWS: [(u16, Op, Reply, u32); 10] = [
     (2, ReleaseAll, Reply::Released(2), 2),
 ];
 
-#[test]
-fn step_tells_its_visits(rt: HostRuntime) -> Result<(), Fail> {
-    let mut manager = made(rt.alloc(), &[10, 20, 90], &[Inherit, Inherit])?;
+fn expect_rows(rt: &impl Abort, manager: &mut Manager) {
     for (actor, op, reply, visits) in ROWS {
         let done = manager.step(by(actor, op));
         assert_eq!(rt; done, Done { reply, visits }, "{actor} {op:?}");
     }
+}
+
+#[test]
+fn step_tells_its_visits(rt: HostRuntime) -> Result<(), Fail> {
+    let mut manager = made(rt.alloc(), &[10, 20, 90], &[Inherit, Inherit])?;
+    expect_rows(&rt, &mut manager);
     Ok(())
 }
 
@@ -162,19 +171,23 @@ const CEILINGS: [(u16, Op, Reply, u32, Listed); 10] = [
     (2, Lock(FIRST), Reply::Granted, 1, Some((2, 45, BY_CEILING))),
 ];
 
-#[test]
-fn ceilings_that_change(rt: HostRuntime) -> Result<(), Fail> {
-    let protocols = [Protocol::Protect(prio(&rt, 50)), Protocol::None];
-    let mut manager = made(rt.alloc(), &[20, 40], &protocols)?;
-    let mut changed = ChangedTasks::new(rt.alloc())?;
+fn expect_ceilings(rt: &impl Abort, manager: &mut Manager, changed: &mut ChangedTasks) {
     for (actor, op, reply, visits, listed) in CEILINGS {
-        let done = manager.step_with_changes(by(actor, op), &mut changed);
+        let done = manager.step_with_changes(by(actor, op), changed);
         assert_eq!(rt; done, Done { reply, visits }, "{actor} {op:?}");
         let shown = changed.as_slice().first();
         let shown = shown.map(|one| (one.task.get(), one.prio.get(), one.reason));
         assert_eq!(rt; shown, listed, "{actor} {op:?}");
         assert!(rt; changed.as_slice().len() <= 1);
     }
+}
+
+#[test]
+fn ceilings_that_change(rt: HostRuntime) -> Result<(), Fail> {
+    let protocols = [Protocol::Protect(prio(&rt, 50)), Protocol::None];
+    let mut manager = made(rt.alloc(), &[20, 40], &protocols)?;
+    let mut changed = ChangedTasks::new(rt.alloc())?;
+    expect_ceilings(&rt, &mut manager, &mut changed);
     let set = Prio::new(45).map(Protocol::Protect);
     assert_eq!(rt; manager.protocol(FIRST), set);
     Ok(())
@@ -195,34 +208,41 @@ const RECURSIVE: [(u16, Op, Reply, u16); 11] = [
     (2, ReleaseAll, Reply::Released(1), 0),
 ];
 
+fn expect_counts(rt: &impl Abort, manager: &mut Manager) {
+    for (actor, op, reply, count) in RECURSIVE {
+        assert_eq!(rt; manager.step(by(actor, op)).reply, reply, "{actor} {op:?}");
+        let lent = reply == Reply::Queued || reply == Reply::Kept;
+        let level = if lent { 50 } else { 10 };
+        let shown = (manager.count(FIRST), manager.effective(TaskNo(1)));
+        assert_eq!(rt; shown, (Some(count), Prio::new(level)), "{actor} {op:?}");
+    }
+}
+
 #[test]
 fn recursive_mutex_with_a_waiter(rt: HostRuntime) -> Result<(), Fail> {
     let mut manager = made(rt.alloc(), &[10, 50], &[Protocol::InheritRecursive])?;
-    for (actor, op, reply, count) in RECURSIVE {
-        assert_eq!(rt; manager.step(by(actor, op)).reply, reply, "{actor} {op:?}");
-        assert_eq!(rt; manager.count(FIRST), Some(count), "{actor} {op:?}");
-        let lent = reply == Reply::Queued || reply == Reply::Kept;
-        let level = if lent { 50 } else { 10 };
-        assert_eq!(rt;
-            manager.effective(TaskNo(1)),
-            Prio::new(level),
-            "{actor} {op:?}"
-        );
-    }
+    expect_counts(&rt, &mut manager);
     assert_eq!(rt; manager.count(MutexNo(2)), None);
     Ok(())
+}
+
+// task 1 locks the mutex 255 times, and no more
+fn expect_relocks(rt: &impl Abort, manager: &mut Manager) {
+    for _time in 0..255 {
+        assert_eq!(rt; manager.step(by(1, Lock(FIRST))).reply, Reply::Granted);
+    }
+    let replies = [
+        manager.step(by(1, Lock(FIRST))).reply,
+        manager.step(by(1, Try(FIRST))).reply,
+    ];
+    assert_eq!(rt; replies, [Reply::Refused(Refusal::Again); 2]);
+    assert_eq!(rt; manager.count(FIRST), Some(255));
 }
 
 #[test]
 fn relocks_end_at_255(rt: HostRuntime) -> Result<(), Fail> {
     let mut manager = made(rt.alloc(), &[10], &[Protocol::InheritRecursive])?;
-    for _time in 0..255 {
-        assert_eq!(rt; manager.step(by(1, Lock(FIRST))).reply, Reply::Granted);
-    }
-    let again = Reply::Refused(Refusal::Again);
-    assert_eq!(rt; manager.step(by(1, Lock(FIRST))).reply, again);
-    assert_eq!(rt; manager.step(by(1, Try(FIRST))).reply, again);
-    assert_eq!(rt; manager.count(FIRST), Some(255));
+    expect_relocks(&rt, &mut manager);
     Ok(())
 }
 
@@ -244,22 +264,31 @@ fn sized(
     Ok(Manager::with_next_ticket(alloc, &bases, &protocols, 7))
 }
 
+// so many tasks and mutexes, and the next ticket
+fn sizes(manager: &Manager) -> (u16, u16, u64) {
+    (manager.tasks(), manager.mutexes(), manager.next_ticket())
+}
+
 #[test]
 fn most_tasks_and_mutexes(rt: HostRuntime) -> Result<(), Fail> {
-    let most = sized(&rt, rt.alloc(), 256, 256)??;
-    assert_eq!(rt; (most.tasks(), most.mutexes()), (256, 256));
-    assert_eq!(rt; most.next_ticket(), 7);
-    let none = Manager::new(rt.alloc(), &[], &[])?;
-    assert_eq!(rt; none.tasks(), 0);
+    let most = sizes(&sized(&rt, rt.alloc(), 256, 256)??);
+    assert_eq!(rt; most, (256, 256, 7));
+    Ok(())
+}
+
+#[test]
+fn no_tasks_and_no_mutexes(rt: HostRuntime) -> Result<(), Fail> {
+    let none = sizes(&Manager::new(rt.alloc(), &[], &[])?);
+    assert_eq!(rt; none, (0, 0, 1));
     Ok(())
 }
 
 #[test]
 fn more_than_the_most(rt: HostRuntime) -> Result<(), Fail> {
-    let made = sized(&rt, rt.alloc(), 257, 257)?;
-    assert!(rt; matches!(made, Err(MakeFault::TooManyTasks)));
-    let made = sized(&rt, rt.alloc(), 256, 257)?;
-    assert!(rt; matches!(made, Err(MakeFault::TooManyMutexes)));
+    let fault = sized(&rt, rt.alloc(), 257, 257)?.err();
+    assert_eq!(rt; fault, Some(MakeFault::TooManyTasks));
+    let fault = sized(&rt, rt.alloc(), 256, 257)?.err();
+    assert_eq!(rt; fault, Some(MakeFault::TooManyMutexes));
     Ok(())
 }
 
@@ -286,6 +315,8 @@ fn replies_of_a_run(rt: HostRuntime) -> Result<(), Fail> {
         by(1, Unlock(FIRST)),
     ];
     let replies = manager.run_replies(rt.alloc(), &steps)?;
+    let owner = manager.owner(FIRST);
+    drop(manager);
     let expected = [
         Reply::Granted,
         Reply::Queued,
@@ -293,8 +324,16 @@ fn replies_of_a_run(rt: HostRuntime) -> Result<(), Fail> {
         Reply::Handed(TaskNo(2)),
     ];
     assert!(rt; replies.as_slice() == &expected[..]);
-    assert_eq!(rt; manager.owner(FIRST), Some(Some(TaskNo(2))));
+    assert_eq!(rt; owner, Some(Some(TaskNo(2))));
     Ok(())
+}
+
+// the mutex is owned by this task, and task 1 has this priority
+fn expect_owned(rt: &impl Abort, manager: &Manager, owner: u16, level: u16) {
+    let shown = (manager.owner(FIRST), manager.effective(TaskNo(1)));
+    let owner = Some(Some(TaskNo(owner)));
+    assert_eq!(rt; shown, (owner, Prio::new(level)));
+    assert_eq!(rt; manager.next_ticket(), 2);
 }
 
 #[test]
@@ -303,43 +342,60 @@ fn a_copy_goes_its_own_way(rt: HostRuntime) -> Result<(), Fail> {
     manager.run(&[by(1, Lock(FIRST)), by(2, Lock(FIRST))]);
     let mut copy = manager.try_clone(rt.alloc())?;
     copy.run(&[by(1, Unlock(FIRST))]);
-    assert_eq!(rt; manager.owner(FIRST), Some(Some(TaskNo(1))));
-    assert_eq!(rt; manager.effective(TaskNo(1)), Prio::new(20));
-    assert_eq!(rt; copy.owner(FIRST), Some(Some(TaskNo(2))));
-    assert_eq!(rt; copy.effective(TaskNo(1)), Prio::new(10));
-    assert_eq!(rt; copy.next_ticket(), 2);
+    expect_owned(&rt, &manager, 1, 20);
+    expect_owned(&rt, &copy, 2, 10);
     Ok(())
+}
+
+/// A step, and one that makes up for it.
+const AWAY: [(Op, Op); 2] = [
+    (Lock(FIRST), Unlock(FIRST)),
+    (SetBase(TaskNo(2), 91), SetBase(TaskNo(2), 90)),
+];
+
+// the managers are equal, but between the two steps of a row
+fn expect_equal(rt: &impl Abort, manager: &mut Manager, start: &Manager) {
+    assert!(rt; manager.has_state_of(start));
+    for (away, back) in AWAY {
+        manager.step(by(1, away));
+        let is_same = manager.has_state_of(start) || start.has_state_of(manager);
+        assert!(rt; !is_same, "{away:?}");
+        manager.step(by(1, back));
+        assert!(rt; manager.has_state_of(start), "{back:?}");
+    }
 }
 
 #[test]
 fn equal_managers_have_the_same_state(rt: HostRuntime) -> Result<(), Fail> {
     let start = made(rt.alloc(), &[10, 90], &[Inherit, Inherit])?;
     let mut manager = start.try_clone(rt.alloc())?;
-    assert!(rt; manager.has_state_of(&start));
-    for (away, back) in [
-        (by(1, Lock(FIRST)), by(1, Unlock(FIRST))),
-        (by(1, SetBase(TaskNo(2), 91)), by(1, SetBase(TaskNo(2), 90))),
-    ] {
-        manager.step(away);
-        assert!(rt; !manager.has_state_of(&start), "{away:?}");
-        assert!(rt; !start.has_state_of(&manager), "{away:?}");
-        manager.step(back);
-        assert!(rt; manager.has_state_of(&start), "{back:?}");
-    }
+    expect_equal(&rt, &mut manager, &start);
+    Ok(())
+}
+
+// a manager with these bases and protocols has another state
+fn expect_other(
+    rt: &impl Abort,
+    alloc: Global,
+    start: &Manager,
+    bases: &[u16],
+    protocols: &[Protocol],
+) -> Result<(), Fail> {
+    let other = made(alloc, bases, protocols)?;
+    assert!(rt; !other.has_state_of(start));
     Ok(())
 }
 
 #[test]
 fn managers_of_other_tasks_or_mutexes_have_other_states(rt: HostRuntime) -> Result<(), Fail> {
+    const BASES: &[&[u16]] = &[&[10, 91], &[10], &[10, 90, 90]];
     let start = made(rt.alloc(), &[10, 90], &[Inherit, Inherit])?;
-    for bases in [&[10, 91][..], &[10], &[10, 90, 90]] {
-        let other = made(rt.alloc(), bases, &[Inherit, Inherit])?;
-        assert!(rt; !other.has_state_of(&start));
+    for bases in BASES {
+        expect_other(&rt, rt.alloc(), &start, *bases, &[Inherit, Inherit])?;
     }
-    for protocols in [&[Inherit, Protocol::None][..], &[Inherit]] {
-        let other = made(rt.alloc(), &[10, 90], protocols)?;
-        assert!(rt; !other.has_state_of(&start));
-    }
+    let alloc = rt.alloc();
+    expect_other(&rt, alloc, &start, &[10, 90], &[Inherit, Protocol::None])?;
+    expect_other(&rt, alloc, &start, &[10, 90], &[Inherit])?;
     Ok(())
 }
 
@@ -350,11 +406,18 @@ fn waits_and_tickets_are_of_the_state(rt: HostRuntime) -> Result<(), Fail> {
     waits.run(&[by(1, Lock(FIRST)), by(2, Lock(FIRST))]);
     let mut withdrawn = waits.try_clone(rt.alloc())?;
     withdrawn.step(by(2, Cancel(TaskNo(2))));
-    assert!(rt; !withdrawn.has_state_of(&waits));
+    let waiting = withdrawn.has_state_of(&waits);
     // No mutex is owned and no task waits, but a ticket was given out.
     withdrawn.step(by(1, Unlock(FIRST)));
-    assert!(rt; !withdrawn.has_state_of(&start));
+    let ticketed = withdrawn.has_state_of(&start);
+    assert!(rt; !waiting && !ticketed);
     Ok(())
+}
+
+// the first two tasks whose priority the last step changed
+fn first_changed(manager: &Manager, visits: &Visits) -> [Option<TaskNo>; 2] {
+    let mut changed = manager.changed(visits);
+    [changed.next(), changed.next()]
 }
 
 #[test]
@@ -362,13 +425,16 @@ fn noted_changes_are_those_of_the_last_step(rt: HostRuntime) -> Result<(), Fail>
     let mut manager = made(rt.alloc(), &[10, 20, 90], &[Inherit])?;
     let mut visits = Visits::with_notes(rt.alloc())?;
     manager.step_with_notes(by(1, Lock(FIRST)), &mut visits);
-    assert_eq!(rt; manager.changed(&visits).next(), None);
+    let granted = first_changed(&manager, &visits);
     let done = manager.step_with_notes(by(3, Lock(FIRST)), &mut visits);
-    assert_eq!(rt; (done.reply, done.visits), (Reply::Queued, 1));
-    let mut changed = manager.changed(&visits);
-    assert_eq!(rt; [changed.next(), changed.next()], [Some(TaskNo(1)), None]);
+    let queued = first_changed(&manager, &visits);
     manager.step_with_notes(by(2, Lock(FIRST)), &mut visits);
-    assert_eq!(rt; manager.changed(&visits).next(), None);
+    let behind = first_changed(&manager, &visits);
+    drop(manager);
+    drop(visits);
+    assert_eq!(rt; (done.reply, done.visits), (Reply::Queued, 1));
+    assert_eq!(rt; queued, [Some(TaskNo(1)), None]);
+    assert_eq!(rt; [granted, behind], [[None, None], [None, None]]);
     Ok(())
 }
 

@@ -118,14 +118,10 @@ pub fn started_at_last<T: Drop, F: FnMut() -> Option<T>>(
     Err("it was refused with enough memory")?
 }
 
-/// Returns what the call answers while there is no memory at all.
-///
-/// # Errors
-///
-/// Where memory is refused at first.
-pub fn without_memory<T: Drop, F: FnMut() -> T>(alloc: Global, mut call: F) -> Result<T, Fail>
+/// Returns what the call answers while there is no memory at all, or None where memory is refused at first.
+pub fn without_memory<T: Drop, F: FnMut() -> T>(alloc: Global, mut call: F) -> Option<T>
     requires { F.IsAlwaysCallable call }
 {
-    let _hoard = Hoard::new(alloc)?;
-    Ok(call())
+    let _hoard = Hoard::new(alloc).ok()?;
+    Some(call())
 }

@@ -37,54 +37,78 @@ pub fn waited_for(alloc: Global) -> Result<Manager, Fail> {
     Ok(manager)
 }
 
+// both show the same of the task
+fn expect_same_task(rt: &impl Abort, one: &Manager, other: &Manager, task: TaskNo) {
+    let levels = (one.base(task), one.effective(task));
+    assert_eq!(rt; levels, (other.base(task), other.effective(task)));
+    let shown = (one.reason(task), one.waits_for(task));
+    assert_eq!(rt; shown, (other.reason(task), other.waits_for(task)));
+}
+
+// both show the same of the mutex
+fn expect_same_mutex(rt: &impl Abort, one: &Manager, other: &Manager, mutex: MutexNo) {
+    let shown = (one.protocol(mutex), one.owner(mutex));
+    assert_eq!(rt; shown, (other.protocol(mutex), other.owner(mutex)));
+    assert!(rt; one.waiters(mutex) == other.waiters(mutex));
+}
+
 // both show the same of each task and of each mutex
 fn expect_same(rt: &impl Abort, one: &Manager, other: &Manager) {
-    assert_eq!(rt; one.tasks(), other.tasks());
-    assert_eq!(rt; one.mutexes(), other.mutexes());
-    assert_eq!(rt; one.next_ticket(), other.next_ticket());
+    let counts = (one.tasks(), one.mutexes(), one.next_ticket());
+    let others = (other.tasks(), other.mutexes(), other.next_ticket());
+    assert_eq!(rt; counts, others);
     for number in 1..one.tasks() + 1 {
-        let task = TaskNo(number);
-        assert_eq!(rt; one.base(task), other.base(task));
-        assert_eq!(rt; one.effective(task), other.effective(task));
-        assert_eq!(rt; one.reason(task), other.reason(task));
-        assert_eq!(rt; one.waits_for(task), other.waits_for(task));
+        expect_same_task(rt, one, other, TaskNo(number));
     }
     for number in 1..one.mutexes() + 1 {
-        let mutex = MutexNo(number);
-        assert_eq!(rt; one.protocol(mutex), other.protocol(mutex));
-        assert_eq!(rt; one.owner(mutex), other.owner(mutex));
-        assert!(rt; one.waiters(mutex) == other.waiters(mutex));
+        expect_same_mutex(rt, one, other, MutexNo(number));
     }
+}
+
+// the answer, unless memory was refused
+fn served<T: Drop>(answer: Result<T, MakeFault>) -> Option<Result<T, MakeFault>> {
+    match answer {
+        Err(MakeFault::Memory) => None,
+        answer => Some(answer),
+    }
+}
+
+fn new_manager(alloc: Global) -> Result<Manager, Fail> {
+    Ok(Manager::new(alloc, &bases()?, &PROTOCOLS)?)
+}
+
+fn with_ticket_7(alloc: Global) -> Result<Manager, Fail> {
+    let bases = bases()?;
+    Ok(Manager::with_next_ticket(alloc, &bases, &PROTOCOLS, 7)?)
 }
 
 #[test]
 fn new_answers_memory_until_there_is_enough(rt: HostRuntime) -> Result<(), Fail> {
-    let (alloc, bases) = (rt.alloc(), bases()?);
-    let made = served_at_last(alloc, || match Manager::new(alloc, &bases, &PROTOCOLS) {
-        Err(MakeFault::Memory) => None,
-        answer => Some(answer),
-    })?;
-    expect_same(&rt, &made?, &Manager::new(alloc, &bases, &PROTOCOLS)?);
+    let alloc = rt.alloc();
+    let bases = bases()?;
+    let made = served_at_last(alloc, || served(Manager::new(alloc, &bases, &PROTOCOLS)))?;
+    expect_same(&rt, &made?, &new_manager(alloc)?);
     Ok(())
 }
 
 #[test]
 fn with_next_ticket_answers_memory_until_there_is_enough(rt: HostRuntime) -> Result<(), Fail> {
-    let (alloc, bases) = (rt.alloc(), bases()?);
+    let alloc = rt.alloc();
+    let bases = bases()?;
     let made = served_at_last(alloc, || {
-        match Manager::with_next_ticket(alloc, &bases, &PROTOCOLS, 7) {
-            Err(MakeFault::Memory) => None,
-            answer => Some(answer),
-        }
+        served(Manager::with_next_ticket(alloc, &bases, &PROTOCOLS, 7))
     })?;
     let manager = made?;
     assert_eq!(rt; manager.next_ticket(), 7);
-    expect_same(
-        &rt,
-        &manager,
-        &Manager::with_next_ticket(alloc, &bases, &PROTOCOLS, 7)?,
-    );
+    expect_same(&rt, &manager, &with_ticket_7(alloc)?);
     Ok(())
+}
+
+// task 1 owns mutex 1, for which task 2 waits
+fn expect_waited_for(rt: &impl Abort, manager: &Manager) {
+    let facts = (manager.owner(MutexNo(1)), manager.waits_for(TaskNo(2)));
+    assert_eq!(rt; facts, (Some(Some(TaskNo(1))), Some(Some(MutexNo(1)))));
+    assert_eq!(rt; manager.next_ticket(), 2);
 }
 
 #[test]
@@ -92,11 +116,18 @@ fn try_clone_answers_memory_until_there_is_enough(rt: HostRuntime) -> Result<(),
     let alloc = rt.alloc();
     let manager = waited_for(alloc)?;
     let copy = served_at_last(alloc, || manager.try_clone(alloc).ok())?;
-    assert_eq!(rt; copy.owner(MutexNo(1)), Some(Some(TaskNo(1))));
-    assert_eq!(rt; copy.waits_for(TaskNo(2)), Some(Some(MutexNo(1))));
-    assert_eq!(rt; copy.next_ticket(), 2);
+    expect_waited_for(&rt, &copy);
     expect_same(&rt, &copy, &manager);
     Ok(())
+}
+
+// the first of 3,000 locks is queued, and all others are refused to a task that waits
+fn expect_locks(rt: &impl Abort, replies: &[Reply]) {
+    assert_eq!(rt; replies.len(), 3000);
+    assert_eq!(rt; replies.first().copied(), Some(Reply::Queued));
+    let mut rest = replies.iter().skip(1);
+    let refused = Reply::Refused(Refusal::Waiting);
+    assert!(rt; rest.all(|reply| *reply == refused));
 }
 
 #[test]
@@ -112,13 +143,7 @@ fn run_replies_changes_nothing_until_there_is_enough(rt: HostRuntime) -> Result<
         }
         answer
     })?;
-    let (first, rest) = replies.split_first().ok_or("3,000 replies")?;
-    assert_eq!(rt; *first, Reply::Queued);
-    assert_eq!(rt; rest.len(), 2999);
-    assert!(rt;
-        rest.iter()
-            .all(|reply| *reply == Reply::Refused(Refusal::Waiting))
-    );
+    expect_locks(&rt, &replies);
     assert_eq!(rt; manager.next_ticket(), 3);
     Ok(())
 }
@@ -133,38 +158,76 @@ fn changed_tasks_answers_memory_until_there_is_enough(rt: HostRuntime) -> Result
     Ok(())
 }
 
+fn new_tables(alloc: Global) -> Result<Tables, Fail> {
+    Ok(Tables::new(alloc, &bases()?, &PROTOCOLS)?)
+}
+
+// the last task is at its base and the last mutex has no waiters, and there are no more
+fn expect_tables(rt: &impl Abort, tables: &Tables) {
+    let stored = (tables.stored(TaskNo(64)), tables.stored(TaskNo(65)));
+    assert_eq!(rt; stored, (Prio::new(10), None));
+    let waiting = tables
+        .queue(MutexNo(64))
+        .map(|queue| queue.as_slice().len());
+    assert_eq!(rt; waiting, Some(0));
+    assert!(rt; tables.queue(MutexNo(65)).is_none());
+}
+
 #[test]
 fn tables_answer_memory_until_there_is_enough(rt: HostRuntime) -> Result<(), Fail> {
-    let (alloc, bases) = (rt.alloc(), bases()?);
+    let alloc = rt.alloc();
+    let bases = bases()?;
     let tables = served_at_last(alloc, || Tables::new(alloc, &bases, &PROTOCOLS).ok())?;
-    let copy = served_at_last(alloc, || tables.try_clone(alloc).ok())?;
-    for tables in [&tables, &copy] {
-        assert_eq!(rt; tables.stored(TaskNo(64)), Prio::new(10));
-        assert_eq!(rt; tables.stored(TaskNo(65)), None);
-        let queue = tables.queue(MutexNo(64)).ok_or("a known mutex")?;
-        assert!(rt; queue.as_slice().is_empty());
-        assert!(rt; tables.queue(MutexNo(65)).is_none());
-    }
+    expect_tables(&rt, &tables);
     Ok(())
 }
 
 #[test]
-fn queues_answer_memory_until_there_is_enough(rt: HostRuntime) -> Result<(), Fail> {
+fn tables_are_copied_once_there_is_enough(rt: HostRuntime) -> Result<(), Fail> {
     let alloc = rt.alloc();
-    let (task, prio) = (TaskNo(1), Prio::new(10).ok_or("a priority")?);
-    let waiter = Waiter {
-        task,
-        prio,
+    let tables = new_tables(alloc)?;
+    let copy = served_at_last(alloc, || tables.try_clone(alloc).ok())?;
+    expect_tables(&rt, &tables);
+    expect_tables(&rt, &copy);
+    Ok(())
+}
+
+fn waiter() -> Result<Waiter, Fail> {
+    Ok(Waiter {
+        task: TaskNo(1),
+        prio: Prio::new(10).ok_or("a priority")?,
         ticket: 7,
-    };
-    let mut queue = served_at_last(alloc, || Queue::new(alloc, 4000).ok())?;
-    assert!(rt; queue.as_slice().is_empty());
-    assert!(rt; queue.has_room());
-    assert!(rt; !queue.contains(task));
-    assert!(rt; !queue.has_ticket(7));
+    })
+}
+
+fn insert(rt: &impl Abort, queue: &mut Queue, waiter: Waiter) {
+    assert!(rt; queue.has_room() && !queue.contains(waiter.task));
+    assert!(rt; !queue.has_ticket(waiter.ticket));
     queue.insert(waiter);
+}
+
+// the queue has room and nobody waits in it
+fn expect_empty(rt: &impl Abort, queue: &Queue) {
+    assert!(rt; queue.as_slice().is_empty() && queue.has_room());
+    assert!(rt; !queue.contains(TaskNo(1)) && !queue.has_ticket(7));
+}
+
+#[test]
+fn queues_answer_memory_until_there_is_enough(rt: HostRuntime) -> Result<(), Fail> {
+    let (alloc, waiter) = (rt.alloc(), waiter()?);
+    let mut queue = served_at_last(alloc, || Queue::new(alloc, 4000).ok())?;
+    expect_empty(&rt, &queue);
+    insert(&rt, &mut queue, waiter);
+    assert!(rt; queue.as_slice() == [waiter].as_slice());
+    Ok(())
+}
+
+#[test]
+fn queues_are_copied_once_there_is_enough(rt: HostRuntime) -> Result<(), Fail> {
+    let (alloc, waiter) = (rt.alloc(), waiter()?);
+    let mut queue = Queue::new(alloc, 4000)?;
+    insert(&rt, &mut queue, waiter);
     let copy = served_at_last(alloc, || queue.try_clone(alloc).ok())?;
-    assert!(rt; copy.as_slice() == [waiter].as_slice());
-    assert!(rt; copy.has_room());
+    assert!(rt; copy.as_slice() == [waiter].as_slice() && copy.has_room());
     Ok(())
 }

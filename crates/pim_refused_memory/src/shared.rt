@@ -8,7 +8,7 @@ use crate::hoard::{Hoard, served_at_last, without_memory};
 use crate::managers::{lock, step, waited_for};
 use pim_base::{MAX_WORKERS, MutexNo, Op, Prio, Reason, Refusal, Reply, Step, TaskNo};
 use pim_manager::Manager;
-use pim_shared::{Gate, Log, Seen, Settled, Shared, SharedFault, run_scripts, worker};
+use pim_shared::{Gate, Log, Looker, Seen, Settled, Shared, SharedFault, run_scripts, worker};
 use std::alloc::Global;
 use std::process::Abort;
 use std::sync::Wait;
@@ -33,13 +33,59 @@ fn untouched(rt: &impl Abort, steps: u64) -> Result<Option<Seen>, SharedFault> {
     }))
 }
 
-// nothing was made or logged: task 1 owns mutex 1, and task 2 waits for it
+/// What the two calls of an unlock answer, the first of which has no memory.
+const CLOSED: [Result<Reply, SharedFault>; 2] = [
+    Err(SharedFault::Memory),
+    Err(SharedFault::Closed),
+];
+
+// task 1 owns mutex 1, and task 2 waits for it
+fn expect_waited_for(rt: &impl Abort, manager: &Manager) {
+    let facts = (manager.owner(FIRST), manager.waits_for(TaskNo(2)));
+    assert_eq!(rt; facts, (Some(Some(TaskNo(1))), Some(Some(FIRST))));
+    assert_eq!(rt; manager.next_ticket(), 2);
+}
+
+// nothing was made or logged
 fn expect_unchanged(rt: &impl Abort, manager: &Manager, log: &Log) {
     assert!(rt; log.entries().is_empty());
-    for manager in [manager, log.start()] {
-        assert_eq!(rt; manager.owner(FIRST), Some(Some(TaskNo(1))));
-        assert_eq!(rt; manager.waits_for(TaskNo(2)), Some(Some(FIRST)));
-        assert_eq!(rt; manager.next_ticket(), 2);
+    expect_waited_for(rt, manager);
+    expect_waited_for(rt, log.start());
+}
+
+// ends the shared manager, by which nothing was made or logged
+fn finish_unchanged<R: Abort + Wait>(rt: &R, shared: Shared) {
+    let (manager, log) = shared.finish(rt);
+    expect_unchanged(rt, &manager, &log);
+}
+
+// a shared manager whose task 2 waits for task 1, with one looker
+fn shared_by_two<R: Abort + Wait>(rt: &R, alloc: Global) -> Result<(Shared, Looker), Fail> {
+    let manager = waited_for(alloc)?;
+    let (shared, mut lookers) = Shared::new(rt, alloc, manager, 10, 1)?;
+    let looker = lookers.pop().expect(rt, "a looker");
+    Ok((shared, looker))
+}
+
+// the looker sees task 1 untouched, after so many entries
+fn expect_look(rt: &impl Abort, looker: &mut Looker, steps: u64) {
+    assert_eq!(rt; looker.look(TaskNo(1)), untouched(rt, steps));
+}
+
+// makes the shared manager of a copy, and ends it unchanged: how many lookers there are
+fn made_and_ended<R: Abort + Wait>(
+    rt: &R,
+    alloc: Global,
+    manager: &Manager,
+) -> Option<Result<usize, SharedFault>> {
+    let manager = manager.try_clone(alloc).ok()?;
+    match Shared::new(rt, alloc, manager, 1000, 2) {
+        Ok((shared, lookers)) => {
+            finish_unchanged(rt, shared);
+            Some(Ok(lookers.len()))
+        }
+        Err(SharedFault::Memory) | Err(SharedFault::NoPlace) => None,
+        Err(fault) => Some(Err(fault)),
     }
 }
 
@@ -47,86 +93,69 @@ fn expect_unchanged(rt: &impl Abort, manager: &Manager, log: &Log) {
 fn new_makes_nothing_until_there_is_enough(rt: HostRuntime) -> Result<(), Fail> {
     let alloc = rt.alloc();
     let manager = waited_for(alloc)?;
-    let made = served_at_last(alloc, || {
-        let manager = manager.try_clone(alloc).ok()?;
-        match Shared::new(&rt, alloc, manager, 1000, 2) {
-            Ok((shared, lookers)) => Some(Ok((shared.finish(&rt), lookers))),
-            Err(SharedFault::Memory) | Err(SharedFault::NoPlace) => None,
-            Err(fault) => Some(Err(fault)),
-        }
-    })?;
-    let ((manager, log), lookers) = made?;
-    expect_unchanged(&rt, &manager, &log);
-    assert_eq!(rt; lookers.len(), 2);
+    let made = served_at_last(alloc, || made_and_ended(&rt, alloc, &manager))?;
+    assert_eq!(rt; made, Ok(2));
     Ok(())
 }
 
 #[test]
 fn call_without_memory_changes_nothing_and_closes(rt: HostRuntime) -> Result<(), Fail> {
     let alloc = rt.alloc();
-    let (shared, mut lookers) = Shared::new(&rt, alloc, waited_for(alloc)?, 10, 1)?;
-    let looker = &mut lookers[0];
-    let before = looker.look(TaskNo(1));
+    let (shared, mut looker) = shared_by_two(&rt, alloc)?;
+    expect_look(&rt, &mut looker, 0);
     let answers = without_memory(
         alloc,
         || [shared.call(&rt, unlock()), shared.call(&rt, unlock())],
     );
-    let after = looker.look(TaskNo(1));
+    expect_look(&rt, &mut looker, 0);
     let closed = shared.call(&rt, unlock());
-    let (manager, log) = shared.finish(&rt);
-    assert_eq!(rt;
-        answers?,
-        [Err(SharedFault::Memory), Err(SharedFault::Closed)]
-    );
+    finish_unchanged(&rt, shared);
+    assert_eq!(rt; answers, Some(CLOSED));
     assert_eq!(rt; closed, Err(SharedFault::Closed));
-    assert_eq!(rt; (before, after), (untouched(&rt, 0), untouched(&rt, 0)));
-    expect_unchanged(&rt, &manager, &log);
     Ok(())
 }
 
 #[test]
 fn call_with_without_memory_leaves_what_its_looker_saw(rt: HostRuntime) -> Result<(), Fail> {
     let alloc = rt.alloc();
-    let (shared, mut lookers) = Shared::new(&rt, alloc, waited_for(alloc)?, 10, 1)?;
-    let looker = &mut lookers[0];
+    let (shared, mut looker) = shared_by_two(&rt, alloc)?;
     let answers = without_memory(alloc, || {
         [
-            shared.call_with(&rt, looker, unlock()),
-            shared.call_with(&rt, looker, unlock()),
+            shared.call_with(&rt, &mut looker, unlock()),
+            shared.call_with(&rt, &mut looker, unlock()),
         ]
     });
-    let after = looker.look(TaskNo(1));
-    let (manager, log) = shared.finish(&rt);
-    assert_eq!(rt;
-        answers?,
-        [Err(SharedFault::Memory), Err(SharedFault::Closed)]
-    );
-    assert_eq!(rt; after, untouched(&rt, 0));
-    expect_unchanged(&rt, &manager, &log);
+    expect_look(&rt, &mut looker, 0);
+    finish_unchanged(&rt, shared);
+    assert_eq!(rt; answers, Some(CLOSED));
     Ok(())
+}
+
+// ends the shared manager, whose task 3 owns mutex 1 after four entries
+fn finish_with_four<R: Abort + Wait>(rt: &R, shared: Shared) {
+    let (manager, log) = shared.finish(rt);
+    assert_eq!(rt; log.entries().len(), 4);
+    assert_eq!(rt; manager.owner(FIRST), Some(Some(TaskNo(3))));
 }
 
 #[test]
 fn later_calls_and_looks_take_no_memory(rt: HostRuntime) -> Result<(), Fail> {
     let alloc = rt.alloc();
-    let (shared, mut lookers) = Shared::new(&rt, alloc, waited_for(alloc)?, 10, 1)?;
-    let looker = &mut lookers[0];
+    let (shared, mut looker) = shared_by_two(&rt, alloc)?;
     let first = shared.call(&rt, unlock());
     let later = without_memory(alloc, || {
         [
             shared.call(&rt, unlock()),
-            shared.call_with(&rt, looker, step(2, Op::Unlock(FIRST))),
+            shared.call_with(&rt, &mut looker, step(2, Op::Unlock(FIRST))),
             shared.call(&rt, step(3, Op::Lock(FIRST))),
         ]
     });
-    let seen = looker.look(TaskNo(1));
-    let (manager, log) = shared.finish(&rt);
+    expect_look(&rt, &mut looker, 4);
+    finish_with_four(&rt, shared);
     let refused = Reply::Refused(Refusal::NotOwner);
     assert_eq!(rt; first, Ok(Reply::Handed(TaskNo(2))));
-    assert_eq!(rt; later?, [Ok(refused), Ok(Reply::Freed), Ok(Reply::Granted)]);
-    assert_eq!(rt; seen, untouched(&rt, 4));
-    assert_eq!(rt; log.entries().len(), 4);
-    assert_eq!(rt; manager.owner(FIRST), Some(Some(TaskNo(3))));
+    let granted = [Ok(refused), Ok(Reply::Freed), Ok(Reply::Granted)];
+    assert_eq!(rt; later, Some(granted));
     Ok(())
 }
 
@@ -166,8 +195,8 @@ fn run_scripts_without_memory_starts_no_worker(rt: HostRuntime) -> Result<(), Fa
             return Ok(());
         }
         run_scripts(&rt, alloc, &gate, &scripts)
-    })?;
-    assert_eq!(rt; answer, Err(SharedFault::Memory));
+    });
+    assert_eq!(rt; answer, Some(Err(SharedFault::Memory)));
     assert_eq!(rt; gate.calls.load(Ordering::SeqCst), 0);
     Ok(())
 }
@@ -246,10 +275,9 @@ fn worker_that_settles_ends_when_the_call_of_another_meets_memory(
 ) -> Result<(), Fail> {
     let alloc = rt.alloc();
     let (shared, _lookers) = Shared::new(&rt, alloc, waited_for(alloc)?, 10, 0)?;
-    let (settling, calling) = settle_and_call(&rt, alloc, &Waiting::new(&shared));
-    let (manager, log) = shared.finish(&rt);
-    assert_eq!(rt; calling, Err(SharedFault::Memory));
-    assert_eq!(rt; settling, Err(SharedFault::Closed));
-    expect_unchanged(&rt, &manager, &log);
+    let answers = settle_and_call(&rt, alloc, &Waiting::new(&shared));
+    finish_unchanged(&rt, shared);
+    let closed = (Err(SharedFault::Closed), Err(SharedFault::Memory));
+    assert_eq!(rt; answers, closed);
     Ok(())
 }

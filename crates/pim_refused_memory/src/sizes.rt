@@ -3,7 +3,7 @@
 
 use crate::managers::step;
 use pim_base::{
-    MAX_MUTEXES, MAX_TASKS, MutexNo, Op, Prio, Protocol, Reason, Reply, TaskNo, Waiter,
+    MAX_MUTEXES, MAX_TASKS, MutexNo, Op, Prio, Protocol, Reason, Reply, Step, TaskNo, Waiter,
 };
 use pim_chain::Tables;
 use pim_manager::{ChangedTask, ChangedTasks, Manager};
@@ -23,7 +23,8 @@ struct Size {
     last: u16,
 }
 
-fn sized(count: u16, last_base: u16, first: u16, last: u16) -> Size {
+fn sized(row: &[u16; 4]) -> Size {
+    let [count, last_base, first, last] = *row;
     Size {
         count,
         last_base,
@@ -32,25 +33,23 @@ fn sized(count: u16, last_base: u16, first: u16, last: u16) -> Size {
     }
 }
 
-/// None, few and most, and those about 100, 150 and 200.
+/// None, few and most, and those about 100, 150 and 200. A row is a size.
 ///
 /// The highest base is that of task 99. Of those who wait the lowest base is that of task 2, or of task 100, to which that
 /// of task 199 is equal.
-fn sizes() -> [Size; 11] {
-    [
-        sized(0, 0, 0, 0),
-        sized(1, 1, 0, 0),
-        sized(2, 2, 2, 2),
-        sized(99, 99, 99, 2),
-        sized(100, 1, 99, 100),
-        sized(101, 2, 99, 100),
-        sized(150, 51, 99, 100),
-        sized(199, 1, 99, 199),
-        sized(200, 2, 99, 199),
-        sized(255, 57, 99, 199),
-        sized(256, 58, 99, 199),
-    ]
-}
+const SIZES: &[[u16; 4]] = &[
+    [0, 0, 0, 0],
+    [1, 1, 0, 0],
+    [2, 2, 2, 2],
+    [99, 99, 99, 2],
+    [100, 1, 99, 100],
+    [101, 2, 99, 100],
+    [150, 51, 99, 100],
+    [199, 1, 99, 199],
+    [200, 2, 99, 199],
+    [255, 57, 99, 199],
+    [256, 58, 99, 199],
+];
 
 fn bases(alloc: Global, tasks: Size) -> Result<Vec<Prio>, Fail> {
     let mut bases = Vec::new(alloc);
@@ -64,11 +63,21 @@ fn inherit(alloc: Global, mutexes: Size) -> Result<Vec<Protocol>, Fail> {
     Ok(vec![in alloc; Protocol::Inherit; mutexes.count as usize]?)
 }
 
+fn new_manager(alloc: Global, tasks: Size, mutexes: Size) -> Result<Manager, Fail> {
+    let bases = bases(alloc, tasks)?;
+    Ok(Manager::new(alloc, &bases, &inherit(alloc, mutexes)?)?)
+}
+
+fn with_ticket_7(alloc: Global, tasks: Size, mutexes: Size) -> Result<Manager, Fail> {
+    let bases = bases(alloc, tasks)?;
+    let protocols = inherit(alloc, mutexes)?;
+    Ok(Manager::with_next_ticket(alloc, &bases, &protocols, 7)?)
+}
+
 // all mutexes are free and no task waits
 fn expect_fresh(rt: &impl Abort, manager: &Manager, tasks: Size, mutexes: Size, next: u64) {
-    assert_eq!(rt; manager.tasks(), tasks.count);
-    assert_eq!(rt; manager.mutexes(), mutexes.count);
-    assert_eq!(rt; manager.next_ticket(), next);
+    let counts = (manager.tasks(), manager.mutexes(), manager.next_ticket());
+    assert_eq!(rt; counts, (tasks.count, mutexes.count, next));
     let (task, mutex) = (TaskNo(tasks.count), MutexNo(mutexes.count));
     let base = Prio::new(tasks.last_base);
     assert_eq!(rt; manager.base(task), base);
@@ -78,86 +87,117 @@ fn expect_fresh(rt: &impl Abort, manager: &Manager, tasks: Size, mutexes: Size, 
     assert_eq!(rt; manager.owner(mutex), owner);
 }
 
+fn expect_managers(rt: &impl Abort, alloc: Global, tasks: Size, mutexes: Size) -> Result<(), Fail> {
+    expect_fresh(rt, &new_manager(alloc, tasks, mutexes)?, tasks, mutexes, 1);
+    let made = with_ticket_7(alloc, tasks, mutexes)?;
+    expect_fresh(rt, &made, tasks, mutexes, 7);
+    expect_fresh(rt, &made.try_clone(alloc)?, tasks, mutexes, 7);
+    Ok(())
+}
+
 #[test]
 fn managers_of_every_size(rt: HostRuntime) -> Result<(), Fail> {
-    for tasks in sizes() {
-        for mutexes in sizes() {
-            let bases = bases(rt.alloc(), tasks)?;
-            let protocols = inherit(rt.alloc(), mutexes)?;
-            let made = Manager::new(rt.alloc(), &bases, &protocols)?;
-            expect_fresh(&rt, &made, tasks, mutexes, 1);
-            let made = Manager::with_next_ticket(rt.alloc(), &bases, &protocols, 7)?;
-            expect_fresh(&rt, &made, tasks, mutexes, 7);
-            expect_fresh(&rt, &made.try_clone(rt.alloc())?, tasks, mutexes, 7);
+    for tasks in SIZES {
+        for mutexes in SIZES {
+            expect_managers(&rt, rt.alloc(), sized(tasks), sized(mutexes))?;
         }
     }
     Ok(())
 }
 
-// task 1 owns the last mutex, and all others wait for it
-fn expect_contended(rt: &impl Abort, manager: &Manager, tasks: Size) -> Result<(), Fail> {
-    let mutex = MutexNo(manager.mutexes());
-    let waiters = manager.waiters(mutex).ok_or("a known mutex")?;
-    assert_eq!(rt; waiters.len() + 1, tasks.count as usize);
-    assert_eq!(rt; manager.next_ticket(), u64::from(tasks.count));
-    assert_eq!(rt; manager.owner(mutex), Some(Some(TaskNo(1))));
+// how many wait, and the first and the last of them, or 0
+fn ends(manager: &Manager, mutex: MutexNo) -> Option<(usize, u16, u16)> {
+    let waiters = manager.waiters(mutex)?;
     let first = waiters.first().map_or(0, |waiter| waiter.task.get());
     let last = waiters.last().map_or(0, |waiter| waiter.task.get());
-    assert_eq!(rt; (first, last), (tasks.first, tasks.last));
-    let (prio, reason) = if first == 0 {
-        (Prio::new(1), Reason::Base)
+    Some((waiters.len(), first, last))
+}
+
+// task 1 owns the last mutex, and all others wait for it
+fn expect_contended(rt: &impl Abort, manager: &Manager, tasks: Size) {
+    let mutex = MutexNo(manager.mutexes());
+    let others = tasks.count.saturating_sub(1) as usize;
+    let waiting = Some((others, tasks.first, tasks.last));
+    assert_eq!(rt; ends(manager, mutex), waiting);
+    let owned = (manager.owner(mutex), manager.next_ticket());
+    let owner = Some(Some(TaskNo(1)));
+    assert_eq!(rt; owned, (owner, u64::from(tasks.count)));
+    let (level, reason) = if tasks.first == 0 {
+        (1, Reason::Base)
     } else {
-        (Prio::new(first), Reason::Waiter(TaskNo(first), mutex))
+        (tasks.first, Reason::Waiter(TaskNo(tasks.first), mutex))
     };
-    assert_eq!(rt; manager.effective(TaskNo(1)), prio);
-    assert_eq!(rt; manager.reason(TaskNo(1)), Some(reason));
+    let shown = (manager.effective(TaskNo(1)), manager.reason(TaskNo(1)));
+    assert_eq!(rt; shown, (Prio::new(level), Some(reason)));
+}
+
+// a manager whose tasks all lock the last mutex
+fn contended(alloc: Global, tasks: Size, mutexes: Size) -> Result<Manager, Fail> {
+    let mut manager = new_manager(alloc, tasks, mutexes)?;
+    let mutex = MutexNo(manager.mutexes());
+    for number in 1..manager.tasks() + 1 {
+        manager.step(step(number, Op::Lock(mutex)));
+    }
+    Ok(manager)
+}
+
+fn expect_copies(rt: &impl Abort, alloc: Global, tasks: Size, mutexes: Size) -> Result<(), Fail> {
+    let manager = contended(alloc, tasks, mutexes)?;
+    expect_contended(rt, &manager, tasks);
+    expect_contended(rt, &manager.try_clone(alloc)?, tasks);
     Ok(())
 }
 
 #[test]
 fn copies_with_every_number_of_waiters(rt: HostRuntime) -> Result<(), Fail> {
-    for tasks in sizes().into_iter().skip(1) {
-        for mutexes in sizes().into_iter().skip(1) {
-            let bases = bases(rt.alloc(), tasks)?;
-            let protocols = inherit(rt.alloc(), mutexes)?;
-            let mut manager = Manager::new(rt.alloc(), &bases, &protocols)?;
-            let mutex = MutexNo(manager.mutexes());
-            for number in 1..manager.tasks() + 1 {
-                manager.step(step(number, Op::Lock(mutex)));
-            }
-            expect_contended(&rt, &manager, tasks)?;
-            expect_contended(&rt, &manager.try_clone(rt.alloc())?, tasks)?;
+    for tasks in &SIZES[1..] {
+        for mutexes in &SIZES[1..] {
+            expect_copies(&rt, rt.alloc(), sized(tasks), sized(mutexes))?;
         }
     }
     Ok(())
 }
 
-#[test]
-fn replies_of_every_number_of_steps(rt: HostRuntime) -> Result<(), Fail> {
+// a lock and an unlock by turns
+fn lock_and_unlock(alloc: Global, count: usize) -> Result<Vec<Step>, Fail> {
     let lock = step(1, Op::Lock(MutexNo(1)));
     let unlock = step(1, Op::Unlock(MutexNo(1)));
-    let bases = bases(rt.alloc(), sized(1, 1, 0, 0))?;
-    for count in [0usize, 1, 2, 99, 100, 101, 4999, 5000, 5001, 65_535, 65_536] {
-        let mut manager = Manager::new(rt.alloc(), &bases, &[Protocol::None])?;
-        let mut steps = Vec::new(rt.alloc());
-        for number in 0..count {
-            steps.push(if number % 2 == 0 { lock } else { unlock })?;
-        }
-        let replies = manager.run_replies(rt.alloc(), &steps)?;
-        assert_eq!(rt; replies.len(), count);
-        let mut granted = replies.iter().step_by(2);
-        assert!(rt;
-            granted.all(|reply| *reply == Reply::Granted),
-            "{count} steps"
-        );
-        let mut freed = replies.iter().skip(1).step_by(2);
-        assert!(rt; freed.all(|reply| *reply == Reply::Freed), "{count} steps");
-        let owner = if count % 2 == 0 {
-            None
-        } else {
-            Some(TaskNo(1))
-        };
-        assert_eq!(rt; manager.owner(MutexNo(1)), Some(owner), "{count} steps");
+    let mut steps = Vec::new(alloc);
+    for number in 0..count {
+        steps.push(if number % 2 == 0 { lock } else { unlock })?;
+    }
+    Ok(steps)
+}
+
+// granted and freed by turns
+fn expect_turns(rt: &impl Abort, replies: &[Reply], count: usize) {
+    assert_eq!(rt; replies.len(), count);
+    let mut granted = replies.iter().step_by(2);
+    let are_granted = granted.all(|reply| *reply == Reply::Granted);
+    let mut freed = replies.iter().skip(1).step_by(2);
+    let are_freed = freed.all(|reply| *reply == Reply::Freed);
+    assert!(rt; are_granted && are_freed, "{count} steps");
+}
+
+fn expect_replies(rt: &impl Abort, alloc: Global, count: usize) -> Result<(), Fail> {
+    let one = sized(&[1, 1, 0, 0]);
+    let mut manager = new_manager(alloc, one, one)?;
+    let steps = lock_and_unlock(alloc, count)?;
+    expect_turns(rt, &manager.run_replies(alloc, &steps)?, count);
+    let owner = if count % 2 == 0 {
+        None
+    } else {
+        Some(TaskNo(1))
+    };
+    assert_eq!(rt; manager.owner(MutexNo(1)), Some(owner), "{count} steps");
+    Ok(())
+}
+
+#[test]
+fn replies_of_every_number_of_steps(rt: HostRuntime) -> Result<(), Fail> {
+    const COUNTS: &[usize] = &[0, 1, 2, 99, 100, 101, 4999, 5000, 5001, 65_535, 65_536];
+    for count in COUNTS {
+        expect_replies(&rt, rt.alloc(), *count)?;
     }
     Ok(())
 }
@@ -175,31 +215,47 @@ fn chain(alloc: Global, tasks: Size) -> Result<Manager, Fail> {
     Ok(manager)
 }
 
+// so many tasks are raised to 50: the last by its base, and each other one by the next
+fn expect_raised(rt: &impl Abort, changed: &[ChangedTask], count: u16) {
+    assert_eq!(rt; changed.len(), count as usize);
+    let numbers = (1u16..257).zip(2u16..258);
+    for ((number, next), listed) in numbers.zip(changed) {
+        let reason = if number == count {
+            Reason::Base
+        } else {
+            Reason::Waiter(TaskNo(next), MutexNo(number))
+        };
+        let shown = (listed.task, Some(listed.prio), listed.reason);
+        assert_eq!(rt; shown, (TaskNo(number), Prio::new(50), reason));
+    }
+}
+
+fn expect_changed(rt: &impl Abort, alloc: Global, tasks: Size) -> Result<(), Fail> {
+    let mut manager = chain(alloc, tasks)?;
+    let mut changed = ChangedTasks::new(alloc)?;
+    let raise = step(1, Op::SetBase(TaskNo(tasks.count), 50));
+    let done = manager.step_with_changes(raise, &mut changed);
+    expect_raised(rt, changed.as_slice(), tasks.count);
+    let visits = u32::from(tasks.count);
+    assert_eq!(rt; (done.reply, done.visits), (Reply::Set, visits));
+    Ok(())
+}
+
 #[test]
 fn every_number_of_changed_tasks(rt: HostRuntime) -> Result<(), Fail> {
-    let prio = Prio::new(50).ok_or("a priority")?;
-    for tasks in sizes().into_iter().skip(1) {
-        let mut manager = chain(rt.alloc(), tasks)?;
-        let mut changed = ChangedTasks::new(rt.alloc())?;
-        let raise = step(1, Op::SetBase(TaskNo(tasks.count), 50));
-        let done = manager.step_with_changes(raise, &mut changed);
-        assert_eq!(rt;
-            (done.reply, done.visits),
-            (Reply::Set, u32::from(tasks.count))
-        );
-        assert_eq!(rt; changed.as_slice().len(), tasks.count as usize);
-        let numbers = (1u16..257).zip(2u16..258);
-        for ((number, next), listed) in numbers.zip(changed.as_slice()) {
-            let reason = if number == tasks.count {
-                Reason::Base
-            } else {
-                Reason::Waiter(TaskNo(next), MutexNo(number))
-            };
-            let task = TaskNo(number);
-            assert_eq!(rt; *listed, ChangedTask { task, prio, reason });
-        }
+    for tasks in &SIZES[1..] {
+        expect_changed(&rt, rt.alloc(), sized(tasks))?;
     }
     Ok(())
+}
+
+fn new_tables(alloc: Global, tasks: Size, mutexes: Size) -> Result<Tables, Fail> {
+    let bases = bases(alloc, tasks)?;
+    let protocols = inherit(alloc, mutexes)?;
+    if MAX_TASKS < bases.len() || MAX_MUTEXES < protocols.len() {
+        return Err("at most 256 tasks and 256 mutexes")?;
+    }
+    Ok(Tables::new(alloc, &bases, &protocols)?)
 }
 
 // all mutexes are free, with queues that have room for all tasks
@@ -208,8 +264,8 @@ fn expect_new_tables(rt: &impl Abort, tables: &Tables, tasks: Size, mutexes: Siz
     let base = Prio::new(tasks.last_base);
     assert_eq!(rt; tables.base(task), base);
     assert_eq!(rt; tables.stored(task), base);
-    assert_eq!(rt; tables.waits_for(task), None);
-    assert_eq!(rt; tables.owner(mutex), None);
+    let (wait, owner) = (tables.waits_for(task), tables.owner(mutex));
+    assert!(rt; wait.is_none() && owner.is_none());
     let queue = tables
         .queue(mutex)
         .map(|queue| (queue.as_slice().len(), queue.has_room()));
@@ -221,21 +277,28 @@ fn expect_new_tables(rt: &impl Abort, tables: &Tables, tasks: Size, mutexes: Siz
     assert_eq!(rt; queue, expected);
 }
 
+fn expect_tables(rt: &impl Abort, alloc: Global, tasks: Size, mutexes: Size) -> Result<(), Fail> {
+    let tables = new_tables(alloc, tasks, mutexes)?;
+    expect_new_tables(rt, &tables, tasks, mutexes);
+    expect_new_tables(rt, &tables.try_clone(alloc)?, tasks, mutexes);
+    Ok(())
+}
+
 #[test]
 fn tables_of_every_size(rt: HostRuntime) -> Result<(), Fail> {
-    for tasks in sizes() {
-        for mutexes in sizes() {
-            let bases = bases(rt.alloc(), tasks)?;
-            let protocols = inherit(rt.alloc(), mutexes)?;
-            if MAX_TASKS < bases.len() || MAX_MUTEXES < protocols.len() {
-                return Err("at most 256 tasks and 256 mutexes")?;
-            }
-            let tables = Tables::new(rt.alloc(), &bases, &protocols)?;
-            expect_new_tables(&rt, &tables, tasks, mutexes);
-            expect_new_tables(&rt, &tables.try_clone(rt.alloc())?, tasks, mutexes);
+    for tasks in SIZES {
+        for mutexes in SIZES {
+            expect_tables(&rt, rt.alloc(), sized(tasks), sized(mutexes))?;
         }
     }
     Ok(())
+}
+
+fn insert(rt: &impl Abort, queue: &mut Queue, number: u16, prio: Prio) {
+    let (task, ticket) = (TaskNo(number), u64::from(number));
+    assert!(rt; queue.has_room());
+    assert!(rt; !queue.contains(task) && !queue.has_ticket(ticket));
+    queue.insert(Waiter { task, prio, ticket });
 }
 
 // the queue is full, and has tasks 1, 2, .. in order
@@ -243,8 +306,8 @@ fn expect_full(rt: &impl Abort, queue: &Queue, count: u16) {
     assert!(rt; !queue.has_room());
     assert_eq!(rt; queue.as_slice().len(), count as usize);
     for (number, waiter) in (1u16..256).zip(queue.as_slice()) {
-        assert_eq!(rt; waiter.task, TaskNo(number));
-        assert_eq!(rt; waiter.ticket, u64::from(number));
+        let shown = (waiter.task, waiter.ticket);
+        assert_eq!(rt; shown, (TaskNo(number), u64::from(number)));
     }
 }
 
@@ -254,12 +317,7 @@ fn queues_of_every_length(rt: HostRuntime) -> Result<(), Fail> {
     for count in 0u16..256 {
         let mut queue = Queue::new(rt.alloc(), count)?;
         for behind in 0..count {
-            let number = count - behind;
-            let (task, ticket) = (TaskNo(number), u64::from(number));
-            assert!(rt; queue.has_room());
-            assert!(rt; !queue.contains(task));
-            assert!(rt; !queue.has_ticket(ticket));
-            queue.insert(Waiter { task, prio, ticket });
+            insert(&rt, &mut queue, count - behind, prio);
         }
         expect_full(&rt, &queue, count);
         expect_full(&rt, &queue.try_clone(rt.alloc())?, count);

@@ -32,31 +32,34 @@ const REPORT: &str = "\
 accepted 5
 ";
 
-// what the text says
-fn expect_text(rt: &impl Abort, text: &Text) {
-    for (base, level) in text.bases.iter().zip([20, 40, 90]) {
+const LEVELS: [u16; 3] = [20, 40, 90];
+
+const STEPS: [(u16, Op); 5] = [
+    (1, Op::Lock(MutexNo(1))),
+    (2, Op::Lock(MutexNo(2))),
+    (2, Op::Lock(MutexNo(1))),
+    (3, Op::Lock(MutexNo(2))),
+    (1, Op::Unlock(MutexNo(1))),
+];
+
+// what the text declares
+fn expect_declared(rt: &impl Abort, text: &Text) {
+    assert_eq!(rt; text.bases.len(), 3);
+    for (base, level) in text.bases.iter().zip(LEVELS) {
         assert_eq!(rt; base.get(), level);
     }
-    assert_eq!(rt; text.bases.len(), 3);
     let ceiling = Prio::new(50).expect(rt, "a ceiling");
     let protocols = [Protocol::Protect(ceiling), Protocol::Inherit];
     assert!(rt; text.protocols.as_slice() == protocols.as_slice());
-    let steps = [
-        step(1, Op::Lock(MutexNo(1))),
-        step(2, Op::Lock(MutexNo(2))),
-        step(2, Op::Lock(MutexNo(1))),
-        step(3, Op::Lock(MutexNo(2))),
-        step(1, Op::Unlock(MutexNo(1))),
-    ];
+}
+
+// what the text says
+fn expect_text(rt: &impl Abort, text: &Text) {
+    expect_declared(rt, text);
     assert_eq!(rt; text.lines.len(), 5);
-    for (line, step) in text.lines.iter().zip(steps) {
-        assert_eq!(rt;
-            *line,
-            StepLine {
-                step,
-                recorded: None
-            }
-        );
+    for (line, (actor, op)) in text.lines.iter().zip(STEPS) {
+        let (step, recorded) = (step(actor, op), None);
+        assert_eq!(rt; *line, StepLine { step, recorded });
     }
 }
 

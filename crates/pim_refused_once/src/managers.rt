@@ -4,6 +4,7 @@ use crate::{REFUSED_BEFORE, REFUSED_IN_CALL};
 use pim_base::{MutexNo, Op, Prio, Protocol, Reply, Step, TaskNo};
 use pim_manager::{MakeFault, Manager};
 use std::alloc::Global;
+use std::process::Abort;
 use std::test::Fail;
 
 const PROTOCOLS: [Protocol; 2] = [Protocol::Inherit, Protocol::None];
@@ -62,17 +63,21 @@ fn with_next_ticket_refused(rt: HostRuntime) -> Result<(), Fail> {
     Ok(())
 }
 
+// task 2 waits, and task 3 doesn't
+fn expect_waited_for(rt: &impl Abort, manager: &Manager) {
+    let waits = (manager.waits_for(TaskNo(2)), manager.waits_for(TaskNo(3)));
+    assert_eq!(rt; waits, (Some(Some(MutexNo(1))), Some(None)));
+    assert_eq!(rt; manager.next_ticket(), 2);
+}
+
 #[test]
 fn try_clone_refused(rt: HostRuntime) -> Result<(), Fail> {
     let mut manager = waited_for(rt.alloc())?;
     let copy = manager.try_clone(rt.alloc());
     // The manager steps on, whether it was copied or not.
-    assert_eq!(rt; manager.step(lock(3)).reply, Reply::Queued);
-    assert_eq!(rt; manager.next_ticket(), 3);
-    let copy = copy.map_err(|_error| REFUSED_IN_CALL)?;
-    assert_eq!(rt; copy.waits_for(TaskNo(2)), Some(Some(MutexNo(1))));
-    assert_eq!(rt; copy.waits_for(TaskNo(3)), Some(None));
-    assert_eq!(rt; copy.next_ticket(), 2);
+    let reply = manager.step(lock(3)).reply;
+    assert_eq!(rt; (reply, manager.next_ticket()), (Reply::Queued, 3));
+    expect_waited_for(&rt, &copy.map_err(|_error| REFUSED_IN_CALL)?);
     Ok(())
 }
 
@@ -81,13 +86,12 @@ fn run_replies_refused(rt: HostRuntime) -> Result<(), Fail> {
     let mut manager = waited_for(rt.alloc())?;
     match manager.run_replies(rt.alloc(), &[lock(3); 100]) {
         Ok(replies) => {
-            assert_eq!(rt; replies.len(), 100);
-            assert_eq!(rt; replies.first().copied(), Some(Reply::Queued));
+            let shown = (replies.len(), replies.first().copied());
+            assert_eq!(rt; shown, (100, Some(Reply::Queued)));
             assert_eq!(rt; manager.next_ticket(), 3);
         }
         Err(_) => {
-            assert_eq!(rt; manager.waits_for(TaskNo(3)), Some(None));
-            assert_eq!(rt; manager.next_ticket(), 2);
+            expect_waited_for(&rt, &manager);
             Err(REFUSED_IN_CALL)?
         }
     }

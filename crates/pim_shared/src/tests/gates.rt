@@ -1,6 +1,6 @@
 //! What workers call, over gates that stand in the place of a manager.
 
-use super::{FIRST, by, scripts_of};
+use super::{FIRST, scripts_of};
 use crate::{Gate, Settled, SharedFault, run_scripts, worker};
 use Op::{Cancel, Lock, ReleaseAll, SetBase, SetCeiling, Try, Unlock};
 use pim_base::{MAX_WORKERS, MutexNo, Op, Reply, Step, TaskNo};
@@ -9,6 +9,7 @@ use std::process::Abort;
 use std::sync::atomic::{AtomicU64, Ordering};
 use std::sync::{Mutex, Wait};
 use std::thread;
+use std::thread::Threads;
 
 const SECOND: MutexNo = MutexNo(2);
 
@@ -145,69 +146,111 @@ impl Gate for Rendezvous {
     }
 }
 
+const THIRD: TaskNo = TaskNo(3);
+
+// task 3 makes the lines, the gate keeps these calls, and the worker answers this
+fn expect_calls<R: Wait + Abort>(
+    rt: &R,
+    gate: Recorder,
+    lines: &[Op],
+    answer: Result<(), SharedFault>,
+    calls: &[Call],
+) {
+    assert_eq!(rt; worker(&gate, rt, THIRD, lines), answer);
+    assert!(rt; gate.has_kept(calls));
+}
+
+/// A lock and an unlock.
+const LOCKED: [Op; 2] = [Lock(FIRST), Unlock(FIRST)];
+
+/// The calls of a worker whose lock was queued, of which the last one is the release.
+const SETTLED: [Call; 4] = [
+    Call::Step(Step {
+        actor: THIRD,
+        op: Lock(FIRST),
+    }),
+    Call::Settle(THIRD, FIRST),
+    Call::Step(Step {
+        actor: THIRD,
+        op: Unlock(FIRST),
+    }),
+    Call::Step(Step {
+        actor: THIRD,
+        op: ReleaseAll,
+    }),
+];
+
 #[test]
 fn a_worker_settles_after_a_queued_lock(rt: HostRuntime) {
     for settled in [Settled::Owns, Settled::Withdrawn] {
         let gate = Recorder::new(&rt, rt.alloc(), 9, settled);
-        let lines = [Lock(FIRST), Unlock(FIRST)];
-        assert_eq!(rt; worker(&gate, &rt, TaskNo(3), &lines), Ok(()));
-        let calls = [
-            Call::Step(by(3, Lock(FIRST))),
-            Call::Settle(TaskNo(3), FIRST),
-            Call::Step(by(3, Unlock(FIRST))),
-            Call::Step(by(3, ReleaseAll)),
-        ];
-        assert!(rt; gate.has_kept(&calls));
+        expect_calls(&rt, gate, &LOCKED, Ok(()), &SETTLED);
     }
 }
 
 #[test]
 fn a_worker_settles_after_no_other_line(rt: HostRuntime) {
-    let gate = Recorder::new(&rt, rt.alloc(), 9, Settled::Owns);
-    let lines = [Try(FIRST), SetBase(TaskNo(3), 7), Lock(SECOND)];
-    assert_eq!(rt; worker(&gate, &rt, TaskNo(3), &lines), Ok(()));
-    let calls = [
-        Call::Step(by(3, Try(FIRST))),
-        Call::Step(by(3, SetBase(TaskNo(3), 7))),
-        Call::Step(by(3, Lock(SECOND))),
-        Call::Settle(TaskNo(3), SECOND),
-        Call::Step(by(3, ReleaseAll)),
+    const LINES: [Op; 3] = [Try(FIRST), SetBase(THIRD, 7), Lock(SECOND)];
+    const CALLS: [Call; 5] = [
+        Call::Step(Step {
+            actor: THIRD,
+            op: Try(FIRST),
+        }),
+        Call::Step(Step {
+            actor: THIRD,
+            op: SetBase(THIRD, 7),
+        }),
+        Call::Step(Step {
+            actor: THIRD,
+            op: Lock(SECOND),
+        }),
+        Call::Settle(THIRD, SECOND),
+        Call::Step(Step {
+            actor: THIRD,
+            op: ReleaseAll,
+        }),
     ];
-    assert!(rt; gate.has_kept(&calls));
+    let gate = Recorder::new(&rt, rt.alloc(), 9, Settled::Owns);
+    expect_calls(&rt, gate, &LINES, Ok(()), &CALLS);
 }
 
 #[test]
 fn a_fault_ends_the_worker(rt: HostRuntime) {
-    let lines = [Lock(FIRST), Unlock(FIRST)];
-    let calls = [
-        Call::Step(by(3, Lock(FIRST))),
-        Call::Settle(TaskNo(3), FIRST),
-        Call::Step(by(3, Unlock(FIRST))),
-    ];
     for room in 0..4 {
         let gate = Recorder::new(&rt, rt.alloc(), room, Settled::Owns);
-        assert_eq!(rt;
-            worker(&gate, &rt, TaskNo(3), &lines),
-            Err(SharedFault::Full)
-        );
-        assert!(rt; gate.has_kept(&calls[..room]), "{room}");
+        let full = Err(SharedFault::Full);
+        expect_calls(&rt, gate, &LOCKED, full, &SETTLED[..room]);
     }
+}
+
+// the task has asked for these lines, and then for the release of all
+fn expect_asked<R: Wait + Abort>(rt: &R, gate: &Recorder, task: u16, ops: &[Op]) {
+    assert!(rt; gate.has_asked(rt, task, ops), "{task}");
+}
+
+// runs the scripts over the gate, which has so many calls then
+fn expect_run<R: Threads + Wait + Abort + Sync>(
+    rt: &R,
+    alloc: Global,
+    gate: &Recorder,
+    scripts: &[Vec<Op>],
+    calls: usize,
+) {
+    assert!(rt; scripts.len() <= MAX_WORKERS);
+    assert_eq!(rt; run_scripts(rt, alloc, gate, scripts), Ok(()));
+    assert_eq!(rt; gate.calls.lock(rt).len(), calls);
 }
 
 #[test]
 fn each_task_makes_its_script(rt: HostRuntime) {
+    const UNLOCKED: [Op; 3] = [Lock(FIRST), Unlock(FIRST), ReleaseAll];
+    const TRIED: [Op; 2] = [Try(SECOND), ReleaseAll];
     let gate = Recorder::new(&rt, rt.alloc(), 20, Settled::Owns);
-    let scripts = scripts_of(
-        &rt,
-        rt.alloc(),
-        &[&[Lock(FIRST), Unlock(FIRST)], &[], &[Try(SECOND)]],
-    );
-    assert!(rt; scripts.len() <= MAX_WORKERS);
-    assert_eq!(rt; run_scripts(&rt, rt.alloc(), &gate, &scripts), Ok(()));
-    assert!(rt; gate.has_asked(&rt, 1, &[Lock(FIRST), Unlock(FIRST), ReleaseAll]));
-    assert!(rt; gate.has_asked(&rt, 2, &[ReleaseAll]));
-    assert!(rt; gate.has_asked(&rt, 3, &[Try(SECOND), ReleaseAll]));
-    assert_eq!(rt; gate.calls.lock(&rt).len(), 7);
+    let scripts = scripts_of(&rt, rt.alloc(), &[&LOCKED, &[], &TRIED[..1]]);
+    expect_run(&rt, rt.alloc(), &gate, &scripts, 7);
+    expect_asked(&rt, &gate, 1, &UNLOCKED);
+    expect_asked(&rt, &gate, 2, &[ReleaseAll]);
+    expect_asked(&rt, &gate, 3, &TRIED);
 }
 
 #[test]
@@ -219,18 +262,15 @@ fn no_scripts_make_no_call(rt: HostRuntime) {
 
 #[test]
 fn sixteen_workers_make_their_scripts(rt: HostRuntime) {
+    const UNLOCKED: [Op; 2] = [Unlock(FIRST), ReleaseAll];
     let gate = Recorder::new(&rt, rt.alloc(), 33, Settled::Owns);
-    let line: &[Op] = &[Unlock(FIRST)];
+    let unlocked = UNLOCKED;
+    let line = &unlocked[..1];
     let scripts = scripts_of(&rt, rt.alloc(), &[line; MAX_WORKERS]);
-    assert!(rt; scripts.len() <= MAX_WORKERS);
-    assert_eq!(rt; run_scripts(&rt, rt.alloc(), &gate, &scripts), Ok(()));
+    expect_run(&rt, rt.alloc(), &gate, &scripts, 32);
     for task in 1..=16 {
-        assert!(rt;
-            gate.has_asked(&rt, task, &[Unlock(FIRST), ReleaseAll]),
-            "{task}"
-        );
+        expect_asked(&rt, &gate, task, &UNLOCKED);
     }
-    assert_eq!(rt; gate.calls.lock(&rt).len(), 32);
 }
 
 #[test]
@@ -243,21 +283,29 @@ fn scripts_run_at_once(rt: HostRuntime) {
     assert_eq!(rt; run_scripts(&rt, rt.alloc(), &gate, &scripts), Ok(()));
 }
 
+const CLOSED: Option<SharedFault> = Some(SharedFault::Closed);
+
+const FULL: Option<SharedFault> = Some(SharedFault::Full);
+
+const MEMORY: Option<SharedFault> = Some(SharedFault::Memory);
+
+/// The fault of each task's call, and what the run answers.
+const FAULTS: [([Option<SharedFault>; 3], Result<(), SharedFault>); 6] = [
+    ([None, None, None], Ok(())),
+    ([CLOSED, FULL, None], Err(SharedFault::Full)),
+    ([CLOSED, CLOSED, CLOSED], Err(SharedFault::Closed)),
+    ([None, None, CLOSED], Err(SharedFault::Closed)),
+    ([CLOSED, MEMORY, FULL], Err(SharedFault::Memory)),
+    ([FULL, MEMORY, CLOSED], Err(SharedFault::Full)),
+];
+
 #[test]
 fn the_fault_of_the_least_task_that_is_not_closed(rt: HostRuntime) {
-    let (closed, full) = (Some(SharedFault::Closed), Some(SharedFault::Full));
-    let memory = Some(SharedFault::Memory);
     let scripts = scripts_of(&rt, rt.alloc(), &[&[], &[], &[]]);
     assert!(rt; scripts.len() <= MAX_WORKERS);
-    for (faults, answer) in [
-        ([None, None, None], Ok(())),
-        ([closed, full, None], Err(SharedFault::Full)),
-        ([closed, closed, closed], Err(SharedFault::Closed)),
-        ([None, None, closed], Err(SharedFault::Closed)),
-        ([closed, memory, full], Err(SharedFault::Memory)),
-        ([full, memory, closed], Err(SharedFault::Full)),
-    ] {
+    for (faults, answer) in FAULTS {
         let gate = Refusing { faults };
-        assert_eq!(rt; run_scripts(&rt, rt.alloc(), &gate, &scripts), answer);
+        let answered = run_scripts(&rt, rt.alloc(), &gate, &scripts);
+        assert_eq!(rt; answered, answer);
     }
 }

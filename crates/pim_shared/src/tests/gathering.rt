@@ -1,31 +1,70 @@
 //! Which logs are those of given scripts. The start has task 1 at 10 and task 2 at 20.
 
-use super::{FIRST, by, made, scripts_of};
+use super::{by, made};
 use crate::{Log, SharedFault, gather};
-use Op::{Lock, ReleaseAll, SetBase, SetCeiling, Unlock};
+use Line::{Lock, Release, SetBase, SetCeiling, Unlock};
 use pim_base::{Entry, MutexNo, Op, Protocol, Reply, TaskNo};
 use std::alloc::Global;
 use std::process::Abort;
 
-const SECOND: MutexNo = MutexNo(2);
+/// A line of a script, in plain numbers.
+#[derive(Clone, Copy)]
+enum Line {
+    Lock(u16),
+    Unlock(u16),
+    Release,
+    SetBase(u16, u16),
+    SetCeiling(u16, u16),
+}
 
-/// A log of these steps, each with the number of its task. What was replied doesn't matter.
-fn log_of(rt: &impl Abort, alloc: Global, steps: &[(u16, Op)]) -> Log {
+impl Line {
+    fn op(self) -> Op {
+        match self {
+            Lock(mutex) => Op::Lock(MutexNo(mutex)),
+            Unlock(mutex) => Op::Unlock(MutexNo(mutex)),
+            Release => Op::ReleaseAll,
+            SetBase(task, level) => Op::SetBase(TaskNo(task), level),
+            SetCeiling(mutex, level) => Op::SetCeiling(MutexNo(mutex), level),
+        }
+    }
+}
+
+/// The steps of a log, each with the number of its task.
+type Steps = &'static [(u16, Line)];
+
+/// The lines of each script, task 1's first.
+type Scripts = &'static [&'static [Line]];
+
+/// A log of these steps. What was replied doesn't matter.
+fn log_of(rt: &impl Abort, alloc: Global, steps: Steps) -> Log {
     let start = made(rt, alloc, &[10, 20], &[Protocol::None, Protocol::None]);
     let mut entries = Vec::new(alloc);
-    for (actor, op) in steps {
-        let step = by(*actor, *op);
+    for (actor, line) in steps {
+        let step = by(*actor, line.op());
         let reply = Reply::Granted;
         entries.push(Entry { step, reply }).expect(rt, "memory");
     }
     Log::new(start, entries)
 }
 
+/// The scripts with these lines.
+fn lines_of(rt: &impl Abort, alloc: Global, scripts: Scripts) -> Vec<Vec<Op>> {
+    let mut all = Vec::new(alloc);
+    for lines in scripts {
+        let mut script = Vec::new(alloc);
+        for line in *lines {
+            script.push(line.op()).expect(rt, "memory");
+        }
+        all.push(script).expect(rt, "memory");
+    }
+    all
+}
+
 /// Whether the log of these steps is that of the scripts. If so, it is the log that was given.
-fn gathers(rt: &impl Abort, alloc: Global, steps: &[(u16, Op)], scripts: &[&[Op]]) -> bool {
+fn gathers(rt: &impl Abort, alloc: Global, steps: Steps, scripts: Scripts) -> bool {
     let log = log_of(rt, alloc, steps);
     let same = log_of(rt, alloc, steps);
-    let scripts = scripts_of(rt, alloc, scripts);
+    let scripts = lines_of(rt, alloc, scripts);
     match gather(log, same.start(), &scripts) {
         Ok(gathered) => {
             let unchanged = gathered.start().has_state_of(same.start());
@@ -38,124 +77,124 @@ fn gathers(rt: &impl Abort, alloc: Global, steps: &[(u16, Op)], scripts: &[&[Op]
     }
 }
 
+// of each row: whether the log of the steps is that of the scripts
+fn expect_gathered(rt: &impl Abort, alloc: Global, rows: &[(bool, Steps, Scripts)]) {
+    let mut number = 0u64;
+    for (gathered, steps, scripts) in rows {
+        number = number.saturating_add(1);
+        let shown = gathers(rt, alloc, *steps, *scripts);
+        assert_eq!(rt; shown, *gathered, "row {number}");
+    }
+}
+
 #[test]
 fn each_line_and_one_release(rt: HostRuntime) {
-    let steps = [(1, Lock(FIRST)), (1, ReleaseAll)];
-    assert!(rt; gathers(&rt, rt.alloc(), &steps, &[&[Lock(FIRST)]]));
-    assert!(rt; !gathers(&rt, rt.alloc(), &steps, &[&[Lock(FIRST), Unlock(FIRST)]]));
-    assert!(rt; !gathers(&rt, rt.alloc(), &steps, &[&[Lock(FIRST), ReleaseAll]]));
-    assert!(rt; !gathers(&rt, rt.alloc(), &steps, &[&[]]));
+    const STEPS: Steps = &[(1, Lock(1)), (1, Release)];
+    const ROWS: &[(bool, Steps, Scripts)] = &[
+        (true, STEPS, &[&[Lock(1)]]),
+        (false, STEPS, &[&[Lock(1), Unlock(1)]]),
+        (false, STEPS, &[&[Lock(1), Release]]),
+        (false, STEPS, &[&[]]),
+    ];
+    expect_gathered(&rt, rt.alloc(), ROWS);
 }
 
 #[test]
 fn a_ceiling_that_is_set(rt: HostRuntime) {
-    let steps = [(1, SetCeiling(FIRST, 30)), (1, ReleaseAll)];
-    assert!(rt; gathers(&rt, rt.alloc(), &steps, &[&[SetCeiling(FIRST, 30)]]));
-    assert!(rt; !gathers(&rt, rt.alloc(), &steps, &[&[SetCeiling(FIRST, 31)]]));
-    assert!(rt; !gathers(&rt, rt.alloc(), &steps, &[&[SetCeiling(SECOND, 30)]]));
-    assert!(rt; !gathers(&rt, rt.alloc(), &steps, &[&[SetBase(TaskNo(1), 30)]]));
+    const STEPS: Steps = &[(1, SetCeiling(1, 30)), (1, Release)];
+    const ROWS: &[(bool, Steps, Scripts)] = &[
+        (true, STEPS, &[&[SetCeiling(1, 30)]]),
+        (false, STEPS, &[&[SetCeiling(1, 31)]]),
+        (false, STEPS, &[&[SetCeiling(2, 30)]]),
+        (false, STEPS, &[&[SetBase(1, 30)]]),
+    ];
+    expect_gathered(&rt, rt.alloc(), ROWS);
 }
 
 #[test]
 fn a_log_that_begins_elsewhere(rt: HostRuntime) {
-    let scripts = scripts_of(&rt, rt.alloc(), &[&[Lock(FIRST)]]);
-    let log = log_of(&rt, rt.alloc(), &[(1, Lock(FIRST)), (1, ReleaseAll)]);
-    let other = made(
-        &rt,
-        rt.alloc(),
-        &[10, 21],
-        &[Protocol::None, Protocol::None],
-    );
+    const STEPS: Steps = &[(1, Lock(1)), (1, Release)];
+    let scripts = lines_of(&rt, rt.alloc(), &[&[Lock(1)]]);
+    let log = log_of(&rt, rt.alloc(), STEPS);
+    let protocols = [Protocol::None, Protocol::None];
+    let other = made(&rt, rt.alloc(), &[10, 21], &protocols);
     let gathered = gather(log, &other, &scripts);
     assert!(rt; matches!(gathered, Err(SharedFault::Torn)));
 }
 
 #[test]
 fn a_step_too_many(rt: HostRuntime) {
-    let unlocked = [(1, Lock(FIRST)), (1, Unlock(FIRST)), (1, ReleaseAll)];
-    assert!(rt; !gathers(&rt, rt.alloc(), &unlocked, &[&[Lock(FIRST)]]));
-    let released_twice = [(1, Lock(FIRST)), (1, ReleaseAll), (1, ReleaseAll)];
-    assert!(rt; !gathers(&rt, rt.alloc(), &released_twice, &[&[Lock(FIRST)]]));
-    assert!(rt;
-        gathers(
-            &rt,
-            rt.alloc(),
-            &released_twice,
-            &[&[Lock(FIRST), ReleaseAll]]
-        )
-    );
+    const UNLOCKED: Steps = &[(1, Lock(1)), (1, Unlock(1)), (1, Release)];
+    const RELEASED_TWICE: Steps = &[(1, Lock(1)), (1, Release), (1, Release)];
+    const ROWS: &[(bool, Steps, Scripts)] = &[
+        (false, UNLOCKED, &[&[Lock(1)]]),
+        (false, RELEASED_TWICE, &[&[Lock(1)]]),
+        (true, RELEASED_TWICE, &[&[Lock(1), Release]]),
+    ];
+    expect_gathered(&rt, rt.alloc(), ROWS);
 }
 
 #[test]
 fn a_release_that_is_missing(rt: HostRuntime) {
-    let script: &[&[Op]] = &[&[Lock(FIRST)]];
-    assert!(rt; !gathers(&rt, rt.alloc(), &[(1, Lock(FIRST))], script));
-    assert!(rt; !gathers(&rt, rt.alloc(), &[(1, ReleaseAll)], script));
-    assert!(rt; !gathers(&rt, rt.alloc(), &[], script));
+    const SCRIPTS: Scripts = &[&[Lock(1)]];
+    const ROWS: &[(bool, Steps, Scripts)] = &[
+        (false, &[(1, Lock(1))], SCRIPTS),
+        (false, &[(1, Release)], SCRIPTS),
+        (false, &[], SCRIPTS),
+    ];
+    expect_gathered(&rt, rt.alloc(), ROWS);
 }
 
 #[test]
 fn an_entry_of_a_task_without_a_script(rt: HostRuntime) {
-    for other in [0, 2, u16::MAX] {
-        let steps = [(1, ReleaseAll), (other, ReleaseAll)];
-        assert!(rt; !gathers(&rt, rt.alloc(), &steps, &[&[]]), "{other}");
-    }
-    assert!(rt;
-        gathers(
-            &rt,
-            rt.alloc(),
-            &[(1, ReleaseAll), (2, ReleaseAll)],
-            &[&[], &[]]
-        )
-    );
-    assert!(rt; gathers(&rt, rt.alloc(), &[], &[]));
-    assert!(rt; !gathers(&rt, rt.alloc(), &[(1, ReleaseAll)], &[]));
+    const ROWS: &[(bool, Steps, Scripts)] = &[
+        (false, &[(1, Release), (0, Release)], &[&[]]),
+        (false, &[(1, Release), (2, Release)], &[&[]]),
+        (false, &[(1, Release), (u16::MAX, Release)], &[&[]]),
+        (true, &[(1, Release), (2, Release)], &[&[], &[]]),
+        (true, &[], &[]),
+        (false, &[(1, Release)], &[]),
+    ];
+    expect_gathered(&rt, rt.alloc(), ROWS);
 }
 
 #[test]
 fn each_task_in_its_own_order(rt: HostRuntime) {
-    let scripts: &[&[Op]] = &[&[Lock(FIRST), Lock(SECOND)], &[Lock(SECOND)]];
-    let between = [
-        (2, Lock(SECOND)),
-        (1, Lock(FIRST)),
-        (2, ReleaseAll),
-        (1, Lock(SECOND)),
-        (1, ReleaseAll),
+    const SCRIPTS: Scripts = &[&[Lock(1), Lock(2)], &[Lock(2)]];
+    const BETWEEN: Steps = &[
+        (2, Lock(2)),
+        (1, Lock(1)),
+        (2, Release),
+        (1, Lock(2)),
+        (1, Release),
     ];
-    assert!(rt; gathers(&rt, rt.alloc(), &between, scripts));
-    let one_by_one = [
-        (1, Lock(FIRST)),
-        (1, Lock(SECOND)),
-        (1, ReleaseAll),
-        (2, Lock(SECOND)),
-        (2, ReleaseAll),
+    const ONE_BY_ONE: Steps = &[
+        (1, Lock(1)),
+        (1, Lock(2)),
+        (1, Release),
+        (2, Lock(2)),
+        (2, Release),
     ];
-    assert!(rt; gathers(&rt, rt.alloc(), &one_by_one, scripts));
-    let other_order = [
-        (1, Lock(SECOND)),
-        (1, Lock(FIRST)),
-        (1, ReleaseAll),
-        (2, Lock(SECOND)),
-        (2, ReleaseAll),
+    const OTHER_ORDER: Steps = &[
+        (1, Lock(2)),
+        (1, Lock(1)),
+        (1, Release),
+        (2, Lock(2)),
+        (2, Release),
     ];
-    assert!(rt; !gathers(&rt, rt.alloc(), &other_order, scripts));
+    const ROWS: &[(bool, Steps, Scripts)] = &[
+        (true, BETWEEN, SCRIPTS),
+        (true, ONE_BY_ONE, SCRIPTS),
+        (false, OTHER_ORDER, SCRIPTS),
+    ];
+    expect_gathered(&rt, rt.alloc(), ROWS);
 }
 
 #[test]
 fn equal_scripts_of_two_tasks(rt: HostRuntime) {
-    let scripts: &[&[Op]] = &[&[Lock(FIRST)], &[Lock(FIRST)]];
-    let both = [
-        (1, Lock(FIRST)),
-        (2, Lock(FIRST)),
-        (1, ReleaseAll),
-        (2, ReleaseAll),
-    ];
-    assert!(rt; gathers(&rt, rt.alloc(), &both, scripts));
-    let one_alone = [
-        (1, Lock(FIRST)),
-        (1, Lock(FIRST)),
-        (1, ReleaseAll),
-        (1, ReleaseAll),
-    ];
-    assert!(rt; !gathers(&rt, rt.alloc(), &one_alone, scripts));
+    const SCRIPTS: Scripts = &[&[Lock(1)], &[Lock(1)]];
+    const BOTH: Steps = &[(1, Lock(1)), (2, Lock(1)), (1, Release), (2, Release)];
+    const ONE_ALONE: Steps = &[(1, Lock(1)), (1, Lock(1)), (1, Release), (1, Release)];
+    const ROWS: &[(bool, Steps, Scripts)] = &[(true, BOTH, SCRIPTS), (false, ONE_ALONE, SCRIPTS)];
+    expect_gathered(&rt, rt.alloc(), ROWS);
 }

@@ -6,92 +6,171 @@ use pim_base::Reply;
 
 const SECOND: TaskNo = TaskNo(2);
 
+/// What a looker sees, or that it is closed.
+type Look = Result<Option<Seen>, SharedFault>;
+
+/// A shared manager with one looker.
+fn with_looker<R: Wait + Abort>(
+    rt: &R,
+    alloc: Global,
+    protocols: &[Protocol],
+    room: usize,
+) -> (Shared, Looker) {
+    let (shared, mut lookers) = shared(rt, alloc, protocols, room, 1);
+    (shared, lookers.pop().expect(rt, "a looker"))
+}
+
+// the step is replied to so, and the looker then sees this of the task
+fn expect_call<R: Wait + Abort>(
+    rt: &R,
+    shared: &Shared,
+    looker: &mut Looker,
+    step: Step,
+    reply: Reply,
+    task: TaskNo,
+    seen: Look,
+) {
+    assert_eq!(rt; shared.call(rt, step), Ok(reply));
+    assert_eq!(rt; looker.look(task), seen);
+}
+
 #[test]
 fn a_looker_that_made_no_call_sees_one(rt: HostRuntime) {
-    let (shared, mut lookers) = shared(&rt, rt.alloc(), &[], 3, 1);
-    let looker = lookers.get_mut(0).expect(&rt, "a looker");
-    assert_eq!(rt; looker.look(SECOND), at_base(&rt, 0, 20));
-    assert_eq!(rt; shared.call(&rt, base(2, 30)), Ok(Reply::Set));
-    assert_eq!(rt; looker.look(SECOND), at_base(&rt, 1, 30));
+    let (shared, mut looker) = with_looker(&rt, rt.alloc(), &[], 3);
+    let before = looker.look(SECOND);
+    let seen = at_base(&rt, 1, 30);
+    expect_call(
+        &rt,
+        &shared,
+        &mut looker,
+        base(2, 30),
+        Reply::Set,
+        SECOND,
+        seen,
+    );
     let (_, _log) = shared.finish(&rt);
-    assert_eq!(rt; looker.look(SECOND), Err(SharedFault::Closed));
+    let ended = looker.look(SECOND);
+    assert_eq!(rt; before, at_base(&rt, 0, 20));
+    assert_eq!(rt; ended, Err(SharedFault::Closed));
 }
 
 #[test]
 fn an_unknown_task_has_no_priority(rt: HostRuntime) {
-    let (shared, mut lookers) = shared(&rt, rt.alloc(), &[], 3, 1);
-    let looker = lookers.get_mut(0).expect(&rt, "a looker");
-    assert_eq!(rt; looker.look(TaskNo(0)), Ok(None));
-    assert_eq!(rt; looker.look(TaskNo(3)), Ok(None));
-    assert_eq!(rt; looker.look(TaskNo(u16::MAX)), Ok(None));
+    let (shared, mut looker) = with_looker(&rt, rt.alloc(), &[], 3);
+    let seen = [
+        looker.look(TaskNo(0)),
+        looker.look(TaskNo(3)),
+        looker.look(TaskNo(u16::MAX)),
+    ];
     let (_, _log) = shared.finish(&rt);
+    assert_eq!(rt; seen, [Ok(None); 3]);
 }
 
 #[test]
 fn a_looker_sees_whose_wait_boosts_an_owner(rt: HostRuntime) {
-    let (shared, mut lookers) = shared(&rt, rt.alloc(), &[Protocol::Inherit], 3, 1);
-    let looker = lookers.get_mut(0).expect(&rt, "a looker");
-    assert_eq!(rt; shared.call(&rt, by(1, Lock(FIRST))), Ok(Reply::Granted));
-    assert_eq!(rt; looker.look(TaskNo(1)), at_base(&rt, 1, 10));
-    assert_eq!(rt; shared.call(&rt, by(2, Lock(FIRST))), Ok(Reply::Queued));
+    let (shared, mut looker) = with_looker(&rt, rt.alloc(), &[Protocol::Inherit], 3);
+    let own = at_base(&rt, 1, 10);
+    let lock = by(1, Lock(FIRST));
+    expect_call(
+        &rt,
+        &shared,
+        &mut looker,
+        lock,
+        Reply::Granted,
+        TaskNo(1),
+        own,
+    );
     let boosted = Seen {
         steps: 2,
         prio: prio(&rt, 20),
         reason: Reason::Waiter(SECOND, FIRST),
     };
-    assert_eq!(rt; looker.look(TaskNo(1)), Ok(Some(boosted)));
+    let lent = Ok(Some(boosted));
+    let lock = by(2, Lock(FIRST));
+    expect_call(
+        &rt,
+        &shared,
+        &mut looker,
+        lock,
+        Reply::Queued,
+        TaskNo(1),
+        lent,
+    );
     let (_, _log) = shared.finish(&rt);
 }
 
 #[test]
 fn a_looker_sees_the_ceiling_of_an_owned_mutex(rt: HostRuntime) {
     let fifty = prio(&rt, 50);
-    let (shared, mut lookers) = shared(&rt, rt.alloc(), &[Protocol::Protect(fifty)], 3, 1);
-    let looker = lookers.get_mut(0).expect(&rt, "a looker");
-    assert_eq!(rt; shared.call(&rt, by(1, Lock(FIRST))), Ok(Reply::Granted));
+    let (shared, mut looker) = with_looker(&rt, rt.alloc(), &[Protocol::Protect(fifty)], 3);
     let raised = Seen {
         steps: 1,
         prio: fifty,
         reason: Reason::Ceiling(FIRST),
     };
-    assert_eq!(rt; looker.look(TaskNo(1)), Ok(Some(raised)));
+    let seen = Ok(Some(raised));
+    let lock = by(1, Lock(FIRST));
+    expect_call(
+        &rt,
+        &shared,
+        &mut looker,
+        lock,
+        Reply::Granted,
+        TaskNo(1),
+        seen,
+    );
     let (_, _log) = shared.finish(&rt);
 }
 
 #[test]
 fn a_closed_manager_is_still_looked_at(rt: HostRuntime) {
-    let (shared, mut lookers) = shared(&rt, rt.alloc(), &[], 1, 1);
-    let looker = lookers.get_mut(0).expect(&rt, "a looker");
-    assert_eq!(rt; shared.call(&rt, base(2, 70)), Ok(Reply::Set));
-    assert_eq!(rt; shared.call(&rt, base(2, 80)), Err(SharedFault::Full));
-    assert_eq!(rt; shared.call(&rt, base(2, 90)), Err(SharedFault::Closed));
-    assert_eq!(rt; looker.look(SECOND), at_base(&rt, 1, 70));
+    let (shared, mut looker) = with_looker(&rt, rt.alloc(), &[], 1);
+    let answers = [
+        shared.call(&rt, base(2, 70)),
+        shared.call(&rt, base(2, 80)),
+        shared.call(&rt, base(2, 90)),
+    ];
+    let seen = looker.look(SECOND);
     let (_, _log) = shared.finish(&rt);
+    let (full, closed) = (Err(SharedFault::Full), Err(SharedFault::Closed));
+    assert_eq!(rt; answers, [Ok(Reply::Set), full, closed]);
+    assert_eq!(rt; seen, at_base(&rt, 1, 70));
+}
+
+// each looker sees one entry, by which task 2 is at 70
+fn expect_looks(rt: &impl Abort, lookers: Vec<Looker>) {
+    for mut looker in lookers {
+        assert_eq!(rt; looker.look(SECOND), at_base(rt, 1, 70));
+    }
 }
 
 #[test]
 fn there_are_as_many_lookers_as_asked_for_up_to_the_most(rt: HostRuntime) {
     for count in 0..pim_base::MAX_LOOKERS + 1 {
         let (shared, lookers) = shared(&rt, rt.alloc(), &[], 1, count);
-        assert_eq!(rt; lookers.len(), usize::from(count));
-        assert_eq!(rt; shared.call(&rt, base(2, 70)), Ok(Reply::Set));
-        for mut looker in lookers {
-            assert_eq!(rt; looker.look(SECOND), at_base(&rt, 1, 70));
-        }
+        let (made, set) = (lookers.len(), shared.call(&rt, base(2, 70)));
+        expect_looks(&rt, lookers);
         let (_, _log) = shared.finish(&rt);
+        assert_eq!(rt; (made, set), (usize::from(count), Ok(Reply::Set)));
+    }
+}
+
+// the fault of a shared manager with so many lookers, if it has one
+fn fault_of<R: Wait + Abort>(rt: &R, alloc: Global, count: u16) -> Option<SharedFault> {
+    let manager = made(rt, alloc, &[10, 20], &[]);
+    match Shared::new(rt, alloc, manager, 1, count) {
+        Ok((shared, _lookers)) => {
+            let (_, _log) = shared.finish(rt);
+            None
+        }
+        Err(fault) => Some(fault),
     }
 }
 
 #[test]
 fn there_is_no_place_for_a_ninth_looker(rt: HostRuntime) {
     for count in [9, 10, u16::MAX] {
-        let manager = made(&rt, rt.alloc(), &[10, 20], &[]);
-        match Shared::new(&rt, rt.alloc(), manager, 1, count) {
-            Ok((shared, _lookers)) => {
-                let (_, _log) = shared.finish(&rt);
-                assert!(rt; false);
-            }
-            Err(fault) => assert_eq!(rt; fault, SharedFault::NoPlace),
-        }
+        let fault = fault_of(&rt, rt.alloc(), count);
+        assert_eq!(rt; fault, Some(SharedFault::NoPlace));
     }
 }

@@ -1,6 +1,7 @@
 //! Lookers beside threads that call.
 
 use super::*;
+use crate::Log;
 use Op::{Lock, ReleaseAll, SetBase, Unlock};
 use pim_base::Entry;
 use std::thread::{self, Threads, join};
@@ -103,6 +104,14 @@ fn call_all<R: Threads + Wait + Sync>(rt: &R, shared: &Shared) -> [Result<(), Sh
     called
 }
 
+// all looks of a looker were made, and show what the manager shows
+fn expect_shown(rt: &impl Abort, alloc: Global, log: &Log, looks: Result<Vec<Look>, SharedFault>) {
+    let looks = looks.expect(rt, "400 looks");
+    assert_eq!(rt; looks.len(), usize::from(LOOKS));
+    let start = log.start().try_clone(alloc).expect(rt, "memory");
+    assert!(rt; are_shown(start, log.entries(), &looks));
+}
+
 #[test]
 fn eight_lookers_see_what_the_log_replays_to(rt: HostRuntime) {
     let protocols = [Protocol::Inherit, Protocol::Inherit];
@@ -116,12 +125,9 @@ fn eight_lookers_see_what_the_log_replays_to(rt: HostRuntime) {
         || call_all(&rt, &shared),
     );
     let (_, log) = shared.finish(&rt);
-    assert!(rt; called == [Ok(()); 4]);
-    assert_eq!(rt; log.entries().len(), room);
     for looks in watched.expect(&rt, "memory") {
-        let looks = looks.expect(&rt, "400 looks");
-        assert_eq!(rt; looks.len(), usize::from(LOOKS));
-        let start = log.start().try_clone(rt.alloc()).expect(&rt, "memory");
-        assert!(rt; are_shown(start, log.entries(), &looks));
+        expect_shown(&rt, rt.alloc(), &log, looks);
     }
+    assert_eq!(rt; log.entries().len(), room);
+    assert!(rt; called == [Ok(()); 4]);
 }
