@@ -133,9 +133,11 @@ impl Rest {
         }
         match self.others.first_word() {
             Some(index) => {
-                self.index = index;
-                self.word = self.others.words[index as usize];
+                let word = self.others.words[index as usize];
+                // Before the two others, so that these are known from here on without a look at memory.
                 self.others.put_word(index as usize, 0);
+                self.index = index;
+                self.word = word;
                 true
             }
             None => false,
