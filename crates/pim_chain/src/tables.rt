@@ -413,6 +413,7 @@ impl Tables {
     /// wait must close no cycle. The next ticket stays.
     ///
     /// Shifts the waiters behind its place in the queue.
+    // By itself: the search and the shift take all registers, and a step keeps its own over the call.
     #[inline(never)]
     pub fn join(&mut self, task: TaskNo, mutex: MutexNo, ticket: u64)
         requires known { IsTask self.old.state task }
@@ -445,6 +446,7 @@ impl Tables {
     }
 
     // lets the task stop waiting for this mutex, where it has this ticket
+    // By itself, likewise.
     #[inline(never)]
     fn end_wait(&mut self, task: TaskNo, mutex: MutexNo, ticket: u64)
         requires { wait_of self.old.state task ≡ Some (record { mutex = mutex; ticket = ticket }) }
