@@ -110,7 +110,7 @@ impl NumberSet {
 
 /// What is left of a set whose numbers are taken out in ascending order.
 ///
-/// The word that is gone through is kept by itself, where it stays in a register.
+/// The word that is gone through is kept by itself, so that no number waits for the store of the one before.
 #[derive(Clone, Copy, Debug)]
 struct Rest {
     // the other words
