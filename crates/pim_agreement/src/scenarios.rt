@@ -115,16 +115,16 @@ fn deadlock_is_refused_through_mutexes_that_lend_nothing(rt: HostRuntime) -> Res
 
 #[test]
 fn boost_stops_at_a_protect_mutex(rt: HostRuntime) -> Result<(), Fail> {
-    const T1: Seen = Ceiling(50, 1);
-    const T2: Seen = Base(40);
-    const T3: Seen = Base(90);
+    const ONE: Seen = Ceiling(50, 1);
+    const TWO: Seen = Base(40);
+    const THREE: Seen = Base(90);
     const BOOSTED: Seen = Lent(90, 3, 2);
     const ROWS: &[Row] = &[
-        Row(Lock(1, 1), Granted, 1, &[T1, T2, T3]),
-        Row(Lock(2, 2), Granted, 1, &[T1, T2, T3]),
-        Row(Lock(2, 1), Queued, 1, &[T1, T2, T3]),
-        Row(Lock(3, 2), Queued, 1, &[T1, BOOSTED, T3]),
-        Row(Unlock(1, 1), Handed(2), 2, &[Base(20), BOOSTED, T3]),
+        Row(Lock(1, 1), Granted, 1, &[ONE, TWO, THREE]),
+        Row(Lock(2, 2), Granted, 1, &[ONE, TWO, THREE]),
+        Row(Lock(2, 1), Queued, 1, &[ONE, TWO, THREE]),
+        Row(Lock(3, 2), Queued, 1, &[ONE, BOOSTED, THREE]),
+        Row(Unlock(1, 1), Handed(2), 2, &[Base(20), BOOSTED, THREE]),
     ];
     play(
         &rt,
@@ -157,15 +157,15 @@ fn raised_waiter_is_handed_a_mutex_that_lends_nothing(rt: HostRuntime) -> Result
 
 #[test]
 fn boost_lasts_until_the_last_equal_waiter_withdraws(rt: HostRuntime) -> Result<(), Fail> {
-    const T1: Seen = Base(10);
-    const T2: Seen = Base(50);
-    const T3: Seen = Base(50);
+    const ONE: Seen = Base(10);
+    const TWO: Seen = Base(50);
+    const THREE: Seen = Base(50);
     const ROWS: &[Row] = &[
-        Row(Lock(1, 1), Granted, 1, &[T1, T2, T3]),
-        Row(Lock(2, 1), Queued, 1, &[Lent(50, 2, 1), T2, T3]),
-        Row(Lock(3, 1), Queued, 1, &[Lent(50, 2, 1), T2, T3]),
-        Row(Cancel(2, 2), Withdrawn, 1, &[Lent(50, 3, 1), T2, T3]),
-        Row(Cancel(3, 3), Withdrawn, 1, &[T1, T2, T3]),
+        Row(Lock(1, 1), Granted, 1, &[ONE, TWO, THREE]),
+        Row(Lock(2, 1), Queued, 1, &[Lent(50, 2, 1), TWO, THREE]),
+        Row(Lock(3, 1), Queued, 1, &[Lent(50, 2, 1), TWO, THREE]),
+        Row(Cancel(2, 2), Withdrawn, 1, &[Lent(50, 3, 1), TWO, THREE]),
+        Row(Cancel(3, 3), Withdrawn, 1, &[ONE, TWO, THREE]),
     ];
     play(&rt, rt.alloc(), &[10, 50, 50], &[INHERIT], ROWS)
 }
@@ -234,17 +234,17 @@ fn owner_executes_at_the_highest_of_ceilings_and_waiters(rt: HostRuntime) -> Res
 
 #[test]
 fn hand_over_above_the_ceiling_goes_by_ticket(rt: HostRuntime) -> Result<(), Fail> {
-    const T1: Seen = Ceiling(40, 1);
-    const T2: Seen = Base(20);
-    const T3: Seen = Base(30);
+    const ONE: Seen = Ceiling(40, 1);
+    const TWO: Seen = Base(20);
+    const THREE: Seen = Base(30);
     const HIGH2: Seen = Base(50);
     const HIGH3: Seen = Base(50);
     const ROWS: &[Row] = &[
-        Row(Lock(1, 1), Granted, 1, &[T1, T2, T3]),
-        Row(Lock(2, 1), Queued, 1, &[T1, T2, T3]),
-        Row(Lock(3, 1), Queued, 1, &[T1, T2, T3]),
-        Row(SetBase(1, 3, 50), Set, 1, &[T1, T2, HIGH3]),
-        Row(SetBase(1, 2, 50), Set, 1, &[T1, HIGH2, HIGH3]),
+        Row(Lock(1, 1), Granted, 1, &[ONE, TWO, THREE]),
+        Row(Lock(2, 1), Queued, 1, &[ONE, TWO, THREE]),
+        Row(Lock(3, 1), Queued, 1, &[ONE, TWO, THREE]),
+        Row(SetBase(1, 3, 50), Set, 1, &[ONE, TWO, HIGH3]),
+        Row(SetBase(1, 2, 50), Set, 1, &[ONE, HIGH2, HIGH3]),
         Row(Unlock(1, 1), Handed(2), 2, &[Base(10), HIGH2, HIGH3]),
         Row(Unlock(2, 1), Handed(3), 2, &[Base(10), HIGH2, HIGH3]),
     ];

@@ -17,40 +17,40 @@ const CHAIN: &[Row] = &[
         Lock(1, 1),
         Granted,
         1,
-        &[Base(10), Base(20), Base(30), T4, T5],
+        &[Base(10), Base(20), Base(30), FOUR, FIVE],
     ),
     Row(
         Lock(2, 2),
         Granted,
         1,
-        &[Base(10), Base(20), Base(30), T4, T5],
+        &[Base(10), Base(20), Base(30), FOUR, FIVE],
     ),
     Row(
         Lock(3, 3),
         Granted,
         1,
-        &[Base(10), Base(20), Base(30), T4, T5],
+        &[Base(10), Base(20), Base(30), FOUR, FIVE],
     ),
     Row(
         Lock(2, 1),
         Queued,
         1,
-        &[Lent(20, 2, 1), Base(20), Base(30), T4, T5],
+        &[Lent(20, 2, 1), Base(20), Base(30), FOUR, FIVE],
     ),
     Row(
         Lock(3, 2),
         Queued,
         2,
-        &[Lent(30, 2, 1), Lent(30, 3, 2), Base(30), T4, T5],
+        &[Lent(30, 2, 1), Lent(30, 3, 2), Base(30), FOUR, FIVE],
     ),
     Row(Lock(4, 3), Queued, 3, BOOSTED),
 ];
 
-const T4: Seen = Base(90);
+const FOUR: Seen = Base(90);
 
-const T5: Seen = Base(40);
+const FIVE: Seen = Base(40);
 
-const BOOSTED: &[Seen] = &[Lent(90, 2, 1), Lent(90, 3, 2), Lent(90, 4, 3), T4, T5];
+const BOOSTED: &[Seen] = &[Lent(90, 2, 1), Lent(90, 3, 2), Lent(90, 4, 3), FOUR, FIVE];
 
 // plays the rows after those of the chain, and then the queue of mutex 3 has these tasks
 fn play_on_chain(
@@ -71,7 +71,7 @@ fn lower_waiter_changes_no_priority(rt: HostRuntime) -> Result<(), Fail> {
 
 #[test]
 fn withdrawal_from_the_middle_cuts_the_chain(rt: HostRuntime) -> Result<(), Fail> {
-    const CUT: &[Seen] = &[Lent(20, 2, 1), Base(20), Lent(90, 4, 3), T4, T5];
+    const CUT: &[Seen] = &[Lent(20, 2, 1), Base(20), Lent(90, 4, 3), FOUR, FIVE];
     const ROWS: &[Row] = &[
         Row(Cancel(1, 3), Withdrawn, 2, CUT),
         Row(Cancel(5, 9), Refused(NoTask), 0, CUT),
@@ -81,27 +81,37 @@ fn withdrawal_from_the_middle_cuts_the_chain(rt: HostRuntime) -> Result<(), Fail
 
 #[test]
 fn new_base_of_the_last_waiter_lowers_the_whole_chain(rt: HostRuntime) -> Result<(), Fail> {
-    const LOWERED: &[Seen] = &[Lent(30, 2, 1), Lent(30, 3, 2), Base(30), Base(15), T5];
+    const LOWERED: &[Seen] = &[Lent(30, 2, 1), Lent(30, 3, 2), Base(30), Base(15), FIVE];
     const ROWS: &[Row] = &[Row(SetBase(1, 4, 15), Set, 4, LOWERED)];
     play_on_chain(&rt, rt.alloc(), ROWS, &[4])
 }
 
 #[test]
 fn lowered_owner_keeps_what_another_waiter_lends(rt: HostRuntime) -> Result<(), Fail> {
-    const T1: Seen = Base(10);
-    const T2: Seen = Base(20);
-    const T3: Seen = Base(30);
-    const T4: Seen = Base(60);
-    const T5: Seen = Base(90);
-    const LOWERED: &[Seen] = &[Lent(60, 2, 1), Lent(60, 4, 3), T3, T4, T5];
-    const RAISED: &[Seen] = &[Lent(90, 2, 1), Lent(90, 3, 2), Lent(90, 5, 4), T4, T5];
+    const ONE: Seen = Base(10);
+    const TWO: Seen = Base(20);
+    const THREE: Seen = Base(30);
+    const FOUR: Seen = Base(60);
+    const FIVE: Seen = Base(90);
+    const LOWERED: &[Seen] = &[Lent(60, 2, 1), Lent(60, 4, 3), THREE, FOUR, FIVE];
+    const RAISED: &[Seen] = &[Lent(90, 2, 1), Lent(90, 3, 2), Lent(90, 5, 4), FOUR, FIVE];
     const ROWS: &[Row] = &[
-        Row(Lock(1, 1), Granted, 1, &[T1, T2, T3, T4, T5]),
-        Row(Lock(2, 2), Granted, 1, &[T1, T2, T3, T4, T5]),
-        Row(Lock(2, 3), Granted, 1, &[T1, T2, T3, T4, T5]),
-        Row(Lock(3, 4), Granted, 1, &[T1, T2, T3, T4, T5]),
-        Row(Lock(3, 2), Queued, 1, &[T1, Lent(30, 3, 2), T3, T4, T5]),
-        Row(Lock(4, 3), Queued, 1, &[T1, Lent(60, 4, 3), T3, T4, T5]),
+        Row(Lock(1, 1), Granted, 1, &[ONE, TWO, THREE, FOUR, FIVE]),
+        Row(Lock(2, 2), Granted, 1, &[ONE, TWO, THREE, FOUR, FIVE]),
+        Row(Lock(2, 3), Granted, 1, &[ONE, TWO, THREE, FOUR, FIVE]),
+        Row(Lock(3, 4), Granted, 1, &[ONE, TWO, THREE, FOUR, FIVE]),
+        Row(
+            Lock(3, 2),
+            Queued,
+            1,
+            &[ONE, Lent(30, 3, 2), THREE, FOUR, FIVE],
+        ),
+        Row(
+            Lock(4, 3),
+            Queued,
+            1,
+            &[ONE, Lent(60, 4, 3), THREE, FOUR, FIVE],
+        ),
         Row(Lock(2, 1), Queued, 1, LOWERED),
         Row(Lock(5, 4), Queued, 3, RAISED),
         Row(Cancel(5, 5), Withdrawn, 3, LOWERED),
@@ -111,20 +121,30 @@ fn lowered_owner_keeps_what_another_waiter_lends(rt: HostRuntime) -> Result<(), 
 
 #[test]
 fn refused_deadlock_changes_no_priority(rt: HostRuntime) -> Result<(), Fail> {
-    const T1: Seen = Base(10);
-    const T2: Seen = Base(20);
-    const T3: Seen = Base(30);
-    const T4: Seen = Base(60);
-    const T5: Seen = Base(90);
-    const BOOSTED: &[Seen] = &[Lent(60, 2, 1), Lent(60, 4, 3), T3, T4, T5];
+    const ONE: Seen = Base(10);
+    const TWO: Seen = Base(20);
+    const THREE: Seen = Base(30);
+    const FOUR: Seen = Base(60);
+    const FIVE: Seen = Base(90);
+    const BOOSTED: &[Seen] = &[Lent(60, 2, 1), Lent(60, 4, 3), THREE, FOUR, FIVE];
     const ROWS: &[Row] = &[
-        Row(Lock(5, 5), Granted, 1, &[T1, T2, T3, T4, T5]),
-        Row(Lock(1, 1), Granted, 1, &[T1, T2, T3, T4, T5]),
-        Row(Lock(2, 2), Granted, 1, &[T1, T2, T3, T4, T5]),
-        Row(Lock(2, 3), Granted, 1, &[T1, T2, T3, T4, T5]),
-        Row(Lock(3, 4), Granted, 1, &[T1, T2, T3, T4, T5]),
-        Row(Lock(3, 2), Queued, 1, &[T1, Lent(30, 3, 2), T3, T4, T5]),
-        Row(Lock(4, 3), Queued, 1, &[T1, Lent(60, 4, 3), T3, T4, T5]),
+        Row(Lock(5, 5), Granted, 1, &[ONE, TWO, THREE, FOUR, FIVE]),
+        Row(Lock(1, 1), Granted, 1, &[ONE, TWO, THREE, FOUR, FIVE]),
+        Row(Lock(2, 2), Granted, 1, &[ONE, TWO, THREE, FOUR, FIVE]),
+        Row(Lock(2, 3), Granted, 1, &[ONE, TWO, THREE, FOUR, FIVE]),
+        Row(Lock(3, 4), Granted, 1, &[ONE, TWO, THREE, FOUR, FIVE]),
+        Row(
+            Lock(3, 2),
+            Queued,
+            1,
+            &[ONE, Lent(30, 3, 2), THREE, FOUR, FIVE],
+        ),
+        Row(
+            Lock(4, 3),
+            Queued,
+            1,
+            &[ONE, Lent(60, 4, 3), THREE, FOUR, FIVE],
+        ),
         Row(Lock(2, 1), Queued, 1, BOOSTED),
         Row(Lock(1, 5), Queued, 1, BOOSTED),
         Row(Lock(5, 4), Refused(Deadlock), 0, BOOSTED),
@@ -134,45 +154,55 @@ fn refused_deadlock_changes_no_priority(rt: HostRuntime) -> Result<(), Fail> {
 
 #[test]
 fn new_owner_keeps_what_its_waiters_lend(rt: HostRuntime) -> Result<(), Fail> {
-    const T1: Seen = Base(10);
-    const T2: Seen = Base(50);
-    const T3: Seen = Base(40);
+    const ONE: Seen = Base(10);
+    const TWO: Seen = Base(50);
+    const THREE: Seen = Base(40);
     const ROWS: &[Row] = &[
-        Row(Lock(1, 1), Granted, 1, &[T1, T2, T3]),
-        Row(Lock(2, 1), Queued, 1, &[Lent(50, 2, 1), T2, T3]),
-        Row(Lock(3, 1), Queued, 1, &[Lent(50, 2, 1), T2, T3]),
-        Row(Unlock(1, 1), Handed(2), 2, &[T1, T2, T3]),
-        Row(SetBase(1, 2, 20), Set, 1, &[T1, Lent(40, 3, 1), T3]),
-        Row(SetBase(1, 2, 21), Set, 1, &[T1, Lent(40, 3, 1), T3]),
+        Row(Lock(1, 1), Granted, 1, &[ONE, TWO, THREE]),
+        Row(Lock(2, 1), Queued, 1, &[Lent(50, 2, 1), TWO, THREE]),
+        Row(Lock(3, 1), Queued, 1, &[Lent(50, 2, 1), TWO, THREE]),
+        Row(Unlock(1, 1), Handed(2), 2, &[ONE, TWO, THREE]),
+        Row(SetBase(1, 2, 20), Set, 1, &[ONE, Lent(40, 3, 1), THREE]),
+        Row(SetBase(1, 2, 21), Set, 1, &[ONE, Lent(40, 3, 1), THREE]),
     ];
     play(&rt, rt.alloc(), &[10, 50, 40], &[INHERIT], ROWS)
 }
 
 #[test]
 fn second_waiter_becomes_first_with_a_changed_priority(rt: HostRuntime) -> Result<(), Fail> {
-    const T1: Seen = Base(10);
-    const T2: Seen = Base(20);
-    const T3: Seen = Base(30);
-    const T4: Seen = Base(50);
-    const T5: Seen = Base(70);
-    const T6: Seen = Base(90);
+    const ONE: Seen = Base(10);
+    const TWO: Seen = Base(20);
+    const THREE: Seen = Base(30);
+    const FOUR: Seen = Base(50);
+    const FIVE: Seen = Base(70);
+    const SIX: Seen = Base(90);
     const BY1: Seen = Lent(70, 1, 3);
     const BY2: Seen = Lent(90, 2, 3);
     const BY4: Seen = Lent(50, 4, 2);
     const BY5: Seen = Lent(70, 5, 4);
     const BY6: Seen = Lent(90, 6, 1);
     const ROWS: &[Row] = &[
-        Row(Lock(2, 1), Granted, 1, &[T1, T2, T3, T4, T5, T6]),
-        Row(Lock(2, 2), Granted, 1, &[T1, T2, T3, T4, T5, T6]),
-        Row(Lock(3, 3), Granted, 1, &[T1, T2, T3, T4, T5, T6]),
-        Row(Lock(1, 4), Granted, 1, &[T1, T2, T3, T4, T5, T6]),
-        Row(Lock(4, 2), Queued, 1, &[T1, BY4, T3, T4, T5, T6]),
-        Row(Lock(6, 1), Queued, 1, &[T1, BY6, T3, T4, T5, T6]),
-        Row(Lock(1, 3), Queued, 1, &[T1, BY6, T3, T4, T5, T6]),
-        Row(Lock(2, 3), Queued, 1, &[T1, BY6, BY2, T4, T5, T6]),
-        Row(Lock(5, 4), Queued, 1, &[BY5, BY6, BY2, T4, T5, T6]),
-        Row(Unlock(3, 3), Handed(2), 2, &[BY5, BY6, T3, T4, T5, T6]),
-        Row(Unlock(2, 1), Handed(6), 2, &[BY5, BY1, T3, T4, T5, T6]),
+        Row(Lock(2, 1), Granted, 1, &[ONE, TWO, THREE, FOUR, FIVE, SIX]),
+        Row(Lock(2, 2), Granted, 1, &[ONE, TWO, THREE, FOUR, FIVE, SIX]),
+        Row(Lock(3, 3), Granted, 1, &[ONE, TWO, THREE, FOUR, FIVE, SIX]),
+        Row(Lock(1, 4), Granted, 1, &[ONE, TWO, THREE, FOUR, FIVE, SIX]),
+        Row(Lock(4, 2), Queued, 1, &[ONE, BY4, THREE, FOUR, FIVE, SIX]),
+        Row(Lock(6, 1), Queued, 1, &[ONE, BY6, THREE, FOUR, FIVE, SIX]),
+        Row(Lock(1, 3), Queued, 1, &[ONE, BY6, THREE, FOUR, FIVE, SIX]),
+        Row(Lock(2, 3), Queued, 1, &[ONE, BY6, BY2, FOUR, FIVE, SIX]),
+        Row(Lock(5, 4), Queued, 1, &[BY5, BY6, BY2, FOUR, FIVE, SIX]),
+        Row(
+            Unlock(3, 3),
+            Handed(2),
+            2,
+            &[BY5, BY6, THREE, FOUR, FIVE, SIX],
+        ),
+        Row(
+            Unlock(2, 1),
+            Handed(6),
+            2,
+            &[BY5, BY1, THREE, FOUR, FIVE, SIX],
+        ),
     ];
     play(
         &rt,
