@@ -88,9 +88,9 @@
  * The walk goes from the task whose cause changed along the chain of tasks that wait for one
  * another, as far as priorities change: the answer says by `visits` how many it computed. They are
  * at least the tasks whose priority changed, and at most 1 more, and 2 for each mutex whose owner
- * changed: that is proved. A visit looks at the mutexes that the task owns, or at one alone, where
- * that shows that the priority stays; it counts as computed then. To find a place in a queue is a
- * binary search, and moves the waiters behind it.
+ * changed: that is proved. A visit looks at the mutexes that the task owns, or at one alone, or at
+ * the task that leaves its queue, where that shows that the priority stays; it counts as computed
+ * then. To find a place in a queue is a binary search, and moves the waiters behind it.
  *
  *
  * What grows
