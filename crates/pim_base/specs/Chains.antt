@@ -40,7 +40,7 @@ waits_chain S t = chain (blocker S) (length S.base) t
 abbrev pub inherit_chain : State → ℕ → List ℕ
 inherit_chain S t = chain (heir S) (length S.base) t
 
--- some task occurs again on its own waits chain: a deadlock stands
+-- some task occurs again on its own waits chain: a deadlock
 abbrev pub HasCycle : State → Type 0
 HasCycle S = (t : ℕ) × IsTrue (contains (drop 1 (waits_chain S t)) t)
 

@@ -16,7 +16,7 @@ use Rattle.pim_base.specs.declared.steps.Step.{Step}
 use Rattle.pim_base.specs.declared.steps.Wait.{Wait}
 use Rattle.pim_base.specs.declared.steps.Waiter.{Waiter}
 
--- Where no cycle stands, the wait of a task that doesn't wait yet makes one exactly where `closes_cycle` says so. It speaks
+-- Without a cycle of waits, the wait of a task that doesn't wait yet makes one exactly where `closes_cycle` says so. It speaks
 -- of each request but a relock, which doesn't wait. (POSIX.1-2017, pthread_mutex_lock: EDEADLK)
 abbrev pub ClosingLaw : Type 0
 ClosingLaw =
@@ -28,7 +28,7 @@ ClosingLaw =
     → relocks S t m ≡ false
     → IsTrue (closes_cycle S t m) ↔ HasCycle (with_wait S t (Some (record { mutex = m; ticket = ticket })))
 
--- Whatever the step, no cycle stands after it if none stood before.
+-- Whatever the step, there is no cycle of waits after it if there was none before.
 abbrev pub NoCycleLaw : Type 0
 NoCycleLaw = (S : State) (step : Step) → IsSound S → IsSound (after S step)
 
@@ -43,7 +43,7 @@ kind Protocol.InheritRecursive = 3
 abbrev pub KindLaw : Type 0
 KindLaw = (S : State) (step : Step) (m : ℕ) → kind (protocol_of (after S step) m) ≡ kind (protocol_of S m)
 
--- Where no cycle stands, priorities that agree with their neighbours are the effective ones, and the other way round.
+-- Without a cycle of waits, priorities that agree with their neighbours are the effective ones, and the other way round.
 -- (It is why a walk along one chain may stop where nothing changes: the Linux rt-mutex design.)
 abbrev pub StoredLaw : Type 0
 StoredLaw =
@@ -61,7 +61,7 @@ pub record IsLeastBound (S : State) (t : ℕ) : Type 0 where
 abbrev pub EffectiveLaw : Type 0
 EffectiveLaw = (S : State) (t : ℕ) → IsTask S t → IsLeastBound S t
 
--- Where no cycle stands, no task on an inherit chain executes below the chain's first task.
+-- Without a cycle of waits, no task on an inherit chain executes below the chain's first task.
 -- (POSIX.1-2017, pthread_mutexattr_getprotocol: the recursive clause of PTHREAD_PRIO_INHERIT)
 abbrev pub RisingLaw : Type 0
 RisingLaw =

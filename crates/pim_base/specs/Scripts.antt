@@ -7,7 +7,7 @@ use Rattle.pim_base.specs.Texts.{Trace, Spells, FirstBad}
 use Rattle.pim_base.specs.declared.lines.StepLine.{StepLine}
 use Rattle.pim_base.specs.declared.steps.Op.{Op}
 
--- no reply was recorded for the step, and its actor is one of so many tasks
+-- no reply was recorded for the step, and its actor is one of this many tasks
 pub record StandsInScript (tasks : ℕ) (line : StepLine) : Type 0 where
   pub unrecorded : line.recorded ≡ None
   pub declared : line.step.actor ≤ tasks

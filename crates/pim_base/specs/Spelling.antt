@@ -174,6 +174,6 @@ since (lines.Task n p) = 1
 since (lines.Mutex n protocol) = protocol_since protocol
 since (lines.Step line) = max (op_since line.step.op) (option_map_or reply_since line.recorded 1)
 
--- the line stands in texts of this version: it came with that one, or with an earlier one
+-- texts of this version have the line: it came with that one, or with an earlier one
 abbrev pub BelongsTo : ℕ → Line → Type 0
 BelongsTo version line = since line ≤ version

@@ -7,7 +7,7 @@ use Rattle.pim_base.specs.declared.steps.Protocol.{Protocol}
 use Rattle.pim_base.specs.declared.steps.Wait.{Wait}
 
 -- A list of tasks begins with task 1, and a list of mutexes with mutex 1. There are no priorities in force and no
--- queues: those are computed from what stands here. `count` says how often the owner of each mutex has locked it and not
+-- queues: those are computed from what is here. `count` says how often the owner of each mutex has locked it and not
 -- yet unlocked it, and `next` is the next ticket.
 pub record State : Type 0 where
   pub base : List ℕ

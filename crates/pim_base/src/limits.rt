@@ -9,7 +9,7 @@ pub const MAX_MUTEXES: usize = 256;
 /// The most step lines that a text has.
 pub const MAX_STEPS: usize = 65_536;
 
-/// The most workers that run scripts at once, and so the most tasks of a script.
+/// The most workers that run scripts at the same time, and so the most tasks of a script.
 pub const MAX_WORKERS: usize = 16;
 
 /// The most lookers of a shared manager.

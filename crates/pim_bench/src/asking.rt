@@ -1,4 +1,4 @@
-//! Who asks for a priority, who changes priorities, and what stands between them.
+//! Who asks for a priority, who changes priorities, and what is between them.
 
 ghost use Rattle.std.specs.Prelude.{◌≡◌, is_ok};
 

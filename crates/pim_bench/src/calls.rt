@@ -9,7 +9,7 @@ use std::thread::Threads;
 use std::time::{Clock, Duration, Instant};
 use std::{io, thread};
 
-/// Times so many calls of each of so many threads.
+/// Times this many calls in each of this many threads.
 pub fn time_calls<C, R>(
     rt: &R,
     alloc: Global,

@@ -1,4 +1,4 @@
-//! Looks by several threads, beside a writer that never rests.
+//! Reads by several threads while a writer never rests.
 
 use crate::asking::{Ask, Change, expect};
 use crate::scene::change;

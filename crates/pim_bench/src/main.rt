@@ -1,7 +1,7 @@
-//! How fast lookers look and threads call, beside a read-write lock and a plain lock round the same manager.
+//! How fast readers read and threads call, compared with a read-write lock and a plain lock round the same manager.
 //!
 //! `pim_bench full` measures, which takes half a minute on a quiet machine. `pim_bench small` does little of each, which
-//! shows that it works and tells nothing of speed.
+//! shows that it works and says nothing about speed.
 #![tactic(auto)]
 
 mod asking;
@@ -28,7 +28,7 @@ fn main(rt: HostRuntime) -> io::Result<()> {
         _ => {
             println!(&rt; "usage: pim_bench full | small")?;
             println!(&rt;
-                "How many looks and calls a second, beside locks round the same manager."
+                "Reads and calls a second, compared with locks round the same manager."
             )?;
             return Ok(());
         }

@@ -16,7 +16,7 @@ use std::time::Clock;
 /// Room for the entries of a writer that never rests.
 const ROOM: usize = 100_000_000;
 
-/// Prints how many looks a second there are, and the longest, by so many lookers beside a writer that never rests.
+/// Prints how many reads a second 1, 4 and 8 readers make while a writer never rests, and the longest read.
 pub fn print_looks<R>(rt: &R, alloc: Global, looks: u32) -> io::Result<()>
 where
     R: Threads + Wait + Clock + Print + Sync,
@@ -36,7 +36,7 @@ where
     Ok(())
 }
 
-/// Prints how many calls a second so many threads make.
+/// Prints how many calls a second each number of threads makes.
 pub fn print_calls<R>(rt: &R, alloc: Global, calls: u32) -> io::Result<()>
 where
     R: Threads + Wait + Clock + Print + Sync,

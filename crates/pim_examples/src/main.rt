@@ -1,4 +1,4 @@
-//! Judges each example trace, and says whether its report is the one that is stored beside it; and runs each example script.
+//! Judges each example trace, and says whether its report is the stored one; and runs each example script.
 #![tactic(auto)]
 
 #[cfg(test)]
@@ -10,7 +10,7 @@ use pim_tool::{Input, Output, judge};
 use std::fs::File;
 use std::{fs, io};
 
-/// The names of the traces in data/, each with its report beside it.
+/// The names of the traces in data/, each of which has its report there, too.
 const EXAMPLES: [&str; 8] = [
     "boost_through_a_chain",
     "ceiling_lowered",

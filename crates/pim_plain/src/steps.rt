@@ -11,7 +11,7 @@ use pim_base::{LAST_TICKET, MutexNo, Op, Prio, Refusal, Reply, Step, TaskNo, Wai
 impl PlainManager {
     /// Makes one step and returns its reply; a refused step changes nothing.
     ///
-    /// The checks of each operation stand in the order of the definition `checks`.
+    /// The checks of each operation are in the order of the definition `checks`.
     pub fn step(&mut self, step: Step) -> Reply
         ensures reply { result ≡ reply_of self.old step }
         ensures state { self.new ≡ after self.old step }

@@ -19,7 +19,7 @@ pub(crate) fn read_line(bytes: &[u8]) -> Option<Line>
     read_declaration(first, rest?)
 }
 
-/// Returns the declaration that the words spell, of which the first was cut off, or `None` where they spell none.
+/// Returns the declaration that the words spell, or `None` if they spell none. The first word was cut off.
 fn read_declaration(first: &[u8], rest: &[u8]) -> Option<Line>
     requires no_number { (n : ℕ) → IsNumber n → first.now ≢ decimal n }
     ensures { Reads (first.now ∷ words rest.now) result }

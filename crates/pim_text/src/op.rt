@@ -6,8 +6,8 @@ ghost use Rattle.pim_text.specs.Reading.{pieces};
 use crate::word::{cut_number, is};
 use pim_base::{MutexNo, Op, TaskNo};
 
-/// Returns the operation that the words begin with, of which the first was cut off, and the words behind it, or `None`
-/// where they begin with none.
+/// Returns the operation that the words begin with, and the words behind it, or `None` if they begin with none. The
+/// first word was cut off.
 pub(crate) fn read_op<'a>(word: &[u8], tail: Option<&'a [u8]>) -> Option<(Op, Option<&'a [u8]>)>
     ensures { MatchOption result
         ((op : Op) (ws : List (List ℕ)) → IsOp op → word.now ∷ pieces SPACE tail.entry ≡ op_words op ++ ws → ⊥)

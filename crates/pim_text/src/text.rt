@@ -23,7 +23,7 @@ pub struct Text {
 }
 
 impl Text {
-    /// Returns the text of the version line alone. It takes no memory.
+    /// Returns the text of the version line alone. It doesn't allocate.
     pub(crate) fn new(alloc: Global, version: u8) -> Text
         ensures { trace_of result ≡ empty_of version }
     {
@@ -74,7 +74,7 @@ impl Text {
         line.since() <= self.version
     }
 
-    /// Returns whether the kind lets the line stand below those of this text.
+    /// Returns whether a text of this kind may go on with the line.
     pub(crate) fn allows(&self, line: &Line, kind: TextKind) -> bool
         ensures { MatchBool result
             (Allows kind (trace_of self.now) line.now)

@@ -94,7 +94,7 @@ pub(crate) fn number_of(word: &[u8]) -> Option<u16>
 /// Cuts off the first word, and returns the number, 1 to 65535, that it spells, and the bytes behind its separator;
 /// or `None` where it spells none.
 ///
-/// The number is read on the way to the separator, so that each of its digits is looked at once.
+/// The number is read on the way to the separator, so that each of its digits is looked at one time.
 pub(crate) fn cut_number(bytes: &[u8]) -> Option<(u16, Option<&[u8]>)>
     ensures { MatchOption result
         ((n : ℕ) (ws : List (List ℕ)) → IsNumber n → words bytes.now ≡ decimal n ∷ ws → ⊥)

@@ -1,4 +1,4 @@
-//! The first invalid line, and lines beside it that are valid.
+//! The first invalid line, and valid lines next to it.
 
 use crate::{Text, TextFault, parse, parse_script};
 use std::alloc::AllocGlobal;

@@ -7,7 +7,7 @@ use std::test::Fail;
 /// How many tasks, mutexes and steps a text has, or why it is not read.
 type Sizes = Result<(usize, usize, usize), TextFault>;
 
-/// `pim 1`, and the lines of so many tasks, of so many mutexes and of so many steps.
+/// `pim 1`, and the lines of this many tasks, mutexes and steps.
 fn text(alloc: Global, tasks: u32, mutexes: u32, steps: u32) -> Result<Vec<u8>, Fail> {
     let mut text = b"pim 1\n".to_vec(alloc)?;
     for number in 0..tasks {
