@@ -12,7 +12,7 @@ memory, where there is GNU time to tell it; and how long the report is. --instru
 many instructions are executed, which doesn't depend on what else runs, by perf or valgrind.
 
 examples:
-  bench/measure.py                                the table of README.md
+  bench/measure.py                                the table of docs/SPEED.md
   bench/measure.py --only chain --repeat 15       one trace, more often
   bench/measure.py --instructions --steps 4096    short traces, counted
   bench/measure.py --beside /tmp/older/pim        this build beside an older one
