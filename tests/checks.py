@@ -1,17 +1,28 @@
-"""What the scripts beside this file share: lines of checks, the program, and calls that fail."""
+"""What the scripts beside this file share: lines of checks, runs that end, the program, and calls that fail."""
 import os
 import pathlib
+import signal
 import subprocess
 import sys
 
 ROOT = pathlib.Path(__file__).resolve().parent.parent
-FAILED = []
+COUNTS = {"ok": 0, "FAIL": 0, "skip": 0}
 
 
 def check(name, why=None):
-    """Prints the line of a check, which failed where there is a reason why."""
-    print(f"FAIL {name}: {why}" if why else f"ok {name}", flush=True)
-    FAILED.extend([name] if why else [])
+    """Prints the line of a check, which failed if there is a reason why."""
+    say("FAIL" if why else "ok", name, why)
+
+
+def skip(name, why):
+    """Prints the line of a check that can't be made on this machine."""
+    say("skip", name, why)
+
+
+def say(kind, name, why):
+    line = f"{kind} {name}: {why}" if why else f"{kind} {name}"
+    print(" | ".join(line.splitlines()), flush=True)
+    COUNTS[kind] += 1
 
 
 def difference(got, wanted):
@@ -25,24 +36,55 @@ def short(value):
 
 
 def end():
-    """Ends the script, with status 1 where a check failed."""
-    sys.exit(1 if FAILED else 0)
+    """Prints how many checks there were, and ends the script, with status 1 if one failed."""
+    print(f"{sum(COUNTS.values())} checks", flush=True)
+    sys.exit(1 if COUNTS["FAIL"] else 0)
+
+
+def answer(command, text=b"", seconds=60, **settings):
+    """Returns status, standard output and standard error of a command that is given the text.
+
+    A command that hasn't ended after so many seconds is killed, with all that it started. Its
+    status says so, so that the check which ran it fails, and the others are made.
+    """
+    pipes = {"stdin": subprocess.PIPE, "stdout": subprocess.PIPE, "stderr": subprocess.PIPE}
+    settings = {**pipes, "start_new_session": True, **settings}
+    with subprocess.Popen(command, **settings) as child:
+        try:
+            out, err = child.communicate(text, timeout=seconds)
+            return child.returncode, out, err
+        except subprocess.TimeoutExpired:
+            os.killpg(child.pid, signal.SIGKILL)
+            return f"no end within {seconds} s", *child.communicate()
+        except BaseException:
+            os.killpg(child.pid, signal.SIGKILL)
+            raise
+
+
+def ended(child, seconds=60):
+    """Returns the status of a child, which is killed if it hasn't ended after so many seconds."""
+    try:
+        return child.wait(seconds)
+    except subprocess.TimeoutExpired:
+        child.kill()
+        child.wait()
+        return f"no end within {seconds} s"
 
 
 def program():
-    """Returns the path of the program to test: the script's first word, or the repository's own."""
+    """Returns the path of the program to test: the script's first argument, or the repository's own."""
     return str(pathlib.Path(sys.argv[1]).resolve()) if len(sys.argv) > 1 else own_program()
 
 
 def own_program():
-    """Returns the path of the repository's own program, and builds it where it is older than the code."""
+    """Returns the path of the repository's own program, and builds it if it is older than the code."""
     if subprocess.run([ROOT / "pim", "--version"], stdout=subprocess.DEVNULL).returncode:
         sys.exit("the program was not built")
     return str(ROOT / "crates/pim/out/pim")
 
 
 def built(crate, file, *command):
-    """Returns the path of what the command makes of a crate, and makes it where it is older than the code."""
+    """Returns the path of what the command makes of a crate, and makes it if it is older than the code."""
     made = ROOT / "crates" / crate / "out" / file
     newest = max(os.path.getmtime(source) for source in ROOT.glob("crates/*/src/**/*.rt"))
     if not made.exists() or made.stat().st_mtime < newest:
@@ -68,8 +110,7 @@ class Faulty:
         self.library = compiled(ROOT / "tests/faults.cpp", folder, *flags)
 
     def run(self, command, call, kind, number, text=b""):
-        """Returns status and both outputs of the command, where the call of this number goes wrong."""
+        """Returns status and both outputs of the command, in which the call of this number goes wrong."""
         fault = {"FAULT_CALL": call, "FAULT_KIND": kind, "FAULT_AT": str(number)}
         environment = {"LD_PRELOAD": self.library, **fault}
-        done = subprocess.run(command, input=text, capture_output=True, env=environment, timeout=60)
-        return done.returncode, done.stdout, done.stderr
+        return answer(command, text, env=environment)
