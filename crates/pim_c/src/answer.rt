@@ -17,7 +17,7 @@ pub struct CAnswer {
     pub refusal: u8,
     /// The task that was handed the mutex, or how many mutexes were released, or 0.
     pub number: u16,
-    /// How many priorities were computed.
+    /// How many visits the step made: computed priorities, and comparisons that show that one stays.
     pub visits: u32,
 }
 

@@ -1,4 +1,4 @@
--- The work of walks: how many priorities they computed, and which stored priorities they wrote.
+-- The work of walks: how many visits they made, and which stored priorities they wrote.
 use Rattle.std.specs.Prelude.{◌≡◌, ◌≢◌, ◌≤◌, ◌+◌, ◌==◌, ℕ, Bool, not, false, List, Option, Some, None, IsSome, is_some, unwrap_or, if◌then◌else◌}
 use Rattle.std.specs.Option.{option_and_then, option_map_or}
 use Rattle.pim_base.specs.Counts.{differing}
@@ -11,7 +11,7 @@ pub record Noted : Type 0 where
   pub tasks : List ℕ
   pub had : List ℕ
 
--- how many priorities were computed and, where notes are kept, what was noted
+-- how many visits were made and, where notes are kept, what was noted
 pub record Work : Type 0 where
   pub count : ℕ
   pub notes : Option Noted

@@ -94,7 +94,7 @@ fn waiters_are_shown(rt: HostRuntime) -> Result<(), Fail> {
 
 const SECOND: MutexNo = MutexNo(2);
 
-/// Steps with their replies, and how many priorities each computes.
+/// Steps with their replies, and how many visits each makes.
 const ROWS: [(u16, Op, Reply, u32); 10] = [
     (1, Lock(FIRST), Reply::Granted, 1),
     (2, Lock(SECOND), Reply::Granted, 1),
