@@ -1,0 +1,204 @@
+/* The log: a file that is mapped and shared, filled in chunks by thread. FORMAT.md specifies it.
+ *
+ * A record takes its number after its call has been granted a mutex, and before its call releases
+ * one. So the numbers are a true order of the grants, and no mutex has two owners in the log. */
+#ifndef PIM_LOG_H
+#define PIM_LOG_H
+
+#include <stdatomic.h>
+#include <stdbool.h>
+#include <stddef.h>
+#include <stdint.h>
+#include <time.h>
+
+enum {
+    LOG_VERSION = 1,
+    LOG_BYTE_ORDER = 0x01020304,
+    HEADER_BYTES = 4096,
+    COMMAND_BYTES = 2048,
+    CHUNK_RECORDS = 512,
+    TEXT_BYTES = 22,
+    LONGEST_TEXT = 4095,
+};
+
+enum event {
+    EVENT_THREAD = 1,
+    EVENT_NAME = 2,
+    EVENT_CREATE = 3,
+    EVENT_EXIT = 4,
+    EVENT_PRIORITY = 5,
+    EVENT_FORK = 6,
+    EVENT_CHILD = 7,
+    EVENT_EXEC = 8,
+    EVENT_EXEC_FAILED = 9,
+    EVENT_END = 10,
+    EVENT_MODULE = 11,
+    EVENT_PLACE = 12,
+    EVENT_TEXT = 13,
+    EVENT_INIT = 16,
+    EVENT_DESTROY = 17,
+    EVENT_DESTROY_FAILED = 18,
+    EVENT_CEILING = 19,
+    EVENT_REQUEST = 20,
+    EVENT_GRANTED = 21,
+    EVENT_FAILED = 22,
+    EVENT_RELEASE = 23,
+    EVENT_RELEASE_FAILED = 24,
+    EVENT_CONDITION = 25,
+};
+
+/* The call of a REQUEST, GRANTED or RELEASE; OWNER_DIED is added to it. */
+enum call {
+    CALL_LOCK = 0,
+    CALL_TRYLOCK = 1,
+    CALL_TIMEDLOCK = 2,
+    CALL_CLOCKLOCK = 3,
+    CALL_CONDITION = 4,
+    OWNER_DIED = 0x80,
+};
+
+enum { POLICY_KEPT = 15 }; /* the policy is as it was before, or as that of the creator */
+
+struct record {
+    _Atomic uint64_t number; /* 0: the record isn't there; written last */
+    uint64_t time;
+    uint64_t object;
+    uint32_t value;
+    uint16_t detail;
+    uint8_t event;
+    uint8_t how;
+};
+
+/* A part of a text, which stands in the records behind the one that it belongs to. */
+struct text_record {
+    _Atomic uint64_t number;
+    char text[TEXT_BYTES];
+    uint8_t event;
+    uint8_t length;
+};
+
+struct chunk_head {
+    _Atomic uint64_t mark; /* CHUNK_MARK; written last */
+    uint32_t process;
+    uint32_t task;   /* the kernel's number of the thread */
+    uint32_t thread; /* the log's own number of the thread, which no other has */
+    uint32_t index;  /* of this chunk among the thread's, from 0 */
+    uint64_t zero;
+};
+
+#define CHUNK_MARK UINT64_C(0x6b6e7568436d6970) /* "pimChunk" in a log of this byte order */
+
+struct header {
+    char magic[8];
+    uint32_t version;
+    uint32_t byte_order;
+    uint32_t header_bytes;
+    uint32_t record_bytes;
+    uint32_t chunk_records;
+    uint32_t known; /* what of the C library's inner fields is known: inner.h */
+    uint64_t chunks; /* for how many there is room */
+    uint32_t process;
+    uint32_t parent;
+    uint64_t began_monotonic;
+    uint64_t began_realtime;
+    uint32_t command_bytes;
+    uint32_t zero;
+    _Alignas(64) _Atomic uint64_t next_number;
+    _Alignas(64) _Atomic uint64_t next_chunk;
+    _Atomic uint64_t next_thread;
+    _Atomic uint64_t lost;       /* records for which there was no room */
+    _Atomic uint64_t first_lost; /* the lowest number of those, or 0 */
+    _Atomic uint64_t left_out;   /* calls of which something couldn't be known */
+    _Alignas(256) char command[COMMAND_BYTES]; /* the arguments, each with a zero byte behind it */
+};
+
+_Static_assert(sizeof(struct record) == 32, "FORMAT.md: a record has 32 bytes");
+_Static_assert(sizeof(struct text_record) == 32, "FORMAT.md: a part of a text has 32 bytes");
+_Static_assert(sizeof(struct chunk_head) == 32, "FORMAT.md: the head of a chunk has 32 bytes");
+_Static_assert(offsetof(struct header, chunks) == 32, "FORMAT.md: the header");
+_Static_assert(offsetof(struct header, next_number) == 128, "FORMAT.md: the header");
+_Static_assert(offsetof(struct header, next_chunk) == 192, "FORMAT.md: the header");
+_Static_assert(offsetof(struct header, command) == 256, "FORMAT.md: the header");
+_Static_assert(sizeof(struct header) <= HEADER_BYTES, "FORMAT.md: the header");
+
+/* What a thread keeps between its calls. */
+struct cursor {
+    struct record *next;
+    struct record *end;
+    uint32_t task;       /* the kernel's number of the thread */
+    uint32_t thread;     /* the log's number of it, or 0 before its first chunk */
+    uint32_t chunks;
+    uint32_t exits;      /* how often the destructor of its key has run */
+    uint32_t depth;      /* above 0: the calls are the recorder's own */
+    bool is_introduced; /* its THREAD record is written, or is being written */
+    volatile bool is_writing;
+};
+
+extern struct header *log_header; /* NULL: nothing is recorded */
+extern __thread struct cursor log_cursor;
+
+/* Makes the log that the environment names, or ends the process where it can't be made. */
+void log_make(void);
+
+/* Remembers which number comes next once all is told of how the program began. */
+void log_has_begun(void);
+
+/* Removes the log of a later program where it says no more than how the program began. Returns
+ * whether it did. */
+bool log_remove_unused(void);
+
+/* Gives the thread its next chunk. Returns false where there is no room. */
+bool log_open_chunk(void);
+
+/* Counts a record for which there is no room. */
+void log_lose(void);
+
+/* Puts a record with a text behind it, of which at most `most` bytes are taken. */
+void log_put_text(enum event event, uint64_t object, const char *text, size_t most);
+
+static inline uint64_t log_time(void) {
+    struct timespec now;
+    clock_gettime(CLOCK_MONOTONIC, &now);
+    return (uint64_t)now.tv_sec * 1000000000u + (uint64_t)now.tv_nsec;
+}
+
+static inline void log_leave_out(void) {
+    atomic_fetch_add_explicit(&log_header->left_out, 1, memory_order_relaxed);
+}
+
+/* Returns the place of the thread's next record, which log_finish numbers, or NULL where there is
+ * none. A signal's handler that interrupts the writing of a record isn't recorded, but counted. */
+static inline struct record *log_begin(void) {
+    if (__builtin_expect(log_cursor.is_writing, 0)) {
+        log_leave_out();
+        return NULL;
+    }
+    log_cursor.is_writing = true;
+    if (__builtin_expect(log_cursor.next == log_cursor.end, 0) && !log_open_chunk()) {
+        log_lose();
+        log_cursor.is_writing = false;
+        return NULL;
+    }
+    return log_cursor.next++;
+}
+
+static inline void log_finish(struct record *record) {
+    uint64_t number =
+        atomic_fetch_add_explicit(&log_header->next_number, 1, memory_order_relaxed);
+    atomic_store_explicit(&record->number, number, memory_order_release);
+    log_cursor.is_writing = false;
+}
+
+static inline void log_put(struct record filled) {
+    struct record *record = log_begin();
+    if (!record) return;
+    record->time = filled.time;
+    record->object = filled.object;
+    record->value = filled.value;
+    record->detail = filled.detail;
+    record->event = filled.event;
+    record->how = filled.how;
+    log_finish(record);
+}
+
+#endif

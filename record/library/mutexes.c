@@ -1,0 +1,193 @@
+#define _GNU_SOURCE
+#include "inner.h"
+#include "recorder.h"
+
+#include <errno.h>
+
+static uint32_t saturated(uint64_t nanoseconds) {
+    return nanoseconds > UINT32_MAX ? UINT32_MAX : (uint32_t)nanoseconds;
+}
+
+/* Puts a record of a mutex whose detail can be read. */
+static void put(enum event event, unsigned how, const pthread_mutex_t *mutex, uint64_t time,
+                uint32_t value) {
+    log_put((struct record){ .event = (uint8_t)event,
+                             .how = (uint8_t)how,
+                             .object = (uintptr_t)mutex,
+                             .detail = inner_detail(mutex),
+                             .value = value,
+                             .time = time });
+}
+
+/* Puts a record of a mutex that may be gone, so that it isn't read. */
+static void put_unread(enum event event, unsigned how, const pthread_mutex_t *mutex) {
+    log_put((struct record){ .event = (uint8_t)event,
+                             .how = (uint8_t)how,
+                             .object = (uintptr_t)mutex,
+                             .time = log_time() });
+}
+
+/* ---- lock ---- */
+
+static bool locks_again(const pthread_mutex_t *mutex, uint32_t owner) {
+    return (inner_detail(mutex) & DETAIL_TYPE) == DETAIL_RECURSIVE && owner == log_cursor.task;
+}
+
+/* Puts a REQUEST where the mutex is owned, but by the thread itself if it may lock again. Returns
+ * when the call began. */
+static uint64_t request(const pthread_mutex_t *mutex, enum call call) {
+    uint64_t now = log_time();
+    if (!(inner_known & KNOWN_OWNER)) {
+        log_leave_out();
+    } else if (inner_is_owned(mutex)) {
+        uint32_t owner = inner_owner(mutex);
+        if (!locks_again(mutex, owner)) put(EVENT_REQUEST, call, mutex, now, owner);
+    }
+    return now;
+}
+
+static int answer(const pthread_mutex_t *mutex, enum call call, uint64_t began, int error) {
+    uint64_t now = log_time();
+    if (error == 0 || error == EOWNERDEAD)
+        put(EVENT_GRANTED, call | (error ? OWNER_DIED : 0), mutex, now, saturated(now - began));
+    else
+        put(EVENT_FAILED, (unsigned)error, mutex, now, saturated(now - began));
+    return error;
+}
+
+EXPORT int pthread_mutex_lock(pthread_mutex_t *mutex) {
+    if (!is_recorded()) return real.mutex_lock(mutex);
+    uint64_t began = request(mutex, CALL_LOCK);
+    return answer(mutex, CALL_LOCK, began, real.mutex_lock(mutex));
+}
+
+EXPORT int pthread_mutex_timedlock(pthread_mutex_t *mutex, const struct timespec *until) {
+    if (!is_recorded()) return real.mutex_timedlock(mutex, until);
+    uint64_t began = request(mutex, CALL_TIMEDLOCK);
+    return answer(mutex, CALL_TIMEDLOCK, began, real.mutex_timedlock(mutex, until));
+}
+
+EXPORT int pthread_mutex_clocklock(pthread_mutex_t *mutex, clockid_t clock,
+                                   const struct timespec *until) {
+    if (!is_recorded()) return real.mutex_clocklock(mutex, clock, until);
+    uint64_t began = request(mutex, CALL_CLOCKLOCK);
+    return answer(mutex, CALL_CLOCKLOCK, began, real.mutex_clocklock(mutex, clock, until));
+}
+
+EXPORT int pthread_mutex_trylock(pthread_mutex_t *mutex) {
+    if (!is_recorded()) return real.mutex_trylock(mutex);
+    uint64_t began = log_time();
+    return answer(mutex, CALL_TRYLOCK, began, real.mutex_trylock(mutex));
+}
+
+/* ---- unlock ---- */
+
+/* Another thread may destroy the mutex and free its memory once it is released: it isn't read
+ * after that. */
+EXPORT int pthread_mutex_unlock(pthread_mutex_t *mutex) {
+    if (!is_recorded()) return real.mutex_unlock(mutex);
+    put(EVENT_RELEASE, CALL_LOCK, mutex, log_time(), 0);
+    int error = real.mutex_unlock(mutex);
+    if (error) put_unread(EVENT_RELEASE_FAILED, (unsigned)error, mutex);
+    return error;
+}
+
+/* ---- condition variables ---- */
+
+static void release_to_wait(const pthread_cond_t *condition, const pthread_mutex_t *mutex) {
+    uint64_t now = log_time();
+    log_put((struct record){
+        .event = EVENT_CONDITION, .object = (uintptr_t)condition, .time = now });
+    put(EVENT_RELEASE, CALL_CONDITION, mutex, now, 0);
+}
+
+/* The mutex is relocked but after an error that comes before the wait, when it wasn't released, or
+ * where its state can't be recovered. */
+static int relocked(const pthread_mutex_t *mutex, int error) {
+    if (error == 0 || error == ETIMEDOUT)
+        put(EVENT_GRANTED, CALL_CONDITION, mutex, log_time(), 0);
+    else if (error == EOWNERDEAD)
+        put(EVENT_GRANTED, CALL_CONDITION | OWNER_DIED, mutex, log_time(), 0);
+    else if (error == ENOTRECOVERABLE)
+        put_unread(EVENT_FAILED, (unsigned)error, mutex);
+    else
+        put_unread(EVENT_RELEASE_FAILED, (unsigned)error, mutex);
+    return error;
+}
+
+/* A thread that is cancelled in a wait relocks the mutex before its cleanup handlers run. */
+static void cancelled(void *mutex) {
+    relocked(mutex, 0);
+}
+
+EXPORT int pthread_cond_wait(pthread_cond_t *condition, pthread_mutex_t *mutex) {
+    int error;
+    if (!is_recorded()) return real.cond_wait(condition, mutex);
+    release_to_wait(condition, mutex);
+    pthread_cleanup_push(cancelled, mutex);
+    error = real.cond_wait(condition, mutex);
+    pthread_cleanup_pop(0);
+    return relocked(mutex, error);
+}
+
+EXPORT int pthread_cond_timedwait(pthread_cond_t *condition, pthread_mutex_t *mutex,
+                                  const struct timespec *until) {
+    int error;
+    if (!is_recorded()) return real.cond_timedwait(condition, mutex, until);
+    release_to_wait(condition, mutex);
+    pthread_cleanup_push(cancelled, mutex);
+    error = real.cond_timedwait(condition, mutex, until);
+    pthread_cleanup_pop(0);
+    return relocked(mutex, error);
+}
+
+EXPORT int pthread_cond_clockwait(pthread_cond_t *condition, pthread_mutex_t *mutex,
+                                  clockid_t clock, const struct timespec *until) {
+    int error;
+    if (!is_recorded()) return real.cond_clockwait(condition, mutex, clock, until);
+    release_to_wait(condition, mutex);
+    pthread_cleanup_push(cancelled, mutex);
+    error = real.cond_clockwait(condition, mutex, clock, until);
+    pthread_cleanup_pop(0);
+    return relocked(mutex, error);
+}
+
+/* ---- init, destroy, ceiling ---- */
+
+static void put_place(const void *place) {
+    log_put((struct record){
+        .event = EVENT_PLACE, .object = (uintptr_t)place, .time = log_time() });
+}
+
+EXPORT int pthread_mutex_init(pthread_mutex_t *mutex, const pthread_mutexattr_t *attributes) {
+    bool is_told = is_recorded();
+    int error = real.mutex_init(mutex, attributes);
+    if (error || !is_told) return error;
+    log_put((struct record){ .event = EVENT_INIT,
+                             .object = (uintptr_t)mutex,
+                             .detail = inner_detail_of_attributes(attributes),
+                             .time = log_time() });
+    put_place(__builtin_return_address(0));
+    return 0;
+}
+
+/* The memory of a destroyed mutex may be another's at once, so the record comes before. */
+EXPORT int pthread_mutex_destroy(pthread_mutex_t *mutex) {
+    if (!is_recorded()) return real.mutex_destroy(mutex);
+    put_unread(EVENT_DESTROY, 0, mutex);
+    int error = real.mutex_destroy(mutex);
+    if (error) put_unread(EVENT_DESTROY_FAILED, (unsigned)error, mutex);
+    return error;
+}
+
+EXPORT int pthread_mutex_setprioceiling(pthread_mutex_t *mutex, int ceiling, int *old) {
+    if (!is_recorded()) return real.mutex_setprioceiling(mutex, ceiling, old);
+    int error = real.mutex_setprioceiling(mutex, ceiling, old);
+    if (error) return error;
+    unsigned detail = inner_detail(mutex) & 0xff;
+    log_put((struct record){ .event = EVENT_CEILING,
+                             .object = (uintptr_t)mutex,
+                             .detail = (uint16_t)(detail | ((unsigned)ceiling & 127) << 8),
+                             .time = log_time() });
+    return 0;
+}

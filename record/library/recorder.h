@@ -1,0 +1,38 @@
+/* How each recorded function begins: whether its call is recorded. */
+#ifndef PIM_RECORDER_H
+#define PIM_RECORDER_H
+
+#include "log.h"
+#include "real.h"
+
+#include <stdatomic.h>
+#include <stdbool.h>
+
+extern _Atomic bool recorder_is_ready;
+
+/* Finds the C library's functions, makes the log, and tells how the program began. Runs before
+ * main, or at the first recorded call, which may come before. */
+void recorder_start(void);
+
+/* Puts the calling thread's first records: its priority and its name. */
+void thread_introduce(void);
+
+/* Makes the key whose destructor tells of a thread's end. */
+void thread_make_key(void);
+
+/* Has forks recorded. */
+void processes_start(void);
+
+/* Tells of the modules that are loaded, but for those of which it told before. */
+void modules_tell(void);
+
+/* Returns whether the calling thread's call is to be recorded. */
+static inline bool is_recorded(void) {
+    bool is_ready = atomic_load_explicit(&recorder_is_ready, memory_order_acquire);
+    if (__builtin_expect(!is_ready, 0)) recorder_start();
+    if (__builtin_expect(!log_header || log_cursor.depth, 0)) return false;
+    if (__builtin_expect(!log_cursor.is_introduced, 0)) thread_introduce();
+    return true;
+}
+
+#endif
