@@ -184,7 +184,7 @@ EXPORT int pthread_mutex_setprioceiling(pthread_mutex_t *mutex, int ceiling, int
     if (!is_recorded()) return real.mutex_setprioceiling(mutex, ceiling, old);
     int error = real.mutex_setprioceiling(mutex, ceiling, old);
     if (error) return error;
-    unsigned detail = inner_detail(mutex) & 0xff;
+    unsigned detail = (inner_detail(mutex) & 0xffu) | DETAIL_KNOWN | DETAIL_PROTECT;
     log_put((struct record){ .event = EVENT_CEILING,
                              .object = (uintptr_t)mutex,
                              .detail = (uint16_t)(detail | ((unsigned)ceiling & 127) << 8),

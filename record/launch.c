@@ -1,0 +1,184 @@
+/* pim-launch LIBRARY PROGRAM [ARGUMENT..]: runs the program with the library preloaded, or says in
+ * one line why it can't be recorded, and runs nothing. pim-record calls it. */
+#define _GNU_SOURCE
+#include <dlfcn.h>
+#include <elf.h>
+#include <errno.h>
+#include <fcntl.h>
+#include <limits.h>
+#include <link.h>
+#include <stdbool.h>
+#include <stddef.h>
+#include <stdio.h>
+#include <stdlib.h>
+#include <string.h>
+#include <sys/stat.h>
+#include <sys/xattr.h>
+#include <unistd.h>
+
+enum { FAULT = 2, NOT_RUNNABLE = 126, NOT_FOUND = 127, MOST_SCRIPTS = 5, LINE_BYTES = 256 };
+
+static _Noreturn void refuse(int status, const char *program, const char *why) {
+    fprintf(stderr, "pim-record: %s: %s; nothing was run\n", program, why);
+    exit(status);
+}
+
+/* ---- the file of a program ---- */
+
+static bool is_program(const char *path) {
+    struct stat found;
+    return stat(path, &found) == 0 && S_ISREG(found.st_mode) && access(path, X_OK) == 0;
+}
+
+/* Puts the path by which execvp finds the program; an empty folder of PATH is the current one. */
+static void look_up(const char *program, char path[PATH_MAX]) {
+    struct stat found;
+    bool is_there = false;
+    const char *folders = getenv("PATH");
+    if (strchr(program, '/'))
+        folders = NULL;
+    else if (!folders)
+        folders = "/bin:/usr/bin";
+    snprintf(path, PATH_MAX, "%s", program);
+    if (!folders && is_program(path)) return;
+    if (!folders) is_there = stat(path, &found) == 0;
+    for (const char *at = folders, *end; at; at = *end ? end + 1 : NULL) {
+        end = strchrnul(at, ':');
+        int length = (int)(end - at);
+        int bytes = snprintf(path, PATH_MAX, "%.*s%s%s", length, at, length ? "/" : "", program);
+        if (*program == '\0' || bytes >= PATH_MAX) continue;
+        if (is_program(path)) return;
+        is_there = is_there || (stat(path, &found) == 0 && S_ISREG(found.st_mode));
+    }
+    if (is_there) refuse(NOT_RUNNABLE, program, "it can't be run");
+    refuse(NOT_FOUND, program, "it isn't there");
+}
+
+/* Reads up to `bytes` of the file at an offset. Returns how many. */
+static size_t read_at(int file, void *into, size_t bytes, off_t offset) {
+    ssize_t length = pread(file, into, bytes, offset);
+    return length < 0 ? 0 : (size_t)length;
+}
+
+/* Puts the path of the loader that a dynamic program of this machine names. Returns false where
+ * there is none. */
+static bool read_loader(int file, char loader[PATH_MAX]) {
+    ElfW(Ehdr) head;
+    ElfW(Phdr) part;
+    if (read_at(file, &head, sizeof head, 0) != sizeof head) return false;
+    for (unsigned i = 0; i < head.e_phnum; i++) {
+        off_t offset = (off_t)(head.e_phoff + i * head.e_phentsize);
+        if (read_at(file, &part, sizeof part, offset) != sizeof part) return false;
+        if (part.p_type != PT_INTERP || part.p_filesz > PATH_MAX) continue;
+        return read_at(file, loader, part.p_filesz, (off_t)part.p_offset) == part.p_filesz &&
+               part.p_filesz > 0 && loader[part.p_filesz - 1] == '\0';
+    }
+    return false;
+}
+
+static bool is_same_file(const char *path, const char *other) {
+    struct stat a, b;
+    bool are_there = stat(path, &a) == 0 && stat(other, &b) == 0;
+    return are_there && a.st_dev == b.st_dev && a.st_ino == b.st_ino;
+}
+
+/* ---- what can't be recorded ---- */
+
+/* The loader preloads nothing into a program that gains rights by its file. */
+static void refuse_rights(const char *program, int file) {
+    struct stat found;
+    if (fstat(file, &found) != 0) refuse(FAULT, program, strerror(errno));
+    bool is_setuid = found.st_mode & S_ISUID && found.st_uid != getuid();
+    bool is_setgid = found.st_mode & S_ISGID && found.st_gid != getgid();
+    if (is_setuid || is_setgid)
+        refuse(FAULT, program, "it is setuid or setgid, and can't be recorded");
+    if (getuid() != 0 && fgetxattr(file, "security.capability", NULL, 0) > 0)
+        refuse(FAULT, program, "its file has capabilities, and it can't be recorded");
+}
+
+static void refuse_binary(const char *program, int file) {
+    char loader[PATH_MAX], own_loader[PATH_MAX];
+    unsigned char own[EI_NIDENT + 4], its[EI_NIDENT + 4]; /* with the type and the machine */
+    int self = open("/proc/self/exe", O_RDONLY | O_CLOEXEC);
+    bool is_read = self >= 0 && read_at(self, own, sizeof own, 0) == sizeof own &&
+                   read_loader(self, own_loader) && read_at(file, its, sizeof its, 0) == sizeof its;
+    if (!is_read) refuse(FAULT, program, "it can't be read");
+    const void *own_machine = own + offsetof(ElfW(Ehdr), e_machine);
+    bool is_alike = own[EI_CLASS] == its[EI_CLASS] &&
+                    memcmp(own_machine, its + offsetof(ElfW(Ehdr), e_machine), 2) == 0;
+    if (!is_alike)
+        refuse(FAULT, program, "it is of another machine than the recorder, and can't be recorded");
+    if (!read_loader(file, loader)) refuse(FAULT, program, "it is static, and can't be recorded");
+    if (!is_same_file(loader, own_loader))
+        refuse(FAULT, program, "it has another C library than the recorder, and can't be recorded");
+    close(self);
+}
+
+/* Puts the interpreter of a script's first line. */
+static void read_interpreter(const char *line, char path[PATH_MAX]) {
+    line += 2 + strspn(line + 2, " \t");
+    snprintf(path, PATH_MAX, "%.*s", (int)strcspn(line, " \t\n"), line);
+}
+
+/* Ends the process where the program, or the interpreter of a script, can't be recorded. What is
+ * neither a binary nor a script is the shell's. */
+static void refuse_unrecordable(const char *program, char path[PATH_MAX]) {
+    char line[LINE_BYTES];
+    for (int depth = 0; depth < MOST_SCRIPTS; depth++) {
+        int file = open(path, O_RDONLY | O_CLOEXEC);
+        if (file < 0)
+            refuse(FAULT, program, "it can't be read, so it isn't known whether it can be recorded");
+        size_t length = read_at(file, line, sizeof line - 1, 0);
+        line[length] = '\0';
+        bool is_binary = length >= SELFMAG && memcmp(line, ELFMAG, SELFMAG) == 0;
+        if (is_binary) refuse_rights(program, file);
+        if (is_binary) refuse_binary(program, file);
+        close(file);
+        if (is_binary) return;
+        if (memcmp(line, "#!", 2) == 0)
+            read_interpreter(line, path);
+        else
+            snprintf(path, PATH_MAX, "/bin/sh");
+    }
+    refuse(NOT_RUNNABLE, program, "too many interpreters, one of the other");
+}
+
+/* ---- main ---- */
+
+/* Loads the library once here, where it does nothing: the same loader loads it in the program. */
+static void refuse_library(const char *library) {
+    unsetenv("PIM_RECORD");
+    if (strpbrk(library, " :"))
+        refuse(FAULT, library, "the loader takes no path with a space or a colon");
+    if (dlopen(library, RTLD_NOW)) return;
+    fprintf(stderr, "pim-record: the library can't be loaded: %s; nothing was run\n", dlerror());
+    exit(FAULT);
+}
+
+static void preload(const char *library, const char *log) {
+    const char *others = getenv("LD_PRELOAD");
+    char *value = NULL;
+    if (!others) others = "";
+    int length = asprintf(&value, "%s%s%s", library, *others ? " " : "", others);
+    if (length < 0 || setenv("LD_PRELOAD", value, 1) != 0 || setenv("PIM_RECORD", log, 1) != 0)
+        refuse(FAULT, library, strerror(ENOMEM));
+    free(value);
+}
+
+int main(int count, char **arguments) {
+    char path[PATH_MAX];
+    const char *log = getenv("PIM_RECORD");
+    if (count < 3 || !log) {
+        fprintf(stderr, "pim-launch: pim-record calls it\n");
+        return FAULT;
+    }
+    char *name = strdup(log);
+    if (!name) return FAULT;
+    refuse_library(arguments[1]);
+    look_up(arguments[2], path);
+    refuse_unrecordable(arguments[2], path);
+    preload(arguments[1], name);
+    execvp(arguments[2], arguments + 2);
+    int status = errno == ENOENT ? NOT_FOUND : NOT_RUNNABLE;
+    refuse(status, arguments[2], strerror(errno));
+}
