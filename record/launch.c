@@ -127,7 +127,7 @@ static void refuse_unrecordable(const char *program, char path[PATH_MAX]) {
     for (int depth = 0; depth < MOST_SCRIPTS; depth++) {
         int file = open(path, O_RDONLY | O_CLOEXEC);
         if (file < 0)
-            refuse(FAULT, program, "it can't be read, so it isn't known whether it can be recorded");
+            refuse(FAULT, program, "it can't be read, so nothing says whether it can be recorded");
         size_t length = read_at(file, line, sizeof line - 1, 0);
         line[length] = '\0';
         bool is_binary = length >= SELFMAG && memcmp(line, ELFMAG, SELFMAG) == 0;

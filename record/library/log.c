@@ -175,21 +175,23 @@ void log_lose(void) {
 
 /* ---- texts ---- */
 
-static void put_part(const char *text, size_t length) {
-    struct text_record *record = (struct text_record *)log_begin();
+static void write_part(const char *text, size_t length) {
+    struct text_record *record = (struct text_record *)log_room();
     if (!record) return;
     memcpy(record->text, text, length);
     record->event = EVENT_TEXT;
     record->length = (uint8_t)length;
-    log_finish((struct record *)record);
+    log_number((struct record *)record);
 }
 
 void log_put_text(enum event event, uint64_t object, const char *text, size_t most) {
     size_t length = strnlen(text, most < LONGEST_TEXT ? most : LONGEST_TEXT);
-    log_put((struct record){ .event = (uint8_t)event,
-                             .object = object,
-                             .value = (uint32_t)length,
-                             .time = log_time() });
+    if (!log_begin()) return;
+    log_write((struct record){ .event = (uint8_t)event,
+                               .object = object,
+                               .value = (uint32_t)length,
+                               .time = log_time() });
     for (size_t at = 0; at < length; at += TEXT_BYTES)
-        put_part(text + at, length - at < TEXT_BYTES ? length - at : TEXT_BYTES);
+        write_part(text + at, length - at < TEXT_BYTES ? length - at : TEXT_BYTES);
+    log_end();
 }

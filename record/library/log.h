@@ -166,39 +166,67 @@ static inline void log_leave_out(void) {
     atomic_fetch_add_explicit(&log_header->left_out, 1, memory_order_relaxed);
 }
 
-/* Returns the place of the thread's next record, which log_finish numbers, or NULL where there is
- * none. A signal's handler that interrupts the writing of a record isn't recorded, but counted. */
-static inline struct record *log_begin(void) {
+/* Begins the writing of one or more records that belong together. A signal's handler that
+ * interrupts it isn't recorded, but counted: then this returns false. */
+static inline bool log_begin(void) {
     if (__builtin_expect(log_cursor.is_writing, 0)) {
         log_leave_out();
-        return NULL;
+        return false;
     }
     log_cursor.is_writing = true;
+    return true;
+}
+
+static inline void log_end(void) {
+    log_cursor.is_writing = false;
+}
+
+/* Returns the place of the thread's next record, or NULL where there is no room. */
+static inline struct record *log_room(void) {
     if (__builtin_expect(log_cursor.next == log_cursor.end, 0) && !log_open_chunk()) {
         log_lose();
-        log_cursor.is_writing = false;
         return NULL;
     }
     return log_cursor.next++;
 }
 
-static inline void log_finish(struct record *record) {
+/* Gives a record, which is filled by then, its number. */
+static inline uint64_t log_number(struct record *record) {
     uint64_t number =
         atomic_fetch_add_explicit(&log_header->next_number, 1, memory_order_relaxed);
     atomic_store_explicit(&record->number, number, memory_order_release);
-    log_cursor.is_writing = false;
+    return number;
 }
 
-static inline void log_put(struct record filled) {
-    struct record *record = log_begin();
-    if (!record) return;
+/* Writes a record between log_begin and log_end. Returns its number, or 0 where it is lost. */
+static inline uint64_t log_write(struct record filled) {
+    struct record *record = log_room();
+    if (!record) return 0;
     record->time = filled.time;
     record->object = filled.object;
     record->value = filled.value;
     record->detail = filled.detail;
     record->event = filled.event;
     record->how = filled.how;
-    log_finish(record);
+    return log_number(record);
+}
+
+/* Puts a record of now. The time is read once no handler can come before the record, so that the
+ * times of a thread don't descend. */
+static inline void log_put(struct record filled) {
+    if (!log_begin()) return;
+    filled.time = log_time();
+    log_write(filled);
+    log_end();
+}
+
+/* Puts two records of now, of which the second follows the first. */
+static inline void log_put_both(struct record first, struct record second) {
+    if (!log_begin()) return;
+    first.time = second.time = log_time();
+    log_write(first);
+    log_write(second);
+    log_end();
 }
 
 #endif

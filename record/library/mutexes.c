@@ -8,23 +8,18 @@ static uint32_t saturated(uint64_t nanoseconds) {
     return nanoseconds > UINT32_MAX ? UINT32_MAX : (uint32_t)nanoseconds;
 }
 
-/* Puts a record of a mutex whose detail can be read. */
-static void put(enum event event, unsigned how, const pthread_mutex_t *mutex, uint64_t time,
-                uint32_t value) {
-    log_put((struct record){ .event = (uint8_t)event,
-                             .how = (uint8_t)how,
-                             .object = (uintptr_t)mutex,
-                             .detail = inner_detail(mutex),
-                             .value = value,
-                             .time = time });
+/* Returns a record of a mutex whose detail can be read. */
+static struct record of_mutex(enum event event, unsigned how, const pthread_mutex_t *mutex) {
+    return (struct record){ .event = (uint8_t)event,
+                            .how = (uint8_t)how,
+                            .object = (uintptr_t)mutex,
+                            .detail = inner_detail(mutex) };
 }
 
-/* Puts a record of a mutex that may be gone, so that it isn't read. */
-static void put_unread(enum event event, unsigned how, const pthread_mutex_t *mutex) {
-    log_put((struct record){ .event = (uint8_t)event,
-                             .how = (uint8_t)how,
-                             .object = (uintptr_t)mutex,
-                             .time = log_time() });
+/* Returns a record of a mutex that may be gone, so that it isn't read. */
+static struct record of_address(enum event event, unsigned how, const pthread_mutex_t *mutex) {
+    return (struct record){
+        .event = (uint8_t)event, .how = (uint8_t)how, .object = (uintptr_t)mutex };
 }
 
 /* ---- lock ---- */
@@ -33,25 +28,41 @@ static bool locks_again(const pthread_mutex_t *mutex, uint32_t owner) {
     return (inner_detail(mutex) & DETAIL_TYPE) == DETAIL_RECURSIVE && owner == log_cursor.task;
 }
 
+static void put_request(const pthread_mutex_t *mutex, enum call call, uint32_t owner,
+                        uint64_t *time) {
+    struct record record = of_mutex(EVENT_REQUEST, call, mutex);
+    if (!log_begin()) return;
+    record.value = owner;
+    record.time = *time = log_time();
+    log_write(record);
+    log_end();
+}
+
 /* Puts a REQUEST where the mutex is owned, but by the thread itself if it may lock again. Returns
  * when the call began. */
 static uint64_t request(const pthread_mutex_t *mutex, enum call call) {
-    uint64_t now = log_time();
+    uint64_t began = log_time();
     if (!(inner_known & KNOWN_OWNER)) {
         log_leave_out();
     } else if (inner_is_owned(mutex)) {
         uint32_t owner = inner_owner(mutex);
-        if (!locks_again(mutex, owner)) put(EVENT_REQUEST, call, mutex, now, owner);
+        if (!locks_again(mutex, owner)) put_request(mutex, call, owner, &began);
     }
-    return now;
+    return began;
 }
 
+/* Puts what the call was answered, and how long it took. Returns the answer. A mutex that wasn't
+ * granted may be gone. */
 static int answer(const pthread_mutex_t *mutex, enum call call, uint64_t began, int error) {
-    uint64_t now = log_time();
-    if (error == 0 || error == EOWNERDEAD)
-        put(EVENT_GRANTED, call | (error ? OWNER_DIED : 0), mutex, now, saturated(now - began));
-    else
-        put(EVENT_FAILED, (unsigned)error, mutex, now, saturated(now - began));
+    bool is_granted = error == 0 || error == EOWNERDEAD;
+    struct record record = is_granted ? of_mutex(EVENT_GRANTED, call, mutex)
+                                      : of_address(EVENT_FAILED, (unsigned)error, mutex);
+    if (error == EOWNERDEAD) record.how |= OWNER_DIED;
+    if (!log_begin()) return error;
+    record.time = log_time();
+    record.value = saturated(record.time - began);
+    log_write(record);
+    log_end();
     return error;
 }
 
@@ -86,32 +97,30 @@ EXPORT int pthread_mutex_trylock(pthread_mutex_t *mutex) {
  * after that. */
 EXPORT int pthread_mutex_unlock(pthread_mutex_t *mutex) {
     if (!is_recorded()) return real.mutex_unlock(mutex);
-    put(EVENT_RELEASE, CALL_LOCK, mutex, log_time(), 0);
+    log_put(of_mutex(EVENT_RELEASE, CALL_LOCK, mutex));
     int error = real.mutex_unlock(mutex);
-    if (error) put_unread(EVENT_RELEASE_FAILED, (unsigned)error, mutex);
+    if (error) log_put(of_address(EVENT_RELEASE_FAILED, (unsigned)error, mutex));
     return error;
 }
 
 /* ---- condition variables ---- */
 
 static void release_to_wait(const pthread_cond_t *condition, const pthread_mutex_t *mutex) {
-    uint64_t now = log_time();
-    log_put((struct record){
-        .event = EVENT_CONDITION, .object = (uintptr_t)condition, .time = now });
-    put(EVENT_RELEASE, CALL_CONDITION, mutex, now, 0);
+    struct record wait = { .event = EVENT_CONDITION, .object = (uintptr_t)condition };
+    log_put_both(wait, of_mutex(EVENT_RELEASE, CALL_CONDITION, mutex));
 }
 
 /* The mutex is relocked but after an error that comes before the wait, when it wasn't released, or
  * where its state can't be recovered. */
 static int relocked(const pthread_mutex_t *mutex, int error) {
     if (error == 0 || error == ETIMEDOUT)
-        put(EVENT_GRANTED, CALL_CONDITION, mutex, log_time(), 0);
+        log_put(of_mutex(EVENT_GRANTED, CALL_CONDITION, mutex));
     else if (error == EOWNERDEAD)
-        put(EVENT_GRANTED, CALL_CONDITION | OWNER_DIED, mutex, log_time(), 0);
+        log_put(of_mutex(EVENT_GRANTED, CALL_CONDITION | OWNER_DIED, mutex));
     else if (error == ENOTRECOVERABLE)
-        put_unread(EVENT_FAILED, (unsigned)error, mutex);
+        log_put(of_address(EVENT_FAILED, (unsigned)error, mutex));
     else
-        put_unread(EVENT_RELEASE_FAILED, (unsigned)error, mutex);
+        log_put(of_address(EVENT_RELEASE_FAILED, (unsigned)error, mutex));
     return error;
 }
 
@@ -154,40 +163,33 @@ EXPORT int pthread_cond_clockwait(pthread_cond_t *condition, pthread_mutex_t *mu
 
 /* ---- init, destroy, ceiling ---- */
 
-static void put_place(const void *place) {
-    log_put((struct record){
-        .event = EVENT_PLACE, .object = (uintptr_t)place, .time = log_time() });
-}
-
 EXPORT int pthread_mutex_init(pthread_mutex_t *mutex, const pthread_mutexattr_t *attributes) {
     bool is_told = is_recorded();
     int error = real.mutex_init(mutex, attributes);
     if (error || !is_told) return error;
-    log_put((struct record){ .event = EVENT_INIT,
-                             .object = (uintptr_t)mutex,
-                             .detail = inner_detail_of_attributes(attributes),
-                             .time = log_time() });
-    put_place(__builtin_return_address(0));
+    struct record init = of_address(EVENT_INIT, 0, mutex);
+    init.detail = inner_detail_of_attributes(attributes);
+    uintptr_t caller = (uintptr_t)__builtin_return_address(0);
+    log_put_both(init, (struct record){ .event = EVENT_PLACE, .object = caller });
     return 0;
 }
 
 /* The memory of a destroyed mutex may be another's at once, so the record comes before. */
 EXPORT int pthread_mutex_destroy(pthread_mutex_t *mutex) {
     if (!is_recorded()) return real.mutex_destroy(mutex);
-    put_unread(EVENT_DESTROY, 0, mutex);
+    log_put(of_address(EVENT_DESTROY, 0, mutex));
     int error = real.mutex_destroy(mutex);
-    if (error) put_unread(EVENT_DESTROY_FAILED, (unsigned)error, mutex);
+    if (error) log_put(of_address(EVENT_DESTROY_FAILED, (unsigned)error, mutex));
     return error;
 }
 
 EXPORT int pthread_mutex_setprioceiling(pthread_mutex_t *mutex, int ceiling, int *old) {
     if (!is_recorded()) return real.mutex_setprioceiling(mutex, ceiling, old);
+    struct record record = of_mutex(EVENT_CEILING, 0, mutex);
     int error = real.mutex_setprioceiling(mutex, ceiling, old);
     if (error) return error;
-    unsigned detail = (inner_detail(mutex) & 0xffu) | DETAIL_KNOWN | DETAIL_PROTECT;
-    log_put((struct record){ .event = EVENT_CEILING,
-                             .object = (uintptr_t)mutex,
-                             .detail = (uint16_t)(detail | ((unsigned)ceiling & 127) << 8),
-                             .time = log_time() });
+    unsigned detail = (record.detail & 0xffu) | DETAIL_KNOWN | DETAIL_PROTECT;
+    record.detail = (uint16_t)(detail | ((unsigned)ceiling & 127) << 8);
+    log_put(record);
     return 0;
 }

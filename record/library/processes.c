@@ -15,14 +15,11 @@ static uint32_t fork_thread;
 
 /* Runs after the program's own handlers, so what the thread owns by then the child owns, too. */
 static void before_fork(void) {
-    if (!is_recorded()) return;
-    struct record *record = log_begin();
-    if (!record) return;
-    record->event = EVENT_FORK;
-    record->time = log_time();
-    log_finish(record);
-    fork_number = atomic_load_explicit(&record->number, memory_order_relaxed);
+    fork_number = 0;
+    if (!is_recorded() || !log_begin()) return;
+    fork_number = log_write((struct record){ .event = EVENT_FORK, .time = log_time() });
     fork_thread = log_cursor.thread;
+    log_end();
 }
 
 /* The child goes on in the same file, in chunks of its own. */
@@ -33,8 +30,7 @@ static void in_child(void) {
     thread_introduce();
     log_put((struct record){ .event = EVENT_CHILD,
                              .object = fork_number,
-                             .value = fork_thread,
-                             .time = log_time() });
+                             .value = fork_thread });
 }
 
 void processes_start(void) {
@@ -63,8 +59,7 @@ static bool begin_exec(const char *path) {
 static int exec_failed(bool is_told, int result) {
     int error = errno;
     if (is_told)
-        log_put((struct record){
-            .event = EVENT_EXEC_FAILED, .how = (uint8_t)error, .time = log_time() });
+        log_put((struct record){ .event = EVENT_EXEC_FAILED, .how = (uint8_t)error });
     errno = error;
     return result;
 }
@@ -150,8 +145,7 @@ EXPORT int execle(const char *path, const char *first, ...) {
 static void put_end(bool is_status_known, int status) {
     log_put((struct record){ .event = EVENT_END,
                              .how = is_status_known,
-                             .value = (uint32_t)status & 0xff,
-                             .time = log_time() });
+                             .value = (uint32_t)status & 0xff });
 }
 
 EXPORT _Noreturn void _exit(int status) {

@@ -1,4 +1,4 @@
-/* The C library's own functions, which the recorder's functions of the same names call once each. */
+/* The C library's own functions. The recorder's of the same names call each of them once. */
 #ifndef PIM_REAL_H
 #define PIM_REAL_H
 

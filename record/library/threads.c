@@ -33,8 +33,7 @@ void thread_introduce(void) {
     prctl(PR_GET_NAME, name);
     log_put((struct record){ .event = EVENT_THREAD,
                              .object = (uint64_t)pthread_self(),
-                             .detail = detail_of_priority(policy, param.sched_priority),
-                             .time = log_time() });
+                             .detail = detail_of_priority(policy, param.sched_priority) });
     log_put_text(EVENT_NAME, (uint64_t)pthread_self(), name, NAME_BYTES - 1);
     if (has_exit_key) pthread_setspecific(exit_key, &log_cursor);
     log_cursor.depth--;
@@ -47,7 +46,7 @@ static void ends(void *unused) {
     if (++log_cursor.exits < PTHREAD_DESTRUCTOR_ITERATIONS)
         pthread_setspecific(exit_key, &log_cursor);
     else
-        log_put((struct record){ .event = EVENT_EXIT, .time = log_time() });
+        log_put((struct record){ .event = EVENT_EXIT });
 }
 
 void thread_make_key(void) {
@@ -72,12 +71,10 @@ EXPORT int pthread_create(pthread_t *thread, const pthread_attr_t *attributes,
     bool is_told = is_recorded();
     int error = real.create(thread, attributes, start, argument);
     if (error || !is_told) return error;
-    log_put((struct record){ .event = EVENT_CREATE,
+    struct record create = { .event = EVENT_CREATE,
                              .object = (uint64_t)*thread,
-                             .detail = detail_of_attributes(attributes),
-                             .time = log_time() });
-    log_put((struct record){
-        .event = EVENT_PLACE, .object = (uintptr_t)start, .time = log_time() });
+                             .detail = detail_of_attributes(attributes) };
+    log_put_both(create, (struct record){ .event = EVENT_PLACE, .object = (uintptr_t)start });
     return 0;
 }
 
@@ -114,8 +111,7 @@ static void put_priority(uint64_t target, uint32_t task, int policy, int priorit
     log_put((struct record){ .event = EVENT_PRIORITY,
                              .object = target,
                              .value = task,
-                             .detail = detail_of_priority(policy, priority),
-                             .time = log_time() });
+                             .detail = detail_of_priority(policy, priority) });
 }
 
 EXPORT int pthread_setschedparam(pthread_t thread, int policy, const struct sched_param *param) {

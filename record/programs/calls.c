@@ -1,4 +1,4 @@
-/* Each recorded call once, of one thread alone, with what it answers; and errno stays what it was. */
+/* Each recorded call, by one thread, with what it returns; and errno stays what it was. */
 #define _GNU_SOURCE
 #include "common.h"
 

@@ -1,5 +1,5 @@
-/* A chain of three, on one CPU: high (30) waits for B of middle (20), which waits for A of low (10).
- * All mutexes are INHERIT, so low runs at 30 until it unlocks A. */
+/* A chain of three, on one CPU: high (30) waits for B of middle (20), which waits for A of low
+ * (10). All mutexes are INHERIT, so low runs at 30 until it unlocks A. */
 #define _GNU_SOURCE
 #include "common.h"
 

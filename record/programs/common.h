@@ -1,4 +1,4 @@
-/* What the programs share: threads at a priority, mutexes of a protocol, and errors that end them. */
+/* What the programs share: threads at a priority, mutexes of a protocol, errors that end them. */
 #ifndef COMMON_H
 #define COMMON_H
 

@@ -19,7 +19,8 @@ static int run(const char *how, const char *path) {
     if (!strcmp(how, "execvpe")) return execvpe(path, arguments, environ);
     if (!strcmp(how, "execl")) return execl(path, "executes", "--seen", how, (char *)NULL);
     if (!strcmp(how, "execlp")) return execlp(path, "executes", "--seen", how, (char *)NULL);
-    if (!strcmp(how, "execle")) return execle(path, "executes", "--seen", how, (char *)NULL, environ);
+    if (!strcmp(how, "execle"))
+        return execle(path, "executes", "--seen", how, (char *)NULL, environ);
     if (!strcmp(how, "fexecve")) return fexecve(open(path, O_RDONLY), arguments, environ);
     return execveat(AT_FDCWD, path, arguments, environ, 0);
 }

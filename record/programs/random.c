@@ -1,5 +1,5 @@
-/* random [SEED] [STEPS]: eight threads with six INHERIT mutexes, nested in ascending order, by lock,
- * trylock and timedlock. With the right to SCHED_FIFO they set each other's priorities, too. */
+/* random [SEED] [STEPS]: eight threads with six INHERIT mutexes, nested in ascending order, by
+ * lock, trylock and timedlock. With the right to SCHED_FIFO they set each other's priorities. */
 #define _GNU_SOURCE
 #include "common.h"
 
