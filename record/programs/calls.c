@@ -101,6 +101,7 @@ static void priorities(void) {
 }
 
 int main(void) {
+    expect(errno, 0, "errno at the start");
     locks();
     types();
     inits();
