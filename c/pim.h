@@ -38,6 +38,28 @@
  * mutex that is handed over counts 1, and pim_release_all unlocks one wholly, whatever its count.
  *
  *
+ * In which order an answer is done
+ *
+ * A step changes what the manager knows. The caller then does four things, in this order, and no
+ * other step is made until it has done them:
+ *
+ *   1. It wakes each task that was handed a mutex or was withdrawn: PIM_HANDED, PIM_RELEASED,
+ *      PIM_WITHDRAWN.
+ *   2. It gives each task of pim_changed its new priority, except the task that made the step.
+ *   3. It gives the task that made the step its own new priority.
+ *   4. It blocks the task that made the step, if the answer is PIM_QUEUED.
+ *
+ * The reason: in a thread library a new priority takes effect immediately, and a task that lowers
+ * itself may be preempted at that moment. If it has not woken the new owner yet, a task of medium
+ * priority runs as long as it likes, and the new owner, of high priority, stays blocked. That is the
+ * inversion that the mutex was to prevent.
+ *
+ * The order alone is not enough, since the new owner needs the lock that orders the calls. That lock
+ * has to inherit priorities (PTHREAD_PRIO_INHERIT) or have the highest ceiling: then a task that is
+ * preempted while it holds the lock goes on. A kernel that can't be preempted between the step and
+ * the end of 4 is safe in any order.
+ *
+ *
  * What the caller must keep
  *
  *   - h points to a struct pim_handle that was PIM_HANDLE_INIT, and that since then was passed to
@@ -45,7 +67,7 @@
  *     written.
  *   - One call at a time on one handle, and none from a signal or interrupt handler that may come
  *     in the middle of another. What orders the calls, a lock or disabled interrupts, is the
- *     caller's. Two handles share nothing.
+ *     caller's, and lasts until the answer is done. Two handles share nothing.
  *   - A pointer that comes with a count points to that many items, is aligned, isn't null even
  *     where the count is 0, and overlaps no other memory of the call.
  *   - There are PIM_STACK bytes of stack.

@@ -2,12 +2,17 @@
  * those with INHERIT may be recursive.
  *
  * A small thread library's mutex: libpim decides, and this file turns its answers into blocking,
- * waking and priorities. A thread has a number, and so has a mutex. One lock of the C library
- * stands around each call of libpim; no thread holds it while it owns a mutex of this file.
+ * waking and priorities. A thread has a number, and so has a mutex. One mutex of the C library,
+ * the guard, is held around each call of libpim and until its answer is done; no thread holds it
+ * while it works with a mutex of this file.
+ *
+ * A thread that lowers itself may be preempted at that moment. Two things keep a thread of medium
+ * priority from delaying a higher one then: an unlock wakes the new owner before any priority is
+ * lowered, and the guard inherits priorities.
  *
  * Where the process may, each thread runs under SCHED_FIFO at its effective priority. Elsewhere
- * priorities are only told, by pi_priority: the answers are the same, and the threads run as the
- * system likes. */
+ * pi_priority only reports priorities: the answers are the same, and the threads run as the system
+ * schedules them. */
 #ifndef PI_MUTEX_H
 #define PI_MUTEX_H
 
@@ -17,8 +22,8 @@
 #include <time.h>
 
 /* Makes the mutexes and the numbers of the threads: thread t has the base priority bases[t - 1].
- * Returns 0, or ENOMEM, or EINVAL where pim_make refuses the numbers. The functions below are for
- * after that. */
+ * Returns 0, or ENOMEM, or EINVAL where pim_make refuses the numbers, or ENOTSUP where the system has
+ * no mutexes that inherit. The functions below are for after that. */
 int pi_start(const uint16_t *bases, size_t threads, const struct pim_protocol *protocols, size_t mutexes);
 
 /* Frees everything. No thread may be in a function of this file. */
@@ -45,8 +50,8 @@ uint16_t pi_priority(uint16_t thread);
 /* Returns whether the thread waits for a mutex. */
 bool pi_is_waiting(uint16_t thread);
 
-/* Returns whether the system runs the threads at their priorities, which is told from the first
- * pi_register on. */
+/* Returns whether the system runs the threads at their priorities; false before the first
+ * pi_register. */
 bool pi_is_scheduled(void);
 
 #endif
