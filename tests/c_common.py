@@ -1,0 +1,51 @@
+"""What the checks of libpim share: its files, and runs of compilers and programs."""
+import os
+import subprocess
+
+from checks import ROOT, check, difference
+
+C, CRATE = ROOT / "c", ROOT / "crates/pim_c"
+OUT = C / "out"
+HEADER = (C / "pim.h").read_text()
+README = (C / "README.md").read_text()
+
+
+def run(*command, text=None, **settings):
+    """Returns status and standard output of a run, with standard error where the status isn't 0."""
+    try:
+        done = subprocess.run([str(word) for word in command], input=text, capture_output=True, timeout=120, **settings)
+    except subprocess.TimeoutExpired:
+        return 124, b"it did not end in 120 seconds"
+    return done.returncode, done.stdout + (done.stderr if done.returncode else b"")
+
+
+def said(out):
+    """Returns the end of an output as text, for the reason of a failure."""
+    return out.decode(errors="replace").strip()[-300:]
+
+
+def skip(name, why):
+    print(f"skip {name}: {why}", flush=True)
+
+
+def expect(name, got, out=b""):
+    check(name, difference(got, (0, out)))
+
+
+def passes(name, *command):
+    """Checks that a command ends with status 0, and adds what it prints to the line of the check."""
+    status, out = run(*command)
+    if status:
+        check(name, said(out) or f"status {status}")
+    else:
+        check(f"{name}: {said(out)}" if said(out) else name)
+
+
+def c_compiled(folder, name, *sources, flags=("-O2",)):
+    """Returns the path of what cc makes of C files with libpim, or None where it refuses them."""
+    made = os.path.join(folder, name)
+    command = ["cc", f"-I{C}", "-std=c11", "-Wall", "-Wextra", "-Werror", *flags]
+    status, out = run(*command, *sources, OUT / "libpim.a", "-o", made)
+    if status:
+        check(f"{name} is compiled", said(out))
+    return None if status else made

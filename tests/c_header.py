@@ -1,0 +1,105 @@
+"""Checks that c/pim.h says the numbers, layouts and functions of the Rattle types."""
+import re
+import shutil
+
+from c_common import C, CRATE, HEADER, run
+from checks import ROOT, check, difference
+
+STRUCTS = {"Handle": "pim_handle", "CProtocol": "pim_protocol", "CAnswer": "pim_answer", "CReason": "pim_reason",
+           "CWaiter": "pim_waiter", "CChangedTask": "pim_changed_task"}
+TYPES = {"u8": "uint8_t", "u16": "uint16_t", "u32": "uint32_t", "u64": "uint64_t", "usize": "size_t",
+         "*mut u8": "void *", **{name: f"struct {c}" for name, c in STRUCTS.items()}}
+
+
+def sources():
+    return {path.name: path.read_text() for path in (CRATE / "src").glob("*.rt")}
+
+
+def constants(text):
+    return {name: int(value) for name, value in re.findall(r"pub const ([A-Z_]+): \w+ = (\d+);", text)}
+
+
+def fields(texts, name):
+    """Returns the fields of a repr(C) struct, but for those that take no bytes."""
+    body = re.search(r"#\[repr\(C\)\][^}]*?pub struct " + name + r" \{(.*?)\n\}", "\n".join(texts.values()), re.S)[1]
+    found = re.findall(r"^    (?:pub )?(\w+): ([^,]+),", body, re.M)
+    return [(field, TYPES[kind]) for field, kind in found if kind != "Global"]
+
+
+def numbers(folder):
+    """The header has the names and numbers of numbers.rt, and the limits, and no other names in its tables."""
+    wanted = constants(sources()["numbers.rt"])
+    in_tables = re.findall(r"^ *PIM_([A-Z_]+) = \d+", HEADER, re.M)
+    check("the header's tables", difference((set(in_tables) | {"UNKNOWN"},), (set(wanted),)))
+    limits = {"MAX_TASKS": 256, "MAX_MUTEXES": 256, "MAX_COUNT": 255}
+    limits_file = (ROOT / "crates/pim_base/src/limits.rt").read_text()
+    check("the limits", difference((limits,), ({k: constants(limits_file)[k] for k in limits},)))
+    tests = [f'_Static_assert(PIM_{name} == {number}, "{name}");' for name, number in {**wanted, **limits}.items()]
+    compiles("the header's numbers", folder, tests)
+
+
+def layouts(folder):
+    texts, tests = sources(), []
+    for name, c in STRUCTS.items():
+        found = fields(texts, name)
+        body = re.search(r"^struct " + c + r" \{(.*?)^\};", HEADER, re.S | re.M)[1]
+        in_header = [" ".join(line.split()) for line in re.findall(r"^    ([^;/]+);", body, re.M)]
+        in_rattle = [f"{kind} {field}".replace("* ", "*") for field, kind in found]
+        check(f"the fields of struct {c}", difference((in_header,), (in_rattle,)))
+        tests += laid_out(c, found)
+    compiles("the layouts of the structs", folder, tests)
+
+
+def laid_out(c, found):
+    """Returns tests of the offsets and the size that repr(C) gives to these fields."""
+    end_of_last, aligned, tests = "0", "1", []
+    for field, kind in found:
+        at = f"(({end_of_last} + _Alignof({kind}) - 1) / _Alignof({kind}) * _Alignof({kind}))"
+        tests.append(f'_Static_assert(offsetof(struct {c}, {field}) == {at}, "{c}.{field}");')
+        end_of_last = f"{at} + sizeof({kind})"
+        aligned = f"(_Alignof({kind}) > {aligned} ? _Alignof({kind}) : {aligned})"
+    size = f"({end_of_last} + {aligned} - 1) / {aligned} * {aligned}"
+    return [*tests, f'_Static_assert(sizeof(struct {c}) == {size}, "{c}");']
+
+
+def compiles(name, folder, tests):
+    source = f"{folder}/tests.c"
+    with open(source, "w") as file:
+        file.write("\n".join(['#include "pim.h"', *tests, ""]))
+    status, out = run("cc", f"-I{C}", "-std=c11", "-Wall", "-Wextra", "-Werror", "-pedantic", "-fsyntax-only", source)
+    check(name, None if status == 0 else out.decode()[:300])
+
+
+def languages(folder):
+    """The header is C99, C11 and C++ from C++98 on, by each compiler that is there."""
+    for compiler, standards in (("cc", ("c99", "c11")), ("clang", ("c99", "c11")), ("g++", ("c++98", "c++17", "c++20"))):
+        for standard in standards if shutil.which(compiler) else ():
+            source = f"{folder}/header.{'cpp' if '++' in standard else 'c'}"
+            with open(source, "w") as file:
+                file.write('#include "pim.h"\n#include "pim_heap.h"\nint main(void) { struct pim_handle h = PIM_HANDLE_INIT; return h.at != 0; }\n')
+            status, out = run(compiler, f"-I{C}", f"-std={standard}", "-Wall", "-Wextra", "-Werror", "-fsyntax-only", source)
+            check(f"the header by {compiler} as {standard}", None if status == 0 else out.decode()[:300])
+
+
+def signatures():
+    """Each export has the prototype that C needs for it, and each prototype an export."""
+    texts = "\n".join(sources().values())
+    exports = {}
+    for name, params, result in re.findall(r'pub extern "C" fn (\w+)\((.*?)\)(?: -> (\w+))?\s+ensures', texts, re.S):
+        types = [kind.strip() for kind in re.findall(r"\w+: ([^,]+)", params)]
+        exports[name] = [TYPES.get(result, "void")] + [c for kind in types if kind != "Global" for c in c_types(kind)]
+    prototypes = {}
+    for result, name, params in re.findall(r"^((?:struct )?\w+) (pim_\w+)\(([^()]*)\);", HEADER, re.M):
+        prototypes[name] = [result] + [re.sub(r"\w+$", "", param).strip() for param in re.split(r",\s+", params)]
+    check("the header's functions", difference((sorted(prototypes),), (sorted(exports),)))
+    for name in exports:
+        check(f"the prototype of {name}", difference((prototypes.get(name),), (exports[name],)))
+    return set(exports)
+
+
+def c_types(kind):
+    if kind == "&mut Handle":
+        return ["struct pim_handle *"]
+    if slice_of := re.fullmatch(r"&(mut )?\[(\w+)\]", kind):
+        return [f"{'' if slice_of[1] else 'const '}{TYPES[slice_of[2]]} *", "size_t"]
+    return [TYPES[kind]]
