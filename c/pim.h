@@ -194,7 +194,7 @@ enum {
 };
 
 /* Why a step is refused: the first of its tests that fails. In brackets the error that POSIX has
- * for the call. */
+ * for the call: pim_errno of pim_errno.h returns it, and pim_names.h has names as text. */
 enum {
     PIM_NO_TASK = 1,      /* the task or the target is unknown (ESRCH) */
     PIM_WAITING = 2,      /* the task waits, and the step isn't the withdrawal of itself */
@@ -207,7 +207,7 @@ enum {
     PIM_NOT_OWNER = 7,    /* the task doesn't own the mutex (EPERM) */
     PIM_NOT_WAITING = 8,  /* the target of a cancel doesn't wait */
     PIM_PRIORITY = 9,     /* the new base priority or the new ceiling isn't 1 to 99 (EINVAL) */
-    PIM_TICKETS = 10,     /* 2^64 - 2 waits were queued */
+    PIM_TICKETS = 10,     /* 2^64 - 2 waits were queued (EAGAIN) */
     PIM_NOT_PROTECT = 11, /* a new ceiling of a mutex that isn't a PROTECT one (EINVAL) */
     PIM_AGAIN = 12        /* the task has locked the recursive mutex PIM_MAX_COUNT times (EAGAIN) */
 };

@@ -6,13 +6,11 @@
  * step, and sees that what they say hangs together. Status 0 accepted, 1 rejected, 2 out of memory
  * or not a trace, 3 a getter is wrong. */
 #include "pim.h"
+#include "pim_names.h"
 
 #include <stdio.h>
 #include <stdlib.h>
 #include <string.h>
-
-static const char *const REPLIES[] = { "no-manager", "granted", "queued", "freed", "handed", "released", "withdrawn", "set", "refused", "kept" };
-static const char *const REFUSALS[] = { "", "no-task", "waiting", "no-mutex", "deadlock", "ceiling", "busy", "not-owner", "not-waiting", "priority", "tickets", "not-protect", "again" };
 
 static struct pim_handle locks = PIM_HANDLE_INIT;
 static uint16_t bases[PIM_MAX_TASKS + 1];
@@ -102,11 +100,11 @@ static void check_all(void) {
 
 static void print_answer(char *to, size_t room, struct pim_answer answer) {
     if (answer.kind == PIM_HANDED || answer.kind == PIM_RELEASED)
-        snprintf(to, room, "%s %u", REPLIES[answer.kind], (unsigned)answer.number);
+        snprintf(to, room, "%s %u", pim_answer_name(answer.kind), (unsigned)answer.number);
     else if (answer.kind == PIM_REFUSED)
-        snprintf(to, room, "refused %s", REFUSALS[answer.refusal]);
+        snprintf(to, room, "refused %s", pim_refusal_name(answer.refusal));
     else
-        snprintf(to, room, "%s", REPLIES[answer.kind]);
+        snprintf(to, room, "%s", pim_answer_name(answer.kind));
 }
 
 static void print_changes(void) {

@@ -1,8 +1,9 @@
-"""Checks that c/pim.h says the numbers, layouts and functions of the Rattle types."""
+"""Checks that the headers of c/ say the numbers, layouts and functions of the Rattle types."""
+import errno
 import re
 import shutil
 
-from c_common import C, CRATE, HEADER, run
+from c_common import C, CRATE, HEADER, c_compiled, expect, run
 from checks import ROOT, check, difference
 
 STRUCTS = {"Handle": "pim_handle", "CProtocol": "pim_protocol", "CAnswer": "pim_answer", "CReason": "pim_reason",
@@ -79,6 +80,37 @@ def languages(folder):
                 file.write('#include "pim.h"\n#include "pim_heap.h"\nint main(void) { struct pim_handle h = PIM_HANDLE_INIT; return h.at != 0; }\n')
             status, out = run(compiler, f"-I{C}", f"-std={standard}", "-Wall", "-Wextra", "-Werror", "-fsyntax-only", source)
             check(f"the header by {compiler} as {standard}", None if status == 0 else out.decode()[:300])
+
+
+def tables():
+    """Returns the numbers of the header's tables of answers and of refusals, with what is said of each."""
+    for first in ("PIM_NO_MANAGER", "PIM_NO_TASK"):
+        body = re.search(r"enum \{\s+" + first + r" = (.*?)\n\};", HEADER, re.S)[0]
+        yield re.findall(r"(PIM_[A-Z_]+) = \d+(.*?)(?=PIM_[A-Z_]+ = |\Z)", body, re.S)
+
+
+def names(folder):
+    """Each answer and refusal has its name as text, and each refusal the error number that pim.h has for it."""
+    answers, refusals = tables()
+    lines = [f'printf("%s\\n", pim_answer_name({name}));' for name, _ in answers]
+    lines += [f'printf("%s %d\\n", pim_refusal_name({name}), pim_errno({name}));' for name, _ in refusals]
+    lines += ['printf("%s %s %d %d\\n", pim_answer_name(255), pim_refusal_name(255), pim_errno(255), pim_errno(0));']
+    source = f"{folder}/names.c"
+    with open(source, "w") as file:
+        includes = '#include "pim_errno.h"\n#include "pim_names.h"\n#include <stdio.h>\n'
+        file.write(includes + "int main(void) {\n" + "\n".join(lines) + "\nreturn 0;\n}\n")
+    wanted = [spelled(name) for name, _ in answers]
+    for name, text in refusals:
+        error = re.search(r"\((E[A-Z]+)\)", text)
+        wanted.append(f"{spelled(name)} {getattr(errno, error[1] if error else 'EINVAL')}")
+    wanted.append(f"? ? {errno.EINVAL} 0")
+    made = c_compiled(folder, "names", source)
+    if made:
+        expect("the names and the error numbers", run(made), ("\n".join(wanted) + "\n").encode())
+
+
+def spelled(name):
+    return name[len("PIM_"):].lower().replace("_", "-")
 
 
 def signatures():

@@ -1,6 +1,8 @@
 #define _XOPEN_SOURCE 700 /* for pthread_mutexattr_setprotocol */
 #include "pi_mutex.h"
 
+#include "pim_errno.h"
+
 #include <errno.h>
 #include <pthread.h>
 #include <sched.h>
@@ -73,16 +75,7 @@ static int block(uint16_t thread, const struct timespec *until) {
 
 static int error_of(struct pim_answer answer) {
     if (answer.kind == PIM_NO_MANAGER) return EINVAL;
-    if (answer.kind != PIM_REFUSED) return 0;
-    switch (answer.refusal) {
-    case PIM_NO_TASK: return ESRCH;
-    case PIM_DEADLOCK: return EDEADLK;
-    case PIM_BUSY: return EBUSY;
-    case PIM_NOT_OWNER: return EPERM;
-    case PIM_TICKETS:
-    case PIM_AGAIN: return EAGAIN;
-    default: return EINVAL;
-    }
+    return answer.kind == PIM_REFUSED ? pim_errno(answer.refusal) : 0;
 }
 
 /* ---- the functions ---- */
