@@ -68,6 +68,7 @@
  *   - One call at a time on one handle, and none from a signal or interrupt handler that may come
  *     in the middle of another. What orders the calls, a lock or disabled interrupts, is the
  *     caller's, and lasts until the answer is done. Two handles share nothing.
+ *   - The CPU is an x86-64 of level v2 at least, which has SSE4.2: pim_make uses its instructions.
  *   - A pointer that comes with a count points to that many items, is aligned, isn't null even
  *     where the count is 0, and overlaps no other memory of the call.
  *   - There are PIM_STACK bytes of stack.
@@ -83,7 +84,7 @@
  *
  * n tasks and m mutexes stand. Only pim_make and pim_drop call the heap. Nothing else is called but
  * memmove and memset, and nothing waits. The second column is the most bytes of stack that a call
- * takes as libpim is built for x86-64, without what those functions take.
+ * takes as libpim is built for x86-64-v2, without what those functions take.
  *
  *   pim_make             640   allocates some m blocks, and fills them
  *   pim_drop             192   gives them back
@@ -125,6 +126,10 @@
 
 #include <stddef.h>
 #include <stdint.h>
+
+#if defined(UINTPTR_MAX) && UINTPTR_MAX != 0xFFFFFFFFFFFFFFFFu
+#error "libpim is built for 64 bits: x86-64"
+#endif
 
 #ifdef __cplusplus
 extern "C" {
@@ -224,7 +229,8 @@ enum {
 
 struct pim_protocol {
     uint16_t kind;    /* PIM_NONE .. PIM_INHERIT_RECURSIVE */
-    uint16_t ceiling; /* of a PROTECT mutex, 1 to 99; that of the others isn't read */
+    uint16_t ceiling; /* of a PROTECT mutex, 1 to 99; of the others pim_make doesn't read it, and
+                       * pim_mutex_protocol returns 0 */
 };
 
 struct pim_answer {
@@ -312,14 +318,17 @@ size_t pim_changed(struct pim_handle *h, struct pim_changed_task *to, size_t roo
 
 /* ---- what stands ----------------------------------------------------------------------------- */
 
+/* Without a manager no task and no mutex is known. */
+
 /* Copies those who wait for the mutex, the next owner first, at most `room` of them, and returns
  * how many there are. */
 size_t pim_waiters(struct pim_handle *h, uint16_t mutex, struct pim_waiter *to, size_t room);
 
+/* Return how many tasks and mutexes there are, 0 without a manager. */
 uint16_t pim_task_count(struct pim_handle *h);
 uint16_t pim_mutex_count(struct pim_handle *h);
 
-/* Returns the ticket that the next waiter gets, from 1 on. */
+/* Returns the ticket that the next waiter gets, from 1 on; 0 without a manager. */
 uint64_t pim_next_ticket(struct pim_handle *h);
 
 /* Returns the priority at which the task is to execute, 0 for an unknown one. */
@@ -342,7 +351,8 @@ uint16_t pim_owner(struct pim_handle *h, uint16_t mutex);
  * unknown mutex. It is above 1 of a recursive mutex alone. */
 uint16_t pim_count(struct pim_handle *h, uint16_t mutex);
 
-/* Returns the protocol of the mutex; its kind is PIM_UNKNOWN for an unknown mutex. */
+/* Returns the protocol of the mutex; its kind is PIM_UNKNOWN for an unknown mutex. The ceiling is 0
+ * unless the mutex is a PROTECT one. */
 struct pim_protocol pim_mutex_protocol(struct pim_handle *h, uint16_t mutex);
 
 /* ---- that this file fits libpim -------------------------------------------------------------- */
@@ -351,8 +361,10 @@ struct pim_protocol pim_mutex_protocol(struct pim_handle *h, uint16_t mutex);
 #define PIM_ASSERT(holds, text) static_assert(holds, text)
 #elif defined(__STDC_VERSION__) && __STDC_VERSION__ >= 201112L
 #define PIM_ASSERT(holds, text) _Static_assert(holds, text)
+#else
+/* C99 and C++98: an array of -1 items is an error. */
+#define PIM_ASSERT(holds, text) extern char pim_fits_libpim[(holds) ? 1 : -1]
 #endif
-#ifdef PIM_ASSERT
 PIM_ASSERT(sizeof(size_t) == 8 && sizeof(void *) == 8, "libpim is built for 64 bits");
 PIM_ASSERT(sizeof(struct pim_handle) == 8, "struct pim_handle");
 PIM_ASSERT(sizeof(struct pim_protocol) == 4, "struct pim_protocol");
@@ -361,7 +373,6 @@ PIM_ASSERT(sizeof(struct pim_reason) == 6, "struct pim_reason");
 PIM_ASSERT(sizeof(struct pim_waiter) == 16 && offsetof(struct pim_waiter, ticket) == 8, "struct pim_waiter");
 PIM_ASSERT(sizeof(struct pim_changed_task) == 10 && offsetof(struct pim_changed_task, reason) == 4, "struct pim_changed_task");
 #undef PIM_ASSERT
-#endif
 
 #ifdef __cplusplus
 }

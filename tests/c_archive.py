@@ -18,6 +18,19 @@ def symbols(exports):
     check("libpim has no data of its own", difference(sections[7:9], ["0", "0"]))
 
 
+def level():
+    """libpim uses instructions of x86-64-v2, as pim.h says, and none of a later level.
+
+    An earlier CPU executes tzcnt as bsf, with the same result for what isn't 0; compilers count on that.
+    """
+    out = subprocess.run(["objdump", "-d", "--no-show-raw-insn", OUT / "libpim.a"], capture_output=True, text=True, check=True).stdout
+    used = set(re.findall(r"^ +[0-9a-f]+:\t(\w+)", out, re.M))
+    second = {"pinsrb", "pinsrd", "pinsrq", "pextrb", "pextrd", "pshufb", "ptest", "popcnt", "pmaxud", "pminud"}
+    check("libpim uses x86-64-v2", None if used & second else "none of its instructions")
+    later = {name for name in used if re.match(r"v[a-z]|(andn|bextr|bls|bzhi|lzcnt|mulx|pdep|pext$|pext[lq]|rorx|s[ah][lr]x|movbe)", name)}
+    check("libpim uses no later level", " ".join(sorted(later)))
+
+
 def frames():
     """Returns the stack that each function of libpim takes by itself, and which it calls."""
     out = subprocess.run(["objdump", "-dr", "--no-show-raw-insn", OUT / "libpim.a"], capture_output=True, text=True, check=True).stdout

@@ -3,8 +3,11 @@ import errno
 import re
 import shutil
 
-from c_common import C, CRATE, HEADER, c_compiled, expect, run
+from c_common import C, CRATE, HEADER, c_compiled, expect, run, said
 from checks import ROOT, check, difference
+
+LANGUAGES = {"cc": ("c99", "c11", "c17"), "clang": ("c99", "c11"), "g++": ("c++98", "c++17", "c++20"), "clang++": ("c++98",)}
+MAIN = "int main(void) { struct pim_handle h = PIM_HANDLE_INIT; return h.at != 0; }\n"
 
 STRUCTS = {"Handle": "pim_handle", "CProtocol": "pim_protocol", "CAnswer": "pim_answer", "CReason": "pim_reason",
            "CWaiter": "pim_waiter", "CChangedTask": "pim_changed_task"}
@@ -72,14 +75,21 @@ def compiles(name, folder, tests):
 
 
 def languages(folder):
-    """The header is C99, C11 and C++ from C++98 on, by each compiler that is there."""
-    for compiler, standards in (("cc", ("c99", "c11")), ("clang", ("c99", "c11")), ("g++", ("c++98", "c++17", "c++20"))):
+    """The headers are C99, C11 and C++ from C++98 on, by each compiler that is there; and none takes 32 bits."""
+    for compiler, standards in LANGUAGES.items():
         for standard in standards if shutil.which(compiler) else ():
             source = f"{folder}/header.{'cpp' if '++' in standard else 'c'}"
             with open(source, "w") as file:
-                file.write('#include "pim.h"\n#include "pim_heap.h"\nint main(void) { struct pim_handle h = PIM_HANDLE_INIT; return h.at != 0; }\n')
-            status, out = run(compiler, f"-I{C}", f"-std={standard}", "-Wall", "-Wextra", "-Werror", "-fsyntax-only", source)
-            check(f"the header by {compiler} as {standard}", None if status == 0 else out.decode()[:300])
+                file.write("".join(f'#include "{header.name}"\n' for header in sorted(C.glob("*.h"))) + MAIN)
+            words = [compiler, f"-I{C}", f"-std={standard}", "-Wall", "-Wextra", "-Werror", "-pedantic", "-fsyntax-only"]
+            status, out = run(*words, source)
+            check(f"the headers by {compiler} as {standard}", said(out) if status else None)
+            # Without a C library: there may be none for 32 bits.
+            status, out = run(compiler, f"-I{C}", f"-std={standard}", "-m32", "-ffreestanding", "-fsyntax-only", C / "pim.h")
+            # C++98 may lack UINTPTR_MAX, and has an assertion's name alone.
+            message = rb"libpim is built for 64 bits" + (rb"|pim_fits_libpim" if standard == "c++98" else b"")
+            refused = status != 0 and re.search(message, out)
+            check(f"32 bits are refused by {compiler} as {standard}", None if refused else f"status {status}: {said(out)}")
 
 
 def tables():

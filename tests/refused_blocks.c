@@ -77,6 +77,9 @@ static void see_nothing_was_made(struct pim_handle *h, uint32_t made) {
     must(h->at == NULL, "the handle leads somewhere");
     must(outstanding == 0, "memory is kept");
     must(pim_lock(h, 1, 1).kind == PIM_NO_MANAGER, "there is a manager");
+    must(pim_task_count(h) == 0 && pim_mutex_count(h) == 0 && pim_next_ticket(h) == 0, "counts without a manager");
+    must(pim_owner(h, 1) == PIM_UNKNOWN && pim_waits_for(h, 1) == PIM_UNKNOWN && pim_effective_prio(h, 1) == 0, "a known task");
+    must(pim_mutex_protocol(h, 1).kind == PIM_UNKNOWN && pim_mutex_protocol(h, 1).ceiling == 0, "a known protocol");
 }
 
 static void see_steps_take_no_memory(struct pim_handle *h) {
