@@ -1,7 +1,7 @@
 /* Makes managers of many sizes in just the memory that PIM_MEMORY tells. Prints how many, or the
  * first that doesn't fit. */
-#include "heap/given.h"
 #include "pim.h"
+#include "pim_heap_given.h"
 
 #include <stdio.h>
 

@@ -7,12 +7,12 @@
  *     ..
  *     pim_drop(&locks);                          // from here on the memory is the program's again
  *
- * Blocks are taken from the front of the memory, and none is used twice: it comes back as a whole.
+ * Blocks are taken from the front of the memory, in whole units of 16 aligned bytes, one at least,
+ * and none is used twice: it comes back as a whole.
  * Nothing is kept from one manager to the next but where the memory ends that was handed over last.
  */
-#include "given.h"
-
 #include "pim_heap.h"
+#include "pim_heap_given.h"
 
 static unsigned char *rest; /* what isn't taken yet: left bytes from here on */
 static size_t left;
