@@ -1,9 +1,15 @@
-/* Makes managers of many sizes in just the memory that PIM_MEMORY tells. Prints how many, or the
+/* Makes managers of many sizes in exactly the memory that PIM_MEMORY says. Prints how many, or the
  * first that doesn't fit. */
 #include "pim.h"
 #include "pim_heap_given.h"
 
 #include <stdio.h>
+
+/* Each argument may be an expression, and so may what the macro is a part of. */
+_Static_assert(PIM_MEMORY(1 + 2, 4 + 1) == PIM_MEMORY(3, 5), "sums as arguments");
+_Static_assert(PIM_MEMORY(1 ? 3 : 4, 1 ? 5 : 6) == PIM_MEMORY(3, 5), "conditions as arguments");
+_Static_assert(2 * PIM_MEMORY(3, 5) == PIM_MEMORY(3, 5) + PIM_MEMORY(3, 5), "a part of a product");
+_Static_assert(PIM_MEMORY(3, 5) == 1088 + 88 * 3 + 64 * 5 + 16 * 15, "the sum by hand");
 
 static _Alignas(16) unsigned char memory[PIM_MEMORY(256, 256)];
 
