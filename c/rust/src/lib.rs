@@ -15,6 +15,8 @@
 //! ```
 
 mod c;
+#[cfg(test)]
+mod tests;
 
 /// The protocol of a mutex.
 #[derive(Clone, Copy, Debug, PartialEq, Eq)]
@@ -98,11 +100,25 @@ impl std::fmt::Display for MakeFault {
 
 impl std::error::Error for MakeFault {}
 
+/// Why a task has its effective priority.
+#[derive(Clone, Copy, Debug, PartialEq, Eq)]
+pub enum Reason {
+    /// It is its base priority.
+    Base,
+    /// It is the ceiling of a PROTECT mutex that it owns.
+    Ceiling { mutex: u16 },
+    /// It is that of a task that waits for a mutex that it owns.
+    Waiter { task: u16, mutex: u16 },
+    /// One of a later version of libpim.
+    Other(u16),
+}
+
 /// A task whose effective priority a step changed.
 #[derive(Clone, Copy, Debug, PartialEq, Eq)]
 pub struct ChangedTask {
     pub task: u16,
     pub prio: u16,
+    pub reason: Reason,
 }
 
 /// A manager of tasks and mutexes.
@@ -130,16 +146,12 @@ impl Manager {
                 protocols.len(),
             )
         };
-        match fault {
-            0 => Ok(Manager {
+        match MakeFault::of(fault) {
+            None => Ok(Manager {
                 handle,
                 changed: vec![c::ChangedTask::default(); bases.len()],
             }),
-            2 => Err(MakeFault::TooManyTasks),
-            3 => Err(MakeFault::TooManyMutexes),
-            4 => Err(MakeFault::BadBase),
-            5 => Err(MakeFault::BadProtocol),
-            _ => Err(MakeFault::NoMemory),
+            Some(fault) => Err(fault),
         }
     }
 
@@ -166,6 +178,7 @@ impl Manager {
         self.changed[..count].iter().map(|one| ChangedTask {
             task: one.task,
             prio: one.prio,
+            reason: Reason::of(one.reason),
         })
     }
 
@@ -223,6 +236,36 @@ impl Protocol {
     }
 }
 
+impl MakeFault {
+    // None where a manager was made; an empty handle is never occupied
+    fn of(number: u32) -> Option<MakeFault> {
+        match number {
+            0 => None,
+            2 => Some(MakeFault::TooManyTasks),
+            3 => Some(MakeFault::TooManyMutexes),
+            4 => Some(MakeFault::BadBase),
+            5 => Some(MakeFault::BadProtocol),
+            _ => Some(MakeFault::NoMemory),
+        }
+    }
+}
+
+impl Reason {
+    fn of(reason: c::Reason) -> Reason {
+        match reason.kind {
+            1 => Reason::Base,
+            2 => Reason::Ceiling {
+                mutex: reason.mutex,
+            },
+            3 => Reason::Waiter {
+                task: reason.task,
+                mutex: reason.mutex,
+            },
+            other => Reason::Other(other),
+        }
+    }
+}
+
 impl Reply {
     fn of(answer: c::Answer) -> Reply {
         match answer.kind {
@@ -263,77 +306,4 @@ impl Refusal {
 // what isn't 0, for none, nor 65535, for an unknown one
 fn known(number: u16) -> Option<u16> {
     (number != 0 && number != u16::MAX).then_some(number)
-}
-
-#[cfg(test)]
-mod tests {
-    use super::*;
-
-    #[test]
-    fn owner_is_boosted_until_it_unlocks() {
-        let mut locks = Manager::new(&[10, 50, 90], &[Protocol::Inherit]).unwrap();
-        assert_eq!(locks.tasks(), 3);
-        assert_eq!(locks.step(1, Op::Lock(1)), Reply::Granted);
-        assert_eq!(locks.step(3, Op::Lock(1)), Reply::Queued);
-        assert_eq!(
-            locks.changed().collect::<Vec<_>>(),
-            [ChangedTask { task: 1, prio: 90 }]
-        );
-        assert_eq!(
-            (locks.owner(1), locks.waits_for(3), locks.waits_for(1)),
-            (Some(1), Some(1), None)
-        );
-        assert_eq!(locks.step(1, Op::Unlock(1)), Reply::Handed(3));
-        assert_eq!((locks.effective(1), locks.effective(4)), (Some(10), None));
-    }
-
-    #[test]
-    fn recursive_mutex_is_kept_until_it_is_unlocked_as_often() {
-        let mut locks = Manager::new(&[10, 90], &[Protocol::InheritRecursive]).unwrap();
-        assert_eq!((locks.count(1), locks.count(2)), (Some(0), None));
-        for _ in 0..255 {
-            assert_eq!(locks.step(1, Op::Lock(1)), Reply::Granted);
-        }
-        assert_eq!(locks.step(1, Op::Lock(1)), Reply::Refused(Refusal::Again));
-        assert_eq!(locks.step(2, Op::Lock(1)), Reply::Queued);
-        for count in (1..255).rev() {
-            assert_eq!(locks.step(1, Op::Unlock(1)), Reply::Kept);
-            assert_eq!(locks.changed().count(), 0);
-            assert_eq!(locks.count(1), Some(count));
-        }
-        assert_eq!(locks.step(1, Op::Unlock(1)), Reply::Handed(2));
-        assert_eq!(locks.count(1), Some(1));
-    }
-
-    #[test]
-    fn refusals_and_faults_are_told() {
-        let mut locks = Manager::new(&[50], &[Protocol::Protect(40), Protocol::None]).unwrap();
-        assert_eq!(locks.step(1, Op::Lock(1)), Reply::Refused(Refusal::Ceiling));
-        assert_eq!(locks.step(1, Op::Lock(3)), Reply::Refused(Refusal::NoMutex));
-        assert_eq!(
-            locks.step(2, Op::ReleaseAll),
-            Reply::Refused(Refusal::NoTask)
-        );
-        assert_eq!(
-            locks.step(1, Op::Cancel(1)),
-            Reply::Refused(Refusal::NotWaiting)
-        );
-        assert_eq!(locks.step(1, Op::Try(2)), Reply::Granted);
-        assert_eq!(locks.step(1, Op::SetBase(1, 99)), Reply::Set);
-        assert_eq!(locks.step(1, Op::SetCeiling(1, 99)), Reply::Set);
-        assert_eq!(locks.step(1, Op::Lock(1)), Reply::Granted);
-        assert_eq!(
-            locks.step(1, Op::SetCeiling(2, 99)),
-            Reply::Refused(Refusal::NotProtect)
-        );
-        assert_eq!(Manager::new(&[100], &[]).err(), Some(MakeFault::BadBase));
-        assert_eq!(
-            Manager::new(&[1], &[Protocol::Protect(0)]).err(),
-            Some(MakeFault::BadProtocol)
-        );
-        assert_eq!(
-            Manager::new(&[1; 257], &[]).err(),
-            Some(MakeFault::TooManyTasks)
-        );
-    }
 }
