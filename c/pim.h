@@ -135,6 +135,12 @@
 extern "C" {
 #endif
 
+/* The version, as semantic versioning counts. */
+#define PIM_VERSION_MAJOR 0
+#define PIM_VERSION_MINOR 1
+#define PIM_VERSION_PATCH 0
+#define PIM_VERSION "0.1.0"
+
 #define PIM_MAX_TASKS 256u
 #define PIM_MAX_MUTEXES 256u
 

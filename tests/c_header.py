@@ -3,7 +3,7 @@ import errno
 import re
 import shutil
 
-from c_common import C, CRATE, HEADER, c_compiled, expect, run, said
+from c_common import C, CRATE, HEADER, c_compiled, expect, passes, run, said
 from checks import ROOT, check, difference
 
 LANGUAGES = {"cc": ("c99", "c11", "c17"), "clang": ("c99", "c11"), "g++": ("c++98", "c++17", "c++20"), "clang++": ("c++98",)}
@@ -28,6 +28,25 @@ def fields(texts, name):
     body = re.search(r"#\[repr\(C\)\][^}]*?pub struct " + name + r" \{(.*?)\n\}", "\n".join(texts.values()), re.S)[1]
     found = re.findall(r"^    (?:pub )?(\w+): ([^,]+),", body, re.M)
     return [(field, TYPES[kind]) for field, kind in found if kind != "Global"]
+
+
+def version(folder):
+    """The version is its three numbers."""
+    body = """#include "pim.h"
+        #include <stdio.h>
+        #include <string.h>
+        int main(void) {
+            char text[32];
+            snprintf(text, sizeof text, "%d.%d.%d", PIM_VERSION_MAJOR, PIM_VERSION_MINOR, PIM_VERSION_PATCH);
+            return strcmp(text, PIM_VERSION) != 0;
+        }
+    """
+    source = f"{folder}/version.c"
+    with open(source, "w") as file:
+        file.write(body)
+    made = c_compiled(folder, "version", source)
+    if made:
+        passes("PIM_VERSION", made)
 
 
 def numbers(folder):
