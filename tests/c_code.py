@@ -1,8 +1,8 @@
 """Checks of the C around libpim: the files of c/heap, c/threads/pi_mutex.c, and blocks of memory that are refused."""
 import re
 
-from c_common import C, c_compiled, passes, run, said, skip
-from checks import ROOT, check
+from c_common import C, c_compiled, passes, run, said
+from checks import ROOT, check, skip
 
 TESTS = ROOT / "tests"
 SANITIZED = ("-g", "-O1", "-fsanitize=address,undefined", "-fno-sanitize-recover=all")

@@ -24,10 +24,6 @@ def said(out):
     return out.decode(errors="replace").strip()[-300:]
 
 
-def skip(name, why):
-    print(f"skip {name}: {why}", flush=True)
-
-
 def expect(name, got, out=b""):
     check(name, difference(got, (0, out)))
 
