@@ -1,4 +1,4 @@
--- What the command line has on words that are written out, but for the program's name.
+-- What the command line returns for given arguments after any program name.
 use Rattle.std.proofs.Common.{ap, ap₂, refl, ◌≡◌, ◌∙◌, List, ℕ, [], ◌∷◌, codes, true, Option, Some, None, option_map}
 use Rattle.clap.specs.Walk.{Row, Text}
 use Rattle.clap.specs.Simple.{App, HasMatchesOf, is_simple, subcommand_of, subcommand_rows_of}
@@ -62,7 +62,7 @@ firsts f g (Some a) = refl
 name_of_rows : (m : ArgMatches) → subcommand_name_of m ≡ name_in (subcommand_rows_of m)
 name_of_rows m = firsts _ _ (out-ArgMatches m).subcommand
 
--- the job that the matches name is that of the words
+-- the job that the matches name is that of the arguments
 pub job_of_matches :
     (a : App) (words literal : List Text) (m : ArgMatches)
     → a ≡ pim_app

@@ -1,4 +1,4 @@
--- How what was put so far, and what is in the page, go on.
+-- How what was written so far, and what is in the page, go on.
 use Rattle.std.proofs.Common.{◌≡◌, ℕ, List, [], ◌++◌, Option, Some, None, Result, Ok}
 use Rattle.std.proofs.Common.{Err, ◌∙◌, ap, sym, append_assoc, refl, inl, inr, subst}
 use Rattle.std.proofs.lemmas.List.{append-nil}
@@ -7,7 +7,7 @@ use Rattle.pim_tool.specs.declared.fault.Fault.{Fault}
 use Rattle.pim_tool.specs.declared.fault.Fault.TheVariants as faults
 use Rattle.pim_tool.specs.Ends.{Told, Puts, Stops, Prints, Appends, AppendsBut, AppendsFront, Fails, Happened}
 
--- whole is what is put in the end, and rest what comes after these bytes
+-- whole is what is written in the end, and rest is what comes after these bytes
 but_more :
     (a b c : Option (List ℕ)) (whole page bytes rest left : List ℕ)
     → AppendsBut a b whole (page ++ (bytes ++ rest))
@@ -101,7 +101,7 @@ pub stops_page :
 stops_page {a} {b} {c} {whole} {fault} page first second =
     stops_next page [] [] [] refl (subst (λ (t : List ℕ). Puts a b whole t) (sym (append-nil page)) first) second
 
--- memory was refused
+-- an allocation failed
 pub stops_memory :
     {a b : Told} {whole left : List ℕ} {fault : Fault}
     → fault ≡ faults.Memory
@@ -119,7 +119,7 @@ pub prints_err : {T : Type 0} {a b : Told} {bytes : List ℕ} {fault : Fault} (p
 prints_err page (Ok x) h s = absurd h
 prints_err {T} {a} {b} {bytes} {fault} page (Err e) h s = subst (λ (f : Fault). Stops a b bytes f) (sym h) s
 
--- memory was refused before anything was written
+-- an allocation failed before anything was written
 pub prints_unwritten :
     {T : Type 0} (a : Told) (bytes page : List ℕ) (r : Result T Fault)
     → IsErrAnd r (λ e. e ≡ faults.Memory)

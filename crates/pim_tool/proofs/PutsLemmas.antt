@@ -1,4 +1,4 @@
--- What stands in a row of bytes once texts were put into it.
+-- What a buffer holds after texts were written into it.
 use Rattle.std.proofs.Common.{◌≡◌, ℕ, List, ◌++◌, append_assoc}
 
 -- one text after another

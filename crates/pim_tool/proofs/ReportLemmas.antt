@@ -69,7 +69,7 @@ from_line ls i line inside at =
 module _ (k : ℕ) (S T : State) (ls : List StepLine) (i : ℕ) (line : StepLine) (goes_on : Bool)
     (inside : i < length ls) (at : line ≡ get_or ls i line) (next : T ≡ after S line.step)
     (says : goes_on ≡ agrees line.recorded (reply_of S line.step)) where
-  -- it goes on where the reply agrees, and ends where it doesn't
+  -- the report goes on if the reply agrees, and is finished if it doesn't
   pub report_next :
       report_from k S (drop i ls)
       ≡ step_lines k S line ++ (if goes_on then report_from (k + 1) T (drop (i + 1) ls) else [])

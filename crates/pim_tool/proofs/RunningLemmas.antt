@@ -1,4 +1,4 @@
--- What comes of a script that is run.
+-- What a run of a script writes and returns.
 use Rattle.std.proofs.Common.{◌≡◌, ◌<◌, ◌≤◌, ◌+◌, ◌-◌, ◌^◌, if◌then◌else◌, ℕ, Bool, List, []}
 use Rattle.std.proofs.Common.{length, map, drop, get_or, Option, Some, None, Result, Ok, Err}
 use Rattle.std.proofs.Common.{IfOk, IfErr, IfSome, ◌∙◌, ap, sym, subst, inl, inr, arith}
@@ -135,7 +135,7 @@ stopped_err Is c script out f spells is stopped =
       | inr e ↦ subst (λ (g : Fault). StandsAfter Is c g) (sym e) (inr front)
     ]
 
--- one of the two, as the printing came out
+-- all of it or a prefix, by the result of the printing
 pub printed_ok :
     {T : Type 0} (Is : Trace → List ℕ → Type 0) (c : Call) (script : Trace) (out : List ℕ) (r : Result T Fault)
     → IfSome c.bytes (λ bytes. SpellsRunnable (lines_of bytes) script)

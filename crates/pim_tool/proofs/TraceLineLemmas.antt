@@ -117,7 +117,7 @@ entries_next es i e inside at =
     at_drop_more (flat_map entry_text) es i e inside
     ∙ ap (λ d. entry_text d ++ flat_map entry_text (drop (i + 1) es)) (sym at)
 
--- so a page of what is declared, and then the entries, is the text
+-- a page of what is declared, and then the entries, are the text
 pub puts_text :
     {a b : Told} {left : List ℕ} (t : Trace) (es : List Entry) (page : List ℕ)
     → page ≡ declarations_text t

@@ -11,7 +11,7 @@ abbrev pub fault_of : TextFault → Fault
 fault_of (text_faults.Line n) = faults.Line n
 fault_of text_faults.Memory = faults.Memory
 
--- why lines that are to be such are not read: the first that is invalid, or out of memory
+-- why the lines aren't read: the first invalid one, or out of memory
 abbrev pub IsParseFault : (List (List ℕ) → Type 0) → List (List ℕ) → Fault → Type 0
 IsParseFault Is ls (faults.Line n) = FirstBad Is ls n
 IsParseFault Is ls faults.Memory = Unit {0}
@@ -20,7 +20,7 @@ IsParseFault Is ls faults.Write = ⊥
 IsParseFault Is ls (faults.Shared f) = ⊥
 IsParseFault Is ls faults.TooManyWorkers = ⊥
 
--- a fault of a text or of the ends of a call: no worker has to do with it
+-- a fault of a text, of a stream or of memory: none of the workers
 abbrev pub IsWorkerless : Fault → Type 0
 IsWorkerless (faults.Line n) = Unit {0}
 IsWorkerless faults.Read = Unit {0}

@@ -1,4 +1,4 @@
--- What is printed, by what stands in it.
+-- The parts of what is printed.
 use Rattle.std.specs.Prelude.{ℕ, List, ◌++◌, Option, codes, decimal, map, flat_map, if◌then◌else◌}
 use Rattle.std.specs.List.{join_with_byte}
 use Rattle.pim_base.specs.Spelling.{SPACE, version_line, spelled, protocol_words, op_words}
@@ -29,7 +29,7 @@ unfoldable pub changed_line : ℕ → ℕ → Reason → List ℕ
 changed_line t p r =
     codes "  task " ++ decimal t ++ codes " at " ++ decimal p ++ codes " " ++ reason_text r ++ codes "\n"
 
--- that line
+-- the line of a changed task
 abbrev pub line_of : ChangedTask → List ℕ
 line_of c = changed_line c.task c.prio c.reason
 
@@ -51,7 +51,7 @@ tasks_text n bases = flat_map ended (map spelled (task_lines n bases))
 abbrev pub mutexes_text : ℕ → List Protocol → List ℕ
 mutexes_text n protocols = flat_map ended (map spelled (mutex_lines n protocols))
 
--- the lines above the steps: the version, and what the text declares
+-- the lines before the steps: the version, and what the text declares
 abbrev pub declarations_text : Trace → List ℕ
 declarations_text t = ended (version_line t.version) ++ (tasks_text 1 t.bases ++ mutexes_text 1 t.protocols)
 

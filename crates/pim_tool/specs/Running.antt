@@ -1,4 +1,4 @@
--- What becomes of a script that is to be run.
+-- What a call that runs a script reads, writes and returns.
 use Rattle.std.specs.Prelude.{ℕ, ◌≡◌, ◌+◌, ◌<◌, ◌≤◌, ◌⊎◌, List, length, Option, IfSome}
 use Rattle.pim_base.specs.Texts.{Trace, IsWithinLimits, lines_of}
 use Rattle.pim_base.specs.Scripts.{KeepsScriptRules, SpellsScript, FirstBadScriptLine}
@@ -14,18 +14,18 @@ use Rattle.pim_tool.specs.declared.fault.Fault.TheVariants as faults
 
 -- ---- scripts
 
--- the trace is a script, with at most as many tasks as there may be workers
+-- the trace is a script with at most MAX_WORKERS tasks
 pub record IsRunnable (script : Trace) : Type 0 where
   pub limits : IsWithinLimits script
   pub rules : KeepsScriptRules script
   pub few : length script.bases ≤ MAX_WORKERS
 
--- the lines are those of such a script
+-- the lines spell a script with at most MAX_WORKERS tasks
 pub record SpellsRunnable (ls : List (List ℕ)) (script : Trace) : Type 0 where
   pub spells : SpellsScript ls script
   pub few : length script.bases ≤ MAX_WORKERS
 
--- the lines are those of a script with more tasks than that
+-- the lines spell a script with more than MAX_WORKERS tasks
 abbrev pub HasTooManyTasks : List (List ℕ) → Type 0
 HasTooManyTasks ls = (script : Trace) × SpellsScript ls script × (MAX_WORKERS < length script.bases)
 
@@ -39,19 +39,19 @@ run_length script = length script.steps + length script.bases
 abbrev pub IsTraceOfRun : Trace → List ℕ → Type 0
 IsTraceOfRun script bytes = (es : List Entry) × IsRunOf script es × (bytes ≡ text_of (recording script es))
 
--- the bytes are the last line of the report of such a trace
+-- the bytes are the last line of the report of the trace of a run
 abbrev pub IsEndOfReport : Trace → List ℕ → Type 0
 IsEndOfReport script bytes = bytes ≡ accepted (run_length script)
 
--- the verdict of that report, for the script that the lines spell
+-- the verdict is that of the report of a run of the script that the lines spell
 abbrev pub IsVerdictOfRun : List (List ℕ) → Verdict → Type 0
 IsVerdictOfRun ls verdict =
     (script : Trace) × SpellsRunnable ls script × (verdict ≡ verdicts.Accepted (run_length script))
 
 -- ---- calls
 
--- a call on a reader and a writer: the bytes that were read, where they are known, how many reads had failed before and
--- after it, and what the writer told before and after it
+-- a call on a reader and a writer: the bytes that were read, if they are known, how many reads had failed before and
+-- after it, and what is known of the writer before and after it
 pub record Call : Type 0 where
   pub bytes : Option (List ℕ)
   pub failures_before : ℕ
@@ -59,7 +59,7 @@ pub record Call : Type 0 where
   pub before : Told
   pub after : Told
 
--- the call with these ends, before and after it
+-- the call with these streams, before and after it
 abbrev pub call : {R W : Type 0} → (R → Option (List ℕ)) → (R → ℕ) → (W → Told) → R → R → W → W → Call
 call remaining failures told old_reader new_reader old_writer new_writer = record {
   bytes = remaining old_reader;
@@ -73,25 +73,25 @@ call remaining failures told old_reader new_reader old_writer new_writer = recor
 abbrev pub WroteNothing : Call → Type 0
 WroteNothing c = c.after.contents ≡ c.before.contents
 
--- what was read is a script, and such an output of it was written and nothing else
+-- the bytes that were read are a script, and an output of it was written and nothing else
 abbrev pub Wrote : (Trace → List ℕ → Type 0) → Call → Type 0
 Wrote Is c =
     IfSome c.bytes (λ bytes.
     (script : Trace) × (out : List ℕ) × SpellsRunnable (lines_of bytes) script × Is script out
     × Appends c.before.contents c.after.contents out)
 
--- what was read is a script, and a prefix of such an output of it was written
+-- the bytes that were read are a script, and a prefix of an output of it was written
 abbrev pub WroteFront : (Trace → List ℕ → Type 0) → Call → Type 0
 WroteFront Is c =
     IfSome c.bytes (λ bytes.
     (script : Trace) × (out : List ℕ) × SpellsRunnable (lines_of bytes) script × Is script out
     × AppendsFront c.before.contents c.after.contents out)
 
--- what was read is a script that can be run
+-- the bytes that were read are a script that can be run
 abbrev pub ReadRunnable : Option (List ℕ) → Type 0
 ReadRunnable read = IfSome read (λ bytes. (script : Trace) × SpellsRunnable (lines_of bytes) script)
 
--- what a fault says where the script isn't read, or isn't to be run
+-- what a fault says if the script isn't read, or has too many tasks
 abbrev pub Unread : Option (List ℕ) → ℕ → ℕ → Fault → Type 0
 Unread read before after (faults.Line n) = IfSome read (λ bytes. FirstBadScriptLine (lines_of bytes) n)
 Unread read before after faults.Read = Happened before after
@@ -109,7 +109,7 @@ IsOfRun faults.Memory = Unit {0}
 IsOfRun (faults.Shared f) = Unit {0}
 IsOfRun faults.TooManyWorkers = ⊥
 
--- what stands after each fault of a call that reads a script, runs it, and writes such an output of it
+-- what holds after each fault of a call that reads a script, runs it, and writes an output of it
 abbrev pub StandsAfter : (Trace → List ℕ → Type 0) → Call → Fault → Type 0
 StandsAfter Is c (faults.Line n) = IfSome c.bytes (λ bytes. FirstBadScriptLine (lines_of bytes) n) × WroteNothing c
 StandsAfter Is c faults.Read = Happened c.failures_before c.failures_after × WroteNothing c

@@ -1,10 +1,10 @@
--- What becomes of what a printer is given.
+-- What a printer does with the bytes that it is given.
 use Rattle.std.specs.Prelude.{◌≡◌, List, ℕ, ◌++◌, Result}
 use Rattle.pim_tool.specs.Ends.{Told, Prints}
 use Rattle.pim_tool.specs.declared.printer.Printer.{Printer}
 use Rattle.pim_tool.specs.declared.fault.Fault.{Fault}
 
--- the printer has these bytes more, written or still in the page; else it stopped
+-- the printer took these bytes, written or still in the page, or it stopped
 pub record Takes {W T : Type 0} (told : W → Told) (old new : Printer W) (bytes : List ℕ) (result : Result T Fault)
     : Type 0 where
   pub same_writer : new.writer.ghost_name ≡ old.writer.ghost_name

@@ -1,4 +1,4 @@
--- What the words of the command line ask for.
+-- What the arguments of the command line ask for.
 use Rattle.std.specs.Prelude.{◌≡◌, List, ℕ, codes, Option, Some, None, Result, MatchResult, if◌then◌else◌, true}
 use Rattle.std.specs.Str.{bytes_eq}
 use Rattle.clap.specs.Simple.{App, Shape, new_app, on_top, with_subcommand}
@@ -25,6 +25,6 @@ job_named None = Judge
 job_named (Some name) =
     if bytes_eq name (codes "run") then Run else (if bytes_eq name (codes "check") then Check else Judge)
 
--- the answer is the job, unless memory ran out
+-- the answer is the job, or out of memory
 abbrev pub Answers : Result Job Error → Job → Type 0
 Answers result job = MatchResult result (λ answered. answered ≡ job) (λ error. kind_of error ≡ OutOfMemory)

@@ -1,4 +1,4 @@
-//! The words of the command line.
+//! The arguments of the command line.
 ghost use Rattle.std.specs.Prelude.{◌≡◌, List, ℕ, map, [], ◌∷◌, codes, IfOk, option_map};
 ghost use Rattle.clap.specs.Simple.{app_of};
 ghost use Rattle.pim_tool.specs.Words.{pim_app, job_named, Answers};
@@ -60,13 +60,13 @@ Exit status: 0 accepted, 1 rejected, 2 any fault: 'pim: line <n>' where line n i
 'pim: read' or 'pim: write' where that failed, 'pim: memory' when out of memory; from run and check also
 'pim: too many workers' and 'pim: shared <why>', where the script couldn't be run; or a wrong command line.";
 
-/// Returns what the words ask for, the program's name first: Judge for the name alone, and Judge, Run or Check for the
-/// name followed by just `judge`, `run` or `check`.
+/// Returns the job that the arguments ask for. The first argument is the program's name. The name alone asks for Judge,
+/// and the name with just `judge`, `run` or `check` after it asks for that job.
 ///
 /// # Errors
 ///
-/// For those words the only error is out of memory. Other words are an error with the text that is to be shown: help,
-/// the version, or what is wrong.
+/// For those arguments the only error is out of memory. For all others the error has the text to show: help, the
+/// version, or what is wrong.
 pub fn command<'a>(alloc: Global, words: &'a [&'a str]) -> Result<Job, Error>
     ensures none { (name : List ℕ) → map (λ word. word.now) words.now ≡ name ∷ [] → Answers result Job.Judge }
     ensures judge { (name : List ℕ) → map (λ word. word.now) words.now ≡ name ∷ codes "judge" ∷ []
@@ -98,7 +98,7 @@ fn pim<'a>(alloc: Global) -> Result<Command<'a>, AllocError>
         .subcommand(check)
 }
 
-/// Returns the job that a subcommand names: judge, if there is none.
+/// Returns the job that a subcommand names, or Judge if there is no subcommand.
 fn job_of(subcommand: Option<&str>) -> Job
     ensures { result ≡ job_named (option_map (λ name. name.now) subcommand.entry) }
 {

@@ -1,4 +1,4 @@
-//! Readers and writers that may fail.
+//! Streams: readers and writers that may fail.
 ghost use Rattle.std.specs.Prelude.{◌≡◌, ℕ, ◌<◌, ◌≤◌, List, length, take, Option, IfOk, OnOk, OnErr, Ok};
 ghost use Rattle.pim_tool.specs.Ends.{Told, one_more, TakesOff, IsAtEnd, Appends};
 
@@ -6,20 +6,20 @@ ghost use Rattle.pim_tool.specs.Ends.{Told, one_more, TakesOff, IsAtEnd, Appends
 #[derive(Clone, Copy, Debug, PartialEq, Eq)]
 pub struct Failed;
 
-/// Where bytes come from.
+/// A reader of bytes.
 pub trait Source {
-    /// The bytes that are left, where they are known.
+    /// The bytes that are left, if they are known.
     ghost remaining: { Self → Option (List ℕ) };
 
-    /// How many reads have failed.
+    /// The number of reads that failed.
     ghost failures: { Self → ℕ };
 
-    /// Reads the next bytes into the front of the buffer, and returns their number: 0 only at the end, or where the
-    /// buffer is empty.
+    /// Reads the next bytes into the front of the buffer, and returns their number. It is 0 only at the end, or if
+    /// the buffer is empty.
     ///
     /// # Errors
     ///
-    /// `Failed` where the read failed. No byte is lost.
+    /// `Failed` if the read failed. No byte is lost.
     fn read(&mut self, buffer: &mut [u8]) -> Result<usize, Failed>
         ensures count { IfOk result (λ count. count ≤ length buffer.old) }
         ensures bytes { IfOk result (λ count.
@@ -30,16 +30,16 @@ pub trait Source {
         ensures left { OnErr result (remaining self.new ≡ remaining self.old) };
 }
 
-/// Where bytes go.
+/// A writer of bytes.
 pub trait Sink {
-    /// The bytes that were written, where they are known, and how many writes failed or took nothing.
+    /// The bytes that were written, if they are known, and how many writes failed or took nothing.
     ghost told: { Self → Told };
 
     /// Writes the first bytes of the piece, and returns their number.
     ///
     /// # Errors
     ///
-    /// `Failed` where the write failed. No byte was written.
+    /// `Failed` if the write failed. No byte was written.
     fn write(&mut self, piece: &[u8]) -> Result<usize, Failed>
         ensures count { IfOk result (λ count. count ≤ length piece.now) }
         ensures bytes { IfOk result (λ count.

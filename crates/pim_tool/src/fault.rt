@@ -1,4 +1,4 @@
-//! What keeps a call from its output.
+//! Why a call fails.
 
 ghost use Rattle.std.specs.Prelude.{◌≡◌};
 ghost use Rattle.pim_tool.specs.Faults.{fault_of};
@@ -24,10 +24,10 @@ pub enum Fault {
     /// Out of memory. A prefix of the output was written, perhaps an empty one.
     #[error("memory")]
     Memory,
-    /// A script couldn't be run, or its log isn't that of a run of it. Nothing was written.
+    /// A script couldn't be run, or the log isn't the log of a run of the script. Nothing was written.
     #[error("shared {0}")]
     Shared(SharedFault),
-    /// A script has more tasks than there may be workers. Nothing was written.
+    /// A script has more tasks than the most workers that are allowed. Nothing was written.
     #[error("too many workers")]
     TooManyWorkers,
 }

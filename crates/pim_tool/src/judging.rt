@@ -1,4 +1,4 @@
-//! From a reader to a writer.
+//! The judge: from a trace to its report.
 ghost use Rattle.std.specs.Prelude.{◌≡◌, ◌<◌, ◌^◌, ℕ, ◌⊎◌, [], length, Some, IfOk, IfErr, IfSome, Err, MatchResult};
 ghost use Rattle.pim_base.specs.State.{start};
 ghost use Rattle.pim_base.specs.Steps.{after, reply_of};
@@ -24,20 +24,20 @@ use std::alloc::Global;
 
 /// Reads a trace to its end, and writes its report.
 ///
-/// The clauses on bytes speak of a reader and a writer that tell them, as those of `MemoryReader` and `MemoryWriter`.
-/// Nothing is written before the whole text was read and found valid. The report is gathered in pages of 64 KiB.
+/// The clauses on bytes hold for streams whose contents are known, such as `MemoryReader` and `MemoryWriter`.
+/// Nothing is written before the whole text is read and found valid. The report is written in pages of about 64 KiB.
 ///
 /// # Errors
 ///
-/// `Fault::Line(n)` where line n, counted from 1, is the first invalid one; `Fault::Read` and `Fault::Write` where a
-/// read or a write of this call failed; `Fault::Memory` if out of memory.
+/// `Fault::Line(n)` if line n, counted from 1, is the first invalid one; `Fault::Read` or `Fault::Write` if a read or a
+/// write of this call failed; `Fault::Memory` if out of memory.
 #[tactic(auto, using(crate::proofs::PrintingLemmas::puts_whole, crate::proofs::PrintingLemmas::stops_front))]
 pub fn judge<R: Source, W: Sink>(
     alloc: Global,
     reader: &mut R,
     writer: &mut W,
 ) -> Result<Verdict, Fault>
-    // What was read is a trace, its report was written and nothing else, and the verdict is the report's.
+    // The bytes are a trace. Its report was written, and nothing else. The verdict is the report's.
     ensures ok { IfOk result (λ verdict. IfSome (R.remaining reader.old) (λ bytes.
         (t : Trace) × Spells (lines_of bytes) t
         × Appends (W.told writer.old).contents (W.told writer.new).contents (report_of t) × (verdict ≡ verdict_of t))) }
@@ -55,8 +55,7 @@ pub fn judge<R: Source, W: Sink>(
     ensures read { result ≡ Err Fault.Read → Happened (R.failures reader.old) (R.failures reader.new) }
     ensures read_unwritten { result ≡ Err Fault.Read → (W.told writer.new).contents ≡ (W.told writer.old).contents }
 
-    // A write failed in this call, or took no byte of a piece that wasn't empty, and a prefix of the report was
-    // written.
+    // A write failed in this call, or took no byte of a piece that wasn't empty. A prefix of the report was written.
     ensures write { result ≡ Err Fault.Write → Fails (W.told writer.old) (W.told writer.new) }
     ensures write_front { result ≡ Err Fault.Write → IfSome (R.remaining reader.old) (λ bytes.
         (t : Trace) × Spells (lines_of bytes) t
@@ -74,7 +73,7 @@ pub fn judge<R: Source, W: Sink>(
     print_text(alloc, writer, &text)
 }
 
-/// Reads the text that a reader has. Its bytes are not kept.
+/// Reads a reader to its end, and returns the text. The bytes are not kept.
 fn read_text<R: Source>(alloc: Global, reader: &mut R) -> Result<Text, Fault>
     ensures ok { IfOk result (λ text.
         IfSome (R.remaining reader.old) (λ bytes. Spells (lines_of bytes) (trace_of text))) }
@@ -90,7 +89,7 @@ fn read_text<R: Source>(alloc: Global, reader: &mut R) -> Result<Text, Fault>
     parse(alloc, &bytes)
 }
 
-/// What the judge says of a trace.
+/// The report and the verdict of a trace.
 #[derive(Debug, Drop)]
 pub struct Judged {
     /// The bytes of the report.
@@ -103,8 +102,8 @@ pub struct Judged {
 ///
 /// # Errors
 ///
-/// `Fault::Line(n)` exactly where line n, counted from 1, is the first invalid one; `Fault::Memory` where memory runs
-/// out. There is no other fault.
+/// `Fault::Line(n)` exactly if line n, counted from 1, is the first invalid one; `Fault::Memory` if out of memory.
+/// There is no other fault.
 pub fn judge_bytes(alloc: Global, bytes: &[u8]) -> Result<Judged, Fault>
     ensures { MatchResult result
         (λ judged. (t : Trace) × Spells (lines_of bytes.now) t
@@ -118,7 +117,7 @@ pub fn judge_bytes(alloc: Global, bytes: &[u8]) -> Result<Judged, Fault>
             report: writer.into_bytes(),
             verdict,
         }),
-        // A writer in memory fails only where memory was refused.
+        // A writer in memory fails only if an allocation fails.
         Err(_) => Err(Fault::Memory),
     }
 }
@@ -177,7 +176,7 @@ fn make_step<W: Sink>(
     report.step(number, &reply, &line.recorded, changed.as_slice())
 }
 
-/// Returns the manager of what a text declares, in which all mutexes are free.
+/// Returns a manager of the tasks and mutexes that a text declares. All mutexes are free.
 pub(crate) fn manager_of(alloc: Global, text: &Text) -> Result<Manager, Fault>
     requires limits { IsWithinLimits (trace_of text.now) }
     ensures { MatchResult result
@@ -190,8 +189,8 @@ pub(crate) fn manager_of(alloc: Global, text: &Text) -> Result<Manager, Fault>
     }
 }
 
-/// Returns the exit status for an answer of `judge` or `check`: 0 where the trace was accepted, 1 where it was
-/// rejected, 2 for a fault. An `Ok` of `run` counts as accepted.
+/// Returns the exit status for an answer of `judge` or `check`: 0 if the trace was accepted, 1 if it was rejected, 2
+/// for a fault. An `Ok` of `run` counts as accepted.
 pub fn status(answer: &Result<Verdict, Fault>) -> u8
     ensures { result ≡ status_of answer.now }
 {

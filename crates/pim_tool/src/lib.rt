@@ -1,14 +1,14 @@
-//! The judge of traces, which reads a text, makes its steps, and writes their report; and the runs of scripts.
+//! The judge of traces, and the runs of scripts.
 //!
-//! [`judge`] reads a trace from a [`Source`], makes its steps, and writes to a [`Sink`] what each is answered, which
-//! tasks then have another priority, and why. It returns the [`Verdict`], or the [`Fault`] that kept it from one.
-//! [`judge_bytes`] does so in memory, with a promise that has no condition. [`run`] reads a script, runs it with a
-//! thread for each task, and writes the trace of that run; [`check`] judges that trace, and writes the last line of its
-//! report. [`parse`] reads a text alone, [`parse_script`] one that is to be run, [`command`] the words of the command
-//! line, and [`status`] is the exit status for an answer.
+//! [`judge`] reads a trace from a [`Source`], makes its steps, and writes the report to a [`Sink`]: the reply to each
+//! step, the tasks whose priority it changed, and why. It returns the [`Verdict`], or the [`Fault`] that prevented one.
+//! [`judge_bytes`] judges a trace in memory, and its contract has no condition. [`run`] reads a script, runs it with a
+//! thread for each task, and writes the trace of that run. [`check`] judges that trace, and writes the last line of its
+//! report. [`parse`] reads a trace, [`parse_script`] a script, and [`command`] the arguments of the command line.
+//! [`status`] returns the exit status for an answer.
 //!
-//! [`Input`] and [`Output`] are ends over the readers and writers of std, whose bytes no contract knows.
-//! [`MemoryReader`] and [`MemoryWriter`] tell theirs.
+//! [`Input`] and [`Output`] are streams over the readers and writers of std. No contract names their contents.
+//! [`MemoryReader`] and [`MemoryWriter`] are streams in memory, and the contracts name their contents.
 //!
 //! ```text
 //! let text = b"pim 1\ntask 1 10\nmutex 1 protect 40\n1 lock 1\n";

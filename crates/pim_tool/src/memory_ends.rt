@@ -1,4 +1,4 @@
-//! Ends in memory, which tell their bytes, and may take them piece by piece or fail at a call.
+//! Streams in memory. The contracts name their contents. They may pass bytes piece by piece, or fail at a call.
 ghost use Rattle.std.specs.Prelude.{◌≡◌, Some, []};
 
 use crate::ends::{Failed, Sink, Source};
@@ -8,16 +8,16 @@ use std::alloc::Global;
 #[derive(Drop)]
 pub struct MemoryReader<'a> {
     left: &'a [u8],
-    /// The most bytes that a call hands over; 0 counts as 1.
+    /// The most bytes that a call reads; 0 counts as 1.
     most: usize,
-    /// The number of the call that fails, counted from 1; none where this is 0.
+    /// The number of the call that fails, counted from 1, or 0 if none does.
     fails_at: u64,
     calls: u64,
     failures: u64,
 }
 
 impl<'a> MemoryReader<'a> {
-    /// Returns a reader that hands over as many bytes as are asked for, and never fails.
+    /// Returns a reader that never fails. Each call reads as many bytes as are asked for.
     pub fn new(bytes: &'a [u8]) -> MemoryReader<'a>
         ensures remaining { ⟦<MemoryReader<'static> as Source>⟧.remaining result ≡ Some bytes.now }
         ensures failures { ⟦<MemoryReader<'static> as Source>⟧.failures result ≡ 0 }
@@ -25,8 +25,8 @@ impl<'a> MemoryReader<'a> {
         MemoryReader::piecewise(bytes, usize::MAX, 0)
     }
 
-    /// Returns a reader that hands over at most `most` bytes a call, at least one, and whose call number `fails_at`
-    /// fails, counted from 1; none fails where that is 0.
+    /// Returns a reader that reads at most `most` bytes a call; 0 counts as 1. Call number `fails_at`, counted from 1,
+    /// fails. No call fails if that is 0.
     pub fn piecewise(bytes: &'a [u8], most: usize, fails_at: u64) -> MemoryReader<'a>
         ensures remaining { ⟦<MemoryReader<'static> as Source>⟧.remaining result ≡ Some bytes.now }
         ensures failures { ⟦<MemoryReader<'static> as Source>⟧.failures result ≡ 0 }
@@ -76,7 +76,7 @@ pub struct MemoryWriter {
     /// The most bytes that a call takes.
     most: usize,
     trouble: Trouble,
-    /// The number of the call that goes wrong, counted from 1; none where this is 0.
+    /// The number of the call that goes wrong, counted from 1, or 0 if none does.
     at: u64,
     calls: u64,
     failures: u64,
@@ -84,15 +84,15 @@ pub struct MemoryWriter {
 }
 
 impl MemoryWriter {
-    /// Returns an empty writer that takes each piece whole. A write fails only where memory was refused.
+    /// Returns an empty writer that takes each piece whole. A write fails only if an allocation fails.
     pub fn new(alloc: Global) -> MemoryWriter
         ensures { ⟦<MemoryWriter as Sink>⟧.told result ≡ record { contents = Some []; failures = 0; stalls = 0 } }
     {
         MemoryWriter::piecewise(alloc, usize::MAX, Trouble::Fails, 0)
     }
 
-    /// Returns an empty writer that takes at most `most` bytes a call, and whose call number `at` goes wrong, counted
-    /// from 1; none does where that is 0.
+    /// Returns an empty writer that takes at most `most` bytes a call. Call number `at`, counted from 1, goes wrong. No
+    /// call does if that is 0.
     pub fn piecewise(alloc: Global, most: usize, trouble: Trouble, at: u64) -> MemoryWriter
         ensures { ⟦<MemoryWriter as Sink>⟧.told result ≡ record { contents = Some []; failures = 0; stalls = 0 } }
     {
@@ -127,7 +127,7 @@ impl MemoryWriter {
         self.calls
     }
 
-    /// Returns what was written as text; None where it is not UTF-8.
+    /// Returns what was written as text, or `None` if it is not UTF-8.
     pub fn text(&self) -> Option<&str> {
         std::str::from_utf8(self.bytes.as_slice()).ok()
     }

@@ -1,17 +1,16 @@
-//! The decimal digits of small numbers, ready to be put.
+//! A table of the decimal digits of small numbers.
 ghost use Rattle.std.specs.Prelude.{◌≡◌, ◌<◌, ◌+◌};
 ghost use Rattle.pim_tool.specs.Numerals.{IsNumeral};
 
 use std::alloc::{AllocError, Global};
 use std::marker::Model;
 
-/// The digits of the numbers below this are kept.
+/// The table has the digits of the numbers below this.
 pub(crate) const KEPT: u32 = 1000;
 
-/// The digits of each number below a thousand: of four bytes the first are its digits, and the last says how many these
-/// are.
+/// The digits of each number below a thousand. Each number has four bytes: its digits first, and their count last.
 ///
-/// A number is put by one move of four bytes, with no division, and with no jump that goes by how many digits it has.
+/// A number is written by one move of four bytes, without a division, and without a branch on its number of digits.
 #[derive(Drop)]
 pub(crate) struct Numerals {
     texts: Vec<[u8; 4]>,
@@ -29,7 +28,7 @@ impl Model for Numerals {
 }
 
 impl Numerals {
-    /// Returns the digits of all numbers that are kept.
+    /// Returns the table.
     pub fn new(alloc: Global) -> Result<Numerals, AllocError> {
         let mut texts = Vec::with_capacity(alloc, KEPT as usize)?;
         for number in 0..KEPT {
@@ -38,7 +37,7 @@ impl Numerals {
         Ok(Numerals { texts })
     }
 
-    /// Returns the digits of a number.
+    /// Returns the digits of a number, from the table.
     #[inline(always)]
     pub fn of(&self, number: u32) -> [u8; 4]
         requires { number < 1000 }
@@ -48,7 +47,7 @@ impl Numerals {
     }
 }
 
-/// Returns the digits of a number, computed.
+/// Computes the digits of a number.
 #[tactic(auto, using(crate::proofs::DecimalLemmas::below_a_thousand))]
 fn numeral_of(number: u32) -> [u8; 4]
     requires { number < 1000 }

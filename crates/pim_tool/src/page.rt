@@ -1,4 +1,4 @@
-//! The bytes of a report that are not yet written.
+//! The lines that are not yet written.
 ghost use Rattle.std.specs.Prelude.{◌≡◌, ◌↔◌, ◌++◌, ◌≤◌, ◌+◌, [], length, take, flat_map, IsTrue, OnOk, IfOk};
 ghost use Rattle.pim_base.specs.Spelling.{refusal_word};
 ghost use Rattle.pim_base.specs.Reports.{reply_text, reply_line, differing_line, rejected, accepted};
@@ -12,18 +12,18 @@ use pim_manager::ChangedTask;
 use std::alloc::{AllocError, Global};
 use std::marker::Model;
 
-/// How many bytes are gathered before they are written.
+/// A page with this many bytes is full, and is written.
 const FULL: usize = 65_536;
 
-/// More than one step adds: the line of its reply, and 256 of at most 38 bytes.
+/// More bytes than one step adds: the line of its reply, and 256 lines of at most 38 bytes.
 const STEP: usize = 10_240;
 
-/// More than any line has.
+/// More bytes than any line has.
 const LINE: usize = 128;
 
-/// The bytes of whole lines, in the order in which they are to be written: the first of a row, which is longer.
+/// A buffer of whole lines, in the order in which they are written. The first `used` bytes of `row` are theirs.
 ///
-/// In contracts its value is the list of these bytes. Each call that adds a line fails only where memory was refused.
+/// In contracts its value is the list of these bytes. A call that adds a line fails only if an allocation fails.
 #[derive(Drop)]
 pub(crate) struct Page {
     pub(crate) row: Vec<u8>,
@@ -42,7 +42,7 @@ impl Model for Page {
 }
 
 impl Page {
-    /// Returns an empty page, with room for all that it holds before it is full, and one step.
+    /// Returns an empty page. It has room for a full page, and for one step more.
     pub fn new(alloc: Global) -> Result<Page, AllocError>
         ensures { IfOk result (λ page. page ≡ []) }
     {
@@ -55,7 +55,7 @@ impl Page {
         })
     }
 
-    /// Returns whether so much was gathered that it is to be written.
+    /// Returns whether the page is full.
     pub fn is_full(&self) -> bool
         ensures { IsTrue result ↔ FULL ≤ length self.now }
     {
@@ -69,7 +69,7 @@ impl Page {
         &self.row[..self.used]
     }
 
-    /// Removes all bytes. The room stays.
+    /// Removes all bytes. The allocation is kept.
     pub fn clear(&mut self)
         ensures { self.new ≡ [] }
     {
@@ -133,7 +133,7 @@ impl Page {
         Ok(())
     }
 
-    /// Adds the line of a task: the priority that it has after the step, and why.
+    /// Adds the line of a task: its priority after the step, and why.
     #[tactic(auto, unfolding(crate::specs::Printed::changed_line))]
     fn changed_line(&mut self, changed: &ChangedTask) -> Result<(), AllocError>
         ensures { OnOk result (self.new ≡ self.old ++ line_of changed.now) }
@@ -150,7 +150,7 @@ impl Page {
         Ok(())
     }
 
-    /// Adds the line of a step's reply beside the recorded one.
+    /// Adds the line with a step's reply and the recorded one.
     #[tactic(auto, unfolding(pim_base::specs::Reports::differing_line))]
     fn differing_line(
         &mut self,
@@ -185,7 +185,7 @@ impl Page {
     }
 }
 
-/// Makes the row long enough for one more line behind the bytes that are used.
+/// Makes the buffer long enough for one more line after the bytes in use.
 #[inline(always)]
 pub(crate) fn make_room(row: &mut Vec<u8>, used: usize) -> Result<(), AllocError>
     requires { used ≤ length row.old.items }
@@ -199,7 +199,7 @@ pub(crate) fn make_room(row: &mut Vec<u8>, used: usize) -> Result<(), AllocError
     Ok(())
 }
 
-/// Puts the text of a reply.
+/// Writes the text of a reply.
 #[inline(always)]
 pub(crate) fn put_reply(numerals: &Numerals, row: &mut [u8], at: usize, reply: &Reply) -> usize
     requires { at + 19 ≤ length row.old }
@@ -228,7 +228,7 @@ pub(crate) fn put_reply(numerals: &Numerals, row: &mut [u8], at: usize, reply: &
     }
 }
 
-/// Puts the text of a reason.
+/// Writes the text of a reason.
 #[inline(always)]
 fn put_reason(numerals: &Numerals, row: &mut [u8], at: usize, reason: Reason) -> usize
     requires { at + 34 ≤ length row.old }

@@ -1,4 +1,4 @@
-//! Lines on their way to their writer.
+//! Buffered writing of lines.
 ghost use Rattle.std.specs.Prelude.{◌≡◌, ◌<◌, length, []};
 ghost use Rattle.pim_tool.specs.declared.page.TheConstants.{FULL};
 
@@ -7,15 +7,15 @@ use crate::fault::Fault;
 use crate::page::Page;
 use crate::transfer::write_all;
 
-/// A printer over its writer: what the writer was told, and a page of what is not yet written.
+/// A buffered writer of lines: a writer, and a page of what is not yet written.
 ///
-/// Lines go to the page, and the page goes to the writer whenever it is full. Which lines there are is said where they
-/// are added: those of a report, and those of a trace.
+/// Lines go to the page, and the page goes to the writer whenever it is full. The lines of a report are in `report`,
+/// and the lines of a trace in `trace`.
 ///
 /// # Errors
 ///
-/// A call fails with `Fault::Write` where a write fails, and with `Fault::Memory` where memory was refused. What the
-/// writer was told is then a prefix of what was to be printed.
+/// A call fails with `Fault::Write` if a write fails, and with `Fault::Memory` if an allocation fails. What was written
+/// is then a prefix of what was to be printed.
 #[derive(Drop)]
 pub(crate) struct Printer<'a, W> {
     writer: &'a mut W,
@@ -25,7 +25,7 @@ pub(crate) struct Printer<'a, W> {
 impl<'a, W: Sink> Printer<'a, W> {
     ghost use Rattle.pim_tool.specs.Taken.{Takes};
 
-    /// Returns a printer whose first bytes are those of the page.
+    /// Returns a printer that writes the bytes of the page first.
     pub fn new(writer: &'a mut W, page: &'a mut Page) -> Printer<'a, W>
         ensures same_writer { result.writer.ghost_name ≡ writer.entry.ghost_name }
         ensures told { result.writer.now ≡ writer.old }

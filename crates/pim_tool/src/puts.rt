@@ -1,12 +1,12 @@
-//! Words and numbers, put into a row of bytes.
+//! Words and numbers, written into a buffer.
 //!
-//! Each call puts a text at a place, and returns the place behind it. So the place stays in a register, and a word is
-//! put by a move or two; a `Vec` compares its length with its room, and writes both, for each word.
+//! Each call writes a text at a place, and returns the place after it. The place stays in a register, and a word is
+//! written by a move or two. A `Vec` checks its capacity and updates its length for each word.
 ghost use Rattle.std.specs.Prelude.{◌≡◌, ◌≤◌, ◌<◌, ◌+◌, ◌/◌, ◌%◌, ◌++◌, ◌∷◌, [], length, take, decimal};
 
 use crate::numerals::{KEPT, Numerals, digit};
 
-/// Puts a word, whose length is known to the compiler.
+/// Writes a word whose length the compiler knows.
 #[inline(always)]
 pub(crate) fn put<const N: usize>(row: &mut [u8], at: usize, word: &[u8; N]) -> usize
     requires { at + N ≤ length row.old }
@@ -17,7 +17,7 @@ pub(crate) fn put<const N: usize>(row: &mut [u8], at: usize, word: &[u8; N]) -> 
     at + N
 }
 
-/// Puts a text of any length.
+/// Writes a text of any length.
 pub(crate) fn put_slice(row: &mut [u8], at: usize, text: &[u8]) -> usize
     requires { at + length text.now ≤ length row.old }
     ensures end { result ≡ at + length text.now }
@@ -28,7 +28,7 @@ pub(crate) fn put_slice(row: &mut [u8], at: usize, text: &[u8]) -> usize
     end
 }
 
-/// Puts a number in decimal digits.
+/// Writes a number in decimal digits.
 #[inline(always)]
 pub(crate) fn put_number(numerals: &Numerals, row: &mut [u8], at: usize, number: u32) -> usize
     requires { at + 10 ≤ length row.old }
@@ -42,7 +42,7 @@ pub(crate) fn put_number(numerals: &Numerals, row: &mut [u8], at: usize, number:
     }
 }
 
-/// Puts a number whose digits are kept: all four bytes, of which the next text writes over those that are no digits.
+/// Writes all four bytes of a number in the table. The next text overwrites the bytes that aren't digits.
 #[inline(always)]
 fn put_kept(numerals: &Numerals, row: &mut [u8], at: usize, number: u32) -> usize
     requires room { at + 4 ≤ length row.old }
@@ -55,7 +55,7 @@ fn put_kept(numerals: &Numerals, row: &mut [u8], at: usize, number: u32) -> usiz
     at + usize::from(text[3])
 }
 
-/// Puts a number of at least four digits: its thousands, and then three digits.
+/// Writes a number of at least four digits: its thousands, and then three digits.
 #[inline(never)]
 fn put_long_number(numerals: &Numerals, row: &mut [u8], at: usize, number: u32) -> usize
     requires room { at + 10 ≤ length row.old }
@@ -73,7 +73,7 @@ fn put_long_number(numerals: &Numerals, row: &mut [u8], at: usize, number: u32) 
     }
 }
 
-/// Returns the last three digits of a number, zeros in front too.
+/// Returns the three digits of a number below a thousand, with leading zeros.
 #[inline]
 fn three_digits(number: u32) -> [u8; 3]
     requires { number < 1000 }

@@ -13,8 +13,8 @@ use std::alloc::Global;
 ///
 /// # Errors
 ///
-/// `Fault::Line(n)` exactly where line n, counted from 1, is the first invalid one; `Fault::Memory` where memory
-/// runs out. There is no other fault.
+/// `Fault::Line(n)` exactly if line n, counted from 1, is the first invalid one; `Fault::Memory` if out of memory.
+/// There is no other fault.
 pub fn parse(alloc: Global, bytes: &[u8]) -> Result<Text, Fault>
     ensures { MatchResult result
         (λ text. Spells (lines_of bytes.now) (trace_of text))
@@ -23,13 +23,13 @@ pub fn parse(alloc: Global, bytes: &[u8]) -> Result<Text, Fault>
     Ok(pim_text::parse(alloc, bytes)?)
 }
 
-/// Returns the script that the bytes spell, as [`pim_text::parse_script`] does: a trace in which no reply is
-/// recorded, and in which each actor is a declared task.
+/// Returns the script that the bytes spell, as [`pim_text::parse_script`] does. A script is a trace without recorded
+/// replies, in which each actor is a declared task.
 ///
 /// # Errors
 ///
-/// `Fault::Line(n)` exactly where line n, counted from 1, is the first that is invalid in a script; `Fault::Memory`
-/// if out of memory. There is no other fault.
+/// `Fault::Line(n)` exactly if line n, counted from 1, is the first that is invalid in a script; `Fault::Memory` if
+/// out of memory. There is no other fault.
 pub fn parse_script(alloc: Global, bytes: &[u8]) -> Result<Text, Fault>
     ensures { MatchResult result
         (λ text. SpellsScript (lines_of bytes.now) (trace_of text))

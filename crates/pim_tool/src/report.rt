@@ -12,8 +12,8 @@ use pim_manager::ChangedTask;
 impl<'a, W: Sink> Printer<'a, W> {
     ghost use Rattle.pim_tool.specs.Taken.{Takes};
 
-    /// Adds the line of a step's reply, and one for each task whose priority the step changed; or both lines of the
-    /// rejection, where the recorded reply differs from this one. Returns whether it agrees.
+    /// Adds the line of a step's reply, and one for each task whose priority the step changed. If the recorded reply
+    /// differs it adds both lines of the rejection instead. Returns whether the replies agree.
     #[tactic(auto, using(crate::proofs::PrintingLemmas::prints_unwritten), unfolding(crate::specs::Printed::shown_lines))]
     pub fn step(
         &mut self,

@@ -1,4 +1,4 @@
-//! Scripts: a worker for each task, and the trace of what they were answered.
+//! Runs of scripts: a worker for each task, and the trace of the run.
 ghost use Rattle.std.specs.Prelude.{◌≡◌, ◌<◌, ◌≤◌, ◌^◌, [], length, map, Some, IfOk, IfErr, IfSome};
 ghost use Rattle.pim_base.specs.Texts.{lines_of};
 ghost use Rattle.pim_base.specs.Reports.{agrees, verdict_from};
@@ -26,26 +26,26 @@ use std::alloc::Global;
 use std::sync::Wait;
 use std::thread::Threads;
 
-/// Reads a script to its end, runs it with a worker for each task, each in a thread of its own, and writes the trace of
-/// that run: what each step was answered, in the order in which the steps were made, and a release for each task after
-/// its last line. [`judge`](crate::judge) accepts that trace, if it has at most 65,536 steps.
+/// Reads a script to its end, runs it with a thread for each task, and writes the trace of that run. The trace has the
+/// reply to each step, in the order in which the steps were made, and a release of each task after its last line.
+/// [`judge`](crate::judge) accepts it if it has at most 65,536 steps.
 ///
-/// The clauses on bytes speak of a reader and a writer that tell them, as those of `MemoryReader` and `MemoryWriter`.
-/// Nothing is written before the run has ended. In which order the threads come is not promised, nor that each comes to
-/// its end: a task that never unlocks a mutex keeps those waiting that ask for it.
+/// The clauses on bytes hold for streams whose contents are known, such as `MemoryReader` and `MemoryWriter`.
+/// Nothing is written before the run has finished. No contract promises an order of the threads, nor that each of them
+/// finishes.
 ///
 /// # Errors
 ///
-/// `Fault::Line(n)` where line n, counted from 1, is the first that is invalid in a script, else
-/// `Fault::TooManyWorkers` above 16 tasks; `Fault::Read` and `Fault::Write` where a read or a write of this call
-/// failed; `Fault::Shared` where the script couldn't be run; `Fault::Memory` if out of memory.
+/// `Fault::Line(n)` if line n, counted from 1, is the first that is invalid in a script, else `Fault::TooManyWorkers`
+/// above 16 tasks; `Fault::Read` or `Fault::Write` if a read or a write of this call failed; `Fault::Shared` if the
+/// script couldn't be run; `Fault::Memory` if out of memory.
 pub fn run<T: Threads + Wait + Sync, R: Source, W: Sink>(
     rt: &T,
     alloc: Global,
     reader: &mut R,
     writer: &mut W,
 ) -> Result<(), Fault>
-    // What was read is a script of at most 16 tasks, and the trace of a run of it was written and nothing else.
+    // The bytes are a script of at most 16 tasks. The trace of a run of it was written, and nothing else.
     ensures ok { IfOk result (λ _. Wrote IsTraceOfRun
         (call R.remaining R.failures W.told reader.old reader.new writer.old writer.new)) }
 
@@ -65,15 +65,15 @@ pub fn run<T: Threads + Wait + Sync, R: Source, W: Sink>(
 ///
 /// # Errors
 ///
-/// Those of `run`.
+/// The errors of [`run`].
 pub fn check<T: Threads + Wait + Sync, R: Source, W: Sink>(
     rt: &T,
     alloc: Global,
     reader: &mut R,
     writer: &mut W,
 ) -> Result<Verdict, Fault>
-    // What was read is a script of at most 16 tasks, and the last line of the report of a run was written and nothing
-    // else: it accepts the steps and the releases.
+    // The bytes are a script of at most 16 tasks. The last line of the report of a run was written, and nothing else.
+    // It accepts the steps and the releases.
     ensures ok { IfOk result (λ _. Wrote IsEndOfReport
         (call R.remaining R.failures W.told reader.old reader.new writer.old writer.new)) }
     ensures verdict { IfOk result (λ verdict.
@@ -94,7 +94,7 @@ pub fn check<T: Threads + Wait + Sync, R: Source, W: Sink>(
     Ok(verdict)
 }
 
-/// Reads the script that a reader has. Its bytes are not kept.
+/// Reads a reader to its end, and returns the script. The bytes are not kept.
 fn read_script<R: Source>(alloc: Global, reader: &mut R) -> Result<Text, Fault>
     ensures ok { IfOk result (λ script.
         IfSome (R.remaining reader.old) (λ bytes. SpellsRunnable (lines_of bytes) (trace_of script))) }
@@ -122,13 +122,13 @@ fn log_of_run<T: Threads + Wait + Sync>(rt: &T, alloc: Global, script: &Text) ->
     let room = script.lines.len() + script.bases.len();
     let (shared, _no_lookers) = Shared::new(rt, alloc, manager, room, 0)?;
     let ran = run_scripts(rt, alloc, &shared, &scripts);
-    // Also after a fault: this alone ends what is shared.
+    // Only this call closes what is shared, so it is made after a fault, too.
     let (_end, log) = shared.finish(rt);
     ran?;
     Ok(gather(log, &start, &scripts)?)
 }
 
-/// Makes the steps of the entries, and returns the verdict of the report in which their replies are the recorded ones.
+/// Makes the steps of the entries, with their replies as the recorded ones, and returns the report's verdict.
 fn judge_entries(manager: &mut Manager, entries: &[Entry]) -> Verdict
     requires few { length entries.now < 2 ^ 32 }
     ensures { result ≡ verdict_from 1 manager.old (map entry_line entries.now) }

@@ -1,4 +1,4 @@
-//! What each task of a script asks for.
+//! The operations of each task of a script.
 ghost use Rattle.std.specs.Prelude.{◌≡◌, ◌≤◌, map, length, IfOk};
 ghost use Rattle.pim_base.specs.Scripts.{script_of, scripts_of};
 ghost use Rattle.pim_base.specs.declared.limits.TheConstants.{MAX_WORKERS};
@@ -9,7 +9,7 @@ use pim_base::{Op, StepLine};
 use pim_text::Text;
 use std::alloc::{AllocError, Global};
 
-/// Returns what each task of the text asks for, in order: that of task 1 first.
+/// Returns the operations of each task of the text, in order, task 1 first.
 pub(crate) fn scripts_of(alloc: Global, text: &Text) -> Result<Vec<Vec<Op>>, AllocError>
     requires few { length text.now.bases.items ≤ MAX_WORKERS }
     ensures scripts { IfOk result (λ scripts. lines scripts.items ≡ scripts_of (trace_of text.now)) }
@@ -23,7 +23,7 @@ pub(crate) fn scripts_of(alloc: Global, text: &Text) -> Result<Vec<Vec<Op>>, All
     Ok(scripts)
 }
 
-/// Returns what the task asks for in the lines, in order.
+/// Returns the operations of the task in the lines, in order.
 fn script_of(alloc: Global, lines: &[StepLine], task: u16) -> Result<Vec<Op>, AllocError>
     ensures { IfOk result (λ script. script.items ≡ script_of lines.now task) }
 {

@@ -1,10 +1,10 @@
-//! The readers and writers of std as ends that know no bytes.
+//! Streams over the readers and writers of std. No contract names their contents.
 ghost use Rattle.std.specs.Prelude.{◌≡◌, None};
 
 use crate::ends::{Failed, Sink, Source};
 use std::io::{ErrorKind, Read, Write};
 
-/// A reader of std as an end. It counts the reads that failed; a read that a signal interrupts is made again.
+/// A stream over a reader of std. It counts the reads that failed, and repeats a read that a signal interrupts.
 #[derive(Drop)]
 pub struct Input<R> {
     reader: R,
@@ -12,7 +12,7 @@ pub struct Input<R> {
 }
 
 impl<R: Read> Input<R> {
-    /// Returns the reader as an end of which no read has failed.
+    /// Returns a stream over the reader. No read of it has failed.
     pub fn new(reader: R) -> Input<R>
         ensures { ⟦<Input<R> as Source>⟧.failures result ≡ 0 }
     {
@@ -29,7 +29,7 @@ impl<R: Read> Source for Input<R> {
     ghost failures = { λ input. input.failures };
 
     fn read(&mut self, buffer: &mut [u8]) -> Result<usize, Failed> {
-        // For ever, in practice: but a loop has to end.
+        // In practice there is no bound, but the loop needs one.
         for _attempt in 0..u64::MAX {
             match self.reader.read(buffer) {
                 Ok(count) => return Ok(count),
@@ -42,8 +42,8 @@ impl<R: Read> Source for Input<R> {
     }
 }
 
-/// A writer of std as an end. It counts the writes that failed, and those that took nothing; a write that a signal
-/// interrupts is made again.
+/// A stream over a writer of std. It counts the writes that failed, and those that took nothing. It repeats a write
+/// that a signal interrupts.
 #[derive(Drop)]
 pub struct Output<W> {
     writer: W,
@@ -52,7 +52,7 @@ pub struct Output<W> {
 }
 
 impl<W: Write> Output<W> {
-    /// Returns the writer as an end of which no write has failed or taken nothing.
+    /// Returns a stream over the writer. No write of it has failed or taken nothing.
     pub fn new(writer: W) -> Output<W>
         ensures { ⟦<Output<W> as Sink>⟧.told result ≡ record { contents = None; failures = 0; stalls = 0 } }
     {
@@ -80,7 +80,7 @@ impl<W: Write> Sink for Output<W> {
     ghost told = { λ output. record { contents = None; failures = output.failures; stalls = output.stalls } };
 
     fn write(&mut self, piece: &[u8]) -> Result<usize, Failed> {
-        // For ever, in practice: but a loop has to end.
+        // In practice there is no bound, but the loop needs one.
         for _attempt in 0..u64::MAX {
             match self.writer.write(piece) {
                 Ok(0) => {

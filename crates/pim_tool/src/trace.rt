@@ -18,7 +18,7 @@ use pim_base::{Entry, Op, Prio, Protocol};
 use pim_text::Text;
 use std::alloc::{AllocError, Global};
 
-/// Writes the trace of these entries, over what a script declares.
+/// Writes the trace of these entries, with the declarations of a script.
 pub(crate) fn print_trace<W: Sink>(
     alloc: Global,
     writer: &mut W,
@@ -59,7 +59,7 @@ impl<'a, W: Sink> Printer<'a, W> {
 }
 
 impl Page {
-    /// Returns a page of the lines above the steps: the version, and what the text declares.
+    /// Returns a page of the lines before the steps: the version, and what the text declares.
     fn declaring(alloc: Global, text: &Text) -> Result<Page, AllocError>
         requires limits { IsWithinLimits (trace_of text.now) }
         ensures { IfOk result (λ page. page ≡ declarations_text (trace_of text.now)) }
@@ -155,7 +155,7 @@ impl Page {
     }
 }
 
-/// Puts the words of a protocol.
+/// Writes the text of a protocol.
 fn put_protocol(numerals: &Numerals, row: &mut [u8], at: usize, protocol: Protocol) -> usize
     requires { at + 18 ≤ length row.old }
     ensures end { result ≤ at + 18 }
@@ -169,7 +169,7 @@ fn put_protocol(numerals: &Numerals, row: &mut [u8], at: usize, protocol: Protoc
     }
 }
 
-/// Puts the words of an operation.
+/// Writes the text of an operation.
 fn put_op(numerals: &Numerals, row: &mut [u8], at: usize, op: &Op) -> usize
     requires { at + 26 ≤ length row.old }
     ensures end { result ≤ at + 26 }
@@ -192,7 +192,7 @@ fn put_op(numerals: &Numerals, row: &mut [u8], at: usize, op: &Op) -> usize
     }
 }
 
-/// Puts a word, and a number.
+/// Writes a word and a number.
 fn put_with<const N: usize>(
     numerals: &Numerals,
     row: &mut [u8],

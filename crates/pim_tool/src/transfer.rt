@@ -1,4 +1,4 @@
-//! Reads to the end, and writes of whole pieces.
+//! Reading to the end of a reader, and writing all bytes of a buffer.
 ghost use Rattle.std.specs.Prelude.{◌≡◌, ◌⊎◌, [], Some, IfOk, IfErr, IfSome, Err};
 ghost use Rattle.pim_tool.specs.Ends.{Happened, ReadsAll, Prints};
 
@@ -6,7 +6,7 @@ use crate::ends::{Sink, Source};
 use crate::fault::Fault;
 use std::alloc::Global;
 
-/// How many bytes are asked for at once.
+/// How many bytes one read asks for.
 const PIECE: usize = 16_384;
 
 /// Reads all the bytes that are left.

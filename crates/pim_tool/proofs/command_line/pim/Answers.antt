@@ -3,7 +3,7 @@ use Rattle.std.proofs.lemmas.Result.{IfOk-weaker}
 use Rattle.clap.specs.Simple.{App, Shape, on_top, with_subcommand, app_of_fields}
 use Rattle.pim_tool.proofs.command_line.pim.Goals as goal
 
--- each subcommand is added with its shape, and the version is all that the other words add
+-- each subcommand is added with its shape, and the other settings add only the version
 pub returns : goal.returns
 returns c =
     IfOk-weaker c.subcommand-3.result _ _ (λ command adds.

@@ -3,7 +3,7 @@ use Rattle.pim_base.specs.Reports.{report_from, verdict_from}
 use Rattle.pim_tool.specs.Ends.{Puts}
 use Rattle.pim_tool.proofs.judging.make_steps.Given as goal
 
--- all is put, but for the page and the report of the other lines, which has the same verdict
+-- all is written but the page and the report of the other lines, and that report has the same verdict
 abbrev pub invariant-loop-index : goal.invariant-loop-index
 invariant-loop-index g l = record {
   same_writer : l.report.writer.ghost_name ≡ l.fn.report.writer.ghost_name;

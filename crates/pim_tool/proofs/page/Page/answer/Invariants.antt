@@ -3,7 +3,7 @@ use Rattle.pim_base.specs.Reports.{reply_line}
 use Rattle.pim_tool.specs.Printed.{line_of}
 use Rattle.pim_tool.proofs.page.Page.answer.Given as goal
 
--- the lines of the other tasks are all that is wanting
+-- only the lines of the other tasks are missing
 abbrev pub invariant-loop-task : goal.invariant-loop-task
 invariant-loop-task l =
     l.self ++ flat_map line_of (drop l.task-index l.changed)

@@ -2,7 +2,7 @@ use Rattle.std.proofs.Common.{◌≡◌, ◌++◌, ◌+◌, drop}
 use Rattle.pim_tool.specs.Printed.{mutexes_text}
 use Rattle.pim_tool.proofs.page.Page.mutexes.Given as goal
 
--- the lines of the other mutexes are all that is wanting
+-- only the lines of the other mutexes are missing
 abbrev pub invariant-loop-index : goal.invariant-loop-index
 invariant-loop-index l =
     l.self ++ mutexes_text (l.index + 1) (drop l.index l.protocols) ≡ l.fn.self ++ mutexes_text 1 l.protocols

@@ -4,7 +4,7 @@ use Rattle.pim_tool.specs.Ends.{Puts}
 use Rattle.pim_tool.specs.Printed.{entry_text}
 use Rattle.pim_tool.proofs.printer.Printer.entries.Given as goal
 
--- all is put, but for the page and the lines of the other entries
+-- all is written but the page and the lines of the other entries
 abbrev pub invariant-loop-entry : goal.invariant-loop-entry
 invariant-loop-entry g l = record {
   same_writer : l.self.writer.ghost_name ≡ l.fn.self.writer.ghost_name;
