@@ -1,8 +1,8 @@
 //! The program `pim`: judges traces of mutexes with the POSIX protocols, and runs scripts of them.
 //!
-//! It reads its words with `pim_tool::command`, hands standard input and output to `pim_tool::judge`, `run` or `check`, and
-//! turns the answer into a line on standard error and an exit status. What it decides is in `pim_tool`, proved; here is
-//! only what no contract can say: the streams, the texts and the process.
+//! It parses its arguments with `pim_tool::command`, and passes standard input and output to `pim_tool::judge`, `run`
+//! or `check`. It turns the answer into a line on standard error and an exit status. All decisions are in `pim_tool`,
+//! and are proved there. This crate has only what no contract can say: the streams, the texts and the process.
 #![tactic(auto)]
 
 use clap::error::ErrorKind;
@@ -15,7 +15,7 @@ use std::process::ExitCode;
 use std::sync::Wait;
 use std::thread::Threads;
 
-/// The exit status for a fault, of the command line too.
+/// The exit status for a fault, and for a wrong command line.
 const FAULT: u8 = 2;
 
 fn main(rt: HostRuntime) -> ExitCode {
@@ -32,7 +32,7 @@ fn main(rt: HostRuntime) -> ExitCode {
     match ended {
         Ok(status) => status,
         Err(error) => {
-            // Where not even this line can be written, the status tells.
+            // If not even this line can be written, the status reports the fault.
             let _unwritten = match error.kind() {
                 io::ErrorKind::OutOfMemory => eprintln!(&rt; "pim: {}", Fault::Memory),
                 io::ErrorKind::InvalidData => eprintln!(&rt; "pim: a word is not UTF-8"),
@@ -43,11 +43,11 @@ fn main(rt: HostRuntime) -> ExitCode {
     }
 }
 
-/// Returns the job that the words ask for, or the exit status where they ask for none and a text was shown.
+/// Returns the job that the arguments ask for. If they ask for none it shows a text, and returns the exit status.
 ///
 /// # Errors
 ///
-/// Out of memory for the words, or a standard stream that can't be written.
+/// An error if out of memory for the arguments, or if a standard stream can't be written.
 fn asked(rt: &HostRuntime) -> io::Result<Result<Job, ExitCode>> {
     let alloc = rt.alloc();
     let arguments: Vec<String> = std::env::args(rt)?.collect(alloc)?;
@@ -66,7 +66,7 @@ fn asked(rt: &HostRuntime) -> io::Result<Result<Job, ExitCode>> {
     }
 }
 
-/// Does the job. A run whose trace was printed ends as an accepted trace does.
+/// Does the job. A run whose trace was printed counts as an accepted trace.
 fn answer_to<T: Threads + Wait + Sync, R: Source, W: Sink>(
     job: Job,
     rt: &T,
