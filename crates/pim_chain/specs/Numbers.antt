@@ -15,24 +15,24 @@ has words n = bit_of words n == 1
 unfoldable pub members : List ℕ → List ℕ
 members words = filter (has words) (range_with_len 0 320)
 
--- the bits tell which of the words aren't empty
+-- each bit is set if its word isn't empty, and only then
 abbrev pub AreTold : List ℕ → ℕ → Type 0
 AreTold words filled = (i : ℕ) → i < 64 → (bit_at filled i == 1) ≡ not (slice_index words i == 0)
 
--- the least number of the set, or none of an empty one
+-- the least number of the set, or None if the set is empty
 abbrev pub IsLeast : List ℕ → Option ℕ → Type 0
 IsLeast words None = (k : ℕ) → has words k ≡ false
 IsLeast words (Some n) = (n < 320) × (has words n ≡ true) × ((k : ℕ) → k < n → has words k ≡ false)
 
--- the first word that has a number, or none of an empty set
+-- the first word that has a number, or None if the set is empty
 abbrev pub IsFirstWord : List ℕ → Option ℕ → Type 0
 IsFirstWord words None = (k : ℕ) → has words k ≡ false
 IsFirstWord words (Some i) = (i < 5) × (slice_index words i ≢ 0) × ((j : ℕ) → j < i → slice_index words j ≡ 0)
 
--- the words of what is left: the one that is gone through stands in its place
+-- the words of the numbers that are left, with the word that the iteration is in at its index
 abbrev pub rest_words : List ℕ → ℕ → ℕ → List ℕ
 rest_words words index word = if word == 0 then words else set words index word
 
--- while a word is gone through, neither its place nor any in front of it has another one
+-- while the iteration is in a word, the words up to its index are empty
 abbrev pub IsBehind : List ℕ → ℕ → ℕ → Type 0
 IsBehind words index word = word ≢ 0 → (index < 5) × ((j : ℕ) → j ≤ index → slice_index words j ≡ 0)

@@ -1,4 +1,4 @@
--- What a task owns.
+-- What a task receives from the mutexes that it owns.
 use Rattle.std.specs.Prelude.{◌==◌, ◌&&◌, ℕ, max, Bool, cond, is_some, List, Option, Some}
 use Rattle.std.specs.List.{find}
 use Rattle.std.specs.Option.{option_map_or}
@@ -11,11 +11,11 @@ use Rattle.pim_base.specs.declared.steps.Reason.{Reason}
 use Rattle.pim_base.specs.declared.steps.Waiter.{Waiter}
 use Rattle.pim_chain.specs.Views.{View, stored_at, queue_at, first_prio}
 
--- what a mutex lends to its owner: its ceiling, or the priority of its first waiter
+-- the priority that a mutex gives its owner: its ceiling, or the priority of its first waiter
 abbrev pub worth : View → ℕ → ℕ
 worth v m = max (ceiling_of v.state m) (cond (is_some (heir_of v.state m)) (first_prio (queue_at v m)) 0)
 
--- what a task that waits for the mutex lends to its owner: its priority, where that is inherited
+-- the priority that a task donates to the owner of the mutex that it waits for: its own if that is inherited, else 0
 abbrev pub lent_by : View → ℕ → ℕ → ℕ
 lent_by v t m = cond (is_inherit (protocol_of v.state m)) (stored_at v t) 0
 
@@ -23,12 +23,12 @@ lent_by v t m = cond (is_inherit (protocol_of v.state m)) (stored_at v t) 0
 abbrev pub lends_now : View → ℕ → ℕ → Bool
 lends_now v p m = is_inherit (protocol_of v.state m) && (first_prio (queue_at v m) == p)
 
--- the first of those who wait for the mutex, as a reason
+-- the first waiter of the mutex, as a reason
 abbrev pub first_reason : View → ℕ → Reason
 first_reason v m = option_map_or (λ (w : Waiter). Reason.Waiter w.task m) (first_item (queue_at v m)) Reason.Base
 
--- of these mutexes the least with the ceiling, else the first waiter for the lender, or for the least that lends the
--- priority where no lender is known
+-- The reason is the least of these mutexes with the ceiling, if there is one. Else it is the first waiter for the
+-- lender or, if no lender is known, for the least mutex that donates the priority.
 abbrev pub owned_reason : View → ℕ → Option ℕ → List ℕ → Reason
 owned_reason v p lender ms =
     option_map_or Reason.Ceiling (find (λ m. ceiling_of v.state m == p) ms)

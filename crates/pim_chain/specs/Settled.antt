@@ -12,20 +12,20 @@ use Rattle.pim_queue.specs.QueueView.{QueueView}
 use Rattle.pim_queue.specs.Waiters.{without, repositioned}
 use Rattle.pim_chain.specs.Views.{View, Ready, stored_at, queue_at, first_prio, queue_in, put_queue}
 
--- each task has the priority that it has locally, but perhaps the one that is named
+-- each task, except perhaps the named one, has its local priority
 abbrev pub SettledBut : State → (ℕ → ℕ) → Option ℕ → Type 0
 SettledBut S stored except = (t : ℕ) → IsTask S t → (except ≡ Some t → ⊥) → stored t ≡ local_priority S stored t
 
--- where all had it, all have it still, but perhaps the one that is named
+-- if each task had its local priority before, each task except perhaps the named one still has it
 abbrev pub Unsettles : View → View → Option ℕ → Type 0
 Unsettles v w who = SettledBut v.state (stored_at v) None → SettledBut w.state (stored_at w) who
 
--- the queues are in order, and each task has the priority that it has locally
+-- the queues are in order, and each task has its local priority
 pub record Calm (v : View) : Type 0 where
   pub ready : Ready v
   pub settled : SettledBut v.state (stored_at v) None
 
--- the queues, where the task is moved in the queue that it waits in
+-- the queues, with the task moved in the queue that it waits in
 abbrev pub moved : List QueueView → Option Wait → ℕ → ℕ → List QueueView
 moved queues None t p = queues
 moved queues (Some w) t p = put_queue queues w.mutex (repositioned t p (queue_in queues w.mutex))
@@ -49,15 +49,15 @@ left v t m = record v {
 abbrev pub restored : View → ℕ → ℕ → View
 restored v t p = record v { stored = put v.stored t p; queues = moved v.queues (wait_of v.state t) t p }
 
--- who is to be looked at after one who waits there: the heir of the mutex, where its first waiter had another priority before
+-- the task that is visited after one that waits for the mutex: the heir, if the first waiter's priority has changed
 abbrev pub onward_from : ℕ → View → Wait → Option ℕ
 onward_from before w u = if before == first_prio (queue_at w u.mutex) then None else heir_of w.state u.mutex
 
--- who is to be looked at after x
+-- the task that is visited after x
 abbrev pub next_of : View → View → ℕ → Option ℕ
 next_of v w x = option_and_then (λ (u : Wait). onward_from (first_prio (queue_at v u.mutex)) w u) (wait_of v.state x)
 
--- what the visit of x leaves, and who is next
+-- what holds after the visit of x, and which task is next
 pub record Visited (v w : View) (x : ℕ) (next : Option ℕ) : Type 0 where
   pub state : w.state ≡ v.state
   pub settled : SettledBut w.state (stored_at w) next

@@ -48,7 +48,7 @@ queue_at v m = queue_in v.queues m
 abbrev pub put_queue : List QueueView → ℕ → List Waiter → List QueueView
 put_queue queues m ws = put queues m (with_waiters (view_in queues m) ws)
 
--- the priority of the first, and 0 where there is none
+-- the priority of the first waiter, or 0 if nobody waits
 abbrev pub first_prio : List Waiter → ℕ
 first_prio ws = option_map_or (λ (w : Waiter). w.prio) (first_item ws) 0
 
@@ -59,7 +59,7 @@ waits_for wait m t = option_map_or (λ (w : Wait). w.mutex == m) (wait t) false
 abbrev pub waiter_at : View → ℕ → ℕ → Waiter
 waiter_at v t k = record { task = t; prio = stored_at v t; ticket = k }
 
--- a waiter shows what its task waits for, and the stored priority
+-- a waiter has the ticket of its task's wait for the mutex, and the task's stored priority
 pub record Shows (wait : ℕ → Option Wait) (stored : ℕ → ℕ) (m : ℕ) (w : Waiter) : Type 0 where
   pub waits : wait w.task ≡ Some (record { mutex = m; ticket = w.ticket })
   pub prio : w.prio ≡ stored w.task
@@ -70,13 +70,13 @@ pub record IsQueue (wait : ℕ → Option Wait) (stored : ℕ → ℕ) (m : ℕ)
   pub sound : AllByRecursion (Shows wait stored m) ws
   pub complete : (t : ℕ) → waits_for wait m t ≡ true → list_any (is_of t) ws ≡ true
 
--- a known task waits for a known mutex, and its ticket there tells the task
+-- owners are known tasks, tasks wait for known mutexes, and no two tasks wait for a mutex with the same ticket
 pub record WaitsFit (S : State) : Type 0 where
   pub owners : (m t : ℕ) → owner_of S m ≡ Some t → IsTask S t
   pub mutexes : (t : ℕ) (w : Wait) → wait_of S t ≡ Some w → IsMutex S w.mutex
   pub tickets : (t u : ℕ) (w : Wait) → wait_of S t ≡ Some w → wait_of S u ≡ Some w → t ≡ u
 
--- no cycle stands, the lists fit together, and each queue is in order by the stored priorities
+-- there is no cycle of waits, the lists fit together, and each queue is in order by the stored priorities
 pub record Ready (v : View) : Type 0 where
   pub sound : IsSound v.state
   pub few_tasks : length v.state.base ≤ MAX_TASKS

@@ -11,7 +11,7 @@ pub record Noted : Type 0 where
   pub tasks : List ℕ
   pub had : List ℕ
 
--- how many visits were made and, where notes are kept, what was noted
+-- how many visits were made and, if notes are kept, what was noted
 pub record Work : Type 0 where
   pub count : ℕ
   pub notes : Option Noted
@@ -28,7 +28,7 @@ noted_of w t = option_and_then (λ (n : Noted). noted_in n t) w.notes
 abbrev pub original : (ℕ → ℕ) → Work → ℕ → ℕ
 original stored w t = unwrap_or (noted_of w t) (stored t)
 
--- the first note of a task stands, and nothing else is noted
+-- the first note of a task is kept, and nothing else is noted
 pub record IsNoted (a : Work) (t p : ℕ) (b : Work) : Type 0 where
   pub count : b.count ≡ a.count
   pub keeps : is_some b.notes ≡ is_some a.notes
@@ -39,15 +39,15 @@ pub record IsNoted (a : Work) (t p : ℕ) (b : Work) : Type 0 where
 abbrev pub has_changed : (ℕ → ℕ) → Work → ℕ → Bool
 has_changed stored w t = not (original stored w t == stored t)
 
--- notes are kept where they were kept before, and they tell the same of the first n tasks after their priorities went from
--- f to g
+-- notes are kept if they were kept before, and they give the same original priorities of the first n tasks after these
+-- went from f to g
 abbrev pub KeepsTelling : ℕ → (ℕ → ℕ) → Work → (ℕ → ℕ) → Work → Type 0
 KeepsTelling n f a g b =
     (is_some b.notes ≡ is_some a.notes)
     × (IsSome a.notes → (t : ℕ) → 1 ≤ t → t ≤ n → original g b t ≡ original f a t)
 
--- What the work says of a change of the first n tasks' priorities from f to g: it counted a visit at least for each that
--- differs, and where notes are kept they still tell what each task had.
+-- What the work records of a change of the first n tasks' priorities from f to g: it counted a visit for each that
+-- differs, or more. If notes are kept, they still give each task's original priority.
 pub record Tells (n : ℕ) (f : ℕ → ℕ) (a : Work) (g : ℕ → ℕ) (b : Work) : Type 0 where
   pub counted : a.count + differing n f g ≤ b.count
   pub noted : KeepsTelling n f a g b
@@ -56,7 +56,7 @@ pub record Tells (n : ℕ) (f : ℕ → ℕ) (a : Work) (g : ℕ → ℕ) (b : W
 abbrev pub differs_in : List ℕ → List ℕ → ℕ → Bool
 differs_in had stored t = option_map_or (λ p. not (stored_in had t == p)) (nth stored t) false
 
--- one visit was counted, and where notes are kept they still tell what each known task had
+-- one visit was counted and, if notes are kept, they still give each known task's original priority
 pub record VisitedOnce (n : ℕ) (f : ℕ → ℕ) (a : Work) (g : ℕ → ℕ) (b : Work) : Type 0 where
   pub counted : b.count ≡ a.count + 1
   pub noted : KeepsTelling n f a g b
