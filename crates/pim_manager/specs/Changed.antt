@@ -1,4 +1,4 @@
--- What is listed of the tasks whose priority a step changed.
+-- The list of the tasks whose priority a step changed.
 use Rattle.std.specs.Prelude.{ℕ, List}
 use Rattle.std.specs.List.{filter}
 use Rattle.pim_base.specs.State.{State, task_numbers}
@@ -7,7 +7,7 @@ use Rattle.pim_base.specs.Reasons.{reason_of}
 use Rattle.pim_chain.specs.Work.{Work, has_changed}
 use Rattle.pim_manager.specs.declared.changed_tasks.ChangedTask.{ChangedTask}
 
--- the task with its effective priority in this state, and the reason of that
+-- the task with its effective priority in this state and the reason for it
 abbrev pub changed_task : State → ℕ → ChangedTask
 changed_task S t = record { task = t; prio = effective_priority S t; reason = reason_of S t }
 

@@ -1,4 +1,4 @@
--- What was asked, and what was answered.
+-- Steps and their replies.
 use Rattle.std.specs.Prelude.{List, [], ◌∷◌}
 use Rattle.pim_base.specs.State.{State}
 use Rattle.pim_base.specs.Steps.{reply_of, after}
@@ -11,7 +11,7 @@ abbrev pub entries : List Step → List Reply → List Entry
 entries (step ∷ steps) (reply ∷ replies) = record { step = step; reply = reply } ∷ entries steps replies
 entries _ _ = []
 
--- what the model answers to the steps, one after another
+-- the model's replies to the steps, one after another
 abbrev pub replies_of : State → List Step → List Reply
 replies_of S [] = []
 replies_of S (step ∷ steps) = reply_of S step ∷ replies_of (after S step) steps

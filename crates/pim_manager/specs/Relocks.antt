@@ -5,6 +5,6 @@ use Rattle.pim_base.specs.declared.limits.TheConstants.{MAX_COUNT}
 use Rattle.pim_base.specs.declared.steps.Refusal.{Refusal}
 use Rattle.pim_base.specs.declared.steps.Reply.{Reply}
 
--- once more, where that can be counted
+-- granted, or refused with Again if the count is at its maximum
 abbrev pub relocked : State → ℕ → Reply
 relocked S m = if count_of S m == MAX_COUNT then Reply.Refused Refusal.Again else Reply.Granted
