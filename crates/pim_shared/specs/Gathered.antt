@@ -1,4 +1,4 @@
--- When a log is that of the scripts.
+-- When a log is a log of the scripts.
 use Rattle.std.specs.Prelude.{◌≡◌, List, Vec, map, Result, MatchResult}
 use Rattle.std.specs.Global.{Global}
 use Rattle.pim_base.specs.State.{State}
@@ -8,12 +8,12 @@ use Rattle.pim_shared.specs.Logs.{History}
 use Rattle.pim_shared.specs.declared.fault.SharedFault.{SharedFault}
 use Rattle.pim_shared.specs.declared.fault.SharedFault.TheVariants.{Torn}
 
--- the log begins at this state, and its entries are an interleaving of the scripts
+-- the log starts at this state, and its entries are an interleaving of the scripts
 pub record IsLogOf (start : State) (scripts : List (List Op)) (log : History) : Type 0 where
   pub begins : log.start ≡ start
   pub interleaved : IsInterleaving log.entries scripts
 
--- the log, where it is that of the scripts, and else Torn
+-- the log if it is a log of the scripts, else Torn
 abbrev pub IsGathered : History → State → List (List Op) → Result History SharedFault → Type 0
 IsGathered log start scripts result =
     MatchResult result

@@ -1,14 +1,14 @@
--- What many workers' answers come to.
+-- The one outcome of many workers.
 use Rattle.std.specs.Prelude.{List, [], ◌∷◌, Result, Ok, Err}
 use Rattle.pim_shared.specs.declared.fault.SharedFault.{SharedFault}
 use Rattle.pim_shared.specs.declared.fault.SharedFault.TheVariants.{Full, Memory, Closed, Torn, NoPlace}
 
--- a fault stays, and Ok is Closed
+-- the fault, or Closed for Ok
 abbrev pub or_closed : Result Unit SharedFault → Result Unit SharedFault
 or_closed (Ok _) = Err Closed
 or_closed (Err fault) = Err fault
 
--- the first fault that isn't Closed, else Closed if any is there, else Ok
+-- the first fault that isn't Closed, else Closed if any answer is Closed, else Ok
 abbrev pub outcome_of : List (Result Unit SharedFault) → Result Unit SharedFault
 outcome_of [] = Ok tt
 outcome_of (Ok _ ∷ answers) = outcome_of answers

@@ -13,14 +13,14 @@ use Rattle.pim_shared.specs.Lookers.{start_of}
 use Rattle.pim_shared.specs.Rules.{KnowsStart}
 use Rattle.pim_shared.specs.Versions.{IsVersionOf, entry_of, first_version, next_version}
 
--- the version that lookers take, the steps that are pending, and what the writer knows
+-- the version that lookers read, the steps that are pending, and what the writer knows
 pub record WriterState : Type 0 where
   pub version : Version
   pub pending : List Step
   pub known : Known
 
 module _ {P A S : Type 0} {g : Ghosts Version Step S} where
-  -- what a writer has of these
+  -- the version, the pending steps and the knowledge of a writer
   abbrev pub state_of : Writer Version Step Known P A S g → WriterState
   state_of w = record { version = w.desk.shown.value; pending = drop w.behind w.log.items; known = view w.desk.place }
 
@@ -41,7 +41,7 @@ pub record MayPublish (w : WriterState) : Type 0 where
   pub whole : w.version.steps ≡ length w.known.seen
   pub short : length w.known.seen + 1 < 2 ^ 64
 
--- what was pending is published, and known to the writer
+-- the pending steps are published, and the writer knows the last entry
 pub record HasPublished (w x : WriterState) : Type 0 where
   pub version : x.version ≡ fold next_version w.version w.pending
   pub none : x.pending ≡ []
@@ -62,16 +62,16 @@ published_by w = record { start = start_of w.known; entries = w.known.seen; stat
 abbrev pub unpublished : State → Published
 unpublished S = record { start = S; entries = []; state = S; pending = [] }
 
--- one step more is pending
+-- one more step is pending
 abbrev pub with_pending : Published → Step → Published
 with_pending p step = record p { pending = p.pending ++ step ∷ [] }
 
--- the steps, each with the reply that it is given after the ones before
+-- the steps, each with its reply after the steps before it
 abbrev pub replied : State → List Step → List Entry
 replied S [] = []
 replied S (step ∷ steps) = entry_of S step ∷ replied (after S step) steps
 
--- what was pending is published
+-- the pending steps are published
 abbrev pub all_published : Published → Published
 all_published p = record {
   start = p.start;

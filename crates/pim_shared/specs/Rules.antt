@@ -1,4 +1,4 @@
--- The rule between the writer of the versions and the lookers, and what each of their steps tells.
+-- The rule between the writer of the versions and the lookers, and how their operations change what they know.
 use Rattle.std.specs.Prelude.{◌≡◌, ◌^◌, ◌<◌, ℕ, List, [], ◌++◌, length, Option, Some, None, IsSome, IfSome, option_to_list}
 use mathlib.Core.Option.{some}
 use mathlib.Core.List.{IsPrefix}
@@ -9,12 +9,13 @@ use Rattle.pim_shared.specs.declared.version.Version.{Version}
 use Rattle.pim_shared.specs.declared.rule.Known.{Known}
 use Rattle.pim_shared.specs.Versions.{IsVersionOf}
 
--- what is known of the start is so, and the published list begins with what was seen
+-- the start, if it is known, is this start, and the entries seen are a prefix of the published list
 pub record IsTrueOf (start : State) (published : List Entry) (k : Known) : Type 0 where
   pub start_is : IfSome k.start (λ S. S ≡ start)
   pub seen : IsPrefix k.seen published
 
--- the rule: the version is the state after the published list, which is shorter than 2^64, and what each one knows is true
+-- The rule: the version is the state after the published list, the list is shorter than 2^64, and what each one knows
+-- is true.
 pub record Keeps (v : Version) (all : List Known) : Type 0 where
   pub start : State
   pub published : List Entry
@@ -30,7 +31,7 @@ unseen start = record { start = start; seen = [] }
 abbrev pub newcomer : Known
 newcomer = unseen None
 
--- one that learns the start keeps what it has seen
+-- who learns the start from another keeps the entries that it has seen
 abbrev pub told : Known → Known → Known
 told k teller = record { start = teller.start; seen = k.seen }
 
@@ -42,11 +43,11 @@ KnowsStart k = IsSome k.start
 abbrev pub begins : Known → Version → Version → Known → Type 0
 begins k v w l = l ≡ unseen (Some v.manager)
 
--- publish: the published list grows by the last entry of the new version
+-- publish: the list that the writer knows grows by the last entry of the new version
 abbrev pub publishes : Known → Version → Version → Known → Type 0
 publishes k v w l = l ≡ record { start = k.start; seen = k.seen ++ option_to_list w.last }
 
--- enter: the list seen begins with the one seen before, and the version is that of the list
+-- enter: the list seen before is a prefix of the list seen, and the version is that of the list
 abbrev pub enters : Known → Version → Version → Known → Type 0
 enters k v w l =
     (l.start ≡ k.start)

@@ -1,4 +1,4 @@
--- What lookers take: the state after some entries, how many they are, and the last of them.
+-- What lookers read: the state after some entries, the number of entries, and the last of them.
 use Rattle.std.specs.Prelude.{◌≡◌, ◌+◌, ◌-◌, ◌^◌, min, List, [], ◌∷◌, length, Option, Some, None}
 use Rattle.pim_base.specs.State.{State}
 use Rattle.pim_base.specs.Steps.{reply_of, after}
@@ -7,7 +7,7 @@ use Rattle.pim_base.specs.declared.steps.Step.{Step}
 use Rattle.pim_base.specs.declared.steps.Entry.{Entry}
 use Rattle.pim_shared.specs.declared.version.Version.{Version}
 
--- the step with the reply that it is given in this state
+-- the step with its reply in this state
 abbrev pub entry_of : State → Step → Entry
 entry_of S step = record { step = step; reply = reply_of S step }
 
@@ -21,7 +21,7 @@ last_of (e ∷ f ∷ es) = last_of (f ∷ es)
 abbrev pub first_version : State → Version
 first_version S = record { manager = S; steps = 0; last = None }
 
--- the version after one step more
+-- the version after one more step
 abbrev pub next_version : Version → Step → Version
 next_version v step = record {
   manager = after v.manager step;
