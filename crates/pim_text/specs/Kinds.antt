@@ -1,4 +1,4 @@
--- The two kinds of text, and what the reading of one comes to.
+-- The two kinds of text, and the results of reading one.
 use Rattle.std.specs.Prelude.{ℕ, List, length}
 use Rattle.pim_base.specs.Texts.{Trace, Spells, FirstBad}
 use Rattle.pim_base.specs.Scripts.{StandsInScript, KeepsScriptRules}
@@ -9,14 +9,14 @@ use Rattle.pim_text.specs.declared.kind.TextKind.TheVariants as kinds
 use Rattle.pim_text.specs.declared.fault.TextFault.{TextFault}
 use Rattle.pim_text.specs.declared.fault.TextFault.TheVariants as faults
 
--- what a kind asks of a line below those of the trace, beyond what a trace does
+-- what a kind requires of a line after those of the text, beyond what a trace requires
 abbrev pub Allows : TextKind → Trace → Line → Type 0
 Allows kinds.Trace t line = Unit {0}
 Allows kinds.Script t (lines.Task n base) = Unit {0}
 Allows kinds.Script t (lines.Mutex n protocol) = Unit {0}
 Allows kinds.Script t (lines.Step line) = StandsInScript (length t.bases) line
 
--- what a kind asks of a whole text, beyond what a trace does
+-- what a kind requires of a whole text, beyond what a trace requires
 abbrev pub Obeys : TextKind → Trace → Type 0
 Obeys kinds.Trace t = Unit {0}
 Obeys kinds.Script t = KeepsScriptRules t
@@ -29,7 +29,7 @@ SpellsAs kind ls t = Spells ls t × Obeys kind t
 abbrev pub IsOf : TextKind → List (List ℕ) → Type 0
 IsOf kind ls = (t : Trace) × SpellsAs kind ls t
 
--- why lines that are to be such are not read: the first that is invalid, or out of memory
+-- why the lines aren't read: the first invalid one, or out of memory
 abbrev pub IsTextFault : (List (List ℕ) → Type 0) → List (List ℕ) → TextFault → Type 0
 IsTextFault Is ls (faults.Line n) = FirstBad Is ls n
 IsTextFault Is ls faults.Memory = Unit {0}

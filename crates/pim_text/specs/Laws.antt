@@ -6,6 +6,6 @@ use Rattle.pim_base.specs.Texts.{FirstBad}
 abbrev pub AtMostOneIsFirst : (List (List ℕ) → Type 0) → Type 0
 AtMostOneIsFirst Is = (ls : List (List ℕ)) (n k : ℕ) → FirstBad Is ls n → FirstBad Is ls k → n ≡ k
 
--- Valid lines have none.
+-- Valid lines have no first bad line.
 abbrev pub ValidHasNone : (List (List ℕ) → Type 0) → Type 0
 ValidHasNone Is = (ls : List (List ℕ)) (n : ℕ) → Is ls → FirstBad Is ls n → ⊥

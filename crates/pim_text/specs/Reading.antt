@@ -1,4 +1,4 @@
--- What the reading of a text comes to, one line after another.
+-- The results of reading a text, one line after another.
 use Rattle.std.specs.Prelude.{ℕ, ◌≡◌, ◌+◌, ◌<◌, ◌≤◌, ◌==◌, List, [], ◌∷◌, ◌++◌, length}
 use Rattle.std.specs.Prelude.{Option, Some, None, MatchOption, Bool}
 use Rattle.std.specs.Bool.{MatchBool}
@@ -11,7 +11,7 @@ use Rattle.pim_base.specs.declared.lines.Line.{Line}
 use Rattle.pim_base.specs.declared.lines.Line.TheVariants as lines
 use Rattle.pim_text.specs.declared.text.Text.{Text}
 
--- the version of a text, what it declares, and its steps, wherever they lie in memory
+-- the version of a text, what it declares, and its steps, wherever they are in memory
 abbrev pub trace_of : Text → Trace
 trace_of text = record {
   version = text.version;
@@ -20,7 +20,7 @@ trace_of text = record {
   steps = text.lines.items;
 }
 
--- the parts of what follows a separator: none where there was none
+-- the parts of what follows a separator, or no parts if there was no separator
 abbrev pub pieces : ℕ → Option (Bor (List ℕ)) → List (List ℕ)
 pieces separator None = []
 pieces separator (Some rest) = slice_split (λ b. b == separator) rest.now
@@ -29,7 +29,7 @@ pieces separator (Some rest) = slice_split (λ b. b == separator) rest.now
 abbrev pub words : List ℕ → List (List ℕ)
 words bytes = slice_split (λ b. b == SPACE) bytes
 
--- what a word, words or bytes spell: nothing if they spell none of those
+-- what a word, words or bytes spell, or None if they spell none of those
 abbrev pub ReadsAs : {X Y : Type 0} → (X → Type 0) → (X → Y) → Y → Option X → Type 0
 ReadsAs {X} Is spelling y result =
     MatchOption result ((x : X) → Is x → y ≡ spelling x → ⊥) (λ x. Is x × (y ≡ spelling x))
@@ -42,7 +42,7 @@ Reads ws result = ReadsAs IsLine words_of ws result
 abbrev pub ReadsBytes : List ℕ → Option Line → Type 0
 ReadsBytes bytes result = ReadsAs IsLine spelled bytes result
 
--- a version that there is
+-- one of the versions of the format
 abbrev pub IsVersion : ℕ → Type 0
 IsVersion version = (1 ≤ version) × (version ≤ LAST_VERSION)
 
@@ -64,6 +64,6 @@ MayFollow t (lines.Mutex n protocol) =
     (length t.protocols < MAX_MUTEXES) × (n ≡ length t.protocols + 1) × (t.steps ≡ [])
 MayFollow t (lines.Step step) = length t.steps < MAX_STEPS
 
--- the line was added to the text where it may follow, and else is refused
+-- the line was added to the text if it may follow, and else is refused
 abbrev pub IsAddedTo : Trace → Line → Trace → Bool → Type 0
 IsAddedTo t line u added = MatchBool added (MayFollow t line × (u ≡ with_line t line)) (MayFollow t line → ⊥)
