@@ -1,4 +1,4 @@
--- What a step is answered in C.
+-- The answer to a step in C.
 use Rattle.std.specs.Prelude.{◌≡◌, ◌≤◌, ◌+◌, ◌*◌, Option, Some, None}
 use Rattle.pim_base.specs.Counts.{changed_task_count, handed_mutex_count}
 use Rattle.pim_base.specs.State.{State}
@@ -21,7 +21,7 @@ pub record IsAnswer (S : State) (step : Step) (a : CAnswer) : Type 0 where
   pub least : changed_task_count S (after S step) ≤ a.visits
   pub most : a.visits ≤ 1 + changed_task_count S (after S step) + 2 * handed_mutex_count S (after S step)
 
--- the same where there may be no manager
+-- the answer to the step, also of a handle without a manager
 abbrev pub IsAnswered : Option HeldView → Step → CAnswer → Type 0
 IsAnswered None step a = a ≡ no_answer
 IsAnswered (Some h) step a = IsAnswer h.manager step a

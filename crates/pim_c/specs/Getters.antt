@@ -1,4 +1,4 @@
--- What C may ask of a manager, where there may be none.
+-- The values that C may ask of a handle, with or without a manager.
 use Rattle.std.specs.Prelude.{ℕ, length, Option, unwrap_or}
 use Rattle.std.specs.Option.{option_map_or, option_map}
 use Rattle.pim_base.specs.State.{State, base_of, count_of, owner_of, protocol_of, wait_of}
@@ -12,7 +12,7 @@ use Rattle.pim_c.specs.declared.numbers.TheConstants.{UNKNOWN}
 use Rattle.pim_c.specs.declared.protocol.CProtocol.{CProtocol}
 use Rattle.pim_c.specs.declared.reason.CReason.{CReason}
 
--- this of the manager's state, or that where there is no manager
+-- a value of the manager's state, or `none` if there is no manager
 abbrev pub in_manager : {X : Type 0} → Option HeldView → X → (State → X) → X
 in_manager held none what = option_map_or (λ (h : HeldView). what h.manager) held none
 
@@ -25,11 +25,11 @@ mutex_count held = in_manager held 0 (λ S. length S.protocol)
 abbrev pub ticket_in : Option HeldView → ℕ
 ticket_in held = in_manager held 0 (λ S. S.next)
 
--- the effective priority of the task, 0 of an unknown one
+-- the effective priority of the task, or 0 if it is unknown
 abbrev pub effective_in : Option HeldView → ℕ → ℕ
 effective_in held t = in_manager held 0 (λ S. unwrap_or (of_task S t (effective_priority S t)) 0)
 
--- the base priority of the task, 0 of an unknown one
+-- the base priority of the task, or 0 if it is unknown
 abbrev pub base_in : Option HeldView → ℕ → ℕ
 base_in held t = in_manager held 0 (λ S. unwrap_or (of_task S t (base_of S t)) 0)
 
@@ -37,20 +37,20 @@ base_in held t = in_manager held 0 (λ S. unwrap_or (of_task S t (base_of S t)) 
 abbrev pub reason_in : Option HeldView → ℕ → CReason
 reason_in held t = in_manager held no_reason (λ S. option_map_or c_reason (of_task S t (reason_of S t)) no_reason)
 
--- a number, 0 for none
+-- a number, or 0 for None
 abbrev pub or_zero : Option ℕ → ℕ
 or_zero n = unwrap_or n 0
 
--- the mutex that the task waits for, 0 where for none, UNKNOWN of an unknown one
+-- the mutex that the task waits for, 0 if it doesn't wait, or UNKNOWN if the task is unknown
 abbrev pub waits_for_in : Option HeldView → ℕ → ℕ
 waits_for_in held t =
     in_manager held UNKNOWN (λ S. option_map_or or_zero (of_task S t (option_map (λ (w : Wait). w.mutex) (wait_of S t))) UNKNOWN)
 
--- the owner of the mutex, 0 of a free one, UNKNOWN of an unknown one
+-- the owner of the mutex, 0 if the mutex is free, or UNKNOWN if it is unknown
 abbrev pub owner_in : Option HeldView → ℕ → ℕ
 owner_in held m = in_manager held UNKNOWN (λ S. option_map_or or_zero (of_mutex S m (owner_of S m)) UNKNOWN)
 
--- how often the owner of the mutex has locked it, 0 of a free one, UNKNOWN of an unknown one
+-- how often the owner of the mutex has locked it, 0 if the mutex is free, or UNKNOWN if it is unknown
 abbrev pub count_in : Option HeldView → ℕ → ℕ
 count_in held m = in_manager held UNKNOWN (λ S. unwrap_or (of_mutex S m (count_of S m)) UNKNOWN)
 

@@ -1,4 +1,4 @@
--- What a handle leads to, and what a step makes of it.
+-- The value behind a handle, and its value after a step.
 use Rattle.std.specs.Prelude.{List, map, Option}
 use Rattle.std.specs.Option.{option_map}
 use Rattle.pim_base.specs.Reports.{changed_tasks}
@@ -20,6 +20,6 @@ stepped h step = record {
   changed = map (changed_task (after h.manager step)) (changed_tasks h.manager (after h.manager step));
 }
 
--- the same where there may be no manager
+-- the value behind a handle after the step, or None if it has no manager
 abbrev pub after_step : Option HeldView → Step → Option HeldView
 after_step held step = option_map (λ h. stepped h step) held

@@ -1,4 +1,4 @@
--- The lists that C may ask for, where there may be no manager.
+-- The lists that C may ask of a handle, with or without a manager.
 use Rattle.std.specs.Prelude.{ℕ, List, [], Option, unwrap_or}
 use Rattle.std.specs.Option.{option_map_or}
 use Rattle.pim_base.specs.Queues.{queue_of}
@@ -8,7 +8,7 @@ use Rattle.pim_manager.specs.declared.changed_tasks.ChangedTask.{ChangedTask}
 use Rattle.pim_c.specs.Getters.{in_manager}
 use Rattle.pim_c.specs.Held.{HeldView}
 
--- those who wait for the mutex, none for an unknown one
+-- the waiters of the mutex, or no waiters if the mutex is unknown
 abbrev pub waiters_in : Option HeldView → ℕ → List Waiter
 waiters_in held m = in_manager held [] (λ S. unwrap_or (of_mutex S m (queue_of S m)) [])
 

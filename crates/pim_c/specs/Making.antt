@@ -1,4 +1,4 @@
--- Of what a manager is made, and what bars it.
+-- The making of a manager, and its faults.
 use Rattle.std.specs.Prelude.{ℕ, nat_lt, not, is_some, Bool, List, [], length, Option, if◌then◌else◌}
 use Rattle.std.specs.List.{list_all, filter_map}
 use Rattle.pim_base.specs.State.{start}
@@ -10,11 +10,11 @@ use Rattle.pim_c.specs.Held.{HeldView}
 use Rattle.pim_c.specs.declared.numbers.TheConstants.{MADE, OCCUPIED, TOO_MANY_TASKS, TOO_MANY_MUTEXES, BAD_BASE, BAD_PROTOCOL}
 use Rattle.pim_c.specs.declared.protocol.CProtocol.{CProtocol}
 
--- those that are a priority
+-- the numbers that are priorities
 abbrev pub priorities_meant : List ℕ → List ℕ
 priorities_meant ns = filter_map priority_meant ns
 
--- C means a protocol by it
+-- the struct means a protocol
 abbrev pub is_protocol : CProtocol → Bool
 is_protocol p = is_some (protocol_meant p)
 
@@ -22,7 +22,7 @@ is_protocol p = is_some (protocol_meant p)
 abbrev pub protocols_meant : List CProtocol → List Protocol
 protocols_meant ps = filter_map protocol_meant ps
 
--- the first fault of what C asks for, MADE where it has none
+-- the first fault of what C asks for, or MADE if it has no fault
 abbrev pub first_fault : Option HeldView → List ℕ → List CProtocol → ℕ
 first_fault held bases protocols =
     if is_some held then OCCUPIED
@@ -32,6 +32,6 @@ first_fault held bases protocols =
     else if not (list_all is_protocol protocols) then BAD_PROTOCOL
     else MADE
 
--- a manager of these in which all mutexes are free, and no step was made
+-- a manager of these tasks and mutexes, before any step: all mutexes are free
 abbrev pub made : List ℕ → List CProtocol → HeldView
 made bases protocols = record { manager = start bases (protocols_meant protocols) 1; changed = [] }

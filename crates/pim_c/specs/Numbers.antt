@@ -1,4 +1,4 @@
--- What numbers mean in C: those of replies, and priorities.
+-- The numbers of replies and of priorities in C.
 use Rattle.std.specs.Prelude.{ℕ, Bool, nat_le, ◌&&◌, Option, Some, None, if◌then◌else◌}
 use Rattle.pim_base.specs.Reports.{refusal_number}
 use Rattle.pim_base.specs.declared.steps.Reply.{Reply}
@@ -40,7 +40,7 @@ reply_detail Reply.Set = 0
 reply_detail (Reply.Refused r) = 0
 reply_detail Reply.Kept = 0
 
--- it is 1 to 99
+-- the number is 1 to 99
 abbrev pub is_priority : ℕ → Bool
 is_priority n = nat_le 1 n && nat_le n 99
 

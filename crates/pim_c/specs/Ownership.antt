@@ -14,6 +14,6 @@ abbrev pub owns_held : Global → Option HeldView → Ptr → Fml
 owns_held alloc (Some h) p = box_owns (ghosts.dealloc_token alloc) the_row p h
 owns_held alloc None p = feq Ptr p null_ptr
 
--- what the pointer leads to
+-- the value behind the pointer
 abbrev pub raw_value : {X Z : Type 0} → RawBox X Z → X
 raw_value raw = raw.value

@@ -1,4 +1,4 @@
--- What the structs that cross to C say.
+-- The values of the structs that cross to C.
 use Rattle.std.specs.Prelude.{◌==◌, List, [], ◌∷◌, Option, Some, None, if◌then◌else◌}
 use Rattle.std.specs.Option.{option_map}
 use Rattle.pim_base.specs.declared.steps.Protocol.{Protocol}
@@ -48,7 +48,7 @@ protocol_meant p =
     else if p.kind == INHERIT_RECURSIVE then Some Protocol.InheritRecursive
     else None
 
--- the list with its first items in place of those of another, as far as that goes
+-- the second list, with its first items replaced by those of the first, as far as it has room
 abbrev pub copied : {X : Type 0} → List X → List X → List X
 copied [] ys = ys
 copied (x ∷ xs) [] = []
