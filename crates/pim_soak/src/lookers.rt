@@ -1,4 +1,4 @@
-//! Lookers that look all the time, each in a thread of its own, and keep what they saw.
+//! Lookers, which are wait-free readers. Each reads all the time, in a thread of its own, and records what it saw.
 
 ghost use Rattle.std.specs.Prelude.{◌≤◌, length};
 ghost use Rattle.pim_base.specs.declared.limits.TheConstants.{MAX_WORKERS};
@@ -13,7 +13,7 @@ use std::sync::atomic::{AtomicBool, Ordering};
 use std::thread;
 use std::thread::Threads;
 
-/// A task, and what was seen of it after so many entries.
+/// A read of a task: how many entries it saw, and the task's priority and reason after them.
 #[derive(Clone, Copy, PartialEq, Eq)]
 pub struct Look {
     pub task: TaskNo,
@@ -25,18 +25,19 @@ pub struct Look {
 /// What one looker saw.
 #[derive(Drop)]
 pub struct Record {
-    /// Each look at a known task, in order, without those that told the same as the one before at that task.
+    /// The reads of known tasks, in order. A read that returned the same as the one before of that task is left out.
     pub told: Vec<Look>,
-    /// How often it looked.
+    /// How many reads the looker made.
     pub looks: u64,
-    /// How often a look went back, told of an unknown task, told nothing of a known one, was refused or was lost.
+    /// How many reads were wrong: they saw fewer entries than the read before, found an unknown task, didn't find a
+    /// known one, failed, or couldn't be recorded.
     pub wrong: u64,
-    /// After how many entries the last look was.
+    /// How many entries the last read saw.
     pub steps: u64,
 }
 
 impl Record {
-    /// Returns the record of a looker that hasn't looked yet.
+    /// Returns the record of a looker before its first read.
     pub fn new(alloc: Global) -> Record {
         Record {
             told: Vec::new(alloc),
@@ -46,7 +47,7 @@ impl Record {
         }
     }
 
-    /// Looks at each of the tasks 1 to `tasks`, and at the number behind the last.
+    /// Reads each of the tasks 1 to `tasks`, and the unknown task 0.
     fn look_round(&mut self, looker: &mut Looker, tasks: u16) {
         for number in 1..=tasks {
             self.look(looker, TaskNo(number));
@@ -57,14 +58,14 @@ impl Record {
         }
     }
 
-    /// Looks once more when the run is over, and must be told so.
+    /// Reads once more after the run, which must return `Closed`.
     pub fn expect_closed(&mut self, looker: &mut Looker) {
         if looker.look(TaskNo(1)) != Err(SharedFault::Closed) {
             count(&mut self.wrong, 1);
         }
     }
 
-    /// Looks at a known task.
+    /// Reads a known task.
     fn look(&mut self, looker: &mut Looker, task: TaskNo) {
         count(&mut self.looks, 1);
         match looker.look(task) {
@@ -75,7 +76,7 @@ impl Record {
         }
     }
 
-    /// Keeps what was seen of the task, unless the last look at it told the same.
+    /// Records what was seen of the task, unless the last read of it returned the same.
     pub fn keep(&mut self, task: TaskNo, steps: u64, prio: Prio, reason: Reason) {
         self.steps = steps;
         let look = Look {
@@ -89,7 +90,7 @@ impl Record {
         }
     }
 
-    /// Returns whether the last look at the same task told the same.
+    /// Returns whether the last read of the same task returned the same.
     fn has_told(&self, look: &Look) -> bool {
         for last in self.told.iter().rev() {
             if last.task == look.task {
@@ -100,7 +101,7 @@ impl Record {
     }
 }
 
-/// Looks at the tasks again and again, at least so often, and once more when all workers have ended.
+/// Reads the tasks again and again, at least `least` times, and once more after all workers have finished.
 fn watch<R: Wait>(
     rt: &R,
     looker: &mut Looker,
@@ -119,11 +120,11 @@ fn watch<R: Wait>(
     }
 }
 
-/// Runs the scripts of the scene while each looker looks, in a thread of its own, at least `least` times.
+/// Runs the scripts of the scene while each looker reads, in a thread of its own, at least `least` times.
 ///
 /// # Errors
 ///
-/// Those of `run_scripts`.
+/// The errors of `run_scripts`.
 pub fn run_beside_lookers<R: Threads + Wait + Sync>(
     rt: &R,
     alloc: Global,

@@ -1,4 +1,4 @@
-//! A log, and what lookers saw meanwhile, beside the plain manager.
+//! Compares a log, and what lookers saw meanwhile, with the plain manager.
 
 use crate::figures::{Figures, count};
 use crate::lookers::{Look, Record};
@@ -7,8 +7,8 @@ use pim_manager::Manager;
 use pim_plain::PlainManager;
 use std::alloc::{AllocError, Global};
 
-/// Makes the steps of the log on the plain manager, whose replies must be those of the log, and compares each look with
-/// what the plain manager says after so many of them.
+/// Makes the steps of the log on the plain manager. Its replies must be those of the log. Compares each read with what
+/// the plain manager says after the entries that the read saw.
 pub fn replay(
     figures: &mut Figures,
     plain: &mut PlainManager,
@@ -28,12 +28,12 @@ pub fn replay(
     for record in records {
         count(&mut figures.looks, record.looks);
         count(&mut figures.differences, record.wrong);
-        // The last look was when all workers had ended.
+        // The last read came after all workers had finished.
         figures.expect(record.steps == steps);
     }
 }
 
-/// Counts the reply to a step of a worker, which never asks while it waits.
+/// Counts the reply to a step of a worker. A worker makes no step while it waits.
 fn count_reply(figures: &mut Figures, reply: Reply) {
     match reply {
         Reply::Queued => count(&mut figures.queued, 1),
@@ -44,7 +44,7 @@ fn count_reply(figures: &mut Figures, reply: Reply) {
     }
 }
 
-/// Compares the looks after so many entries.
+/// Compares the reads that saw this many entries.
 fn compare_looks(figures: &mut Figures, plain: &PlainManager, steps: u64, records: &[Record]) {
     for record in records {
         for look in &record.told {
@@ -67,7 +67,7 @@ fn is_right(plain: &PlainManager, look: &Look) -> bool {
     plain.effective(task) == Some(prio) && plain.reason(task) == Some(reason)
 }
 
-/// Compares the manager with the plain one, both at the end.
+/// Compares the manager with the plain one at the end of the run.
 ///
 /// # Errors
 ///

@@ -16,13 +16,13 @@ use std::alloc::{AllocError, Global};
 use std::sync::Wait;
 use std::thread::Threads;
 
-/// Runs the scripts of the scene, each by a worker, beside so many lookers that look at least `least` times each, and
-/// counts what differs from the plain manager: a reply of the log, a look, or the manager at the end.
+/// Runs the scripts of the scene, each by a worker, while each of the lookers reads at least `least` times. Counts
+/// what differs from the plain manager: a reply of the log, a read, or the manager at the end.
 ///
 /// # Errors
 ///
-/// `Memory` if out of memory, `NoPlace` if there are more tasks than workers, and whatever the run answers, which is a
-/// difference, too: `Torn` if its log is none of the scripts.
+/// `Memory` if out of memory, `NoPlace` if there are more tasks than workers, and each error of the run, which is a
+/// difference, too: `Torn` if the log isn't a log of the scripts.
 pub fn trial<R: Threads + Wait + Sync>(
     rt: &R,
     alloc: Global,
@@ -42,7 +42,7 @@ pub fn trial<R: Threads + Wait + Sync>(
     Ok(compared(alloc, bases, protocols, &manager, &log, &records)?)
 }
 
-/// Returns the records of so many lookers that haven't looked yet.
+/// Returns the records of this many lookers before their first reads.
 fn records(alloc: Global, lookers: u16) -> Result<Vec<Record>, AllocError> {
     let mut records = Vec::new(alloc);
     for _ in 0..lookers {
@@ -51,11 +51,11 @@ fn records(alloc: Global, lookers: u16) -> Result<Vec<Record>, AllocError> {
     Ok(records)
 }
 
-/// Runs the scripts beside a looker for each record, and returns the manager at the end with the log.
+/// Runs the scripts while a looker reads for each record, and returns the manager at the end and the log.
 ///
 /// # Errors
 ///
-/// Those of `Shared::new` and `run_scripts`.
+/// The errors of `Shared::new` and `run_scripts`.
 fn run_watched<R: Threads + Wait + Sync>(
     rt: &R,
     alloc: Global,
