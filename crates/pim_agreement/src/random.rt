@@ -1,4 +1,4 @@
-//! The manager beside the plain one, over pseudo-random steps.
+//! Compares the manager with the plain one over pseudo-random steps.
 
 ghost use Rattle.std.specs.Prelude.{◌≤◌, ◌<◌};
 
@@ -25,17 +25,17 @@ fn below(random: &mut Pcg32, bound: u32) -> u16
     (random.next_word() % bound) as u16
 }
 
-// mostly a known task, sometimes 0 or the number behind the last
+// mostly a known task, sometimes 0 or the number after the last
 fn task(random: &mut Pcg32) -> TaskNo {
     TaskNo(below(random, u32::from(TASKS) + 2))
 }
 
-// mostly a known mutex, sometimes 0 or the number behind the last
+// mostly a known mutex, sometimes 0 or the number after the last
 fn mutex(random: &mut Pcg32) -> MutexNo {
     MutexNo(below(random, u32::from(MUTEXES) + 2))
 }
 
-// mostly one of the two PROTECT mutexes, which are the last, sometimes the one before or the number behind them
+// mostly one of the two PROTECT mutexes, which are the last, sometimes the one before or the number after them
 fn protect_mutex(random: &mut Pcg32) -> MutexNo {
     MutexNo(MUTEXES - 2 + below(random, 4))
 }
@@ -45,7 +45,7 @@ fn level(random: &mut Pcg32) -> u16 {
     below(random, 110)
 }
 
-// another ceiling, mostly asked for by the owner where there is one
+// another ceiling, mostly asked for by the owner if there is one
 fn ceiling_step(random: &mut Pcg32, plain: &PlainManager) -> Step {
     let mutex = protect_mutex(random);
     let by_owner = below(random, 4) > 0;
@@ -57,7 +57,7 @@ fn ceiling_step(random: &mut Pcg32, plain: &PlainManager) -> Step {
     Step { actor, op }
 }
 
-// a lock or an unlock of one of the two recursive mutexes, which are the first, mostly by the owner where there is one
+// a lock or an unlock of one of the two recursive mutexes, which are the first, mostly by the owner if there is one
 fn relock_step(random: &mut Pcg32, plain: &PlainManager) -> Step {
     let mutex = MutexNo(1 + below(random, 2));
     let by_owner = below(random, 4) > 0;
@@ -92,7 +92,7 @@ fn any_step(random: &mut Pcg32, plain: &PlainManager) -> Step {
     Step { actor, op }
 }
 
-// every task shows the same, and is listed so where its priority isn't what it was
+// every task has the same priority and reason, and is listed with them if its priority changed
 fn expect_same_tasks(
     rt: &impl Abort,
     both: &Both<'_, impl Abort>,

@@ -1,5 +1,5 @@
-//! Worked scenarios, each run on both managers: the reply of each step, its visits, and the priority of each task after
-//! it, with its reason, as worked out by hand from the definitions.
+//! Worked scenarios, each run on both managers. The reply and the visits of each step, and the priority and the reason
+//! of each task after it, are worked out by hand from the definitions.
 
 use crate::scene::{
     Act, Answer, Both, INHERIT, Kind, NONE, Part, RECURSIVE, Row, Seen, lock, play, play_parts,
@@ -296,7 +296,7 @@ fn only_owners_unlock_and_only_waiters_withdraw(rt: HostRuntime) -> Result<(), F
     play(&rt, rt.alloc(), &[10, 20], &[NONE, NONE], ROWS)
 }
 
-// task 2 has the last ticket but one, and the last one is not given out
+// task 2 has the last ticket but one, and the last ticket is never used
 fn expect_last_ticket(rt: &impl Abort, both: &Both<'_, impl Abort>) -> Result<(), Fail> {
     let first = both.queue(MutexNo(1))?.first().map(|waiter| waiter.ticket);
     let wait = both.plain.wait_of(TaskNo(2)).map(|wait| wait.ticket);
@@ -402,10 +402,10 @@ const TWO: TaskNo = TaskNo(2);
 
 const THREE: TaskNo = TaskNo(3);
 
-/// A mutex with ceiling 50, which task 1 owns, and for which task 2 waits.
+/// The mutex with ceiling 50 that task 1 owns and task 2 waits for.
 const PROTECTED: MutexNo = MutexNo(1);
 
-/// An INHERIT mutex, which task 2 owns, and for which task 3 waits.
+/// The INHERIT mutex that task 2 owns and task 3 waits for.
 const INHERITED: MutexNo = MutexNo(2);
 
 fn expect_values(rt: &impl Abort, plain: &PlainManager) {

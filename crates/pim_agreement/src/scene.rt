@@ -1,4 +1,4 @@
-//! What the scenarios are told with: steps, replies, what a task shows, and the two managers side by side.
+//! The parts of scenarios: steps, replies, a task's priority and reason, and the two managers side by side.
 
 ghost use Rattle.std.specs.Prelude.{◌≤◌};
 
@@ -31,7 +31,7 @@ pub const INHERIT: Kind = Kind::Inherit;
 pub const RECURSIVE: Kind = Kind::Recursive;
 
 impl Kind {
-    /// Returns the protocol, or None where its ceiling is none.
+    /// Returns the protocol, or `None` if its ceiling is not a priority.
     fn protocol(self) -> Option<Protocol> {
         match self {
             Kind::None => Some(Protocol::None),
@@ -42,7 +42,7 @@ impl Kind {
     }
 }
 
-/// A step, in plain numbers, of which the first is the task that asks.
+/// A step, in plain numbers. The first number is the actor.
 #[derive(Clone, Copy)]
 pub enum Act {
     Lock(u16, u16),
@@ -81,7 +81,7 @@ pub fn set_base(actor: u16, task: u16, level: u16) -> Step {
     step_of(actor, Op::SetBase(TaskNo(task), level))
 }
 
-/// Returns the step in which the actor asks for this.
+/// Returns the step in which the actor asks for this operation.
 fn step_of(actor: u16, op: Op) -> Step {
     Step {
         actor: TaskNo(actor),
@@ -120,14 +120,14 @@ impl Answer {
     }
 }
 
-/// What a task shows, in plain numbers: its effective priority, and why it has that.
+/// A task's effective priority and its reason, in plain numbers.
 #[derive(Clone, Copy)]
 pub enum Seen {
-    /// It is at its base.
+    /// The task is at its base.
     Base(u16),
-    /// It is at the ceiling of this mutex, which it owns.
+    /// The task is at the ceiling of this mutex, which it owns.
     Ceiling(u16, u16),
-    /// It is at the priority of this task, which waits for this mutex of its own.
+    /// The task is at the priority of this waiter for this mutex, which the task owns.
     Lent(u16, u16, u16),
 }
 
@@ -151,11 +151,11 @@ impl Seen {
     }
 }
 
-/// A step, its reply, its visits, and what task 1, task 2 and so on show after it.
+/// A step, its reply, its visits, and the priority and reason of task 1, task 2 and so on after it.
 #[derive(Drop)]
 pub struct Row(pub Act, pub Answer, pub u32, pub &'static [Seen]);
 
-/// The manager and the plain one, which make the same steps. What is asked of both, both must answer alike.
+/// The manager and the plain one, which make the same steps. Both must return the same.
 #[derive(Drop)]
 pub struct Both<'a, R> {
     pub manager: Manager,
@@ -204,7 +204,7 @@ impl<'a, R: Abort> Both<'a, R> {
         })
     }
 
-    /// Makes the step, which both must answer alike.
+    /// Makes the step, to which both must reply the same.
     pub fn step(&mut self, step: Step) -> Done {
         let done = self.manager.step(step);
         assert_eq!(self.rt; self.plain.step(step), done.reply, "{step:?}");
@@ -232,7 +232,7 @@ impl<'a, R: Abort> Both<'a, R> {
         reason
     }
 
-    /// Returns those who wait for the mutex, in order.
+    /// Returns the waiters of the mutex, in order.
     pub fn queue(&self, mutex: MutexNo) -> Result<&[Waiter], Fail> {
         let waiters = self.manager.waiters(mutex).ok_or("a known mutex")?;
         let queue = self.plain.queue_of(self.alloc, mutex)?;
@@ -240,8 +240,8 @@ impl<'a, R: Abort> Both<'a, R> {
         Ok(waiters)
     }
 
-    /// Makes the step, which has this reply after so many visits of the manager, and tests that then task 1, task 2 and so
-    /// on show this.
+    /// Makes the step, and tests its reply, the manager's visits, and the priority and reason of task 1, task 2 and so
+    /// on after it.
     pub fn expect_step(&mut self, step: Step, reply: Reply, visits: u32, tasks: &[Seen]) {
         assert_eq!(self.rt; self.step(step), Done { reply, visits }, "{step:?}");
         for (number, seen) in (1u16..257).zip(tasks) {
@@ -252,7 +252,7 @@ impl<'a, R: Abort> Both<'a, R> {
         }
     }
 
-    /// Makes the step of each row, and tests what it says.
+    /// Makes the step of each row, and tests what the row says.
     pub fn play(&mut self, rows: &[Row]) {
         for row in rows {
             self.expect_step(row.0.step(), row.1.reply(), row.2, row.3);
@@ -293,8 +293,8 @@ pub fn play<R: Abort>(
 #[derive(Drop)]
 pub struct Part(pub &'static [Row], pub u16, pub &'static [u16]);
 
-/// Makes both managers with these bases and protocols, and plays the rows of each part, after which the queue of its mutex is
-/// as it says.
+/// Makes both managers with these bases and protocols, and plays the parts. After the rows of a part the queue of its
+/// mutex must be the one that it gives.
 pub fn play_parts<R: Abort>(
     rt: &R,
     alloc: Global,

@@ -52,7 +52,7 @@ const FIVE: Seen = Base(40);
 
 const BOOSTED: &[Seen] = &[Lent(90, 2, 1), Lent(90, 3, 2), Lent(90, 4, 3), FOUR, FIVE];
 
-// plays the rows after those of the chain, and then the queue of mutex 3 has these tasks
+// plays the rows of the chain and these rows, and tests that the queue of mutex 3 then has these tasks
 fn play_on_chain(
     rt: &impl Abort,
     alloc: Global,
@@ -246,7 +246,7 @@ fn expect_ends(rt: &impl Abort, both: &Both<'_, impl Abort>, first: u16, last: u
     assert_eq!(rt; ends, [Prio::new(first), Prio::new(last)]);
 }
 
-// of the plain manager the replies alone are compared: it is too slow for all priorities
+// compares only the replies with the plain manager, which is too slow for all priorities
 #[test]
 fn chain_of_all_tasks_is_raised_and_lowered(rt: HostRuntime) -> Result<(), Fail> {
     const RAISED: &[Row] = &[
@@ -300,7 +300,7 @@ fn withdrawal_from_the_middle_of_all_tasks_cuts_their_chain(rt: HostRuntime) -> 
     Ok(())
 }
 
-// those raised so far are first, by their tickets, and then come the others
+// the tasks raised so far are first, by their tickets, and the others come after them
 fn expect_raised(rt: &impl Abort, queue: &[Waiter], first: u16) {
     assert_eq!(rt; queue.len(), 255);
     for (number, waiter) in (first..257).chain(2..first).zip(queue) {
@@ -322,7 +322,7 @@ fn expect_lent(rt: &impl Abort, manager: &Manager, first: u16) -> Result<(), Fai
     Ok(())
 }
 
-// the plain manager compares the replies, and the whole queue at the end alone
+// compares the replies with the plain manager, and the whole queue only at the end
 #[test]
 fn waiters_of_a_full_queue_are_raised_one_by_one(rt: HostRuntime) -> Result<(), Fail> {
     const HANDED: Row = Row(Unlock(1, 1), Handed(2), 2, &[Base(10)]);
@@ -330,7 +330,7 @@ fn waiters_of_a_full_queue_are_raised_one_by_one(rt: HostRuntime) -> Result<(), 
     for number in 1u16..257 {
         both.step(lock(number, 1));
     }
-    // The last waiter raises the owner; each further one comes before all that were raised.
+    // The last waiter raises the owner. Each further one is put in front of all that were raised.
     for raised in 0u16..255 {
         let number = 256 - raised;
         let visits = if raised == 0 { 2 } else { 1 };
