@@ -25,7 +25,7 @@ import plot
 import runs
 from texts import TEXTS
 
-# A kind of text that grows: its title, what is counted, and how many tasks make so many of it.
+# A kind of trace that grows: its title, what is counted, and how many tasks have that count.
 Panel = namedtuple("Panel", "kind title across tasks")
 PANELS = [
     Panel("free", "free: no task waits", "tasks, and as many mutexes", lambda n: n),
@@ -39,7 +39,7 @@ FIGURE = runs.ROOT / "docs/growth.svg"
 
 
 def costs(commands, panel, size, folder, options):
-    """Returns what a step takes each program, where both write the same."""
+    """Returns the cost of a step in each program. Both must write the same."""
     traces = []
     for steps in (options.steps, 2 * options.steps):
         trace = pathlib.Path(folder, f"{panel.kind}-{size}-{steps}.pim")
@@ -54,7 +54,7 @@ def costs(commands, panel, size, folder, options):
 
 
 def grown(commands, panel, folder, options):
-    """Returns the sizes of a panel and, for each program, what a step takes at each of them."""
+    """Returns the sizes of a panel and, for each program, the cost of a step at each size."""
     sizes = sorted({min(size, runs.MOST_TASKS - panel.tasks(0)) for size in options.sizes})
     found = [costs(commands, panel, size, folder, options) for size in sizes]
     return sizes, list(zip(*found))

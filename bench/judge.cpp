@@ -1,11 +1,10 @@
-// The report of a trace by a plain judge in C++, written for speed and not proved: what `pim` is
-// compared with.
+// A plain judge of traces in C++, written for speed and not proved. `pim` is compared with it.
 //
 //   g++ -O3 -march=x86-64-v2 -std=c++17 -static-libstdc++ -static-libgcc judge.cpp -o judge
 //
-// One pass over the bytes finds the first invalid line; one pass over the steps mends the
-// priorities that each of them changes, by a walk along the chain of waiting tasks that begins
-// only where something can change and ends where nothing does, and writes the report by pages.
+// One pass over the bytes finds the first invalid line. One pass over the steps restores the
+// priorities after each step, by a walk along the chain of waiting tasks. The walk starts only if
+// something can change, and stops where nothing changes. The report is written by pages.
 
 #include <sys/stat.h>
 #include <unistd.h>
@@ -61,7 +60,7 @@ enum class Answer : uint8_t {
     Released,
 };
 
-// The texts of the answers, in their order. A number follows the last two.
+// The texts of the replies, in their order. A number follows the last two.
 constexpr std::string_view ANSWERS[] = {
     "granted",
     "queued",
@@ -129,7 +128,7 @@ struct Cursor {
         return true;
     }
 
-    // Reads a number without leading zeros, from 1 to the highest; or 0, where that is allowed.
+    // Reads a number without leading zeros, from 1 to the highest, or 0 if that is allowed.
     bool number(uint16_t& out, unsigned highest = HIGHEST_NUMBER, bool may_be_zero = false) {
         if (is_done() || *at < '0' || *at > '9') return false;
         if (*at == '0') {
@@ -211,7 +210,7 @@ bool read_version(Cursor line, Text& text) {
     return line.eat("pim ") && line.number(text.version, LAST_VERSION) && line.is_done();
 }
 
-// Adds a line below the first, and returns whether it is valid there.
+// Adds a line after the first, and returns whether it is valid there.
 bool add_line(Cursor line, Text& text) {
     uint16_t number = 0, prio = 0;
     if (line.eat("task ")) {
@@ -236,7 +235,7 @@ bool add_line(Cursor line, Text& text) {
     return true;
 }
 
-// Returns 0 where the text is valid, else the number of the first invalid line.
+// Returns 0 if the text is valid, else the number of the first invalid line.
 uint32_t parse(const char* data, size_t size, Text& text) {
     const char* at = data;
     const char* end = data + size;
@@ -360,7 +359,7 @@ public:
         touched.reserve(MOST_TASKS);
     }
 
-    // Inlined: where the caller knows the kind of step, no other is left of it.
+    // Inlined: a caller that knows the kind of step keeps only the code of that kind.
     [[gnu::always_inline]] Reply step(const Step& step) {
         if (!has_task(step.actor)) return {Answer::NoTask};
         const bool withdraws = step.op == Op::Cancel && step.first == step.actor;
@@ -405,7 +404,7 @@ protected:
     bool has_task(uint16_t t) const { return t >= 1 && t < tasks.size(); }
     bool has_mutex(uint16_t m) const { return m >= 1 && m < mutexes.size(); }
 
-    // Many are found in order by their marks, few are sorted.
+    // Sorts a few tasks; finds many in order by their marks.
     void sort_touched() {
         constexpr size_t FEW = 16;
         if (touched.size() <= FEW) return std::sort(touched.begin(), touched.end());
@@ -414,7 +413,7 @@ protected:
             if (tasks[t].is_touched) touched.push_back(uint16_t(t));
     }
 
-    // Calls f for each owned mutex, in ascending order, as long as it answers true.
+    // Calls f for each owned mutex, in ascending order, as long as it returns true.
     template <class F>
     static void each_owned(const Task& task, F f) {
         for (size_t word = 0; word < task.owned.size(); ++word)
@@ -431,7 +430,7 @@ protected:
         return highest;
     }
 
-    // Stores the priority of a task, and of those along the chain from it, as far as they change.
+    // Stores the priorities of a task and of the tasks along its chain, as far as they change.
     void settle_from(uint16_t t) {
         for (;;) {
             Task& task = tasks[t];
@@ -449,13 +448,14 @@ protected:
         }
     }
 
-    // Settles a task to which a mutex lends something from now on: no more than the task has
-    // raises nothing.
+    // Restores the priority of a task that a mutex gives this priority from now on. It rises only
+    // if this is above the task's present one.
     void raise(uint16_t t, uint8_t lent) {
         if (lent > tasks[t].stored) settle_from(t);
     }
 
-    // Settles a task to which a mutex lent this until now: less than the task has takes nothing.
+    // Restores the priority of a task that a mutex gave this priority until now. It falls only if
+    // this is the task's present one.
     void lower(uint16_t t, uint8_t lent) {
         if (lent == tasks[t].stored) settle_from(t);
     }
@@ -505,7 +505,7 @@ protected:
         return mutex.protects() && tasks[actor].base > mutex.ceiling;
     }
 
-    // Returns whether the actor locks the mutex once more, which it owns.
+    // Returns whether the actor locks again a recursive mutex that it owns.
     static bool relocks(uint16_t actor, const Mutex& mutex) {
         return mutex.is_recursive() && mutex.owner == actor;
     }

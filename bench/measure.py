@@ -26,7 +26,7 @@ from texts import TEXTS
 
 
 def columns(numbers, digits):
-    """Returns a number for each program and their ratio, where they are known."""
+    """Returns a number for each program and their ratio, if they are known."""
     told = ["-" if number is None else f"{number:,.{digits}f}" for number in numbers]
     return [*told, "-" if None in numbers else runs.ratio(*numbers)]
 

@@ -1,7 +1,7 @@
-"""A figure of panels, each with a few curves over one axis, as SVG that is written here by hand.
+"""Draws a figure of panels as SVG. Each panel has a few curves over one axis.
 
-A curve has a colour, a dash and a mark of its own, so that no reader depends on one of them. The
-figure brings its background along, and has other colours where the reader's page is dark.
+Each curve has its own colour, dash and mark, so that no reader depends on one of them. The figure
+has its own background, and other colours on a dark page.
 """
 import math
 from html import escape
@@ -29,7 +29,7 @@ STYLE = """
 
 
 def ticks(most, units, power):
-    """Returns up to six round numbers from 0 on, the last of them at least `most`."""
+    """Returns up to six round numbers from 0 on. The last one is at least `most`."""
     raw = max(most, power) / 5
     scale = power ** math.floor(math.log(raw, power))
     step = next(unit * scale for unit in units if unit * scale >= raw)
@@ -45,14 +45,14 @@ def line(kind, x1, y1, x2, y2):
 
 
 def mark(number, x, y):
-    """A dot for the first curve, a square for the second."""
+    """Returns a dot for the first curve, a square for the second."""
     if number == 0:
         return f'<circle class="m0" cx="{x:.1f}" cy="{y:.1f}" r="4"/>'
     return f'<rect class="m1" x="{x - 3.5:.1f}" y="{y - 3.5:.1f}" width="7" height="7"/>'
 
 
 def panel(left, top, title, across, up, xs, curves):
-    """Returns the elements of a panel: its axes, with what they count, and its curves."""
+    """Returns the elements of a panel: its axes with their labels, and its curves."""
     along = ticks(max(xs), (1, 2), 2)
     high = ticks(max(map(max, curves)), (1, 2, 5, 10), 10)
     begin, low = left + LEFT, top + HEIGHT - BELOW
@@ -81,7 +81,7 @@ def panel(left, top, title, across, up, xs, curves):
 
 
 def figure(title, names, panels):
-    """Returns the SVG of these panels, two in a row, below a title and the names of the curves."""
+    """Returns the SVG of these panels, two side by side, below a title and the names of the curves."""
     rows = (len(panels) + 1) // 2
     wide, tall = 2 * WIDTH + GAP, TOP + rows * HEIGHT + (rows - 1) * GAP
     made = [

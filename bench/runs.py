@@ -1,4 +1,4 @@
-"""What the scripts that measure share: the programs, what a run of one takes, and tables."""
+"""Shared by the scripts that measure: the programs, the cost of a run, and tables."""
 import argparse
 import functools
 import os
@@ -11,7 +11,7 @@ import textwrap
 
 ROOT = pathlib.Path(__file__).resolve().parent.parent
 JUDGE = ROOT / "bench/judge.cpp"
-# As rt compiles pim: at that level, for that processor, with the C library as the only shared one.
+# As rt compiles pim: the same level, the same CPU, and the C library as the only shared one.
 FLAGS = ["-std=c++17", "-O3", "-march=x86-64-v2", "-static-libstdc++", "-static-libgcc"]
 PAGE = ROOT / "docs/SPEED.md"
 PIM = ROOT / "crates/pim/out/pim"
@@ -24,7 +24,7 @@ STATUSES = """exit status:
 
 
 def give_up(status, why):
-    """Ends the script: with status 1 where two programs differ, 2 where it can't measure."""
+    """Exits: with status 1 if two programs differ, 2 if the script can't measure."""
     print(f"{pathlib.Path(sys.argv[0]).name}: {why}", file=sys.stderr)
     sys.exit(status)
 
@@ -35,11 +35,11 @@ def need(*tools):
             give_up(2, f"it needs {tool}")
 
 
-# ---- words
+# ---- arguments
 
 
 def parser(doc, names, program):
-    """Returns a parser of a command line, with what all scripts take. Its help is the script's."""
+    """Returns a parser with the arguments that all scripts take, and with this help."""
     as_written = argparse.RawDescriptionHelpFormatter
     made = argparse.ArgumentParser(description=doc, epilog=STATUSES, formatter_class=as_written)
     made.add_argument("program", nargs="?", metavar="PROGRAM", help=f"in place of {program}")
@@ -50,7 +50,7 @@ def parser(doc, names, program):
 
 
 def within_limits(parser, **least):
-    """Returns the options of the command line, or gives up where a number is out of its limits."""
+    """Returns the options of the command line, or gives up if a number is out of its limits."""
     options = parser.parse_args()
     if options.docs and options.only:
         parser.error("--docs is for all of it, without --only")
@@ -66,7 +66,7 @@ def within_limits(parser, **least):
 
 
 def own_program():
-    """Returns the path of the repository's program, built where it is older than the code."""
+    """Returns the path of the repository's program, and builds it if it is older than the code."""
     if PIM.exists() or shutil.which("rt"):
         if not subprocess.run([ROOT / "pim", "--version"], stdout=subprocess.DEVNULL).returncode:
             return str(PIM)
@@ -74,7 +74,7 @@ def own_program():
 
 
 def program(path):
-    """Returns the path of a program that was named."""
+    """Returns the path of a named program."""
     if not os.access(path, os.X_OK) or os.path.isdir(path):
         give_up(2, f"{path} is no program")
     return os.path.abspath(path)
@@ -100,13 +100,13 @@ def stepper():
 
 
 def knows(command, trace):
-    """Returns whether the program reads texts of this one's version."""
+    """Returns whether the program reads texts of the version of this one."""
     with open(trace, "rb") as file:
         return subprocess.run(command, input=file.readline(), capture_output=True).returncode != 2
 
 
 def compare(commands, trace):
-    """Has two programs judge a trace, and returns how many bytes they write, both the same."""
+    """Returns how many bytes two programs write for a trace. Both must write the same."""
     runs = []
     for command in commands:
         with open(trace, "rb") as stdin:
@@ -125,11 +125,11 @@ def compare(commands, trace):
     return length
 
 
-# ---- what a run takes
+# ---- the cost of a run
 
 
 def seconds(command, trace):
-    """Returns the processor time of a run with this trace as its input."""
+    """Returns the CPU time of a run with this trace as its input."""
     with open(trace, "rb") as stdin, open(os.devnull, "wb") as out:
         streams = [(os.POSIX_SPAWN_DUP2, file.fileno(), to) for to, file in enumerate((stdin, out))]
         run = os.posix_spawn(command[0], command, os.environ, file_actions=streams)
@@ -138,13 +138,13 @@ def seconds(command, trace):
 
 
 def least_seconds(commands, trace, repeat):
-    """Returns the least processor time of each command, which run by turns."""
+    """Returns the least CPU time of each command. The commands run by turns."""
     runs = [[seconds(command, trace) for command in commands] for _ in range(repeat)]
     return [min(column) for column in zip(*runs)]
 
 
 def megabytes(command, trace):
-    """Returns the peak memory of a run, or None where there is no GNU time to tell it."""
+    """Returns the peak memory of a run, or None if there is no GNU time to measure it."""
     if not os.path.exists(TIME):
         return None
     return int(said([TIME, "-f", "%M", *command], trace).split()[-1]) / 1024
@@ -152,7 +152,7 @@ def megabytes(command, trace):
 
 @functools.lru_cache(maxsize=None)
 def counter():
-    """Returns what counts instructions here: perf, where the machine lets it, valgrind, or None."""
+    """Returns what counts instructions here: perf if the machine permits it, valgrind, or None."""
     if shutil.which("perf"):
         counts = ["perf", "stat", "-x", ",", "-e", "instructions:u", "true"]
         done = subprocess.run(counts, stderr=subprocess.PIPE, text=True)
@@ -162,12 +162,12 @@ def counter():
 
 
 def instructions(command, trace):
-    """Returns how many instructions a run takes, without those of the kernel."""
+    """Returns how many instructions a run executes, without those of the kernel."""
     if counter() == "perf":
         tool, shown = ["perf", "stat", "-x", ",", "-e", "instructions:u"], r"(\d+),.*instructions"
     else:
         need("valgrind")
-        # callgrind counts the same, and takes three times as long.
+        # callgrind gives the same counts, and takes three times as long.
         tool = ["valgrind", "--tool=cachegrind", "--cache-sim=no"]
         tool += ["--cachegrind-out-file=/dev/null"]
         shown = r"I +refs: +([\d,]+)"
@@ -178,7 +178,7 @@ def instructions(command, trace):
 
 
 def step_instructions(program, how, trace, steps):
-    """Returns what a step of c/bench/steps.cpp takes by libpim and by the plain manager."""
+    """Returns the cost of a step of c/bench/steps.cpp in libpim and in the plain manager."""
     found = []
     for who in ("libpim", "plain"):
         commands = [[program, who, how, str(count)] for count in (steps, 2 * steps)]
@@ -195,17 +195,17 @@ def numbers(program, how, repeat, trace):
 
 
 def said(command, trace):
-    """Returns what a run says on standard error."""
+    """Returns what a run writes to standard error."""
     with open(trace, "rb") as stdin:
         how = {"stdin": stdin, "stdout": subprocess.DEVNULL, "stderr": subprocess.PIPE}
         return subprocess.run(command, text=True, **how).stderr
 
 
-# ---- what is told
+# ---- output
 
 
 def machine():
-    """Returns lines that name the machine and what was built with what."""
+    """Returns lines that name the machine and the compilers."""
     with open("/proc/cpuinfo") as file:
         told = dict(re.findall(r"^(model name|cpu family|model)\s*: (.*)$", file.read(), re.M))
     kernel = os.uname()
@@ -224,12 +224,12 @@ def first_line(*command):
 
 
 def ratio(ours, theirs):
-    """Returns the ratio as it is told: none to what was too little to be measured."""
+    """Returns the text of the ratio. There is none to a figure that was too small to measure."""
     return f"{ours / theirs:.2f}" if theirs > 0 else "-"
 
 
 def table(head, rows):
-    """Returns the lines of a Markdown table, whose columns are as wide as what stands in them."""
+    """Returns the lines of a Markdown table. Its columns are as wide as their widest cells."""
     wide = [max(map(len, column)) for column in zip(head, *rows)]
 
     def line(row):
@@ -241,7 +241,7 @@ def table(head, rows):
 
 
 def publish(part, told, lines):
-    """Puts what is told and the lines into docs/SPEED.md, in place of what stands there of that part."""
+    """Replaces a part of docs/SPEED.md with these sentences and lines."""
     sentences = textwrap.fill(". ".join([*told, ""]).rstrip(), 120)
     begin, end = f"<!-- by {part} -->\n", "<!-- end -->\n"
     before, found, rest = PAGE.read_text().partition(begin)

@@ -1,18 +1,18 @@
 """Traces of any size, the same at each run, for the scripts that measure and for tests/judge.
 
-Each is made of a number of tasks (2 to 256) and of steps. A trace of more steps begins with those
-of a shorter one: so the difference of two is what the steps between them take.
+Each has a number of tasks (2 to 256) and of steps. A longer trace starts with the steps of a
+shorter one, so the difference of their times is the time of the further steps.
 """
 import random
 
 
 def start(tasks, steps):
-    """The version line alone, so that the start of the program is all that there is."""
+    """Returns the version line alone, to measure the start of the program."""
     return "pim 1\n"
 
 
 def free(tasks, steps):
-    """Tasks that lock and unlock mutexes, half of them INHERIT, that nobody else owns."""
+    """Returns a trace of tasks that lock and unlock free mutexes, half of them INHERIT."""
     draw, owned, lines = random.Random(1), {}, []
     free_ones = list(range(1, tasks + 1))
     while len(lines) < steps:
@@ -32,9 +32,9 @@ def free(tasks, steps):
 
 
 def wide(tasks, steps):
-    """All tasks but one in the queue of one INHERIT mutex.
+    """Returns a trace with all tasks but one in the queue of one INHERIT mutex.
 
-    They are handed it, withdraw and queue again, and are raised and lowered.
+    They are handed the mutex, withdraw and queue again, and are raised and lowered.
     """
     draw = random.Random(2)
     declared = some_bases(draw, tasks)
@@ -59,7 +59,7 @@ def wide(tasks, steps):
 
 
 def mixed(tasks, steps, seed=3):
-    """All protocols and steps, of tasks that mostly unlock what they own and mostly don't wait."""
+    """Returns a trace of all protocols and steps. Tasks mostly unlock what they own and don't wait."""
     draw = random.Random(seed)
     bases = some_bases(draw, tasks)
     guess = Guess(bases, {mutex: draw.randint(60, 99) for mutex in range(4, tasks + 1, 4)})
@@ -74,9 +74,9 @@ def mixed(tasks, steps, seed=3):
 
 
 def second(tasks, steps, seed=4):
-    """All protocols and steps of version 2: ceilings that change, and recursive mutexes.
+    """Returns a trace of all protocols and steps of version 2, with new ceilings and relocks.
 
-    Each second mutex is a PROTECT one. Its owner mostly sets its ceiling, or any task where it is
+    Each second mutex is a PROTECT one. Mostly its owner sets its ceiling, or any task if it is
     free. Each fourth is recursive: its owner locks it again, and keeps it when it unlocks it.
     """
     draw = random.Random(seed)
@@ -135,7 +135,7 @@ class Guess:
 
 
 def some_step(draw, guess, tasks):
-    """Returns a step line, or None where the chosen task waits on."""
+    """Returns a step line, or None if the chosen task goes on waiting."""
     task, mutex, chosen = draw.randint(1, tasks), draw.randint(1, tasks), draw.random()
     if task in guess.waits:
         if chosen < 0.2:
@@ -169,7 +169,7 @@ def some_step(draw, guess, tasks):
 
 
 def some_ceiling(draw, guess, tasks):
-    """Returns a ceil line, or None where the chosen task waits on."""
+    """Returns a ceil line, or None if the chosen task goes on waiting."""
     mutex = draw.randrange(2, tasks + 1, 2) if draw.random() < 0.95 else draw.randint(1, tasks + 1)
     task = draw.randint(1, tasks)
     owner = guess.owner.get(mutex, task)
@@ -183,7 +183,7 @@ def some_ceiling(draw, guess, tasks):
 
 
 def some_relock(draw, guess, tasks):
-    """Returns a line that locks an owned recursive mutex again, or None where that can't be."""
+    """Returns a line that locks an owned recursive mutex again, or None if there is none to lock."""
     owned = [mutex for mutex in guess.owner if mutex in guess.recursive]
     mutex = draw.choice(owned) if owned else 0
     task = guess.owner.get(mutex)
@@ -194,7 +194,7 @@ def some_relock(draw, guess, tasks):
 
 
 def chain(tasks, steps):
-    """A chain of all tasks, along all of which priorities rise and fall."""
+    """Returns a trace of one chain of all tasks. Priorities rise and fall along the whole chain."""
     lines = [f"{task} lock {task}" for task in range(1, tasks)]
     lines += [f"{task} lock {task - 1}" for task in range(2, tasks + 1)]
     again = [f"1 base {tasks} 99", f"{tasks} cancel {tasks}"]
