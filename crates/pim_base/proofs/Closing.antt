@@ -37,7 +37,7 @@ follow hop again t differs (suc k) x y e =
           ]
     ]
 
--- a way of `hop` to t, from which it doesn't hop, is one of the other
+-- a path of `hop` to t, where it stops, is a path of the other
 unchanged :
     (hop again : ℕ → Option ℕ) (t : ℕ)
     → DiffersAt hop again t
@@ -143,7 +143,7 @@ no_cycle_for_free :
     → ¬ HasCycle (with_wait S t (Some w))
 no_cycle_for_free S t w valid acyclic task stays free (v, h) = grind (arith, blocker_same, blocker_other)
 
--- a wait for a mutex with an owner makes one exactly where the owner's chain leads back
+-- a wait for a mutex with an owner makes one exactly if the owner's chain leads back
 cycle_for_owned :
     (S : State) (t u : ℕ) (w : Wait)
     → IsState S
@@ -176,7 +176,7 @@ cycle_for_owned S t u w valid acyclic task stays owned = (there, back)
         (blocker_other S t (Some w)) stays at_t (v, r.0, r.1, r.2) in
         contains_from_reaches (blocker S) n u t b.0 b.1 b.2
 
--- where no cycle stands, a wait makes one exactly where it leads back
+-- without a cycle before, a wait makes one exactly if it leads back
 pub leads_back-cycle :
     (S : State) (t m ticket : ℕ)
     → IsState S

@@ -12,7 +12,7 @@ use Rattle.pim_base.proofs.Places.{nth_within}
 use Rattle.pim_base.proofs.Greatest.{greatest_of, IsReached, greatest_of_reached, le-greatest_of}
 use Rattle.pim_base.proofs.Stored.{heir-blocker, last_hop, holds_from, own_priority-le-effective_priority, effective_priority-le, rises, stored_law}
 
--- the greatest is reached where one task counts
+-- if one task counts, a task that counts reaches the greatest
 reached_from_one :
     (f : ℕ → ℕ) (p : ℕ → Bool) (n t : ℕ)
     → 1 ≤ t

@@ -67,7 +67,7 @@ is_in-insert_by (v ∷ xs) w x h = go (precedes x v) h (is_in-insert_by xs w x)
     go false (inr (inl first)) rest = inl first
     go false (inr (inr later)) rest = inr (rest (inr later))
 
--- and the order stays, where the tickets of the others are different
+-- the order is kept if the tickets of the others are different
 ordered-insert_by :
     (xs : List Waiter) (w : Waiter)
     → IsOrdered xs

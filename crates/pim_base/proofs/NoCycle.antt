@@ -44,7 +44,7 @@ old_way hop again change (suc k) x y z e on =
     stops zero v none e = let same : v ≡ y = cc in none-some (sym none ∙ ap again same ∙ on)
     stops (suc k) v none e = let f = first_hop again k v y e in none-some (sym none ∙ f.1)
 
--- none returns where each hop is an old one or leads to an end
+-- no chain returns if each hop is an old one or leads to an end
 none_returns_still :
     (hop again : ℕ → Option ℕ) (n : ℕ)
     → NoneReturns hop n
@@ -53,7 +53,7 @@ none_returns_still :
 none_returns_still hop again n acyclic change t k le e =
     let f = first_hop again k t t e in acyclic t k le (old_way hop again change (suc k) t t f.0 e f.1)
 
--- no cycle stands where each blocker is an old one or leads to an end
+-- there is no cycle of waits if each blocker is an old one or leads to an end
 no_cycle_still :
     (S S' : State)
     → length S'.base ≡ length S.base

@@ -1,4 +1,4 @@
--- Where all mutexes are PRIO_NONE, every task has its base priority.
+-- If all mutexes are PRIO_NONE, every task has its base priority.
 use Rattle.std.proofs.Common.{◌≡◌, ℕ, ◌≤◌, ◌⊎◌, inl, inr, Bool, true, false, eqb, List, [], ◌∷◌, length, map, Option, Some, None, refl, sym, ◌∙◌, ap, arith, unwrap_or, le_antisymm, rules}
 use Rattle.std.proofs.lemmas.Bool.{eqb-true, eq-eqb, or_cases, or_left}
 use Rattle.pim_base.specs.Lists.{nth, contains, greatest}

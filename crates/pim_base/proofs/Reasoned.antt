@@ -128,14 +128,14 @@ first_lends S t m ok task heir_is (w ∷ q) same any = (to_t, at_m, le_antisymm 
     high : effective_priority S t ≤ effective_priority S w.task
     high = omega (arith, found (eqb w.prio (effective_priority S t)) refl any, it.prio)
 
--- a mutex that lends t this priority
+-- a mutex that gives t this priority
 record Lends (S : State) (t prio : ℕ) : Type 0 where
   mutex : ℕ
   known : IsMutex S mutex
   owner : owner_of S mutex ≡ Some t
   lends : lends S prio mutex ≡ true
 
--- a task whose heir is t waits for a mutex that lends t its priority
+-- a task whose heir is t waits for a mutex that gives t its priority
 lends_from_heir : (S : State) (u t : ℕ) → IsSteady S → IsTask S u → heir S u ≡ Some t → Lends S t (effective_priority S u)
 lends_from_heir S u t ok task e = go (wait_of S u) refl e
   where

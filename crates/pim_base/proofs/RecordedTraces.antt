@@ -132,7 +132,7 @@ since-kind p q same = grind (arith, rules)
 
 -- ---- a reply has numbers of a text
 
--- the state of a run: steady, with so many tasks and mutexes, of protocols that the version has
+-- the state of a run: steady, with this many tasks and mutexes, of protocols that the version has
 record Fits (n m version : ℕ) (S : State) : Type 0 where
   steady : IsSteady S
   tasks : length S.base ≡ n
@@ -225,7 +225,7 @@ unless_is_reply ((false, e) ∷ tests) r last = unless_is_reply tests r last
 abbrev IsOpOf : ℕ → Op → Type 0
 IsOpOf version op = IsOp op × (op_since op ≤ version)
 
--- a step of a text of this version, by one of so many tasks
+-- a step of a text of this version, by one of this many tasks
 abbrev IsAskedOf : ℕ → ℕ → Entry → Type 0
 IsAskedOf version n e = (1 ≤ e.step.actor) × (e.step.actor ≤ n) × IsOpOf version e.step.op
 
@@ -325,7 +325,7 @@ op_of_line : (version : ℕ) (ls : List StepLine) → AllByRecursion IsLine (map
 op_of_line version [] is belongs = tt
 op_of_line version (l ∷ ls) is belongs = ((is.0.1, omega (arith, belongs.0)), op_of_line version ls is.1 belongs.1)
 
--- what the run of a script asks for stands in texts of the script's version
+-- the operations of a run of a script exist in texts of the script's version
 run_asks : (t : Trace) (es : List Entry) → IsWithinLimits t → IsInterleaving es (scripts_of t) → AllByRecursion (IsAskedOf t.version (length t.bases)) es
 run_asks t es limits mixed =
     let n = length t.bases in

@@ -194,7 +194,7 @@ what_refuses_a_ceiling :
 what_refuses_a_ceiling = refl
 
 -- locked three times, a recursive mutex is kept at the first two unlocks, and handed over at the third; the new owner has
--- it once, then twice, and releases both at once
+-- it once, then twice, and releases both in one step
 recursive_mutex_with_a_waiter :
     report (start (10 ∷ 50 ∷ []) (recursive ∷ []) 1)
     ((1, Lock 1) ∷ (1, Lock 1) ∷ (1, Try 1) ∷ (2, Try 1) ∷ (2, Lock 1) ∷ (1, Unlock 1) ∷ (1, Unlock 1) ∷ (1, Unlock 1)
@@ -218,7 +218,7 @@ what_a_relock_is_not :
     ∷ says Granted ∷ says Granted ∷ says (Refused Refusal.Deadlock) ∷ says (Refused Refusal.Busy) ∷ says Freed ∷ []
 what_a_relock_is_not = refl
 
--- a task with a ceiling of 50, and a waiter that lends 50
+-- a task with a ceiling of 50, and a waiter that donates 50
 abbrev ceiling_and_waiter : State
 ceiling_and_waiter = start (10 ∷ 50 ∷ []) (protect 50 ∷ inherit ∷ []) 1
 

@@ -41,7 +41,7 @@ holds_from o t e = search rules
 pub from_holds : (o : Option ℕ) (t : ℕ) → holds o t ≡ true → o ≡ Some t
 from_holds o t e = search rules
 
--- a task's own priority counts where its chain leads
+-- a task's own priority counts for each task on its chain
 pub own_priority-le-effective_priority :
     (S : State) (u t k : ℕ)
     → IsTask S u
