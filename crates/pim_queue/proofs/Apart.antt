@@ -26,7 +26,7 @@ length-without task (v ∷ vs) =
     let rest : length (without task vs) ≤ length vs = length-without task vs in
     cond_both (is_of task v) vs (v ∷ without task vs) (λ us. length us ≤ suc (length vs)) (λ _. omega arith) (λ _. omega arith)
 
--- one fewer, where the task was there
+-- one fewer, if the task was there
 pub length-without_one : (task : ℕ) (ws : List Waiter) → list_any (is_of task) ws ≡ true → suc (length (without task ws)) ≡ length ws
 length-without_one task [] h = absurd (both_ways _ refl h)
 length-without_one task (v ∷ vs) h = go (is_of task v) (length-without_one task vs) h
@@ -169,7 +169,7 @@ found_is_of task (v ∷ vs) w h = go (is_of task v) refl (found_is_of task vs w)
     go true here rest is = let same : v ≡ w = cc in ap (λ (u : Waiter). u.task) (sym same) ∙ eqb-true v.task task here
     go false away rest is = rest is
 
--- taken out, and put in again with its ticket where its priority belongs
+-- removed, and inserted again with its ticket at the place of its priority
 pub is_repositioned :
     (task prio : ℕ) (w v : Waiter) (ws : List Waiter) (from to : ℕ)
     → find (is_of task) ws ≡ Some w

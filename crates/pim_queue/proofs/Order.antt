@@ -48,7 +48,7 @@ any_found p (y ∷ ys) x h = go (p y) (any_found p ys x) h
     go true rest e = refl
     go false rest e = rest e
 
--- where nothing is found, nothing passes
+-- if nothing is found, nothing passes
 pub none_found : {X : Type 0} (p : X → Bool) → (xs : List X) → find p xs ≡ None → list_any p xs ≡ false
 none_found p [] h = refl
 none_found p (x ∷ xs) h = go (p x) h (none_found p xs)

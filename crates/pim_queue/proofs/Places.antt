@@ -33,7 +33,7 @@ ordered_at (w ∷ ws) h i zero d less low = absurd (omega arith)
 ordered_at (w ∷ ws) h zero (suc j) d less low = all_at _ ws h.0 j d (omega arith)
 ordered_at (w ∷ ws) h (suc i) (suc j) d less low = ordered_at ws h.1 i j d (omega arith) (omega arith)
 
--- those that a waiter doesn't come before stand in front
+-- the waiters that a waiter doesn't precede are in front of it
 pub partitioned : (w : Waiter) (ws : List Waiter) → IsOrdered ws → IsPartitionedBy (λ v. not (precedes w v)) ws
 partitioned w ws ordered i j d le low behind = grind (arith, before_trans, ordered_at)
 
@@ -128,7 +128,7 @@ front_out t (v ∷ vs) d some its = cond-true _ _ _ its
 pub ruleset own_place = (own_place_some, own_place_out, found_some, front_out)
 
 -- ---- one moved
--- its place once it is taken out: before where it was, or else behind
+-- its new place after it is removed: in front of its old one, or behind it
 pub place_before :
     (p : Waiter → Bool) (ws : List Waiter) (from : ℕ)
     → position_or_len p (take from ws) < from
@@ -145,7 +145,7 @@ place_behind p ws from all low = grind (arith, prefix_len-le-length, length-take
 
 pub ruleset among_others = (ordered_take, ordered_drop, place_before, place_behind)
 
--- written at `to`, where each other place has what it is to have
+-- written at `to`, when each other place has its final waiter
 written :
     (w : Waiter) (us ws : List Waiter) (from to : ℕ)
     → from < length ws
