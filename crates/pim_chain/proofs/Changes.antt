@@ -265,7 +265,7 @@ view_other queues m k ws ne =
     ap (λ o. unwrap_or o (record { waiters = []; room = 0 }))
     (nth-put_other queues m k (with_waiters (view_in queues m) ws) (λ e. ne (sym e)))
 
--- with other waits, other stored priorities and another queue of m, where each queue is in order still
+-- with other waits, other stored priorities and another queue of m, if each queue is still in order
 pub ready_requeued :
     (v : View) (waits : List (Option Wait)) (stored : List ℕ) (m : ℕ) (ws : List Waiter)
     → Ready v

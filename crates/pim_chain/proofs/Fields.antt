@@ -145,7 +145,7 @@ ticket_there wait stored m k t (w ∷ ws) at shows h = go (or_cases _ _ h) (tick
         (ap (λ (x : Wait). x.ticket) (same_Some _ _ (sym shows.0.waits ∙ ap wait (eqb-true w.task t e) ∙ at))))
     go (inr r) rest = or_right _ _ (rest r)
 
--- a queue has the ticket exactly where somebody waits with it
+-- a queue has the ticket exactly if a task waits with it
 pub ticket_told :
     (v : View) (m k : ℕ) (q : QueueView)
     → Ready v

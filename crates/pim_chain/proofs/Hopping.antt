@@ -1,4 +1,4 @@
--- A look along the chain of those whom a task waits for, hop by hop.
+-- The search along the chain of the tasks that a task waits for, hop by hop.
 use Rattle.std.proofs.Common.{◌≡◌, ◌≢◌, ℕ, ◌-◌, ◌<◌, false, Option, Some, None, arith, refl}
 use Rattle.std.specs.Option.{option_map_or}
 use Rattle.pim_base.specs.Lists.{contains}
@@ -6,7 +6,7 @@ use Rattle.pim_base.specs.State.{State}
 use Rattle.pim_base.specs.Chains.{chain, blocker}
 use Rattle.pim_base.proofs.Hops.{contains-chain_next, contains-chain_last}
 
--- a look that didn't find the task here goes on at whom this one waits for
+-- a search that didn't find the task here goes on at the task that this one waits for
 pub contains_onward :
     (S : State) (n t u : ℕ)
     → 0 < n

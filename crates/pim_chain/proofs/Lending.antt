@@ -1,4 +1,4 @@
--- One mutex more or less, which lends its owner no more than others give it.
+-- One mutex more or less that gives its owner no higher priority than the owner has.
 use Rattle.std.proofs.Common.{◌≡◌, ◌≢◌, ℕ, ◌<◌, ◌≤◌, max, Bool, true, false, is_some, cond, if◌then◌else◌, ◌⊎◌, inl, inr, refl, sym, ◌∙◌, ap, subst, arith, le_antisymm, le_trans, Option, Some, None, List, [], ◌∷◌, length}
 use Rattle.std.specs.List.{AllByRecursion}
 use Rattle.std.proofs.lemmas.Bool.{cases_eq, eqb-true}
@@ -27,7 +27,7 @@ use Rattle.pim_chain.proofs.Known.{owned_mutex}
 use Rattle.pim_chain.proofs.Lent.{local_by_owned}
 use Rattle.pim_chain.proofs.Visit.{visited_same}
 
--- all but one mutex lend the task the same
+-- all mutexes but one give the task the same priority
 record Alike (v w : View) (t m : ℕ) : Type 0 where
   base : base_of v.state t ≡ base_of w.state t
   mutexes : length v.state.protocol ≡ length w.state.protocol
@@ -77,7 +77,7 @@ local_under v w t m b ready after same here bound =
         (subst (λ n. k ≤ n) same.mutexes high) (ap (λ o. holds o t) (sym (same.owner k ne)) ∙ h))
         (le_trans (subst (λ n. others ≤ n) (local_by_owned w t after) (le-max_right _ _)) bound))
 
--- a free mutex that lends its new owner no more than it has
+-- a free mutex that gives its new owner no higher priority than the owner has
 pub gained_settled :
     (v w : View) (t m : ℕ)
     → Ready v
@@ -103,7 +103,7 @@ gained_settled v w t m ready after is known free before but low =
     right : stored_at v t ≡ local_priority v.state (stored_at v) t
     right = before t known (λ e. none-some t e)
 
--- an owned mutex that lent its owner less than it has
+-- an owned mutex that gave its owner a lower priority than the owner has
 pub lost_settled :
     (v w : View) (t m : ℕ)
     → Ready v
@@ -137,14 +137,14 @@ lost_settled v w t m ready after is owned before but low =
         let less : worth v m < local_priority v.state (stored_at v) t = subst (λ n. worth v m < n) (had ∙ right) low in
         omega (arith, under, less)
 
--- what an owned mutex lends is no more than its owner has locally
+-- the priority that an owned mutex gives isn't above its owner's local priority
 worth_under : (v : View) (t m : ℕ) → Ready v → owner_of v.state m ≡ Some t → worth v m ≤ local_priority v.state (stored_at v) t
 worth_under v t m ready mine =
     let known = owned_mutex v.state m t ready.sound.lists mine in
     le_trans (le-greatest_of (worth v) (λ k. holds (owner_of v.state k) t) (length v.state.protocol) m known.0 known.1 (holds_from (owner_of v.state m) t mine))
     (subst (λ n. greatest_of (worth v) (λ k. holds (owner_of v.state k) t) (length v.state.protocol) ≤ n) (local_by_owned v t ready) (le-max_right _ _))
 
--- where only what one mutex lends its owner may be another, no less than it was and no more than the owner has
+-- only the priority that one mutex gives its owner may change: it doesn't fall, nor rise above the owner's
 lent_settled :
     (v w : View) (t m : ℕ)
     → Ready v
@@ -188,7 +188,7 @@ first_prio-insert_by x (y ∷ ys) = go (precedes x y) refl
     go true before = before_prio x y before
     go false behind = omega arith
 
--- one waiter more doesn't lower what a mutex lends
+-- one more waiter doesn't lower the priority that a mutex gives
 worth_joined :
     (v : View) (x m : ℕ) (o : Option Wait) (u : Waiter)
     → Ready v
@@ -209,7 +209,7 @@ worth_joined v x m o u ready known = go (is_some (heir_of v.state m))
     go true = let more = first_prio-insert_by u (queue_at v m) in omega (arith, more, now)
     go false = omega arith
 
--- a waiter more that raises the owner to no more than it has
+-- one more waiter that doesn't raise the owner
 pub joined_settled :
     (v w : View) (x t m : ℕ) (o : Option Wait) (u : Waiter)
     → Ready v
@@ -260,7 +260,7 @@ is_some-heir_in Protocol.Inherit t = refl
 is_some-heir_in Protocol.InheritRecursive t = refl
 is_some-heir_in (Protocol.Protect c) t = refl
 
--- without one waiter a mutex lends no more, and less only by what that one lent
+-- one waiter less doesn't raise the priority that a mutex gives, and lowers it only if that waiter donated as much
 record WorthLeft (before after lent : ℕ) : Type 0 where
   less : after ≤ before
   by_lent : before ≤ max after lent
@@ -303,7 +303,7 @@ worth_left v x t m o ready known owned = go (is_some (heir_of v.state m)) inheri
         (record { less = omega (arith, less, now); by_lent = omega (arith, by_lent, now) })
     go false is = record { less = omega arith; by_lent = omega arith }
 
--- a waiter less, which lent the owner less than it has
+-- one waiter less, which donated a lower priority than the owner has
 pub left_settled :
     (v w : View) (x t m : ℕ) (o : Option Wait)
     → Ready v

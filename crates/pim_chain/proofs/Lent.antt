@@ -14,7 +14,7 @@ use Rattle.pim_chain.specs.Owned.{worth}
 use Rattle.pim_chain.proofs.Local.{top, greatest_of-more, greatest_of-below}
 use Rattle.pim_chain.proofs.Waiting.{local_by_mutexes, top_front}
 
--- who owns, owns a known mutex
+-- an owned mutex is known
 pub owned_known : (S : State) → IsState S → (m t : ℕ) → holds (owner_of S m) t ≡ true → IsMutex S m
 owned_known S lists m t h = go (nth S.owner m) refl (from_holds (owner_of S m) t h)
   where
@@ -33,7 +33,7 @@ not_heir S m t away = go (holds (heir_of S m) t) refl
         absurd (both_ways _ away
         (holds_from (owner_of S m) t (heir_in-owner (protocol_of S m) (owner_of S m) t (from_holds (heir_of S m) t h))))
 
--- an owner is the heir where anybody is
+-- the owner is the heir if there is an heir
 heir_is : (S : State) (m t : ℕ) → owner_of S m ≡ Some t → holds (heir_of S m) t ≡ is_some (heir_of S m)
 heir_is S m t owns = go (protocol_of S m)
   where
@@ -46,7 +46,7 @@ heir_is S m t owns = go (protocol_of S m)
     go Protocol.None = refl
     go (Protocol.Protect c) = refl
 
--- what one mutex lends, if the task owns it
+-- the priority that one mutex gives, if the task owns it
 worth_here :
     (v : View) (t m : ℕ)
     → cond (holds (owner_of v.state m) t) (worth v m) 0
@@ -62,7 +62,7 @@ worth_here v t m = go (holds (owner_of v.state m) t) refl
         (sym (heir_is v.state m t (from_holds (owner_of v.state m) t mine)))
     go false away = sym (ap (λ b. max 0 (cond b (first_prio (queue_at v m)) 0)) (not_heir v.state m t away))
 
--- what the mutexes lend is their ceilings and the priorities of their first waiters
+-- the mutexes give their ceilings and the priorities of their first waiters
 worth_all :
     (v : View) (t n : ℕ)
     → greatest_of (worth v) (λ m. holds (owner_of v.state m) t) n
@@ -75,7 +75,7 @@ worth_all v t (suc n) =
     let fronts = greatest_of-more (λ m. first_prio (queue_at v m)) (λ m. holds (heir_of v.state m) t) (suc n) n (omega arith) in
     omega (arith, lent, ceilings, fronts, worth_here v t (suc n), worth_all v t n)
 
--- the local priority by what the owned mutexes lend
+-- the local priority by the priorities that the owned mutexes give
 pub local_by_owned :
     (v : View) (t : ℕ)
     → Ready v

@@ -1,4 +1,4 @@
--- The local priority, and what one mended task leaves of it.
+-- The local priority, and what holds of it after one task's priority is restored.
 use Rattle.std.proofs.Common.{◌≡◌, ℕ, eqb, ◌+◌, ◌≤◌, max, Bool, true, false, cond, ◌⊎◌, inl, inr, refl, sym, ◌∙◌, ap, subst, arith, le_antisymm, le_trans, Option, Some, None, length, option_and_then}
 use Rattle.std.specs.Option.{option_map_or}
 use Rattle.std.proofs.lemmas.Bool.{both_ways, cases_eq, eqb-true, eq-eqb}
@@ -45,12 +45,12 @@ local_priority-same S f g t same =
 pub no_self_heir : (S : State) → IsSound S → (x : ℕ) → IsTask S x → heir S x ≡ Some x → ⊥
 no_self_heir S ok x task e = none_inherits_back S ok x 0 (omega (arith, task.0, task.1)) (hops_front (heir S) 0 x x e)
 
--- x gets the priority that it has locally, and nobody else another one
+-- x gets its local priority, and no other task's priority changes
 pub record Mends (S : State) (f g : ℕ → ℕ) (x : ℕ) : Type 0 where
   pub mended : g x ≡ local_priority S f x
   pub others : (u : ℕ) → (u ≡ x → ⊥) → g u ≡ f u
 
--- whom the priority of x isn't handed on to, sees no change
+-- a task that isn't the heir of x sees no change
 local_kept :
     (S : State) (f g : ℕ → ℕ) (x t : ℕ)
     → ((u : ℕ) → (u ≡ x → ⊥) → g u ≡ f u)
@@ -87,7 +87,7 @@ heir_at S m u h = go (wait_of S u) h
 pub waits_for_from : (wait : ℕ → Option Wait) (u : ℕ) (w : Wait) → wait u ≡ Some w → waits_for wait w.mutex u ≡ true
 waits_for_from wait u w e = ap (λ o. option_map_or (λ (x : Wait). eqb x.mutex w.mutex) o false) e ∙ eq-eqb w.mutex w.mutex refl
 
--- for which mutex, where priority is handed on
+-- the wait through which u's priority goes to t
 pub record Through (S : State) (u t : ℕ) : Type 0 where
   pub wait : Wait
   pub waits : wait_of S u ≡ Some wait
@@ -100,11 +100,11 @@ through S u t e = go (wait_of S u) refl e
     go None at e = absurd (none-some t e)
     go (Some w) at e = record { wait = w; waits = at; heir = e }
 
--- the greatest stored priority of those who wait for the mutex
+-- the greatest stored priority of the mutex's waiters
 abbrev pub top : State → (ℕ → ℕ) → ℕ → ℕ
 top S stored m = greatest_of stored (waits_for (wait_of S) m) (length S.base)
 
--- where the greatest at the mutex of x stays what it was, nobody sees a change
+-- if the greatest at the mutex of x stays the same, no task sees a change
 local_under :
     (S : State) (f g : ℕ → ℕ) (x y m : ℕ)
     → ((u : ℕ) → (u ≡ x → ⊥) → f u ≡ g u)

@@ -53,7 +53,7 @@ owned_put n owners sets after m t o low high owned len known mine rest others ap
     go u k low_u high_u (inr ne) (inr other) = rw (others u ne, owner_kept owners m k o other) (owned.members u k low_u high_u)
 
 -- ---- as the tables have it
--- the sets of new tables, where nothing is owned
+-- the sets of new tables, in which nothing is owned
 pub fresh_owned :
     (b bases : List ℕ) (owners : List (Option ℕ)) (k : ℕ) (sets : List NumberSet)
     → b ≡ bases

@@ -65,7 +65,7 @@ found_known : (v : View) → IsState v.state → (t m : ℕ) (p : ℕ → Bool) 
 found_known v lists t m p is =
     owned_known v.state lists m t (find_passes p (λ k. holds (owner_of v.state k) t) (mutex_numbers v.state) m is)
 
--- ---- the first has the priority where anybody has
+-- ---- if any waiter has the priority, the first has it
 behind_first :
     (p : ℕ) (w : Waiter) (ws : List Waiter)
     → w.prio < p
@@ -105,7 +105,7 @@ waiter_here v m calm isk =
     ap (λ ws. option_map_or (λ (w : Waiter). Reason.Waiter w.task m) (first_item ws) Reason.Base) (queue_is v m calm isk)
 
 module _ (v : View) (t : ℕ) (calm : Calm v) (known : IsTask v.state t) where
-  -- no waiter lends more than the task has
+  -- no waiter donates a higher priority than the task has
   front_le : (m : ℕ) → IsMutex v.state m → heir_of v.state m ≡ Some t → first_prio (queue_at v m) ≤ stored_at v t
   front_le m isk leads = go (queue_at v m) (calm.ready.queues m isk).sound
     where
@@ -117,7 +117,7 @@ module _ (v : View) (t : ℕ) (calm : Calm v) (known : IsTask v.state t) where
           (stored-le-local_priority v.state (stored_at v) w.task t (waiting_known v.state calm.ready.sound.lists w.task _ h.0.waits)
           (heir_at v.state m w.task (waits_for_from (wait_of v.state) w.task _ h.0.waits) ∙ leads)))
 
-  -- an owned mutex lends the priority now where the definitions' does
+  -- an owned mutex gives the priority now exactly if the definitions' mutex does
   same_lends : 1 ≤ stored_at v t → (m : ℕ) → holds (owner_of v.state m) t ≡ true → lends_now v (stored_at v t) m ≡ lends v.state (stored_at v t) m
   same_lends low m mine = go (is_inherit (protocol_of v.state m)) refl
     where
@@ -169,7 +169,7 @@ module _ (v : View) (t : ℕ) (calm : Calm v) (known : IsTask v.state t) where
         ∙ ap (waiter_reason v.state) (sym (find_same (lends_now v (stored_at v t)) (lends v.state (stored_at v t))
         (λ k. holds (owner_of v.state k) t) (same_lends low) (mutex_numbers v.state)) ∙ is))
 
-    -- what the owned mutexes tell is the reason
+    -- the reason by the owned mutexes is the reason of the definitions
     pub reason_owned : 1 ≤ stored_at v t → owned_reason v (stored_at v t) None (owned v.state t) ≡ reason_of v.state t
     reason_owned low = go (find (λ k. ceiling_of v.state k == stored_at v t) (owned v.state t)) refl
       where

@@ -1,4 +1,4 @@
--- What `==` tells of the lists of a state: all are equal exactly where the states are.
+-- What `==` says of the lists of two states: all are equal exactly if the states are.
 use Rattle.std.proofs.Common.{rules, ◌≡◌, ◌↔◌, ◌==◌, eqb, ◌&&◌, ℕ, Bool, Option, IsTrue, ap, eqb-true, eq-eqb, sym, ◌∙◌}
 use Rattle.std.specs.Bool.{Decides}
 use Rattle.std.specs.Option.{option_eq}

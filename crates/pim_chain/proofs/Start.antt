@@ -76,7 +76,7 @@ module _ (bases : List ℕ) (protocols : List Protocol) where
           → view_in (fresh bases protocols).queues m ≡ record { waiters = []; room = length bases }
       empty m known = ap (λ o. unwrap_or o (record { waiters = []; room = 0 })) (nth-replicate_same (length protocols) m _ known.0 known.1)
 
-  -- nobody lends anything
+  -- no mutex gives a priority
   pub settled_fresh : SettledBut (start bases protocols 1) (stored_at (fresh bases protocols)) None
   settled_fresh t known _ =
       let whole : own_priority S t ≡ max (base_of S t) (greatest_of (ceiling_of S) (λ m. holds (owner_of S m) t) (length protocols)) =

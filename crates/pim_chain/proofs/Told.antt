@@ -1,4 +1,4 @@
--- What the work of walks tells of a change of the stored priorities.
+-- What the work of walks records of a change of the stored priorities.
 use Rattle.std.proofs.Common.{◌≡◌, ℕ, ◌+◌, ◌-◌, ◌<◌, ◌≤◌, ◌==◌, ◌&&◌, Bool, true, false, not, ◌⊎◌, inl, inr, refl, sym, ◌∙◌, ap, subst, arith, List, filter, length, Option, Some, None, IsSome, unwrap_or, if◌then◌else◌}
 use Rattle.std.specs.Option.{option_map_or}
 use Rattle.std.proofs.lemmas.Bool.{and_right, cases_eq, eq-eqb}
@@ -11,7 +11,7 @@ use Rattle.pim_chain.specs.Work.{Work, noted_of, original, has_changed, differs_
 use Rattle.pim_chain.proofs.Members.{filter_members}
 use Rattle.pim_chain.proofs.Walking.{differing_none, differing_over}
 
--- ---- where notes are kept
+-- ---- the notes
 pub keeps-trans :
     (n : ℕ) (f g h : ℕ → ℕ) (a b d : Work)
     → KeepsTelling n f a g b
@@ -20,7 +20,7 @@ pub keeps-trans :
 keeps-trans n f g h a b d one two =
     (two.0 ∙ one.0, λ some t low high. two.1 (one.0 ∙ some) t low high ∙ one.1 some t low high)
 
--- a note of what a task has, which gets another priority then
+-- a note of a task's priority before it changes
 pub keeps-noted :
     (n : ℕ) (f g : ℕ → ℕ) (a b : Work) (x : ℕ)
     → IsNoted a x (f x) b
@@ -35,13 +35,13 @@ keeps-noted n f g a b x noted others = (noted.keeps, λ some t _ _. go some t (c
         ∙ sym (ap (original f a) is)
     go some t (inr ne) = ap (λ o. unwrap_or o (g t)) (noted.others t ne) ∙ ap (unwrap_or (noted_of a t)) (others t ne)
 
--- ---- one visit, which counts
--- which leaves the priorities
+-- ---- one visit, which is counted
+-- it changes no priority
 pub worked-same : (n : ℕ) (f : ℕ → ℕ) (a b : Work) → b ≡ record a { count = a.count + 1 } → VisitedOnce n f a f b
 worked-same n f a b is =
     subst (VisitedOnce n f a f) (sym is) (record { counted = refl; noted = (refl, λ some t low high. refl) })
 
--- which changes the priority of x, and notes that
+-- it changes the priority of x, and notes the one before
 pub worked-noted :
     (n : ℕ) (f g : ℕ → ℕ) (a b d : Work) (x had : ℕ)
     → b ≡ record a { count = a.count + 1 }
@@ -83,7 +83,7 @@ tells-trans n f g h a b d one two = record {
 }
 
 -- ---- which tasks changed
--- among the noted tasks those differ that changed
+-- the noted tasks that differ are those that changed
 pub changed_noted :
     (v u : View) (w : Work) (had words : List ℕ)
     → v ≡ u

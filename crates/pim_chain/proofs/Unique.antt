@@ -10,7 +10,7 @@ use Rattle.pim_queue.proofs.Order.{found, Found, all_both, before_not}
 use Rattle.pim_chain.specs.Views.{Shows}
 use Rattle.pim_chain.proofs.Waiting.{same_waiter, others_behind}
 
--- the waiter is in the list where one of its task is
+-- the waiter is in the list if a waiter of its task is
 head_or_behind :
     (wait : ℕ → Option Wait) (stored : ℕ → ℕ) (m : ℕ) (x y : Waiter) (ys : List Waiter)
     → Shows wait stored m x
@@ -31,7 +31,7 @@ head_or_behind wait stored m x y ys px py behind shows h = go (or_cases _ _ h)
         inr (subst (λ v. precedes y v ≡ true)
         (same_waiter wait stored m it.one x it.holds.1 px (eqb-true it.one.task x.task it.passes)) it.holds.0)
 
--- who stands behind the head isn't of its task
+-- a waiter behind the head isn't of its task
 behind_only :
     (x : Waiter) (xs : List Waiter) (t : ℕ)
     → AllByRecursion (λ u. x.task ≡ u.task → ⊥) xs

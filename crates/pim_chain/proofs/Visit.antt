@@ -40,7 +40,7 @@ ticket_shown wait stored x w ws q at here =
     ap (λ o. option_map_or (λ (v : Waiter). v.ticket) o 0) it.is
     ∙ ap (λ (y : Wait). y.ticket) (same_Some _ _ (sym it.holds.waits ∙ ap wait (eqb-true it.one.task x it.passes) ∙ at))
 
--- its queue afterwards, where the task waits
+-- the queue of the mutex that the task waits for, afterwards
 queue_moved :
     (v : View) (x p : ℕ) (w : Wait)
     → Ready v
@@ -115,7 +115,7 @@ ready_restored v x p known ready = go (wait_of v.state x) refl
     go None at = restored_free v x p at ready
     go (Some w) at = restored_waiting v x p w known at ready
 
--- the task stands in the queue of the mutex that it waits for, with its stored priority and its ticket
+-- the task is in the queue of the mutex that it waits for, with its stored priority and its ticket
 pub stands :
     (v : View) (x : ℕ) (w : Wait)
     → Ready v

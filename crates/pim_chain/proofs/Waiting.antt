@@ -1,4 +1,4 @@
--- The queues: who stands first, and what a change of one task leaves of them.
+-- The queues: who is first, and how a change of one task changes them.
 use Rattle.std.proofs.Common.{◌≡◌, ℕ, eqb, suc, ◌<◌, ◌≤◌, max, true, false, ◌⊎◌, inl, inr, refl, sym, ◌∙◌, ap, subst, arith, le_trans, le_antisymm, Option, Some, None, List, [], ◌∷◌, length, map, unwrap_or}
 use Rattle.std.specs.List.{list_any, AllByRecursion, IsDistinct}
 use Rattle.std.specs.Option.{option_map_or}
@@ -35,7 +35,7 @@ waiter_is w t p k task prio ticket =
     ∙ ap (λ n. record w { task = t; prio = n }) prio
     ∙ ap (λ n. record { task = t; prio = p; ticket = n }) ticket
 
--- ---- the greatest at a mutex stands first
+-- ---- the greatest at a mutex is first
 shown_le :
     (wait : ℕ → Option Wait) (stored : ℕ → ℕ) (m u b : ℕ) (ws : List Waiter)
     → list_any (is_of u) ws ≡ true
@@ -91,7 +91,7 @@ local_by_mutexes S stored t fit =
     stored-le-local_priority S stored u t (low, high) (heir_at S m u h ∙ from_holds (heir_of S m) t p)))))
 
 -- ---- the queues after one task has another wait or another priority
--- a queue that the task stands in neither before nor after
+-- a queue that the task is in neither before nor after
 pub queue_kept :
     (wait wait' : ℕ → Option Wait) (old new : ℕ → ℕ) (x m : ℕ) (ws : List Waiter)
     → ((u : ℕ) → (u ≡ x → ⊥) → wait' u ≡ wait u)
@@ -123,7 +123,7 @@ same_waiter wait stored m a b p q e =
     waiter_is a b.task b.prio b.ticket e (p.prio ∙ ap stored e ∙ sym q.prio)
     (ap (λ (w : Wait). w.ticket) (same_Some _ _ (sym p.waits ∙ ap wait e ∙ q.waits)))
 
--- those behind are of other tasks
+-- the waiters behind the first are of other tasks
 pub others_behind :
     (wait : ℕ → Option Wait) (stored : ℕ → ℕ) (m : ℕ) (v : Waiter) (vs : List Waiter)
     → AllByRecursion (λ u. precedes v u ≡ true) vs

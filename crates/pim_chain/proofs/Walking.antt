@@ -1,4 +1,4 @@
--- The walk: where it stands after so many visits, and what it has changed.
+-- The walk: its task after a number of visits, and what it has changed.
 use Rattle.std.proofs.Common.{◌≡◌, ℕ, zero, suc, ◌+◌, ◌<◌, ◌≤◌, Bool, true, false, not, cond, ◌⊎◌, inl, inr, refl, sym, ◌∙◌, ap, subst, arith, Option, Some, None, eqb, length, add-one, eq-or-lt_of_le}
 use Rattle.std.proofs.lemmas.Bool.{cases_eq, eq-eqb, ne_eqb, eqb-true, not-false, both_ways}
 use Rattle.std.proofs.lemmas.Option.{none-some, same_Some}
@@ -62,11 +62,11 @@ count_more (suc n) p q x low high f t h = go (count_more n p q x low) (eq-or-lt_
 hops_last : (hop : ℕ → Option ℕ) (k x c y : ℕ) → hops hop k x ≡ Some c → hop c ≡ Some y → hops hop (k + 1) x ≡ Some y
 hops_last hop k x c y e f = hops-add hop k 1 x c e ∙ hops_front hop 0 c y f
 
--- whom priority is handed on to is known
+-- an heir is known
 heir_known : (S : State) → WaitsFit S → (t u : ℕ) → heir S t ≡ Some u → IsTask S u
 heir_known S fit t u e = let by = through S t u e in fit.owners by.wait.mutex u (heir_in-owner (protocol_of S by.wait.mutex) (owner_of S by.wait.mutex) u by.heir)
 
--- on the chain of a known task all are known
+-- all tasks on the chain of a known task are known
 known_on : (S : State) → WaitsFit S → (k x c : ℕ) → IsTask S x → hops (heir S) k x ≡ Some c → IsTask S c
 known_on S fit zero x c known e = let same : x ≡ c = same_Some x c e in subst (IsTask S) same known
 known_on S fit (suc k) x c known e =
@@ -94,7 +94,7 @@ never_back S ok fit c known back =
     let few : suc (suc back.count) ≤ length S.base = short S ok fit (suc back.count) c c known back.leads in
     none_inherits_back S ok c back.count (omega (arith, few)) back.leads
 
--- one visit more than there are changes is allowed at the end alone
+-- one more visit than changes is allowed only at the end
 abbrev pub slack : Option ℕ → ℕ
 slack None = 1
 slack (Some u) = 0
@@ -220,7 +220,7 @@ module _ (v w z : View) (x k c : ℕ) (next : Option ℕ) (ready : Ready v) (kno
     back = back_more;
   }
 
--- ---- where nobody is left
+-- ---- when no task is left
 pub settled_effective :
     (S : State) (stored : ℕ → ℕ)
     → IsSound S
@@ -267,7 +267,7 @@ differing_same n f f' g g' h =
     (λ u low high. let both : (f u ≡ f' u) × (g u ≡ g' u) = h u low high in ap (λ a. not (eqb a (g u))) both.0 ∙ ap
     (λ b. not (eqb (f' u) b)) both.1)
 
--- nobody's priority differs
+-- no task's priority differs
 pub differing_none : (n : ℕ) (f g : ℕ → ℕ) → ((u : ℕ) → 1 ≤ u → u ≤ n → g u ≡ f u) → differing n f g ≡ 0
 differing_none n f g same =
     count_same n (λ u. not (eqb (f u) (g u))) (λ _. false) (λ u low high. ap not (eq-eqb (f u) (g u) (sym (same u low high))))

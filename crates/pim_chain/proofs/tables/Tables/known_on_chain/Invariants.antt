@@ -4,7 +4,7 @@ use Rattle.pim_base.specs.State.{IsTask}
 use Rattle.pim_base.specs.Chains.{chain, blocker, waits_chain}
 use Rattle.pim_chain.proofs.tables.Tables.known_on_chain.Given as goal
 
--- what is left of the chain, which begins with a known task, has the task where the whole chain has it
+-- the rest of the chain begins with a known task, and has the task exactly if the whole chain has it
 abbrev pub invariant-loop-hop : goal.invariant-loop-hop
 invariant-loop-hop l =
     (contains (waits_chain l.fn.self.state l.fn.from) l.task

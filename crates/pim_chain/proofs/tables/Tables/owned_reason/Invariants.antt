@@ -4,7 +4,7 @@ use Rattle.pim_base.specs.State.{IsMutex, owned, owner_of}
 use Rattle.pim_chain.specs.Owned.{owned_reason}
 use Rattle.pim_chain.proofs.tables.Tables.owned_reason.Given as goal
 
--- with the lender so far, which is known, the mutexes that are left tell what all of them do, and the task owns each of them
+-- the lender so far is known, the mutexes that are left and it give the same reason as all, and the task owns each
 abbrev pub invariant-loop-mutex : goal.invariant-loop-mutex
 invariant-loop-mutex l = record {
   tells :
