@@ -42,7 +42,7 @@ first_passes p a (suc n) m xs h = go (p a) refl h (first_passes p (a + 1) n m xs
         let high = rest.high in
         record { low = omega (arith, low); high = omega (arith, high); passes = rest.passes }
 
--- where the first number alone passes no more, the others are left
+-- if only the first number passes no more, the others are left
 pub filter-rest :
     (p q : ℕ → Bool) (a n m : ℕ) (xs : List ℕ)
     → filter p (range_with_len a n) ≡ m ∷ xs
@@ -71,7 +71,7 @@ filter-rest p q a (suc n) m xs h gone same = go (p a) refl h (λ k. filter-rest 
         at (inl is) = ap q (sym is) ∙ gone
         at (inr ne) = same a ne ∙ e
 
--- where nothing is left, every number fails
+-- if nothing is left, every number fails
 pub filter-none : (p : ℕ → Bool) (a n k : ℕ) → filter p (range_with_len a n) ≡ [] → a ≤ k → k < a + n → p k ≡ false
 filter-none p a zero k h low high = absurd (omega (arith, low, high))
 filter-none p a (suc n) k h low high = go (p a) refl h (filter-none p (a + 1) n k) (cases_eq a k)
@@ -87,7 +87,7 @@ filter-none p a (suc n) k h low high = go (p a) refl h (filter-none p (a + 1) n 
     go false e h later (inl is) = ap p (sym is) ∙ e
     go false e h later (inr ne) = later h (omega (arith, low, ne)) (omega (arith, high))
 
--- where the one test holds the other does too, as many pass at least
+-- if the second test holds whenever the first does, at least as many pass it
 pub length-le-count :
     (p q : ℕ → Bool) (n : ℕ)
     → ((k : ℕ) → 1 ≤ k → k ≤ n → p k ≡ true → q k ≡ true)
@@ -98,7 +98,7 @@ length-le-count p q n over =
     let same = count-length n p in
     omega (arith, less, none, same)
 
--- where one passes, some do
+-- if one passes, the count isn't 0
 pub count_one : (n : ℕ) (p : ℕ → Bool) (x : ℕ) → 1 ≤ x → x ≤ n → p x ≡ true → 1 ≤ count n p
 count_one n p x low high h = subst (λ k. 1 ≤ k) (sym (count-length n p)) (go (filter p (numbers n)) refl)
   where

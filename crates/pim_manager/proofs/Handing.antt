@@ -36,7 +36,7 @@ has_left v x t waits is = go (wait_of v.state t) refl
     go None e = absurd (waits e)
     go (Some w) e = record { state = ap (λ (y : View). y.state) (is w e); stored = ap (λ (y : View). y.stored) (is w e) }
 
--- where no free mutex has waiters, who waits is blocked
+-- if no free mutex has waiters, a waiting task is blocked
 pub is_waiting-blocker : (S : State) (t : ℕ) → IsSteady S → is_waiting S t ≡ is_some (blocker S t)
 is_waiting-blocker S t steady = go (wait_of S t) refl
   where

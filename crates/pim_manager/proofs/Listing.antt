@@ -34,7 +34,7 @@ bases_after S step =
       set_ceiling = λ T m p same _. same;
     }) S step refl
 
--- where nothing was noted before, the tasks that differ from the notes are those that changed
+-- if nothing was noted before, the tasks that differ from the notes are those that changed
 pub noted_changes_of_step :
     (S T : State) (a b : Work)
     → length T.base ≡ length S.base
@@ -49,7 +49,7 @@ noted_changes_of_step S T a b bases work kept none =
     (λ t low high. ap (λ p. not (eqb p (effective_priority T t)))
     (work.noted.1 kept t low (omega (arith, high)) ∙ ap (λ o. unwrap_or o (effective_priority S t)) (none t)))
 
--- where nothing is noted, nothing differs
+-- if nothing is noted, nothing differs
 pub unnoted_changes : (S : State) (w : Work) → ((t : ℕ) → noted_of w t ≡ None) → noted_changes S w ≡ []
 unnoted_changes S w none =
     filter_none (has_changed (effective_priority S) w) 1 (length S.base)
@@ -69,7 +69,7 @@ noted_changes_shown v S w settled shown =
     (settled_effective v.state (stored_at v) settled.calm.ready.sound settled.calm.settled t (low, omega (arith, high))))
     ∙ ap (λ U. noted_changes U w) shown
 
--- ---- the list, and those who are still to come
+-- ---- the list, and the tasks that are still to come
 pub record Listing (S : State) (all left : List ℕ) (listed : List ChangedTask) : Type 0 where
   pub list : listed ++ map (changed_task S) left ≡ map (changed_task S) all
   pub known : AllByRecursion (IsTask S) left

@@ -72,7 +72,7 @@ first_owned S m a ms is =
     let high = first.high in
     record { mutex = (low, omega (arith, high)); owner = from_holds (owner_of S m) a first.passes }
 
--- ---- all of them: so many are handed over, and those that are left are those that the task still owns
+-- ---- all of them: how many are handed over, and the mutexes that the task still owns
 pub record Releasing (S T : State) (a : ℕ) (left : List ℕ) (released : ℕ) (v w : Work) : Type 0 where
   pub owns : left ≡ owned T a
   pub state : fold hand_over T left ≡ fold hand_over S (owned S a)
@@ -131,7 +131,7 @@ releasing_next S T U a m released left rest v w x before next is work most = rec
   most = (let two = before.most in omega (arith, two, most));
 }
 
--- what stands once the task owns nothing
+-- what holds after the task owns nothing
 pub record Released (S T : State) (a released : ℕ) (w : Work) : Type 0 where
   pub state : T ≡ fold hand_over S (owned S a)
   pub counted : released ≡ length (owned S a)

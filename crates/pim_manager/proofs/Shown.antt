@@ -22,7 +22,7 @@ use Rattle.pim_manager.specs.Known.{of_task, of_mutex}
 use Rattle.pim_manager.specs.Settled.{IsSettled}
 use Rattle.pim_manager.proofs.Works.{steady_shown}
 
--- an item by its number, where there is one
+-- an item by its number, if there is one
 at_number :
     {X : Type 0} (xs : List X) (n k : ℕ) (d : X)
     → length xs ≡ n
@@ -42,7 +42,7 @@ at_number xs n (suc k) d same =
         here ∙ ap (λ o. Some (unwrap_or o d)) (sym here)
         ∙ ap (λ b. cond b None (Some (unwrap_or (nth xs (suc k)) d))) (sym (le-ltb n (suc k) le))
 
--- where two values agree for known tasks, the same is shown
+-- if two values agree for known tasks, the same is shown
 same_shown : {X : Type 0} (S : State) (t : ℕ) (x y : X) → (IsTask S t → x ≡ y) → of_task S t x ≡ of_task S t y
 same_shown S t x y same = go (unknown_task S t) refl
   where

@@ -11,7 +11,7 @@ use Rattle.pim_chain.proofs.Walking.{settled_effective, differing_same}
 use Rattle.pim_chain.proofs.Told.{tells-refl, tells-same, tells-trans}
 use Rattle.pim_manager.specs.Settled.{IsSettled, Worked}
 
--- where nothing changes, no work is needed
+-- if nothing changes, no work is needed
 pub worked_none : (S : State) (a : Work) → Worked S a S a
 worked_none S a = tells-refl (length S.base) (effective_priority S) a
 
@@ -30,7 +30,7 @@ both_effective v x before after same t low high = (
   settled_effective x.state (stored_at x) after.ready.sound after.settled t (low, subst (λ n. t ≤ n) (sym same) high),
 )
 
--- what is told of priorities is told of equal ones
+-- what the work records of priorities holds of equal ones
 told_alike :
     (n : ℕ) (f f' g g' : ℕ → ℕ) (a b : Work)
     → ((t : ℕ) → 1 ≤ t → t ≤ n → (f t ≡ f' t) × (g t ≡ g' t))

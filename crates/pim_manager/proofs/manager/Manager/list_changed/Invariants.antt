@@ -4,7 +4,7 @@ use Rattle.pim_base.specs.declared.limits.TheConstants.{MAX_TASKS}
 use Rattle.pim_manager.specs.Changed.{noted_changes}
 use Rattle.pim_manager.proofs.Listing.{Listing}
 
--- those that differ are listed, or still to come
+-- the tasks that differ are listed, or still to come
 abbrev pub invariant-loop-task : goal.invariant-loop-task
 invariant-loop-task l = record {
   listing : Listing l.self (noted_changes l.self l.visits) l.task-iterator l.tasks.items;

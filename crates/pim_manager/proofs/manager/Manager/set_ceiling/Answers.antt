@@ -26,7 +26,7 @@ returns-in-Some-clause-work c = (lent c).work
 pub returns-in-Some-clause-most : goal.returns-in-Some-clause-most
 returns-in-Some-clause-most c = let most = c.settle_from.ensures.at_most in omega (arith, most, (lent c).count)
 
--- a free mutex lends nothing, whatever its ceiling
+-- a free mutex gives no priority, whatever its ceiling
 pub returns-in_default-clause-work : goal.returns-in_default-clause-work
 returns-in_default-clause-work c =
     let S : State = c.args.self.now in
