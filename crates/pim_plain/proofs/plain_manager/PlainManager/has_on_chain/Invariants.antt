@@ -3,7 +3,7 @@ use Rattle.pim_base.specs.Lists.{contains}
 use Rattle.pim_base.specs.Chains.{chain}
 use Rattle.pim_plain.proofs.plain_manager.PlainManager.has_on_chain.Given as goal
 
--- what is left of the chain has the task where the whole chain has it
+-- the rest of the chain has the task exactly if the whole chain has it
 abbrev pub invariant-loop-hop : goal.invariant-loop-hop
 invariant-loop-hop g l =
     (h : ℕ → Option ℕ)
