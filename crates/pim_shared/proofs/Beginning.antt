@@ -17,7 +17,7 @@ use Rattle.pim_shared.proofs.Entering.{true_set}
 newcomer_true : (start : State) (published : List Entry) → IsTrueOf start published newcomer
 newcomer_true start published = record { start_is = tt; seen = (published, refl) }
 
--- where one comes that knows what is true, what each one knows is true
+-- if a newcomer knows only what is true, what each one knows is true
 true_more :
     (start : State) (published : List Entry) (all : List Known) (k : Known)
     → ((j : ℕ) (l : Known) → get_elem? all j ≡ some l → IsTrueOf start published l)
@@ -29,7 +29,7 @@ true_more start published all k each here j l e =
     let P : Known → Type 0 = λ z. IsTrueOf start published z in
     ⊎_elim (λ (t : get_elem? all j ≡ some l). each j l t) (λ (t : k ≡ l). subst P t here) (at_snoc all k l j e)
 
--- the rule still holds where what each one knows is true
+-- the rule still holds if what each one knows is true
 keeps_with :
     {v : Version} {all : List Known} (all' : List Known) (keeps : Keeps v all)
     → ((j : ℕ) (l : Known) → get_elem? all' j ≡ some l → IsTrueOf keeps.start keeps.published l)

@@ -1,4 +1,4 @@
--- A looker's entering keeps the rule, and what the looker knows then.
+-- A looker that enters keeps the rule, and what the looker knows then.
 use Rattle.std.proofs.Common.{◌≡◌, ◌≢◌, ◌<◌, ◌≤◌, ℕ, List, [], ◌∷◌, ◌++◌, length, Option, Some, None, refl, sym, ap, ◌∙◌, subst, ⊎_elim, set, arith, length-append}
 use Rattle.std.specs.Prelude.{IsSome, IfSome, unwrap_or}
 use mathlib.Core.Option.{some}
@@ -28,7 +28,7 @@ same_start : (o : Option State) (S T : State) → IfSome o (λ U. U ≡ T) → o
 same_start (Some U) S T h e = let same : U ≡ S = cc in sym same ∙ h
 same_start None S T h e = absurd cc
 
--- where one comes to know something else that is true, what each one knows is true
+-- if one learns something else that is true, what each one knows is true
 pub true_set :
     (start : State) (published : List Entry) (all : List Known) (seat : ℕ) (k : Known)
     → ((j : ℕ) (l : Known) → get_elem? all j ≡ some l → IsTrueOf start published l)
@@ -69,7 +69,7 @@ has_seen_more k l m v w knows e same now =
     let P : Known → Type 0 = λ z. HasSeenMore k z w.steps in
     subst P (sym same) (record { start = e.0; more = e.1; counted = ap (λ z. z.steps) now ∙ (entered k l v knows e).steps })
 
--- what a look answers
+-- what a read returns
 pub shows_after :
     (k l m : Known) (v w : Version) (t : ℕ) (answer : Option Seen)
     → KnowsStart k
@@ -95,7 +95,7 @@ last_of-some [] e h = absurd (cc (h))
 last_of-some (f ∷ []) e h = ([], cc (h))
 last_of-some (f ∷ g ∷ es) e h = let r = last_of-some (g ∷ es) e h in (f ∷ r.0, ap (λ l. f ∷ l) r.1)
 
--- the reply of the last entry is the model's after those before
+-- the reply of the last entry is the model's after the entries before it
 run_last :
     (S : State) (before : List Entry) (e : Entry) (end : State)
     → IsRun S (before ++ e ∷ []) end

@@ -1,4 +1,4 @@
--- The scripts that were made, as far as they were looked at.
+-- The scripts that were made, as far as they were compared.
 use Rattle.std.proofs.Common.{◌≡◌, ◌<◌, ◌≤◌, ◌∷◌, ◌++◌, ℕ, zero, suc, [], List, Some, Vec, All, length, get_or, slice_get, sym, ap, ◌∙◌, subst, arith, ◌+◌, add-one, below_more}
 use Rattle.std.proofs.lemmas.List.{length-map}
 use Rattle.std.proofs.lemmas.Option.{same_Some, slice_get_within}

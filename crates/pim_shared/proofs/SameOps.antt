@@ -1,4 +1,4 @@
--- What `==` and `!=` tell of operations.
+-- What `==` and `!=` say of operations.
 use Rattle.std.proofs.Common.{◌≡◌, ◌↔◌, Bool, true, false, not, Option, Some, None, refl, ap, rules}
 use Rattle.std.specs.Bool.{Decides}
 use Rattle.std.specs.Option.{option_eq}
@@ -12,7 +12,7 @@ not_is_false : (b r : Bool) → r ≡ not b → (r ≡ false) ↔ (b ≡ true)
 not_is_false true r is = (λ h. refl, λ h. is)
 not_is_false false r is = (λ h. cc, λ h. cc)
 
--- an option isn't unlike this operation exactly where it is this operation
+-- `!=` is false of an option and this operation exactly if the option is this operation
 pub alike : (due : Option Op) (x : Op) (r : Bool) → r ≡ not (option_eq op.eq-value.it due (Some x)) → (r ≡ false) ↔ (due ≡ Some x)
 alike None x r is = (λ h. cc, λ h. cc)
 alike (Some y) x r is =

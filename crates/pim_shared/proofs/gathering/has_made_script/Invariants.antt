@@ -2,7 +2,7 @@ use Rattle.std.proofs.Common.{◌≤◌, ◌↔◌}
 use Rattle.pim_shared.proofs.Asked.{GoesOn}
 use Rattle.pim_shared.proofs.gathering.has_made_script.Given as goal
 
--- the script was made exactly where what is left of the entries asks for what is left of it
+-- the script was made exactly if the rest of the entries asks for the rest of it
 abbrev pub invariant-loop-entry : goal.invariant-loop-entry
 invariant-loop-entry l = record {
   few : l.done ≤ l.entry-index;

@@ -6,7 +6,7 @@ use Rattle.pim_shared.specs.Publishers.{Published}
 use Rattle.pim_shared.specs.Lookers.{HaveSeenNothing}
 use Rattle.pim_shared.proofs.shared.lookers_of.Goals as goal
 
--- one looker more
+-- one more looker
 one_more :
     (S T : State) (xs ys : List History) (h : History)
     → ys ≡ xs ++ h ∷ []

@@ -2,7 +2,7 @@ use Rattle.std.proofs.Common.{◌≡◌, drop, if◌then◌else◌}
 use Rattle.pim_shared.specs.Outcomes.{outcome_of, or_closed}
 use Rattle.pim_shared.proofs.workers.outcome_of.Given as goal
 
--- what the answers come to is what the rest comes to, where no answer before was Closed
+-- the outcome is that of the rest, with Closed for Ok if an answer before was Closed
 abbrev pub invariant-loop-answer : goal.invariant-loop-answer
 invariant-loop-answer l =
     outcome_of l.answers
