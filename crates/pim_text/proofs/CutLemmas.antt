@@ -11,6 +11,6 @@ pub split_at_place :
     → slice_split p xs ≡ take i xs ∷ slice_split p (drop (i + 1) xs)
 split_at_place p xs i e = grind (arith, slice_split_first)
 
--- nowhere, where none passes
+-- no cut, if no byte passes
 pub split_nowhere : (p : ℕ → Bool) (xs : List ℕ) → position p xs ≡ None → slice_split p xs ≡ xs ∷ []
 split_nowhere p xs e = grind (arith, slice_split_none, fails_before_first)

@@ -1,4 +1,4 @@
--- The first bad line, where the first lines of a text are a text again.
+-- The first bad line, if the first lines of a text are a text again.
 use Rattle.std.proofs.Common.{ℕ, ◌-◌, ◌<◌, inl, inr, List, take, drop, length, arith, sym, ap, subst}
 use Rattle.std.proofs.lemmas.List.{take-append-drop, take-take, length-take}
 use Rattle.std.proofs.lemmas.Bool.{cases_order}

@@ -36,7 +36,7 @@ begins_word bytes w (x ∷ ws) e =
     let joined = sym (join_with_byte-slice_split SPACE bytes) ∙ ap (join_with_byte SPACE) e in
     (SPACE ∷ join_with_byte SPACE (x ∷ ws), joined, λ some. refl)
 
--- where no space came, it is the first word's bytes that came
+-- if no space came, the bytes that came are the first word's
 pub in_first_word :
     (bytes w : List ℕ) (ws : List (List ℕ)) (i : ℕ)
     → words bytes ≡ w ∷ ws
@@ -76,17 +76,17 @@ pub no_space_in_digits :
     → NoSpace bytes i
 no_space_in_digits bytes i digits k h = digit_no_space (get_or bytes k 0) (digits k h)
 
--- there are bytes where the first is a digit
+-- if the first byte is a digit, there are bytes
 pub not_empty : (bytes : List ℕ) → 49 ≤ get_or bytes 0 0 → 0 < length bytes
 not_empty [] first = absurd (omega arith)
 not_empty (b ∷ bytes) first = omega arith
 
--- a space isn't the first byte where that is a digit
+-- if the first byte is a digit, it isn't a space
 pub not_first : (bytes : List ℕ) (i : ℕ) → 49 ≤ get_or bytes 0 0 → get_or bytes i 0 ≡ SPACE → 0 < i
 not_first bytes zero first e = let same : get_or bytes 0 0 ≡ 32 = e in absurd (omega arith)
 not_first bytes (suc i) first e = omega arith
 
--- ---- where the first word is a number
+-- ---- when the first word is a number
 
 module _ (bytes : List ℕ) (n : ℕ) (ws : List (List ℕ)) (is : IsNumber n) (e : words bytes ≡ decimal n ∷ ws) where
   -- it begins with a digit, and not with 0

@@ -142,7 +142,7 @@ version-with_line t (lines.Task n p) = refl
 version-with_line t (lines.Mutex n p) = refl
 version-with_line t (lines.Step s) = refl
 
--- the lines of a text but the last, where that isn't the only one, and the last
+-- the last line of a text that has others, and the lines before it
 record Shrunk (kind : TextKind) (ls : List (List ℕ)) (bytes : List ℕ) : Type 0 where
   before : Trace
   line : Line
@@ -201,7 +201,7 @@ front_is kind ls (l ∷ rest) some valid =
     (subst (IsOf kind) (sym (append_assoc ls (l ∷ []) rest)) valid) in
     let shrunk = shrinks kind ls l some more in (shrunk.before, shrunk.spells)
 
--- where no line that may follow is spelled so, there is no valid text
+-- if no line that may follow is spelled so, there is no valid text
 stops :
     (kind : TextKind) (ls : List (List ℕ)) (t : Trace) (bytes : List ℕ)
     → Spells ls t

@@ -1,4 +1,4 @@
--- The lines of the bytes, one after another, and the first that can't stand.
+-- The lines of the bytes, one after another, and the first invalid one.
 use Rattle.std.proofs.lemmas.Grind.{common_steps}
 use Rattle.std.proofs.Common.{◌≡◌, ℕ, zero, suc, ◌+◌, ◌-◌, ◌<◌, ◌≤◌, List, [], ◌∷◌, ◌++◌, arith, refl, ap}
 use Rattle.std.proofs.Common.{sym, ◌∙◌, subst, length, length-append, append_assoc, take, Bool, true, false}
@@ -63,7 +63,7 @@ rest_shorter bytes o d none some short = search rules
 
 -- ---- the first bad line
 
--- the lines before `rest`, of which there are `count`, are those of the text so far
+-- the `count` lines before `rest` are those of the text so far
 pub record Halfway (kind : TextKind) (all rest : List (List ℕ)) (t : Trace) (count : ℕ) : Type 0 where
   pub done : List (List ℕ)
   pub whole : all ≡ done ++ rest

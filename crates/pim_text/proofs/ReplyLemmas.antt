@@ -8,7 +8,7 @@ use Rattle.pim_text.proofs.WordLemmas.{some_word, only_word}
 
 -- ---- replies of a word and its argument
 
--- a word with an argument, where none of these is spelled
+-- a word with an argument, if none of these is spelled
 no_argument :
     (w argument : List ℕ) (rest : List (List ℕ))
     → rest ≡ words argument

@@ -75,7 +75,7 @@ bytes_read bytes ws None same reads = λ line is e. reads line is (sym same ∙ 
 bytes_read bytes ws (Some l) same reads =
     (reads.0, sym (join_with_byte-slice_split SPACE bytes) ∙ ap (join_with_byte SPACE) (same ∙ reads.1))
 
--- ---- no two lines are spelled alike: their words tell them again
+-- ---- no two lines are spelled alike: their words determine them
 
 pub value-decimal : (n : ℕ) → n < 2 ^ 16 → digits_value 10 (decimal n) ≡ n
 value-decimal n small = digits_value-decimal numerals n (omega arith)
@@ -119,7 +119,7 @@ op_in-words : (op : Op) (ws : List (List ℕ)) → IsOp op → op_in (op_words o
 unfolding op_in number_at rest_of
 op_in-words op ws is = grind (arith, value-decimal)
 
--- the words behind those of an operation
+-- the words after those of an operation
 behind : List (List ℕ) → List (List ℕ)
 behind [] = []
 behind (w ∷ ws) =

@@ -1,4 +1,4 @@
--- The lines of a text tell it, and how they grow with it.
+-- The lines of a text determine it, and grow with it.
 use Rattle.std.proofs.lemmas.Grind.{common_steps}
 use Rattle.std.proofs.Common.{◌≡◌, ℕ, ◌+◌, ◌≤◌, List, [], ◌∷◌, ◌++◌, arith, refl, ap, ap₂}
 use Rattle.std.proofs.Common.{sym, ◌∙◌, length, map, append_assoc, length-append}
@@ -16,7 +16,7 @@ use Rattle.pim_base.specs.Texts.{Trace, declared, task_lines, mutex_lines, IsWit
 use Rattle.pim_text.specs.Reading.{empty_of, with_line, MayFollow}
 use Rattle.pim_text.proofs.SpellingLemmas.{spelled_same, value-decimal}
 
--- ---- the lines of a text tell it
+-- ---- the lines of a text determine it
 
 -- the text with this line in front of those of its part
 abbrev onto : Line → Trace → Trace
@@ -24,7 +24,7 @@ onto (lines.Task n p) t = record t { bases = p ∷ t.bases }
 onto (lines.Mutex n p) t = record t { protocols = p ∷ t.protocols }
 onto (lines.Step s) t = record t { steps = s ∷ t.steps }
 
--- the text of this version whose lines these are, in whatever order they stand
+-- the text of this version that has these lines, in whatever order they are
 abbrev collect : ℕ → List Line → Trace
 collect v [] = empty_of v
 collect v (l ∷ ls) = onto l (collect v ls)
@@ -66,7 +66,7 @@ map-spelled_same (l ∷ ls) (m ∷ ms) hl hm e =
     let a : l ≡ m = spelled_same l m hl.0 hm.0 (cc) in
     let b : ls ≡ ms = map-spelled_same ls ms hl.1 hm.1 (cc) in cc
 
--- the first line tells the version
+-- the first line determines the version
 version_same :
     (t u : Trace)
     → IsWithinLimits t

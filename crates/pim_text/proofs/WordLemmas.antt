@@ -25,7 +25,7 @@ some_word bytes e =
     let none : length (words bytes) ≡ 0 = ap length e in
     omega (arith, size, none)
 
--- what stands behind the first word
+-- what comes after the first word
 pub cut_some :
     (ws : List (List ℕ)) (first : List ℕ) (o : Option (Bor (List ℕ))) (rest : Bor (List ℕ))
     → ws ≡ first ∷ pieces SPACE o
@@ -33,7 +33,7 @@ pub cut_some :
     → ws ≡ first ∷ words rest.now
 cut_some ws first o rest cut some = cut ∙ ap (λ o. first ∷ pieces SPACE o) some
 
--- nothing stands behind it
+-- nothing comes after it
 pub cut_none :
     (ws : List (List ℕ)) (first : List ℕ) (o : Option (Bor (List ℕ)))
     → ws ≡ first ∷ pieces SPACE o

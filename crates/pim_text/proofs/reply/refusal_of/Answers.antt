@@ -8,7 +8,7 @@ use Rattle.pim_base.specs.declared.steps.TheConstants.Refusal.{ALL}
 use Rattle.pim_base.specs.Spelling.{refusal_word}
 use Rattle.pim_text.proofs.reply.refusal_of.Goals as goal
 
--- a name that none of the list has, no refusal has
+-- if no refusal of the list has the name, no refusal has it
 named :
     (name : List ℕ) (Found : Refusal → Type 0) (r : Option Refusal)
     → ((r : Refusal) → Found r → name ≡ refusal_word r)
