@@ -11,7 +11,7 @@ one_more : (b : Bool) (n : ℕ) (ns ms : List ℕ) → (b && list_all is_priorit
 one_more true n ns ms h same = ap (λ ws. n ∷ ws) (same h)
 one_more false n ns ms h same = absurd (false≢true h)
 
--- where each is a priority, all are meant
+-- if each number is a priority, all are meant
 pub priorities_meant_of_priorities : (ns : List ℕ) → list_all is_priority ns ≡ true → priorities_meant ns ≡ ns
 priorities_meant_of_priorities [] h = refl
 priorities_meant_of_priorities (n ∷ ns) h = one_more (is_priority n) n ns (priorities_meant ns) h (priorities_meant_of_priorities ns)

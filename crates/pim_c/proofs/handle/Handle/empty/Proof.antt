@@ -1,4 +1,4 @@
--- `empty` puts a null pointer beside the allocator.
+-- `empty` stores a null pointer with the allocator.
 use Rattle.std.proofs.Common.{◌≡◌, List, [], ◌∷◌, ◌++◌, refl, sym, subst}
 use mir.Val.{Val}
 use base.Logic.{SProp, ent, emp, id⊢}

@@ -1,4 +1,4 @@
--- `into_loose` tells a null pointer from one that leads to a manager.
+-- `into_loose` distinguishes a null pointer from a pointer to a manager.
 use Rattle.std.proofs.Common.{◌≡◌, List, [], ◌∷◌, ◌++◌, refl, sym, ap, ◌∙◌, subst, lit<}
 use mir.Val.{Val, vptr, vcons, vnil}
 use base.Logic.{SProp, ent, emp, id⊢}

@@ -1,4 +1,4 @@
--- `of` calls `Box::into_raw_with_allocator`, and puts the pointer beside the allocator.
+-- `of` calls `Box::into_raw_with_allocator`, and stores the pointer with the allocator.
 use Rattle.std.proofs.Common.{◌≡◌, List, [], ◌∷◌, ◌++◌, refl, sym, ap, ◌∙◌, subst}
 use mir.Syntax.{a_type, dcons, dnil}
 use mir.Val.{Val, vptr, vstruct, of_list}
