@@ -204,7 +204,7 @@ fn ceiling_is_set_by_the_owner_or_of_a_free_mutex(rt: HostRuntime) -> Result<(),
 }
 
 #[test]
-fn lowered_ceiling_leaves_what_a_waiter_lends(rt: HostRuntime) -> Result<(), Fail> {
+fn lowered_ceiling_leaves_what_a_waiter_donates(rt: HostRuntime) -> Result<(), Fail> {
     const KINDS: &[Kind] = &[Protect(70), INHERIT];
     const ROWS: &[Row] = &[
         Row(Lock(1, 1), Granted, 1, &[Ceiling(70, 1), Base(60)]),

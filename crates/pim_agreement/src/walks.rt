@@ -87,7 +87,7 @@ fn new_base_of_the_last_waiter_lowers_the_whole_chain(rt: HostRuntime) -> Result
 }
 
 #[test]
-fn lowered_owner_keeps_what_another_waiter_lends(rt: HostRuntime) -> Result<(), Fail> {
+fn lowered_owner_keeps_what_another_waiter_donates(rt: HostRuntime) -> Result<(), Fail> {
     const ONE: Seen = Base(10);
     const TWO: Seen = Base(20);
     const THREE: Seen = Base(30);
