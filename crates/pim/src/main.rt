@@ -35,7 +35,7 @@ fn main(rt: HostRuntime) -> ExitCode {
             // If not even this line can be written, the status reports the fault.
             let _unwritten = match error.kind() {
                 io::ErrorKind::OutOfMemory => eprintln!(&rt; "pim: {}", Fault::Memory),
-                io::ErrorKind::InvalidData => eprintln!(&rt; "pim: a word is not UTF-8"),
+                io::ErrorKind::InvalidData => eprintln!(&rt; "pim: an argument is not UTF-8"),
                 _ => eprintln!(&rt; "pim: {error}"),
             };
             ExitCode::from(FAULT)
