@@ -11,18 +11,34 @@ static const char *const HOWS[] = { "execve", "execv", "execvp", "execvpe", "exe
                                     "execlp", "execle", "fexecve", "execveat" };
 extern char **environ;
 
+/* Returns the environment with one variable more, which those calls pass on that are given one. */
+static char **longer_environment(void) {
+    size_t count = 0;
+    while (environ[count]) count++;
+    char **longer = calloc(count + 2, sizeof *longer);
+    if (!longer) exit(1);
+    memcpy(longer, environ, count * sizeof *longer);
+    longer[count] = (char *)"SEEN=yes";
+    return longer;
+}
+
+static bool takes_environment(const char *how) {
+    return how[strlen(how) - 1] == 'e' || !strcmp(how, "execveat");
+}
+
 static int run(const char *how, const char *path) {
     char *arguments[] = { (char *)"executes", (char *)"--seen", (char *)how, NULL };
-    if (!strcmp(how, "execve")) return execve(path, arguments, environ);
+    char **environment = longer_environment();
+    if (!strcmp(how, "execve")) return execve(path, arguments, environment);
     if (!strcmp(how, "execv")) return execv(path, arguments);
     if (!strcmp(how, "execvp")) return execvp(path, arguments);
-    if (!strcmp(how, "execvpe")) return execvpe(path, arguments, environ);
+    if (!strcmp(how, "execvpe")) return execvpe(path, arguments, environment);
     if (!strcmp(how, "execl")) return execl(path, "executes", "--seen", how, (char *)NULL);
     if (!strcmp(how, "execlp")) return execlp(path, "executes", "--seen", how, (char *)NULL);
     if (!strcmp(how, "execle"))
-        return execle(path, "executes", "--seen", how, (char *)NULL, environ);
-    if (!strcmp(how, "fexecve")) return fexecve(open(path, O_RDONLY), arguments, environ);
-    return execveat(AT_FDCWD, path, arguments, environ, 0);
+        return execle(path, "executes", "--seen", how, (char *)NULL, environment);
+    if (!strcmp(how, "fexecve")) return fexecve(open(path, O_RDONLY), arguments, environment);
+    return execveat(AT_FDCWD, path, arguments, environment, 0);
 }
 
 static void try(const char *how, const char *path) {
@@ -48,7 +64,8 @@ int main(int count, char **arguments) {
     if (count == 3 && !strcmp(arguments[1], "--seen")) {
         lock(&mutex);
         unlock(&mutex);
-        return strcmp(arguments[0], "executes") ? 1 : 5;
+        bool is_wanted = (getenv("SEEN") != NULL) == takes_environment(arguments[2]);
+        return is_wanted && strcmp(arguments[0], "executes") == 0 ? 5 : 1;
     }
     if (count > 1) return run(arguments[1], count > 2 ? arguments[2] : path);
     for (size_t i = 0; i < sizeof HOWS / sizeof *HOWS; i++) try(HOWS[i], path);
