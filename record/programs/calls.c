@@ -70,6 +70,8 @@ static void inits(void) {
     must(pthread_mutex_init(&mutex, &attributes), "init of a shared and robust one");
     lock(&mutex);
     unlock(&mutex);
+    must(pthread_mutexattr_setprotocol(&attributes, PTHREAD_PRIO_PROTECT), "setprotocol");
+    expect(pthread_mutex_init(&mutex, &attributes), ENOTSUP, "init of what there isn't");
     keeps_errno("init and destroy");
 }
 

@@ -18,7 +18,9 @@ static void *owner(void *unused) {
 static void *waiter(void *unused) {
     while (sem_wait(&is_owned)) continue;
     sem_post(&is_coming);
+    errno = 77; /* which its first recorded call doesn't change */
     lock(&mutex);
+    expect(errno, 77, "errno after the first lock");
     unlock(&mutex);
     return unused;
 }
