@@ -381,11 +381,11 @@ recorded_trace_law t es limits run few =
       belongs = with_steps (BelongsTo t.version) limits.belongs (all_each (IsLineOf t.version) (BelongsTo t.version) (λ l h. h.1) _ lines);
     }
   where
-    most_tasks : MAX_TASKS ≡ 256
-    most_tasks = refl
+    most_tasks : MAX_TASKS < 2 ^ 16
+    most_tasks = omega arith
 
-    most_mutexes : MAX_MUTEXES ≡ 256
-    most_mutexes = refl
+    most_mutexes : MAX_MUTEXES < 2 ^ 16
+    most_mutexes = omega arith
 
     -- the declared mutexes are of protocols that the version has, and an unknown one is NONE
     protocols_of : HasProtocolsOf t.version (start t.bases t.protocols 1)
