@@ -38,18 +38,36 @@ impl CAnswer {
     pub fn of(reply: Reply, visits: u32) -> CAnswer
         ensures { result ≡ record { kind = reply_number reply; refusal = reply_refusal reply; number = reply_detail reply; visits = visits } }
     {
-        let (refusal, number) = match reply {
-            Reply::Handed(task) => (0, task.get()),
-            Reply::Released(count) => (0, count),
-            Reply::Refused(refusal) => (number_of_refusal(refusal), 0),
-            Reply::Granted | Reply::Queued | Reply::Freed | Reply::Kept => (0, 0),
-            Reply::Withdrawn | Reply::Set => (0, 0),
-        };
+        let refusal = refusal_in(&reply);
+        let number = number_in(&reply);
         CAnswer {
             kind: number_of_reply(reply),
             refusal,
             number,
             visits,
         }
+    }
+}
+
+// Returns the number of the refusal, 0 for any other reply.
+fn refusal_in(reply: &Reply) -> u8
+    ensures { result ≡ reply_refusal reply.now }
+{
+    match reply {
+        Reply::Refused(refusal) => number_of_refusal(*refusal),
+        Reply::Granted | Reply::Queued | Reply::Freed | Reply::Handed(_) | Reply::Kept => 0,
+        Reply::Released(_) | Reply::Withdrawn | Reply::Set => 0,
+    }
+}
+
+// Returns the task that was handed the mutex, or how many mutexes were released, 0 for any other reply.
+fn number_in(reply: &Reply) -> u16
+    ensures { result ≡ reply_detail reply.now }
+{
+    match reply {
+        Reply::Handed(task) => task.get(),
+        Reply::Released(count) => *count,
+        Reply::Granted | Reply::Queued | Reply::Freed | Reply::Kept => 0,
+        Reply::Withdrawn | Reply::Set | Reply::Refused(_) => 0,
     }
 }

@@ -4,8 +4,8 @@ ghost use Rattle.std.specs.Prelude.{◌≡◌, ◌≢◌, ◌≤◌, ◌<◌, �
 ghost use Rattle.std.specs.List.{filter};
 ghost use Rattle.std.specs.Option.{option_copied};
 ghost use Rattle.pim_base.specs.declared.limits.TheConstants.{MAX_TASKS, MAX_MUTEXES, MAX_COUNT};
-ghost use Rattle.pim_base.specs.Lists.{nth, first_item};
-ghost use Rattle.pim_base.specs.State.{IsTask, IsMutex, task_numbers, base_of, protocol_of, owner_of, count_of, owned, wait_of, is_recursive, with_owner, with_count, with_base, with_ceiling};
+ghost use Rattle.pim_base.specs.Lists.{nth, first_item, put};
+ghost use Rattle.pim_base.specs.State.{IsTask, IsMutex, task_numbers, base_of, protocol_of, owner_of, count_of, first_count, owned, wait_of, is_recursive, with_owner, with_count, with_base, with_ceiling};
 ghost use Rattle.pim_base.specs.Chains.{blocker, heir_of, leads_back};
 ghost use Rattle.pim_base.specs.Checks.{not_protect};
 ghost use Rattle.pim_base.specs.Priorities.{ceiling};
@@ -343,7 +343,7 @@ impl Tables {
         ensures ready { Ready self.new }
     {
         put(&mut self.owner, mutex.get(), Some(task));
-        put(&mut self.count, mutex.get(), 1);
+        put_first_count(&mut self.count, mutex, Some(task));
         self.owned.insert(task, mutex);
     }
 
@@ -359,7 +359,7 @@ impl Tables {
         let _tasks = self.tasks();
         if let Some(owner) = self.known_owner(mutex) {
             put(&mut self.owner, mutex.get(), None);
-            put(&mut self.count, mutex.get(), 0);
+            put_first_count(&mut self.count, mutex, None);
             self.owned.remove(owner, mutex);
         }
     }
@@ -460,4 +460,18 @@ impl Tables {
         self.queues.remove(mutex, &leaver);
         put(&mut self.wait, task.get(), None);
     }
+}
+
+// Writes how often the mutex is locked now: once by a new owner, and not at all where it is free.
+#[inline(always)]
+fn put_first_count(counts: &mut Vec<u8>, mutex: MutexNo, owner: Option<TaskNo>)
+    requires least { 1 ≤ mutex }
+    requires most { mutex ≤ length counts.old.items }
+    ensures { counts.new.items ≡ put counts.old.items mutex (first_count owner) }
+{
+    let count = match owner {
+        Some(_) => 1,
+        None => 0,
+    };
+    put(counts, mutex.get(), count);
 }

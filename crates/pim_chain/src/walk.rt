@@ -1,6 +1,6 @@
 //! The walk that restores the stored priorities, and stops early.
 
-ghost use Rattle.std.specs.Prelude.{◌≡◌, ◌≢◌, ◌≤◌, ◌<◌, ◌+◌, ◌-◌, ◌^◌, None, Some, false, length, unwrap_or, ℕ};
+ghost use Rattle.std.specs.Prelude.{◌≡◌, ◌≢◌, ◌≤◌, ◌<◌, ◌+◌, ◌-◌, ◌^◌, None, Some, false, length, unwrap_or, ℕ, ◌↔◌, IsTrue};
 ghost use Rattle.std.specs.Option.{option_and_then, option_map, option_map_or};
 ghost use Rattle.pim_base.specs.declared.limits.TheConstants.{MAX_TASKS};
 ghost use Rattle.pim_base.specs.State.{IsTask, IsMutex, owner_of, wait_of, with_owner, with_wait};
@@ -57,6 +57,16 @@ impl Tables {
         ensures { result ≡ worth self.now mutex }
     {
         self.lent(mutex).map_or(0, |prio| prio.get())
+    }
+
+    // Returns whether what the owned mutex gives its owner is no more than the task has.
+    #[inline(always)]
+    pub(crate) fn lends_no_more(&self, mutex: MutexNo, task: TaskNo) -> bool
+        requires owned { owner_of self.now.state mutex ≢ None }
+        requires known { IsTask self.now.state task }
+        ensures { IsTrue result ↔ (worth self.now mutex ≤ stored_at self.now task) }
+    {
+        self.lent_level(mutex) <= self.known_stored(task).get()
     }
 
     // the priority that a known task lends to the owner of the known mutex, where it waits for that, as a number
@@ -147,6 +157,7 @@ impl Tables {
         requires room { visits.old.count < 2 ^ 32 - 1 }
         ensures visited { Visited self.old self.new task result }
         ensures next { result ≡ next_of self.old self.new task }
+        ensures counted { visits.new.count ≡ visits.old.count + 1 }
         ensures work { VisitedOnce (length self.old.state.base) (stored_at self.old) visits.old (stored_at self.new) visits.new }
         ensures ready { Ready self.new }
     {
@@ -226,7 +237,7 @@ impl Tables {
         // Its contract tells the proof what always holds of the tables.
         let _tasks = self.tasks();
         self.bind(mutex, task);
-        if self.lent_level(mutex) <= self.known_stored(task).get() {
+        if self.lends_no_more(mutex, task) {
             visits.add();
         } else {
             self.settle_from(task, visits);
@@ -292,7 +303,7 @@ impl Tables {
         // Its contract tells the proof what always holds of the tables.
         let _tasks = self.tasks();
         self.join(task, mutex, ticket);
-        if self.lent_level(mutex) <= self.known_stored(owner).get() {
+        if self.lends_no_more(mutex, owner) {
             visits.add();
         } else {
             self.settle_from(owner, visits);

@@ -1,4 +1,4 @@
-use Rattle.std.proofs.Common.{subst, sym, arith, length, Some}
+use Rattle.std.proofs.Common.{subst, sym, length, Some}
 use Rattle.pim_chain.specs.Views.{View, stored_at, waiter_at}
 use Rattle.pim_chain.specs.Settled.{SettledBut}
 use Rattle.pim_chain.specs.Work.{Tells}
@@ -6,23 +6,23 @@ use Rattle.pim_chain.proofs.Lending.{joined_settled}
 use Rattle.pim_chain.proofs.Told.{tells-counted}
 use Rattle.pim_chain.proofs.tables.Tables.enter.Goals as goal
 
-pub returns-then-lent_level-get-clause-settled : goal.returns-then-lent_level-get-clause-settled
-returns-then-lent_level-get-clause-settled c =
+pub returns-then-lends_no_more-clause-settled : goal.returns-then-lends_no_more-clause-settled
+returns-then-lends_no_more-clause-settled c =
     let v = c.args.self.now in
     let w = c.join.new.self in
     joined_settled v w c.args.task c.args.owner c.args.mutex (Some (record { mutex = c.args.mutex; ticket = c.args.ticket }))
     (waiter_at v c.args.task c.args.ticket) c.tasks-tasks.ensures.ready c.join.ensures.ready c.join.ensures.joined
     c.requires.mutex c.requires.owned c.requires.settled
     (subst (SettledBut w.state (stored_at w)) c.requires.owned (c.join.ensures.unsettles c.requires.settled))
-    (omega (arith, c.if-lent_level-get.true, c.lent_level.ensures, c.get.ensures.value, c.known_stored.ensures))
+    (c.lends_no_more.ensures.0 c.if-lends_no_more.true)
 
-pub returns-then-lent_level-get-clause-work : goal.returns-then-lent_level-get-clause-work
-returns-then-lent_level-get-clause-work c =
+pub returns-then-lends_no_more-clause-work : goal.returns-then-lends_no_more-clause-work
+returns-then-lends_no_more-clause-work c =
     let v = c.args.self.now in
     subst (λ (w : View). Tells (length v.state.base) (stored_at v) c.args.visits.now (stored_at w) c.add.new.self) (sym c.join.ensures.joined)
     (tells-counted (length v.state.base) (stored_at v) c.args.visits.now c.add.new.self c.add.ensures)
 
-pub returns-else-lent_level-get-clause-work : goal.returns-else-lent_level-get-clause-work
-returns-else-lent_level-get-clause-work c =
+pub returns-else-lends_no_more-clause-work : goal.returns-else-lends_no_more-clause-work
+returns-else-lends_no_more-clause-work c =
     subst (λ (w : View). Tells (length w.state.base) (stored_at w) c.args.visits.now (stored_at c.settle_from.new.self) c.settle_from.new.visits)
     c.join.ensures.joined c.settle_from.ensures.work
