@@ -548,12 +548,11 @@ protected:
         return grant(actor, m);
     }
 
-    // Frees a mutex or hands it over to its first waiter, and returns that task, or 0.
+    // Frees a mutex or hands it over to its first waiter, and returns that task, or 0. The old owner
+    // keeps its priority.
     uint16_t hand_over(uint16_t m) {
         Mutex& mutex = mutexes[m];
-        const uint16_t owner = mutex.owner;
         unbind(m);
-        lower(owner, mutex.lends());
         if (mutex.queue.empty()) return 0;
         const uint16_t t = mutex.queue.front().task;
         mutex.queue.erase(mutex.queue.begin());
@@ -570,7 +569,9 @@ protected:
             --mutexes[m].count;
             return {Answer::Kept};
         }
+        const uint8_t lent = mutexes[m].lends();
         const uint16_t t = hand_over(m);
+        lower(actor, lent);
         return t ? Reply{Answer::Handed, t} : Reply{Answer::Freed};
     }
 
@@ -582,6 +583,7 @@ protected:
             ++reply.number;
             return true;
         });
+        if (reply.number) settle_from(actor);
         return reply;
     }
 

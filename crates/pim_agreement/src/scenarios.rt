@@ -274,7 +274,7 @@ fn release_hands_all_mutexes_over(rt: HostRuntime) -> Result<(), Fail> {
         Row(Lock(1, 3), Granted, 1, RAISED),
         Row(Lock(2, 1), Queued, 1, RAISED),
         Row(Lock(3, 2), Queued, 1, RAISED),
-        Row(Release(1), Released(3), 5, RELEASED),
+        Row(Release(1), Released(3), 3, RELEASED),
         Row(Release(1), Released(0), 0, RELEASED),
     ];
     play(&rt, rt.alloc(), &[10, 20, 30], KINDS, ROWS)

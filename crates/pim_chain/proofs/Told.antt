@@ -9,7 +9,7 @@ use Rattle.pim_chain.specs.Numbers.{has, members}
 use Rattle.pim_chain.specs.Views.{View, Ready, stored_in, stored_at}
 use Rattle.pim_chain.specs.Work.{Work, noted_of, original, has_changed, differs_in, IsNoted, KeepsTelling, VisitedOnce, Tells}
 use Rattle.pim_chain.proofs.Members.{filter_members}
-use Rattle.pim_chain.proofs.Walking.{differing_none, differing_over}
+use Rattle.pim_chain.proofs.Walking.{differing_none, differing_one, differing_over}
 
 -- ---- the notes
 pub keeps-trans :
@@ -72,6 +72,17 @@ tells-counted n f a b is =
       noted = (refl, λ some t low high. refl);
     })
 
+-- one visit, which changes the priority of x alone, if any
+pub tells-once :
+    (n : ℕ) (f g : ℕ → ℕ) (a b : Work) (x : ℕ)
+    → VisitedOnce n f a g b
+    → ((u : ℕ) → (u ≡ x → ⊥) → g u ≡ f u)
+    → Tells n f a g b
+tells-once n f g a b x once others = record {
+  counted = (let one = once.counted in let few = differing_one n f g x others in omega (arith, one, few));
+  noted = once.noted;
+}
+
 pub tells-trans : (n : ℕ) (f g h : ℕ → ℕ) (a b d : Work) → Tells n f a g b → Tells n g b h d → Tells n f a h d
 tells-trans n f g h a b d one two = record {
   counted =
@@ -81,6 +92,15 @@ tells-trans n f g h a b d one two = record {
       omega (arith, first, second, over));
   noted = keeps-trans n f g h a b d one.noted two.noted;
 }
+
+-- a walk that follows work, whose tasks are as many
+pub tells_over :
+    (n k : ℕ) (f g h : ℕ → ℕ) (a b d : Work)
+    → Tells n f a g b
+    → k ≡ n
+    → Tells k g b h d
+    → Tells n f a h d
+tells_over n k f g h a b d one same two = tells-trans n f g h a b d one (subst (λ j. Tells j g b h d) same two)
 
 -- ---- which tasks changed
 -- the noted tasks that differ are those that changed

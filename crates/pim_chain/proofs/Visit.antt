@@ -157,7 +157,7 @@ module _ (v : View) (x p : ℕ) (ready : Ready v) (known : IsTask v.state x) (se
   onward = mended_onward v.state (stored_at v) (stored_at (restored v x p)) x ready.sound known settled mends
 
   -- the task waits for nothing
-  visited_free : wait_of v.state x ≡ None → Visited v (restored v x p) x None
+  pub visited_free : wait_of v.state x ≡ None → Visited v (restored v x p) x None
   visited_free free = record {
     state = refl;
     settled = λ t task _. onward t task (λ e. none-some t (sym (ap (option_and_then (λ (w : Wait). heir_of v.state w.mutex)) free) ∙ e));

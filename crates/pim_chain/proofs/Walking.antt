@@ -272,3 +272,23 @@ pub differing_none : (n : ℕ) (f g : ℕ → ℕ) → ((u : ℕ) → 1 ≤ u �
 differing_none n f g same =
     count_same n (λ u. not (eqb (f u) (g u))) (λ _. false) (λ u low high. ap not (eq-eqb (f u) (g u) (sym (same u low high))))
     ∙ count_none n (λ _. false) (λ _. refl)
+
+-- the priority of x alone differs, if any
+pub differing_one : (n : ℕ) (f g : ℕ → ℕ) (x : ℕ) → ((u : ℕ) → (u ≡ x → ⊥) → g u ≡ f u) → differing n f g ≤ 1
+unfolding count
+differing_one zero f g x others = omega arith
+differing_one (suc n) f g x others = go (cases_eq (suc n) x) (differing_one n f g x others)
+  where
+    go : (suc n ≡ x) ⊎ (suc n ≡ x → ⊥) → differing n f g ≤ 1 → count n (λ u. not (eqb (f u) (g u))) + cond {A = ℕ} (not (eqb (f (suc n)) (g (suc n)))) 1 0 ≤ 1
+    go (inl is) rest =
+        let none : differing n f g ≡ 0 =
+        differing_none n f g (λ u low high. others u (λ same. absurd (omega (arith, high, same, is)))) in
+        one (not (eqb (f (suc n)) (g (suc n)))) none
+      where
+        one : (b : Bool) → count n (λ u. not (eqb (f u) (g u))) ≡ 0 → count n (λ u. not (eqb (f u) (g u))) + cond {A = ℕ} b 1 0 ≤ 1
+        one true none = omega (arith, none)
+        one false none = omega (arith, none)
+    go (inr ne) rest =
+        let at : cond {A = ℕ} (not (eqb (f (suc n)) (g (suc n)))) 1 0 ≡ 0 =
+        ap (λ b. cond {A = ℕ} (not b) 1 0) (eq-eqb (f (suc n)) (g (suc n)) (sym (others (suc n) ne))) in
+        omega (arith, at, rest)

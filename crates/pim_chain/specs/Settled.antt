@@ -1,12 +1,15 @@
 -- Stored priorities that agree with their neighbours, and what a visit changes.
-use Rattle.std.specs.Prelude.{◌≡◌, ◌==◌, ℕ, List, length, Option, Some, None, if◌then◌else◌}
+use Rattle.std.specs.Prelude.{◌≡◌, ◌≤◌, ◌==◌, ℕ, List, length, Option, Some, None, if◌then◌else◌}
+use Rattle.std.specs.List.{fold}
 use Rattle.std.specs.Option.{option_and_then}
 use Rattle.pim_base.specs.Counts.{differing}
 use Rattle.pim_base.specs.Lists.{put, insert_by}
-use Rattle.pim_base.specs.State.{State, IsTask, wait_of, with_wait}
+use Rattle.pim_base.specs.State.{State, IsTask, owned, wait_of, with_wait}
 use Rattle.pim_base.specs.Chains.{heir, heir_of}
 use Rattle.pim_base.specs.Priorities.{local_priority}
 use Rattle.pim_base.specs.Queues.{precedes}
+use Rattle.pim_base.specs.Steps.{hand_over}
+use Rattle.pim_base.specs.declared.limits.TheConstants.{MAX_MUTEXES}
 use Rattle.pim_base.specs.declared.steps.Wait.{Wait}
 use Rattle.pim_queue.specs.QueueView.{QueueView}
 use Rattle.pim_queue.specs.Waiters.{without, repositioned}
@@ -67,3 +70,20 @@ pub record Visited (v w : View) (x : ℕ) (next : Option ℕ) : Type 0 where
 -- how many tasks have another stored priority
 abbrev pub changed : View → View → ℕ
 changed v w = differing (length v.state.base) (stored_at v) (stored_at w)
+
+-- x, which waits for nothing, gets its local priority, and nothing else changes
+pub record SetRight (v w : View) (x : ℕ) : Type 0 where
+  pub state : w.state ≡ v.state
+  pub queues : w.queues ≡ v.queues
+  pub local : stored_at w x ≡ local_priority v.state (stored_at v) x
+  pub others : (u : ℕ) → (u ≡ x → ⊥) → stored_at w u ≡ stored_at v u
+
+-- the task has handed over its n mutexes; it alone may have another priority than its local one
+pub record HandedAll (v w : View) (t n : ℕ) : Type 0 where
+  pub count : n ≡ length (owned v.state t)
+  pub few : n ≤ MAX_MUTEXES
+  pub state : w.state ≡ fold hand_over v.state (owned v.state t)
+  pub tasks : length w.state.base ≡ length v.state.base
+  pub idle : heir w.state t ≡ None
+  pub settled : SettledBut w.state (stored_at w) (Some t)
+  pub none : n ≡ 0 → SettledBut w.state (stored_at w) None

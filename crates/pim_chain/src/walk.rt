@@ -87,6 +87,8 @@ impl Tables {
     /// the PROTECT mutexes and the priorities of the first waiters for the INHERIT mutexes.
     ///
     /// This is a visit, and counted. It looks at each mutex that the task owns.
+    // Inlined, so that a visit of the walk makes no call for it.
+    #[inline(always)]
     pub fn local(&self, task: TaskNo, visits: &mut Visits) -> Prio
         requires known { IsTask self.now.state task }
         requires room { visits.old.count < 2 ^ 32 - 1 }
@@ -135,7 +137,8 @@ impl Tables {
     }
 
     // [3] and [4]: stores the priority, and moves the task to its place in the queue that it waits in
-    fn restore(&mut self, task: TaskNo, wait: Option<Wait>, prio: Prio)
+    #[inline(always)]
+    pub(crate) fn restore(&mut self, task: TaskNo, wait: Option<Wait>, prio: Prio)
         requires known { IsTask self.old.state task }
         requires waits { wait ≡ wait_of self.old.state task }
         ensures { self.new ≡ restored self.old task prio }

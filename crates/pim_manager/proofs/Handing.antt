@@ -1,6 +1,6 @@
 -- A task that ends its wait, and a mutex that goes from its owner to the first waiter.
-use Rattle.std.proofs.Common.{◌≡◌, ℕ, zero, suc, inl, inr, refl, sym, ◌∙◌, ap, subst, Option, Some, None, is_some, List, [], ◌∷◌, length, option_and_then, set}
-use Rattle.std.proofs.lemmas.Option.{none-some, same_Some}
+use Rattle.std.proofs.Common.{◌≡◌, ℕ, refl, sym, ◌∙◌, ap, subst, Option, Some, None, is_some, length, option_and_then}
+use Rattle.std.proofs.lemmas.Option.{none-some}
 use Rattle.pim_base.specs.Lists.{put, first_item}
 use Rattle.pim_base.specs.State.{State, IsTask, IsMutex, owner_of, wait_of, with_owner, with_wait}
 use Rattle.pim_base.specs.Chains.{blocker}
@@ -10,12 +10,13 @@ use Rattle.pim_base.specs.Queues.{first_of}
 use Rattle.pim_base.specs.Steps.{hand_over, hand_over_to}
 use Rattle.pim_base.specs.declared.steps.Wait.{Wait}
 use Rattle.pim_base.specs.declared.steps.Waiter.{Waiter}
-use Rattle.pim_base.proofs.NoCycle.{unwrap_or-put_same, idle_now}
-use Rattle.pim_chain.specs.Views.{View, Ready, IsQueue, with_state, stored_in, stored_at, queue_at}
+use Rattle.pim_base.proofs.NoCycle.{idle_now}
+use Rattle.pim_chain.specs.Views.{View, Ready, with_state, stored_in, stored_at, queue_at}
 use Rattle.pim_chain.specs.Settled.{SettledBut, Unsettles, left}
 use Rattle.pim_chain.specs.Work.{Work, Tells}
 use Rattle.pim_chain.proofs.Models.{queue_is}
 use Rattle.pim_chain.proofs.Waiting.{waiting_known}
+use Rattle.pim_chain.proofs.Releasing.{put-put, freed_owner, first_waits}
 use Rattle.pim_chain.proofs.Told.{tells-trans}
 use Rattle.pim_manager.specs.Settled.{IsSettled}
 use Rattle.pim_manager.proofs.Works.{Walked, walked}
@@ -45,36 +46,6 @@ is_waiting-blocker S t steady = go (wait_of S t) refl
     go (Some w) e = sym (steady.owned t w e)
 
 -- ---- a mutex that goes to the first waiter
-set-set : {X : Type 0} (xs : List X) (i : ℕ) (x y : X) → set (set xs i x) i y ≡ set xs i y
-set-set [] i x y = refl
-set-set (z ∷ zs) zero x y = refl
-set-set (z ∷ zs) (suc i) x y = ap (λ r. z ∷ r) (set-set zs i x y)
-
-put-put : {X : Type 0} (xs : List X) (n : ℕ) (x y : X) → put (put xs n x) n y ≡ put xs n y
-put-put xs zero x y = refl
-put-put xs (suc i) x y = set-set xs i x y
-
-pub freed_owner : (S : State) (m : ℕ) → owner_of (with_owner S m None) m ≡ None
-freed_owner S m = elim (unwrap_or-put_same S.owner m None) [ inl h ↦ h | inr h ↦ h ]
-
--- the first of a queue waits
-first_waits :
-    (v : View) (m : ℕ) (w : Waiter)
-    → Ready v
-    → IsMutex v.state m
-    → first_item (queue_at v m) ≡ Some w
-    → wait_of v.state w.task ≡ Some (record { mutex = m; ticket = w.ticket })
-first_waits v m w ready known e = go (queue_at v m) (ready.queues m known) e
-  where
-    go :
-        (ws : List Waiter)
-        → IsQueue (wait_of v.state) (stored_at v) m ws
-        → first_item ws ≡ Some w
-        → wait_of v.state w.task ≡ Some (record { mutex = m; ticket = w.ticket })
-    go [] q h = cc
-    go (x ∷ xs) q h =
-        subst (λ (y : Waiter). wait_of v.state y.task ≡ Some (record { mutex = m; ticket = y.ticket })) (same_Some x w h) q.sound.0.waits
-
 -- the first of the queue is the first waiter
 pub first_is :
     {v : View} {S : State} {m : ℕ} {first : Option Waiter}

@@ -17,7 +17,7 @@ use Rattle.pim_chain.proofs.Walking.{settled_effective}
 use Rattle.pim_manager.specs.declared.changed_tasks.ChangedTask.{ChangedTask}
 use Rattle.pim_manager.specs.Changed.{changed_task, noted_changes}
 use Rattle.pim_manager.specs.Settled.{IsSettled, Worked}
-use Rattle.pim_manager.proofs.Filters.{few_pass}
+use Rattle.pim_chain.proofs.Filters.{few_pass}
 use Rattle.pim_base.proofs.HandOvers.{base-hand_over}
 
 -- a step keeps the number of tasks

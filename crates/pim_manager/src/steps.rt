@@ -146,7 +146,7 @@ impl Manager {
     }
 
     /// Answers a release by a task that does not wait: all mutexes that it owns are handed over,
-    /// in ascending order.
+    /// in ascending order. Each new owner is visited once, and the actor once, at the end.
     fn answer_release_all(&mut self, actor: TaskNo, visits: &mut Visits) -> Reply
         requires known { IsTask self.old actor }
         requires idle { wait_of self.old actor ≡ None }
@@ -154,14 +154,10 @@ impl Manager {
         ensures reply { result ≡ answer self.old actor Op.ReleaseAll }
         ensures state { self.new ≡ after_reply self.old actor Op.ReleaseAll result }
         ensures work { Worked self.old visits.old self.new visits.new }
-        ensures most { visits.new.count ≤ 2 * handed_mutex_count self.old self.new }
+        ensures most { visits.new.count ≤ 1 + handed_mutex_count self.old self.new }
+        ensures twice { visits.new.count ≤ 2 * handed_mutex_count self.old self.new }
     {
-        let mut released = 0;
-        for mutex in self.tables.owned(actor) {
-            self.hand_over(mutex, actor, visits);
-            released += 1;
-        }
-        Reply::Released(released)
+        Reply::Released(self.tables.release_all(actor, visits))
     }
 
     /// Answers the cancel of a wait: the task leaves the queue that it waits in.

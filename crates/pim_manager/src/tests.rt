@@ -95,7 +95,7 @@ fn waiters_are_shown(rt: HostRuntime) -> Result<(), Fail> {
 const SECOND: MutexNo = MutexNo(2);
 
 /// Steps with their replies, and how many visits each makes.
-const ROWS: [(u16, Op, Reply, u32); 10] = [
+const ROWS: [(u16, Op, Reply, u32); 16] = [
     (1, Lock(FIRST), Reply::Granted, 1),
     (2, Lock(SECOND), Reply::Granted, 1),
     (2, Lock(FIRST), Reply::Queued, 1),
@@ -105,7 +105,15 @@ const ROWS: [(u16, Op, Reply, u32); 10] = [
     (3, Cancel(TaskNo(3)), Reply::Withdrawn, 2),
     (1, Unlock(FIRST), Reply::Handed(TaskNo(2)), 2),
     (1, SetBase(TaskNo(2), 30), Reply::Set, 1),
-    (2, ReleaseAll, Reply::Released(2), 2),
+    // Both mutexes become free: the actor alone is visited, once.
+    (2, ReleaseAll, Reply::Released(2), 1),
+    (1, Lock(FIRST), Reply::Granted, 1),
+    (1, Lock(SECOND), Reply::Granted, 1),
+    (2, Lock(FIRST), Reply::Queued, 1),
+    (3, Lock(SECOND), Reply::Queued, 1),
+    // Each new owner is visited, and the actor, once.
+    (1, ReleaseAll, Reply::Released(2), 3),
+    (1, ReleaseAll, Reply::Released(0), 0),
 ];
 
 fn expect_rows(rt: &impl Abort, manager: &mut Manager) {

@@ -1,39 +1,46 @@
-use Rattle.std.proofs.Common.{◌≤◌, length, ap, subst, arith, sym, ◌∙◌}
+use Rattle.std.proofs.Common.{◌≤◌, length, fold, refl, ap, subst, arith, sym, ◌∙◌}
 use Rattle.pim_base.specs.State.{State, owned}
-use Rattle.pim_base.specs.declared.limits.TheConstants.{MAX_MUTEXES}
-use Rattle.pim_base.specs.declared.steps.Reply.{Reply}
-use Rattle.pim_manager.proofs.Works.{steady_shown}
-use Rattle.pim_manager.proofs.Releases.{releasing_none, releasing_next, released_all, first_owned}
+use Rattle.pim_base.specs.Counts.{handed_mutex_count}
+use Rattle.pim_base.specs.Steps.{hand_over}
+use Rattle.pim_chain.specs.Views.{View, with_state, stored_at}
+use Rattle.pim_chain.specs.Work.{Tells}
+use Rattle.pim_manager.proofs.Works.{Walked, walked, steady_shown}
+use Rattle.pim_manager.proofs.Releases.{AllReleased, all_released, released-handed}
 use Rattle.pim_manager.proofs.manager.Manager.answer_release_all.Goals as goal
 
-pub loop-mutex-init : goal.loop-mutex-init
-loop-mutex-init c =
+all : (c : goal.After-release_all) → AllReleased c.args.self.now c.release_all.new.self.state c.args.actor
+all c =
     let S : State = c.args.self.now in
-    releasing_none S c.args.actor c.into_iter-mutex-iterator.result c.args.visits.now
-    (c.into_iter-mutex-iterator.ensures.into_iter_gives ∙ c.owned-mutex-items.ensures ∙ ap (λ (U : State). owned U c.args.actor) c.self.view_is)
-    c.requires.idle (steady_shown c.self.invariant c.self.view_is)
-    (subst (λ (U : State). length U.protocol ≤ MAX_MUTEXES) c.self.view_is c.self.invariant.calm.ready.few_mutexes) c.requires.fresh
+    subst (λ T. AllReleased S T c.args.actor)
+    (sym (c.release_all.ensures.state ∙ ap (λ (U : State). fold hand_over U (owned U c.args.actor)) c.self.view_is))
+    (all_released S c.args.actor (owned S c.args.actor) refl c.requires.idle (steady_shown c.self.invariant c.self.view_is))
 
-pub hand_over-requires-clause-mutex : goal.hand_over-requires-clause-mutex
-hand_over-requires-clause-mutex c =
-    (first_owned c.loop-mutex.self _ c.args.actor _ (sym c.loop-mutex.invariant.owns ∙ c.in-Some.ensures.steps)).mutex
+gone :
+    (c : goal.After-release_all)
+    → Walked c.args.self.now (with_state c.self.inside.tables c.release_all.new.self.state) c.release_all.new.self c.args.visits.now c.release_all.new.visits
+gone c =
+    let v : View = c.self.inside.tables in
+    let x : View = c.release_all.new.self in
+    let bases = (all c).bases ∙ sym (ap (λ (U : State). U.base) c.self.view_is) in
+    walked v (with_state v x.state) x c.args.self.now x.state _ _ c.self.invariant c.self.view_is (all c).steady (ap length (all c).bases)
+    refl refl refl c.release_all.ensures.settled c.release_all.ensures.ready
+    (subst (λ bs. Tells (length bs) (stored_at v) c.args.visits.now (stored_at x) c.release_all.new.visits) (sym bases) c.release_all.ensures.work)
 
-pub hand_over-requires-clause-owned : goal.hand_over-requires-clause-owned
-hand_over-requires-clause-owned c =
-    (first_owned c.loop-mutex.self _ c.args.actor _ (sym c.loop-mutex.invariant.owns ∙ c.in-Some.ensures.steps)).owner
+-- each mutex that is released has another owner then
+handed : (c : goal.After-release_all) → c.release_all.result ≤ handed_mutex_count c.args.self.now c.release_all.new.self.state
+handed c =
+    let few = released-handed c.args.self.now c.release_all.new.self.state c.args.actor (all c) in
+    subst (λ k. k ≤ handed_mutex_count c.args.self.now c.release_all.new.self.state)
+    (sym (c.release_all.ensures.released ∙ ap (λ (U : State). length (owned U c.args.actor)) c.self.view_is)) few
 
-pub overflow_add-released : goal.overflow_add-released
-overflow_add-released c =
-    let counted = c.loop-mutex.invariant.counted in
-    let few = c.loop-mutex.invariant.few in
-    let left = ap length c.in-Some.ensures.steps in
-    omega (arith, counted, few, left)
+pub invariant_of-self : goal.invariant_of-self
+invariant_of-self c = (gone c).settled
 
-pub loop-mutex-preserved : goal.loop-mutex-preserved
-loop-mutex-preserved c =
-    releasing_next _ _ _ _ _ _ _ _ _ _ _ c.loop-mutex.invariant c.in-Some.ensures.steps c.hand_over.ensures.state c.hand_over.ensures.work c.hand_over.ensures.most
+pub returns-clause-work : goal.returns-clause-work
+returns-clause-work c = (gone c).work
 
-pub returns : goal.returns
-returns c =
-    let all = released_all _ _ _ _ _ _ _ c.loop-mutex.invariant c.in-None.ensures.steps.0 in
-    record { reply = ap (λ n. Reply.Released n) all.counted; state = all.state; work = c.loop-mutex.invariant.work; most = all.most }
+pub returns-clause-most : goal.returns-clause-most
+returns-clause-most c = let most = c.release_all.ensures.most in omega (arith, most, handed c, c.requires.fresh)
+
+pub returns-clause-twice : goal.returns-clause-twice
+returns-clause-twice c = let twice = c.release_all.ensures.twice in omega (arith, twice, handed c, c.requires.fresh)
