@@ -1,5 +1,5 @@
 -- What is kept behind the lock, and what a call does to it.
-use Rattle.std.specs.Prelude.{◌≡◌, ◌≤◌, ◌<◌, ℕ, List, [], ◌∷◌, ◌++◌, length, Bool, true, false, Option, Some, None, Result, MatchResult, if◌then◌else◌}
+use Rattle.std.specs.Prelude.{◌≡◌, ◌≤◌, ◌<◌, ◌⊎◌, ℕ, List, [], ◌∷◌, ◌++◌, length, Bool, true, false, Option, Some, None, Result, Ok, Err, MatchResult, if◌then◌else◌}
 use Rattle.pim_base.specs.Lists.{holds}
 use Rattle.pim_base.specs.State.{State, owner_of}
 use Rattle.pim_base.specs.Checks.{is_waiting}
@@ -68,6 +68,10 @@ IsCall b step result c =
     MatchResult result
     (λ reply. (b.closed ≡ false) × (length b.entries < b.room) × (reply ≡ reply_of b.manager step) × (c ≡ with_entry b step reply))
     (λ fault. IsFaultOf b fault × (c ≡ record b { closed = true }))
+
+-- a call that a looker learns of: NoPlace is answered of a step that was made, too, where the looker doesn't find its entry
+abbrev pub IsCallWith : BookState → Step → Result Reply SharedFault → BookState → Type 0
+IsCallWith b step result c = IsCall b step result c ⊎ ((result ≡ Err NoPlace) × ((reply : Reply) × IsCall b step (Ok reply) c))
 
 -- nothing of a task that waits, else whether it owns the mutex
 abbrev pub settled_of : State → ℕ → ℕ → Option Settled

@@ -1,16 +1,19 @@
 //! What is kept behind the lock.
 
-ghost use Rattle.std.specs.Prelude.{◌≡◌, ◌≤◌, [], false, length};
+ghost use Rattle.std.specs.Prelude.{◌≡◌, ◌≤◌, ◌⊎◌, [], false, length, IfOk, IfErr};
 ghost use Rattle.std.specs.Vec.{vec_capacity};
+ghost use mathlib.Core.List.{IsPrefix};
 ghost use Rattle.pim_base.specs.Chains.{HasCycle};
 ghost use Rattle.pim_base.specs.Runs.{IsRun};
 ghost use Rattle.pim_base.specs.Steady.{IsSteady};
-ghost use Rattle.pim_shared.specs.Books.{IsCall, settled_of};
+ghost use Rattle.pim_shared.specs.Books.{IsCall, IsCallWith, IsCallFault, settled_of};
+ghost use Rattle.pim_shared.specs.Lookers.{EndsWithNew};
 ghost use Rattle.pim_shared.specs.Publishers.{unpublished};
 
 use crate::fault::SharedFault;
 use crate::gate::Settled;
 use crate::log::Log;
+use crate::looker::Looker;
 use crate::publisher::Publisher;
 use crate::version::entry;
 use pim_base::{Entry, MutexNo, Reply, Step, TaskNo};
@@ -97,6 +100,35 @@ impl Book {
         };
         self.entries.push_reserved(entry(last.step, last.reply));
         Ok(last.reply)
+    }
+
+    /// Makes one step by `call`, and lets the looker take the version that this publishes.
+    ///
+    /// # Errors
+    ///
+    /// Those of `call`, and the looker has seen what it had seen. `NoPlace` if the version that the looker takes isn't
+    /// longer than what it had seen, or doesn't end with this step and reply: the step is made and logged.
+    pub(crate) fn call_with<R: Wait>(
+        &mut self,
+        rt: &R,
+        looker: &mut Looker,
+        step: Step,
+    ) -> Result<Reply, SharedFault>
+        ensures made { IsCallWith self.old step result self.new }
+        ensures start { looker.new.start ≡ looker.old.start }
+        ensures grown { IsPrefix looker.old.entries looker.new.entries }
+        ensures seen { IfOk result (λ reply.
+            EndsWithNew looker.old looker.new (record { step = step; reply = reply })) }
+        ensures refused { IfErr result (λ fault.
+            (fault ≡ SharedFault.NoPlace) ⊎ (IsCallFault fault × (looker.new ≡ looker.old))) }
+    {
+        let step = &step;
+        let reply = &self.call(rt, *step)?;
+        if looker.finds(entry(*step, *reply)) {
+            Ok(*reply)
+        } else {
+            Err(SharedFault::NoPlace)
+        }
     }
 
     /// Returns the manager as it is now: after a run of the model from the start, with the logged entries. Its getters show

@@ -14,7 +14,6 @@ use crate::gate::{Gate, Settled};
 use crate::log::Log;
 use crate::looker::Looker;
 use crate::publisher::Publisher;
-use crate::version::entry;
 use pim_base::{MAX_LOOKERS, MutexNo, Reply, Step, TaskNo};
 use pim_manager::Manager;
 use std::alloc::Global;
@@ -106,16 +105,10 @@ impl Shared {
         ensures refused { IfErr result (λ fault.
             (fault ≡ SharedFault.NoPlace) ⊎ (IsCallFault fault × (looker.new ≡ looker.old))) }
     {
-        let step = &step;
         let mut book = self.book.lock(rt);
-        let answer = book.call(rt, *step);
+        let answer = book.call_with(rt, looker, step);
         self.changed.notify_all();
-        let reply = &answer?;
-        if looker.finds(entry(*step, *reply)) {
-            Ok(*reply)
-        } else {
-            Err(SharedFault::NoPlace)
-        }
+        answer
     }
 
     /// Waits until the task doesn't wait, and returns whether it owns the mutex then.
