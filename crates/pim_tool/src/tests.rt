@@ -8,6 +8,7 @@ mod command_words;
 mod expected;
 mod failing_ends;
 mod invalid_texts;
+mod judged_runs;
 mod odd_sizes;
 mod pages;
 mod recursive;
