@@ -19,6 +19,9 @@ use pim_manager::Manager;
 use std::alloc::Global;
 use std::sync::{Condvar, Mutex, Wait};
 
+#[cfg(test)]
+mod tests;
+
 /// A manager that many threads call, one at a time, and that lookers read without a lock.
 ///
 /// It isn't `Drop`: `finish` ends it.

@@ -14,7 +14,9 @@ mod gates;
 mod gathering;
 mod looking;
 mod settling;
+mod starting;
 mod threads;
+mod waking;
 mod watching;
 mod working;
 
@@ -29,7 +31,7 @@ fn by(actor: u16, op: Op) -> Step {
 }
 
 /// The step of task 1 that sets the base of this task.
-fn base(task: u16, level: u16) -> Step {
+pub fn base(task: u16, level: u16) -> Step {
     by(1, Op::SetBase(TaskNo(task), level))
 }
 
@@ -47,7 +49,7 @@ fn at_base(rt: &impl Abort, steps: u64, level: u16) -> Result<Option<Seen>, Shar
 }
 
 /// A manager of tasks with these bases and of mutexes with these protocols.
-fn made(rt: &impl Abort, alloc: Global, bases: &[u16], protocols: &[Protocol]) -> Manager {
+pub fn made(rt: &impl Abort, alloc: Global, bases: &[u16], protocols: &[Protocol]) -> Manager {
     let mut prios = Vec::new(alloc);
     for level in bases {
         prios.push(prio(rt, *level)).expect(rt, "memory");
@@ -56,7 +58,7 @@ fn made(rt: &impl Abort, alloc: Global, bases: &[u16], protocols: &[Protocol]) -
 }
 
 /// A shared manager of two tasks with the bases 10 and 20.
-fn shared<R: Wait + Abort>(
+pub fn shared<R: Wait + Abort>(
     rt: &R,
     alloc: Global,
     protocols: &[Protocol],

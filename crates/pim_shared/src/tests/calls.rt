@@ -1,9 +1,10 @@
 //! What calls answer and log.
 
 use super::*;
+use crate::Gate;
 use crate::version::entry;
-use Op::{Lock, ReleaseAll, Try, Unlock};
-use pim_base::{Refusal, Reply};
+use Op::{Cancel, Lock, ReleaseAll, SetBase, Try, Unlock};
+use pim_base::{Entry, Refusal, Reply};
 
 #[test]
 fn a_full_log_closes(rt: HostRuntime) {
@@ -92,4 +93,71 @@ fn nothing_called_leaves_the_manager_and_an_empty_log(rt: HostRuntime) {
     let entries = log.entries().len();
     let sizes = (log.start().tasks(), manager.mutexes());
     assert_eq!(rt; (lookers, entries, sizes), (8, 0, (2, 1)));
+}
+
+/// Steps of two tasks over a recursive mutex and another one, with a reply of each kind.
+const REPLIES: [(u16, Op, Reply); 14] = [
+    (1, Lock(FIRST), Reply::Granted),
+    (1, Lock(FIRST), Reply::Granted),
+    (2, Lock(FIRST), Reply::Queued),
+    (1, Unlock(FIRST), Reply::Kept),
+    (2, ReleaseAll, Reply::Refused(Refusal::Waiting)),
+    (1, Cancel(TaskNo(2)), Reply::Withdrawn),
+    (2, Lock(FIRST), Reply::Queued),
+    (1, Unlock(FIRST), Reply::Handed(TaskNo(2))),
+    (2, Unlock(FIRST), Reply::Freed),
+    (1, SetBase(TaskNo(1), 30), Reply::Set),
+    (1, Lock(FIRST), Reply::Granted),
+    (1, Lock(MutexNo(2)), Reply::Granted),
+    (1, Lock(MutexNo(2)), Reply::Refused(Refusal::Deadlock)),
+    (1, ReleaseAll, Reply::Released(2)),
+];
+
+/// Makes the steps by `call`, and returns how many have their reply.
+fn replied<G: Gate, R: Wait>(rt: &R, gate: &G) -> u64 {
+    let mut right = 0u64;
+    for (actor, op, reply) in REPLIES {
+        if gate.call(rt, by(actor, op)) == Ok(reply) {
+            right = right.saturating_add(1);
+        }
+    }
+    right
+}
+
+/// Makes the steps by `call_with`, and returns how many have their reply.
+fn replied_with<R: Wait>(rt: &R, shared: &Shared, looker: &mut Looker) -> u64 {
+    let mut right = 0u64;
+    for (actor, op, reply) in REPLIES {
+        if shared.call_with(rt, looker, by(actor, op)) == Ok(reply) {
+            right = right.saturating_add(1);
+        }
+    }
+    right
+}
+
+/// Returns whether the entries are the steps with their replies, each once and in order.
+fn are_replies(entries: &[Entry]) -> bool {
+    let mut rest = entries.iter();
+    for (actor, op, reply) in REPLIES {
+        if rest.next() != Some(&entry(by(actor, op), reply)) {
+            return false;
+        }
+    }
+    rest.next().is_none()
+}
+
+#[test]
+fn each_reply_is_handed_on_and_each_step_made_once(rt: HostRuntime) {
+    let protocols = [Protocol::InheritRecursive, Protocol::None];
+    for by_looker in [false, true] {
+        let (shared, mut lookers) = shared(&rt, rt.alloc(), &protocols, 20, 1);
+        let right = match lookers.get_mut(0) {
+            Some(looker) if by_looker => replied_with(&rt, &shared, looker),
+            _ => replied(&rt, &shared),
+        };
+        let (_, log) = shared.finish(&rt);
+        let logged = are_replies(log.entries());
+        drop(log);
+        assert_eq!(rt; (right, logged), (14, true), "by a looker {by_looker}");
+    }
 }

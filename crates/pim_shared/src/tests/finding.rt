@@ -2,6 +2,7 @@
 
 use super::*;
 use pim_base::{Refusal, Reply};
+use std::thread::join;
 
 const SECOND: TaskNo = TaskNo(2);
 
@@ -112,4 +113,49 @@ fn a_looker_sees_what_a_look_would_when_it_finds_no_place(rt: HostRuntime) {
     let (_, _log) = other.finish(&rt);
     assert_eq!(rt; answer, Ok(Reply::Set));
     assert_eq!(rt; found, (Err(SharedFault::NoPlace), at_base(&rt, 1, 30)));
+}
+
+/// The number of calls of each caller.
+const CALLS: u16 = 1_000;
+
+/// Sets the base of the task again and again, each time by a call with the reader.
+fn find_often<R: Wait>(
+    rt: &R,
+    shared: &Shared,
+    looker: &mut Looker,
+    task: u16,
+) -> Result<(), SharedFault> {
+    for turn in 0..CALLS {
+        shared.call_with(rt, looker, base(task, turn % 99 + 1))?;
+    }
+    Ok(())
+}
+
+/// Releases the mutexes of task 2 again and again, each time by `call`.
+fn call_often<R: Wait>(rt: &R, shared: &Shared) -> Result<(), SharedFault> {
+    for _turn in 0..CALLS {
+        shared.call(rt, by(2, Op::ReleaseAll))?;
+    }
+    Ok(())
+}
+
+#[test]
+fn no_other_call_comes_between_a_call_and_its_looker(rt: HostRuntime) {
+    let room = 3 * usize::from(CALLS);
+    let (shared, mut lookers) = shared(&rt, rt.alloc(), &[], room, 2);
+    let mut b = lookers.pop().expect(&rt, "a looker");
+    let mut a = lookers.pop().expect(&rt, "a looker");
+    let answers = join(
+        &rt,
+        || join(
+            &rt,
+            || find_often(&rt, &shared, &mut a, 1),
+            || find_often(&rt, &shared, &mut b, 2),
+        ),
+        || call_often(&rt, &shared),
+    );
+    let (_, log) = shared.finish(&rt);
+    let entries = log.entries().len();
+    drop(log);
+    assert_eq!(rt; (answers, entries), (((Ok(()), Ok(())), Ok(())), room));
 }

@@ -3,7 +3,7 @@
 use super::{FIRST, scripts_of};
 use crate::{Gate, Settled, SharedFault, run_scripts, worker};
 use Op::{Cancel, Lock, ReleaseAll, SetBase, SetCeiling, Try, Unlock};
-use pim_base::{MAX_WORKERS, MutexNo, Op, Reply, Step, TaskNo};
+use pim_base::{MAX_WORKERS, MutexNo, Op, Refusal, Reply, Step, TaskNo};
 use std::alloc::Global;
 use std::process::Abort;
 use std::sync::atomic::{AtomicU64, Ordering};
@@ -20,23 +20,41 @@ enum Call {
     Settle(TaskNo, MutexNo),
 }
 
-/// A gate that keeps the calls in order, and answers `Full` to those for which it has no room. It queues each lock and
-/// each try, and frees the rest.
+/// What `settle` answers.
+type Settling = Result<Settled, SharedFault>;
+
+const OWNS: Settling = Ok(Settled::Owns);
+
+/// A gate that keeps the calls in order, and answers `Full` to those for which it has no room. All locks and tries have
+/// one reply, and all other steps another one.
 #[derive(Drop)]
 struct Recorder {
     calls: Mutex<Vec<Call>>,
     room: usize,
-    settled: Settled,
+    locked: Reply,
+    freed: Reply,
+    settled: Settling,
 }
 
 impl Recorder {
-    fn new(rt: &impl Abort, alloc: Global, room: usize, settled: Settled) -> Recorder {
+    /// Returns a gate that queues each lock and each try, and frees the rest.
+    fn new(rt: &impl Abort, alloc: Global, room: usize, settled: Settling) -> Recorder {
         let calls = Vec::with_capacity(alloc, room).expect(rt, "memory");
         Recorder {
             calls: Mutex::new(calls),
             room,
+            locked: Reply::Queued,
+            freed: Reply::Freed,
             settled,
         }
+    }
+
+    /// Returns a gate that refuses all steps.
+    fn refusing(rt: &impl Abort, alloc: Global, refusal: Refusal) -> Recorder {
+        let mut gate = Recorder::new(rt, alloc, 9, OWNS);
+        gate.locked = Reply::Refused(refusal);
+        gate.freed = Reply::Refused(refusal);
+        gate
     }
 
     fn keep<R: Wait>(&self, rt: &R, call: Call) -> Result<(), SharedFault> {
@@ -74,8 +92,8 @@ impl Gate for Recorder {
     fn call<R: Wait>(&self, rt: &R, step: Step) -> Result<Reply, SharedFault> {
         let Step { actor, op } = step;
         let reply = match op {
-            Lock(_) | Try(_) => Reply::Queued,
-            Unlock(_) | ReleaseAll | Cancel(_) | SetBase(..) | SetCeiling(..) => Reply::Freed,
+            Lock(_) | Try(_) => self.locked,
+            Unlock(_) | ReleaseAll | Cancel(_) | SetBase(..) | SetCeiling(..) => self.freed,
         };
         self.keep(rt, Call::Step(Step { actor, op }))?;
         Ok(reply)
@@ -88,7 +106,7 @@ impl Gate for Recorder {
         mutex: MutexNo,
     ) -> Result<Settled, SharedFault> {
         self.keep(rt, Call::Settle(task, mutex))?;
-        Ok(self.settled)
+        self.settled
     }
 }
 
@@ -183,7 +201,7 @@ const SETTLED: [Call; 4] = [
 #[test]
 fn a_worker_settles_after_a_queued_lock(rt: HostRuntime) {
     for settled in [Settled::Owns, Settled::Withdrawn] {
-        let gate = Recorder::new(&rt, rt.alloc(), 9, settled);
+        let gate = Recorder::new(&rt, rt.alloc(), 9, Ok(settled));
         expect_calls(&rt, gate, &LOCKED, Ok(()), &SETTLED);
     }
 }
@@ -210,17 +228,55 @@ fn a_worker_settles_after_no_other_line(rt: HostRuntime) {
             op: ReleaseAll,
         }),
     ];
-    let gate = Recorder::new(&rt, rt.alloc(), 9, Settled::Owns);
+    let gate = Recorder::new(&rt, rt.alloc(), 9, OWNS);
     expect_calls(&rt, gate, &LINES, Ok(()), &CALLS);
 }
 
 #[test]
 fn a_fault_ends_the_worker(rt: HostRuntime) {
     for room in 0..4 {
-        let gate = Recorder::new(&rt, rt.alloc(), room, Settled::Owns);
+        let gate = Recorder::new(&rt, rt.alloc(), room, OWNS);
         let full = Err(SharedFault::Full);
         expect_calls(&rt, gate, &LOCKED, full, &SETTLED[..room]);
     }
+}
+
+#[test]
+fn a_fault_of_settle_ends_the_worker(rt: HostRuntime) {
+    for fault in [SharedFault::Closed, SharedFault::Full] {
+        let gate = Recorder::new(&rt, rt.alloc(), 9, Err(fault));
+        expect_calls(&rt, gate, &LOCKED, Err(fault), &SETTLED[..2]);
+    }
+}
+
+/// The step of task 3.
+fn asked(op: Op) -> Call {
+    let actor = THIRD;
+    Call::Step(Step { actor, op })
+}
+
+#[test]
+fn a_worker_goes_on_after_a_refusal(rt: HostRuntime) {
+    let calls = [asked(Lock(FIRST)), asked(Unlock(FIRST)), asked(ReleaseAll)];
+    for refusal in Refusal::ALL {
+        let gate = Recorder::refusing(&rt, rt.alloc(), refusal);
+        expect_calls(&rt, gate, &LOCKED, Ok(()), &calls);
+    }
+}
+
+#[test]
+fn each_queued_lock_is_settled_and_a_release_follows_a_release(rt: HostRuntime) {
+    let calls = [
+        asked(Lock(SECOND)),
+        Call::Settle(THIRD, SECOND),
+        asked(Lock(FIRST)),
+        Call::Settle(THIRD, FIRST),
+        asked(ReleaseAll),
+        asked(ReleaseAll),
+    ];
+    let gate = Recorder::new(&rt, rt.alloc(), 9, OWNS);
+    let lines = [Lock(SECOND), Lock(FIRST), ReleaseAll];
+    expect_calls(&rt, gate, &lines, Ok(()), &calls);
 }
 
 // the task has asked for these lines, and then for the release of all
@@ -245,7 +301,7 @@ fn expect_run<R: Threads + Wait + Abort + Sync>(
 fn each_task_makes_its_script(rt: HostRuntime) {
     const UNLOCKED: [Op; 3] = [Lock(FIRST), Unlock(FIRST), ReleaseAll];
     const TRIED: [Op; 2] = [Try(SECOND), ReleaseAll];
-    let gate = Recorder::new(&rt, rt.alloc(), 20, Settled::Owns);
+    let gate = Recorder::new(&rt, rt.alloc(), 20, OWNS);
     let scripts = scripts_of(&rt, rt.alloc(), &[&LOCKED, &[], &TRIED[..1]]);
     expect_run(&rt, rt.alloc(), &gate, &scripts, 7);
     expect_asked(&rt, &gate, 1, &UNLOCKED);
@@ -255,7 +311,7 @@ fn each_task_makes_its_script(rt: HostRuntime) {
 
 #[test]
 fn no_scripts_make_no_call(rt: HostRuntime) {
-    let gate = Recorder::new(&rt, rt.alloc(), 1, Settled::Owns);
+    let gate = Recorder::new(&rt, rt.alloc(), 1, OWNS);
     assert_eq!(rt; run_scripts(&rt, rt.alloc(), &gate, &[]), Ok(()));
     assert!(rt; gate.has_kept(&[]));
 }
@@ -263,7 +319,7 @@ fn no_scripts_make_no_call(rt: HostRuntime) {
 #[test]
 fn sixteen_workers_make_their_scripts(rt: HostRuntime) {
     const UNLOCKED: [Op; 2] = [Unlock(FIRST), ReleaseAll];
-    let gate = Recorder::new(&rt, rt.alloc(), 33, Settled::Owns);
+    let gate = Recorder::new(&rt, rt.alloc(), 33, OWNS);
     let unlocked = UNLOCKED;
     let line = &unlocked[..1];
     let scripts = scripts_of(&rt, rt.alloc(), &[line; MAX_WORKERS]);
@@ -299,13 +355,45 @@ const FAULTS: [([Option<SharedFault>; 3], Result<(), SharedFault>); 6] = [
     ([FULL, MEMORY, CLOSED], Err(SharedFault::Full)),
 ];
 
+// runs the scripts over a gate with these faults, which answers this
+fn expect_outcome<R: Threads + Wait + Abort + Sync>(
+    rt: &R,
+    alloc: Global,
+    scripts: &[Vec<Op>],
+    faults: [Option<SharedFault>; 3],
+    answer: Result<(), SharedFault>,
+) {
+    assert!(rt; scripts.len() <= MAX_WORKERS);
+    let gate = Refusing { faults };
+    assert_eq!(rt; run_scripts(rt, alloc, &gate, scripts), answer);
+}
+
 #[test]
 fn the_fault_of_the_least_task_that_is_not_closed(rt: HostRuntime) {
     let scripts = scripts_of(&rt, rt.alloc(), &[&[], &[], &[]]);
-    assert!(rt; scripts.len() <= MAX_WORKERS);
     for (faults, answer) in FAULTS {
-        let gate = Refusing { faults };
-        let answered = run_scripts(&rt, rt.alloc(), &gate, &scripts);
-        assert_eq!(rt; answered, answer);
+        expect_outcome(&rt, rt.alloc(), &scripts, faults, answer);
     }
+}
+
+#[test]
+fn faults_of_two_empty_scripts(rt: HostRuntime) {
+    let scripts = scripts_of(&rt, rt.alloc(), &[&[], &[]]);
+    let (closed, full) = (Err(SharedFault::Closed), Err(SharedFault::Full));
+    for (faults, answer) in [([CLOSED, FULL, None], full), ([CLOSED; 3], closed)] {
+        expect_outcome(&rt, rt.alloc(), &scripts, faults, answer);
+    }
+}
+
+#[test]
+fn sixteen_closed_workers_come_to_closed(rt: HostRuntime) {
+    let empty: [&[Op]; MAX_WORKERS] = [&[]; MAX_WORKERS];
+    let scripts = scripts_of(&rt, rt.alloc(), &empty);
+    expect_outcome(
+        &rt,
+        rt.alloc(),
+        &scripts,
+        [CLOSED; 3],
+        Err(SharedFault::Closed),
+    );
 }

@@ -1,6 +1,6 @@
 //! Which logs are those of given scripts. The start has task 1 at 10 and task 2 at 20.
 
-use super::{by, made};
+use super::{FIRST, by, made};
 use crate::{Log, SharedFault, gather};
 use Line::{Lock, Release, SetBase, SetCeiling, Unlock};
 use pim_base::{Entry, MutexNo, Op, Protocol, Reply, TaskNo};
@@ -119,6 +119,19 @@ fn a_log_that_begins_elsewhere(rt: HostRuntime) {
     let protocols = [Protocol::None, Protocol::None];
     let other = made(&rt, rt.alloc(), &[10, 21], &protocols);
     let gathered = gather(log, &other, &scripts);
+    assert!(rt; matches!(gathered, Err(SharedFault::Torn)));
+}
+
+#[test]
+fn starts_that_differ_in_counts_alone(rt: HostRuntime) {
+    // Task 1 owns the recursive mutex in both, and has locked it once in the log's start and twice in the other.
+    let alloc = rt.alloc();
+    let mut start = made(&rt, alloc, &[10, 20], &[Protocol::InheritRecursive]);
+    start.step(by(1, Op::Lock(FIRST)));
+    let mut other = start.try_clone(alloc).expect(&rt, "memory");
+    other.step(by(1, Op::Lock(FIRST)));
+    let gathered = gather(Log::new(start, Vec::new(alloc)), &other, &[]);
+    drop(other);
     assert!(rt; matches!(gathered, Err(SharedFault::Torn)));
 }
 

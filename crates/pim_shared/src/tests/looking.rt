@@ -145,7 +145,7 @@ fn expect_looks(rt: &impl Abort, lookers: Vec<Looker>) {
 }
 
 #[test]
-fn there_are_as_many_lookers_as_asked_for_up_to_the_most(rt: HostRuntime) {
+fn as_many_lookers_as_asked_for_see_the_calls_of_their_own_manager(rt: HostRuntime) {
     for count in 0..pim_base::MAX_LOOKERS + 1 {
         let (shared, lookers) = shared(&rt, rt.alloc(), &[], 1, count);
         let (made, set) = (lookers.len(), shared.call(&rt, base(2, 70)));

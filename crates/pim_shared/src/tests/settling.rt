@@ -1,7 +1,7 @@
 //! What `settle` answers.
 
 use super::*;
-use crate::Settled;
+use crate::{Gate, Settled};
 use Op::{Cancel, Lock, ReleaseAll, Try, Unlock};
 use pim_base::Reply;
 use std::thread::join;
@@ -13,15 +13,15 @@ fn a_waiter_is_let_go_when_a_fault_closes(rt: HostRuntime) {
     let (shared, _) = shared(&rt, rt.alloc(), &[Protocol::None], 2, 0);
     let granted = shared.call(&rt, by(1, Lock(FIRST)));
     let open = [
-        shared.settle(&rt, TaskNo(1), FIRST),
-        shared.settle(&rt, TaskNo(2), FIRST),
-        shared.settle(&rt, TaskNo(9), NINTH),
+        Gate::settle(&shared, &rt, TaskNo(1), FIRST),
+        Gate::settle(&shared, &rt, TaskNo(2), FIRST),
+        Gate::settle(&shared, &rt, TaskNo(9), NINTH),
     ];
     let queued = shared.call(&rt, by(2, Lock(FIRST)));
     let full = shared.call(&rt, by(1, Try(FIRST)));
     let closed = [
-        shared.settle(&rt, TaskNo(2), FIRST),
-        shared.settle(&rt, TaskNo(1), FIRST),
+        Gate::settle(&shared, &rt, TaskNo(2), FIRST),
+        Gate::settle(&shared, &rt, TaskNo(1), FIRST),
     ];
     let (_, log) = shared.finish(&rt);
     let (owns, withdrawn) = (Ok(Settled::Owns), Ok(Settled::Withdrawn));

@@ -1,0 +1,75 @@
+//! Workers whose threads can't be started.
+
+use super::scripts_of;
+use crate::{Gate, Settled, SharedFault, run_scripts};
+use pim_base::{MAX_WORKERS, MutexNo, Op, Reply, Step, TaskNo};
+use std::alloc::{AllocError, Global};
+use std::process::Abort;
+use std::sync::Wait;
+use std::sync::atomic::{AtomicU64, Ordering};
+use std::thread::Threads;
+
+/// A gate that counts the calls, and frees for each.
+#[derive(Drop)]
+struct Counter {
+    calls: AtomicU64,
+}
+
+impl Gate for Counter {
+    fn call<R: Wait>(&self, _rt: &R, _step: Step) -> Result<Reply, SharedFault> {
+        self.calls.fetch_add(1, Ordering::SeqCst);
+        Ok(Reply::Freed)
+    }
+
+    fn settle<R: Wait>(
+        &self,
+        _rt: &R,
+        _task: TaskNo,
+        _mutex: MutexNo,
+    ) -> Result<Settled, SharedFault> {
+        Ok(Settled::Owns)
+    }
+}
+
+/// The most blocks of one size that are allocated.
+const BLOCKS: usize = 65_536;
+
+/// The size of the largest blocks. With addresses of 47 bits they fill the address space.
+const LARGEST: usize = 1 << 34;
+
+/// Allocates all blocks of at least 128 KiB, so that no stack can be allocated. Some smaller blocks stay free.
+fn all_large_blocks(alloc: Global) -> Result<Vec<Vec<u8>>, AllocError> {
+    let small: Vec<u8> = Vec::with_capacity(alloc, 1 << 16)?;
+    let mut blocks = Vec::with_capacity(alloc, BLOCKS)?;
+    for halvings in 0u32..18 {
+        for _block in 0..BLOCKS {
+            let Ok(block) = Vec::with_capacity(alloc, LARGEST >> halvings) else {
+                break;
+            };
+            blocks.push(block)?;
+        }
+    }
+    drop(small);
+    Ok(blocks)
+}
+
+// this number of scripts makes no call if no thread can be started
+fn expect_none_started<R: Threads + Wait + Abort + Sync>(rt: &R, alloc: Global, count: usize) {
+    let calls = AtomicU64::new(0);
+    let gate = Counter { calls };
+    let empty: [&[Op]; MAX_WORKERS] = [&[]; MAX_WORKERS];
+    let scripts = scripts_of(rt, alloc, &empty[..count.min(MAX_WORKERS)]);
+    assert!(rt; scripts.len() <= MAX_WORKERS);
+    let blocks = all_large_blocks(alloc).expect(rt, "memory");
+    let answer = run_scripts(rt, alloc, &gate, &scripts);
+    drop(blocks);
+    let made = (answer, gate.calls.load(Ordering::SeqCst));
+    assert_eq!(rt; made, (Err(SharedFault::Memory), 0), "{count}");
+}
+
+#[test]
+fn a_worker_that_is_not_started_makes_no_call_and_counts_as_memory(rt: HostRuntime) {
+    for count in [1, 2, MAX_WORKERS] {
+        expect_none_started(&rt, rt.alloc(), count);
+    }
+}

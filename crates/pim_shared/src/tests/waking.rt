@@ -1,0 +1,140 @@
+//! Threads that wait in `settle`, and the call that wakes them.
+
+use super::*;
+use crate::Settled;
+use Op::{Lock, ReleaseAll};
+use pim_base::Reply;
+use std::rt::Clock;
+use std::sync::atomic::{AtomicU64, Ordering};
+use std::thread::{self, Threads, join};
+use std::time::Duration;
+
+const SECOND: MutexNo = MutexNo(2);
+
+/// The numbers of threads that are about to call `settle`, and that have returned from it.
+#[derive(Drop)]
+struct Waits {
+    begun: AtomicU64,
+    ended: AtomicU64,
+}
+
+/// Returns whether the count reaches 2, within 1,000,000 turns.
+fn reaches_two(count: &AtomicU64) -> bool {
+    for _turn in 0..1_000_000 {
+        if count.load(Ordering::SeqCst) >= 2 {
+            return true;
+        }
+        thread::yield_now();
+    }
+    false
+}
+
+/// Calls `settle`, and counts before and after it.
+fn settle_counted<R: Wait>(
+    rt: &R,
+    shared: &Shared,
+    waits: &Waits,
+    task: u16,
+    mutex: MutexNo,
+) -> Result<Settled, SharedFault> {
+    waits.begun.fetch_add(1, Ordering::SeqCst);
+    let answer = shared.settle(rt, TaskNo(task), mutex);
+    waits.ended.fetch_add(1, Ordering::SeqCst);
+    answer
+}
+
+/// What the call that releases both mutexes returns, and whether it woke both threads.
+type Released = (Result<Reply, SharedFault>, bool);
+
+/// Releases both mutexes once both threads sleep in `settle`: by `call_with` if there is a reader, else by `call`.
+fn release<R: Wait + Clock>(
+    rt: &R,
+    shared: &Shared,
+    waits: &Waits,
+    looker: Option<&mut Looker>,
+) -> Released {
+    reaches_two(&waits.begun);
+    thread::sleep(rt, Duration::from_millis(2));
+    let step = by(1, ReleaseAll);
+    let answer = match looker {
+        Some(looker) => shared.call_with(rt, looker, step),
+        None => shared.call(rt, step),
+    };
+    let both = reaches_two(&waits.ended);
+    // Further calls wake a thread that the first one left asleep, so that the test fails and ends.
+    for _task in 0..2 {
+        let _closed = shared.call(rt, base(1, 10));
+    }
+    (answer, both)
+}
+
+/// What `settle` returns for the tasks 2 and 3, which wait for mutex 1 and mutex 2, and what the release returns.
+fn released<R: Threads + Wait + Clock + Sync>(
+    rt: &R,
+    shared: &Shared,
+    looker: Option<&mut Looker>,
+) -> (
+    (Result<Settled, SharedFault>, Result<Settled, SharedFault>),
+    Released,
+) {
+    let waits = Waits {
+        begun: AtomicU64::new(0),
+        ended: AtomicU64::new(0),
+    };
+    let waits = &waits;
+    join(
+        rt,
+        || {
+            join(
+                rt,
+                || settle_counted(rt, shared, waits, 2, FIRST),
+                || settle_counted(rt, shared, waits, 3, SECOND),
+            )
+        },
+        || release(rt, shared, waits, looker),
+    )
+}
+
+// one call of task 1 wakes the threads of the tasks 2 and 3: they own the mutexes then, or it found the log full
+fn expect_both_woken<R: Threads + Wait + Clock + Abort + Sync>(
+    rt: &R,
+    alloc: Global,
+    room: usize,
+    by_looker: bool,
+) {
+    let protocols = [Protocol::None, Protocol::None];
+    let mut manager = made(rt, alloc, &[10, 20, 30], &protocols);
+    let owned = [by(1, Lock(FIRST)), by(1, Lock(SECOND))];
+    manager.run(&owned);
+    let awaited = [by(2, Lock(FIRST)), by(3, Lock(SECOND))];
+    manager.run(&awaited);
+    let (shared, mut lookers) = Shared::new(rt, alloc, manager, room, 1).expect(rt, "memory");
+    let looker = if by_looker { lookers.get_mut(0) } else { None };
+    let (settled, released) = released(rt, &shared, looker);
+    let (_, _log) = shared.finish(rt);
+    let (wanted, answer) = if room == 1 {
+        (Ok(Settled::Owns), Ok(Reply::Released(2)))
+    } else {
+        (Err(SharedFault::Closed), Err(SharedFault::Full))
+    };
+    assert_eq!(rt;
+        released,
+        (answer, true),
+        "room {room}, by a looker {by_looker}"
+    );
+    assert_eq!(rt;
+        settled,
+        (wanted, wanted),
+        "room {room}, by a looker {by_looker}"
+    );
+}
+
+#[test]
+fn one_call_wakes_all_tasks_that_wait(rt: HostRuntime) {
+    for _round in 0..5 {
+        for room in 0..2 {
+            expect_both_woken(&rt, rt.alloc(), room, false);
+            expect_both_woken(&rt, rt.alloc(), room, true);
+        }
+    }
+}
