@@ -1,4 +1,4 @@
-//! What is kept behind the lock.
+//! What the lock guards.
 
 ghost use Rattle.std.specs.Prelude.{◌≡◌, ◌≤◌, ◌⊎◌, [], false, length, IfOk, IfErr};
 ghost use Rattle.std.specs.Vec.{vec_capacity};
@@ -21,18 +21,18 @@ use pim_manager::Manager;
 use std::marker::Model;
 use std::sync::Wait;
 
-/// A manager with its log, as it is whenever the lock is free.
+/// A manager and its log, as they are whenever the lock is free.
 ///
-/// Its value in contracts is the state at the start and now, the entries between, the room for them and whether all
-/// further calls are refused. The type keeps that the entries are a run of the model from the start to the state now, that
-/// there are at most as many as there is room for, and that they are the published list. By the type of the manager, no
-/// cycle of waits stands, each queue is in order, and each priority in force is the effective one.
+/// Its value in contracts is the start state, the current state, the entries between, the room for them and whether all
+/// further calls are refused. The type keeps that the entries are a run of the model from the start to the current state,
+/// that they don't exceed the room, and that they are the published list. The manager's type keeps that there is never a
+/// cycle of waits, that each queue is in order, and that each stored priority is the effective one.
 pub struct Book {
     start: Manager,
     entries: Vec<Entry>,
     room: usize,
     closed: bool,
-    /// The manager now is that of the published version, so that a step is made twice and not three times.
+    /// The current manager is that of the published version, so each step is made on two copies and not on three.
     publisher: Publisher,
 }
 
@@ -51,7 +51,7 @@ impl Model for Book {
 }
 
 impl Book {
-    /// Returns an open book of a manager at its start, with room for so many entries.
+    /// Returns an open book of a manager at its start, with an empty log.
     pub(crate) fn new(
         start: Manager,
         entries: Vec<Entry>,
@@ -71,9 +71,9 @@ impl Book {
         }
     }
 
-    /// Makes one step, logs it with its reply, and publishes it to the lookers. It is the one change of a book.
+    /// Makes one step, logs it with its reply, and publishes it to the readers. Nothing else changes a book.
     ///
-    /// It waits for lookers that still read the version before the last one.
+    /// It waits for readers that still use the version before the last one.
     ///
     /// # Errors
     ///
@@ -102,12 +102,12 @@ impl Book {
         Ok(last.reply)
     }
 
-    /// Makes one step by `call`, and lets the looker take the version that this publishes.
+    /// Makes one step by `call`, and then reads the published version with the reader.
     ///
     /// # Errors
     ///
-    /// Those of `call`, and the looker has seen what it had seen. `NoPlace` if the version that the looker takes isn't
-    /// longer than what it had seen, or doesn't end with this step and reply: the step is made and logged.
+    /// Those of `call`: then the reader reads nothing. `NoPlace` if the version that it reads has no more entries than it
+    /// has seen, or doesn't end with this step and reply: then the step was made and logged all the same.
     pub(crate) fn call_with<R: Wait>(
         &mut self,
         rt: &R,
@@ -131,15 +131,15 @@ impl Book {
         }
     }
 
-    /// Returns the manager as it is now: after a run of the model from the start, with the logged entries. Its getters show
-    /// each queue in order, and each priority in force as the effective one.
+    /// Returns the current manager, which is the result of a run of the model: from the start, by the logged entries.
+    /// Its getters return queues in order and effective priorities.
     pub fn manager(&self) -> &Manager
         ensures manager { result.now ≡ self.now.manager }
         ensures run { IsRun self.now.start self.now.entries self.now.manager }
         ensures steady { IsSteady self.now.manager }
         ensures no_cycle { ¬ HasCycle self.now.manager }
     {
-        // Its contract tells the proof that the state is steady.
+        // By its contract the proof knows that the state is steady.
         let manager = self.publisher.manager();
         let _steady = manager.tasks();
         manager

@@ -6,7 +6,7 @@ ghost use Rattle.pim_shared.specs.declared.fault.SharedFault.TheVariants.{Memory
 use std::alloc::AllocError;
 use thiserror::Error;
 
-/// Why a call was refused, or what came of it isn't a run of the scripts.
+/// Why a call was refused, or why a log isn't a run of the scripts.
 #[derive(Clone, Copy, Debug, PartialEq, Eq, Error)]
 pub enum SharedFault {
     /// The log holds as many entries as it has room for. Manager and log are unchanged, and closed from then on.
@@ -15,13 +15,13 @@ pub enum SharedFault {
     /// Out of memory, or a thread couldn't be started. Nothing is changed; a call closes what it is made on.
     #[error("memory")]
     Memory,
-    /// An earlier call met `Full` or `Memory`; for a look: the manager was taken out again. Nothing is changed.
+    /// An earlier call returned `Full` or `Memory`. For a read: `finish` took the manager out. Nothing is changed.
     #[error("closed")]
     Closed,
     /// The log begins elsewhere, or isn't an interleaving of the scripts.
     #[error("torn")]
     Torn,
-    /// There is no place for so many lookers, or the looker is of another manager.
+    /// There is no place for that many readers, or the reader is one of another manager.
     #[error("no place")]
     NoPlace,
 }

@@ -1,19 +1,19 @@
-//! What a worker calls: a manager behind a lock, or what stands in its place.
+//! What a worker calls: a manager behind a lock, or a replacement for it.
 
 use crate::fault::SharedFault;
 use pim_base::{MutexNo, Reply, Step, TaskNo};
 use std::sync::Wait;
 
-/// How a task has come out of a queue.
+/// How a task left a queue.
 #[derive(Clone, Copy, Debug, PartialEq, Eq)]
 pub enum Settled {
     /// It owns the mutex.
     Owns,
-    /// It doesn't own the mutex: it was withdrawn from the queue, or never stood in it.
+    /// It doesn't own the mutex: it was withdrawn from the queue, or was never in it.
     Withdrawn,
 }
 
-/// A manager that many threads call at once.
+/// A manager that many threads may call at the same time.
 pub trait Gate {
     /// Makes one step and returns its reply. This may wait for the calls of other threads.
     ///
@@ -26,6 +26,6 @@ pub trait Gate {
     ///
     /// # Errors
     ///
-    /// Those of the manager behind the gate: the task may wait then.
+    /// Those of the manager behind the gate. The task may still wait then.
     fn settle<R: Wait>(&self, rt: &R, task: TaskNo, mutex: MutexNo) -> Result<Settled, SharedFault>;
 }

@@ -1,4 +1,4 @@
-//! Whether a log is that of the scripts.
+//! Whether a log is one of the scripts.
 
 ghost use Rattle.std.specs.Prelude.{◌≡◌, ◌≤◌, ◌∷◌, ◌++◌, ◌↔◌, [], IsTrue, All, length, slice_get};
 ghost use Rattle.pim_base.specs.Runs.{IsInterleaving, asked_by};
@@ -12,11 +12,11 @@ use pim_base::{Entry, Op};
 use pim_manager::Manager;
 use std::cmp::Ordering;
 
-/// Returns the log where it begins at the state of `start`, and its entries are an interleaving of the scripts: the steps
-/// of each task, in order, are its script and then one release of all, and no other task has a step. The first script is
-/// that of task 1, and so on.
+/// Returns the log if it begins at the state of `start` and its entries are an interleaving of the scripts: the steps of
+/// each task, in order, are its script and then one release of all, and no other task has a step. The first script is
+/// task 1's, the second task 2's, and so on.
 ///
-/// Looks at each entry at most once for each script. It takes no memory, and never waits.
+/// It reads each entry at most once for each script, allocates nothing, and never waits.
 ///
 /// # Errors
 ///
@@ -67,7 +67,7 @@ fn has_made_script(entries: &[Entry], task: usize, script: &[Op]) -> bool
     due(script, done).is_none()
 }
 
-/// Returns what is due after so many steps of a task: a line of its script, then one release of all, then nothing.
+/// Returns the next step of a task that has made `done` steps: a line of its script, then one release of all, then none.
 fn due(script: &[Op], done: usize) -> Option<Op>
     ensures { result ≡ slice_get (script.now ++ Op.ReleaseAll ∷ []) done }
 {

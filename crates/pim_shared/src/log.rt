@@ -1,4 +1,4 @@
-//! What was asked of a manager and answered, from its start on.
+//! The steps that a manager made since its start, with their replies.
 
 ghost use Rattle.std.specs.Prelude.{◌≡◌};
 

@@ -1,4 +1,4 @@
-//! A reader of the manager that never waits.
+//! A wait-free reader of the manager.
 
 ghost use Rattle.std.specs.Prelude.{◌≡◌, [], IsTrue, IfOk, IfErr, MatchOption};
 ghost use mathlib.Core.List.{IsPrefix};
@@ -13,10 +13,10 @@ use core::mem::replace_with;
 use pim_base::{Entry, Prio, Reason, TaskNo};
 use std::marker::Model;
 
-/// What a look tells of a task.
+/// What a read returns of a task.
 #[derive(Clone, Copy, Debug, PartialEq, Eq)]
 pub struct Seen {
-    /// How many entries the log had.
+    /// The number of entries in the log.
     pub steps: u64,
     /// The effective priority of the task after these.
     pub prio: Prio,
@@ -24,10 +24,10 @@ pub struct Seen {
     pub reason: Reason,
 }
 
-/// A reader of the manager, which never waits and takes no lock.
+/// A wait-free reader of the manager: it takes no lock.
 ///
-/// Its value in contracts is the state at the start and the list of entries that it has seen, at first none. Each look
-/// sees a list that was published and begins with the one seen before, so no look goes back.
+/// Its value in contracts is the start state and the list of entries that it has seen, which is empty at first. Each read
+/// sees a published list that begins with the one seen before, so no read goes back.
 #[derive(Drop)]
 pub struct Looker {
     reader: VersionReader,
@@ -47,7 +47,7 @@ impl Model for Looker {
 }
 
 impl Looker {
-    /// Returns the looker of a reader that knows the start and has seen nothing.
+    /// Returns a reader that knows the start and has seen no entry.
     pub(crate) fn new(reader: VersionReader) -> Looker
         requires { KnowsStart (known reader.place) × ((known reader.place).seen ≡ []) }
         ensures { result ≡ history_of (known reader.place) }
@@ -55,14 +55,14 @@ impl Looker {
         Looker { reader, steps: 0 }
     }
 
-    /// Returns the effective priority of the task, the reason, and after how many entries: all by the definitions, after
-    /// the list that was published last. None for an unknown task.
+    /// Returns the task's effective priority, its reason and the number of entries in the last published version. None for
+    /// an unknown task.
     ///
-    /// It never waits, and takes no lock and no memory. It costs a few atomic steps and what `Manager::reason` costs.
+    /// It never waits, takes no lock and allocates nothing. It costs a few atomic operations and a `Manager::reason`.
     ///
     /// # Errors
     ///
-    /// `Closed` once the manager was taken out again by `finish`. A fault of a call doesn't stop looks.
+    /// `Closed` after `finish`. A fault of a call doesn't stop reads.
     pub fn look(&mut self, task: TaskNo) -> Result<Option<Seen>, SharedFault>
         ensures start { self.new.start ≡ self.old.start }
         ensures grown { IsPrefix self.old.entries self.new.entries }
@@ -78,7 +78,7 @@ impl Looker {
         }
     }
 
-    /// Takes what was published last, and returns whether it has more entries than were seen and ends with this one.
+    /// Reads the last published version. Returns whether it has more entries than were seen and ends with this one.
     pub(crate) fn finds(&mut self, entry: Entry) -> bool
         ensures start { self.new.start ≡ self.old.start }
         ensures grown { IsPrefix self.old.entries self.new.entries }
@@ -96,7 +96,7 @@ impl Looker {
     }
 }
 
-/// Returns how many entries the published version has, and what it tells of the task; None if there is none any more.
+/// Returns the number of entries of the published version and what it says of the task. None after the publisher ended.
 fn look_once(reader: VersionReader, task: TaskNo) -> (VersionReader, Option<(u64, Option<Seen>)>)
     requires { KnowsStart (known reader.place) }
     ensures { MatchOption result.1 (known result.0.place ≡ known reader.place) (HasLooked task (known reader.place) (known result.0.place)) }
@@ -111,7 +111,7 @@ fn look_once(reader: VersionReader, task: TaskNo) -> (VersionReader, Option<(u64
     }
 }
 
-/// Returns how many entries the published version has, and the last of them; None if there is none any more.
+/// Returns the number of entries of the published version and the last of them. None after the publisher ended.
 fn last_once(reader: VersionReader, _nothing: ()) -> (VersionReader, Option<(u64, Option<Entry>)>)
     requires { KnowsStart (known reader.place) }
     ensures { MatchOption result.1 (known result.0.place ≡ known reader.place) (HasFoundLast (known reader.place) (known result.0.place)) }

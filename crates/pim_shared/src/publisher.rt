@@ -18,7 +18,7 @@ use std::marker::Model;
 use std::mem::ManuallyDrop;
 use std::sync::Wait;
 
-/// The writer of the versions. It isn't `Drop`, since its end waits for lookers that still read: `end` ends it.
+/// The writer of the versions. It isn't `Drop`: only `end` ends it, which waits for readers.
 ///
 /// Its value in contracts is the start, the published list, the state after it, and the steps that are pending.
 pub struct Publisher {
@@ -37,8 +37,8 @@ impl Model for Publisher {
 }
 
 impl Publisher {
-    /// Returns a publisher that has published nothing yet, with places for so many lookers. The two managers are the
-    /// copies between which the versions alternate.
+    /// Returns a publisher that has published nothing yet, with places for `lookers` readers. Versions alternate between
+    /// the two managers.
     pub(crate) fn new<R: Wait>(
         rt: &R,
         alloc: Global,
@@ -57,7 +57,7 @@ impl Publisher {
         })
     }
 
-    /// Returns a looker that has seen nothing.
+    /// Returns a reader that has seen no entry.
     ///
     /// # Errors
     ///
@@ -71,7 +71,7 @@ impl Publisher {
         Ok(Looker::new(reader))
     }
 
-    /// Takes a step in, to be published.
+    /// Appends a step for `publish`.
     ///
     /// # Errors
     ///
@@ -79,7 +79,7 @@ impl Publisher {
     pub(crate) fn append(&mut self, step: Step) -> Result<(), AllocError>
         ensures { MatchResult result (λ _. self.new ≡ with_pending self.old step) (λ _. self.new ≡ self.old) }
     {
-        // Taken apart, since the generated proof knows of an operation only where it stands by itself.
+        // Taken apart, since the generated proof copies an operation only by itself.
         let Step { actor, op } = step;
         match self.writer.append(Step { actor, op }) {
             Ok(()) => Ok(()),
@@ -87,7 +87,7 @@ impl Publisher {
         }
     }
 
-    /// Publishes the step that is pending. It waits for lookers that still read the version before the last one.
+    /// Publishes the pending step. It waits for readers that still use the version before the last one.
     pub(crate) fn publish<R: Wait>(&mut self, rt: &R)
         requires one { (step : Step) × (self.old.pending ≡ step ∷ []) }
         requires short { length self.old.entries + 1 < 2 ^ 64 }
@@ -110,8 +110,7 @@ impl Publisher {
         self.writer.published().last
     }
 
-    /// Ends the publishing, and returns the manager. It waits for lookers that still read; from then on they find no
-    /// version.
+    /// Ends the publishing, and returns the manager. It waits for readers in a read. Later reads find no version.
     pub(crate) fn end<R: Wait>(self, rt: &R) -> Manager
         ensures { result ≡ self.state }
     {
@@ -121,15 +120,15 @@ impl Publisher {
     }
 }
 
-/// Keeps the writer from the drop of what owns it.
+/// Returns the writer such that its owner's drop leaves it alone.
 fn kept(writer: VersionWriter) -> ManuallyDrop<VersionWriter>
     ensures { manually_drop_value result ≡ writer }
 {
-    // The one who owns it ends it by `into_inner` and `take`.
+    // Its owner ends it by `into_inner` and `take`.
     unsafe { ManuallyDrop::new_unchecked(writer) }
 }
 
-/// Publishes the step that is pending.
+/// Publishes the pending step.
 fn published<R: Wait>(
     writer: ManuallyDrop<VersionWriter>,
     rt: &R,
@@ -141,7 +140,7 @@ fn published<R: Wait>(
     (kept(writer), ())
 }
 
-/// Lets a new writer know the start, by publishing nothing.
+/// Makes the start known to a new writer. It publishes no step.
 fn begun<R: Wait>(writer: VersionWriter, rt: &R) -> VersionWriter
     requires { IsNew (state_of writer) }
     ensures { state_of result ≡ record (state_of writer) { known = unseen (Some (state_of writer).version.manager) } }

@@ -1,4 +1,4 @@
-//! The rule between the writer of the versions and the lookers, and their steps under it.
+//! The rule between the writer of the versions and the readers, and their steps under it.
 
 use crate::version::Version;
 use atomic_table::{Join, Split};
@@ -9,8 +9,8 @@ use pim_base::{Entry, Step};
 use pim_manager::Manager;
 use std::collections::LinkedList;
 
-/// What the writer or a looker knows: the start, once it is told, and the entries that it has seen. It is a name for
-/// proofs; no value of it is made.
+/// What the writer or a reader knows: the start, once it was given that, and the entries that it has seen. The type exists
+/// for proofs, and the program makes no value of it.
 pub struct Known {
     pub start: Option<Manager>,
     pub seen: LinkedList<Entry>,
@@ -45,7 +45,7 @@ impl Outcome<Version, Known> for Publishes {
     ghost then = { publishes };
 }
 
-/// A looker's seen list becomes the published one.
+/// The list that a reader has seen becomes the published one.
 pub struct Enters;
 
 impl Outcome<Version, Known> for Enters {
@@ -54,7 +54,7 @@ impl Outcome<Version, Known> for Enters {
     ghost then = { enters };
 }
 
-/// The writer tells a looker the start.
+/// The writer gives a reader the start.
 pub struct TellsStart;
 
 impl Split<Known> for TellsStart {

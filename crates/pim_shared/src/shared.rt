@@ -22,21 +22,21 @@ use std::sync::{Condvar, Mutex, Wait};
 #[cfg(test)]
 mod tests;
 
-/// A manager that many threads call, one at a time, and that lookers read without a lock.
+/// A manager that many threads call, one at a time, and that wait-free readers read without the lock.
 ///
-/// It isn't `Drop`: `finish` ends it.
+/// It isn't `Drop`: only `finish` ends it.
 pub struct Shared {
     book: Mutex<Book>,
     changed: Condvar,
 }
 
 impl Shared {
-    /// Returns a shared manager whose start is the state of this one, with an empty log that has room for `room` entries,
-    /// and so many lookers.
+    /// Returns a shared manager that starts in the state of `manager`, and `lookers` wait-free readers of it. Its log is
+    /// empty and has room for `room` entries.
     ///
     /// # Errors
     ///
-    /// `NoPlace` above `MAX_LOOKERS`, else `Memory` if out of memory, also `NoPlace` if there is no place for a looker.
+    /// `NoPlace` above `MAX_LOOKERS`, else `Memory` if out of memory. `NoPlace` also if a reader gets no place.
     pub fn new<R: Wait>(
         rt: &R,
         alloc: Global,
@@ -74,12 +74,12 @@ impl Shared {
 
     /// Makes one step under the lock by `Book::call`, and returns its reply.
     ///
-    /// It waits for the calls of other threads, and for lookers that still read the version before the last one. No contract
-    /// can say what it did to the book behind the lock, since other threads may have changed it since; tests show that.
+    /// It waits for the calls of other threads, and for readers that still use the version before the last one. No contract
+    /// can say what it does to the book, which other threads may change as soon as the lock is free. Tests show it.
     ///
     /// # Errors
     ///
-    /// Those of `Book::call`. All who wait in `settle` are woken.
+    /// Those of `Book::call`. After an error, too, all threads in `settle` are woken.
     pub fn call<R: Wait>(&self, rt: &R, step: Step) -> Result<Reply, SharedFault>
         ensures refused { IfErr result IsCallFault }
     {
@@ -89,12 +89,13 @@ impl Shared {
         answer
     }
 
-    /// Makes one step as `call` does, and lets the looker see it while the lock is held.
+    /// Makes one step under the lock by `Book::call_with`, whose reader reads before another call can be made.
     ///
     /// # Errors
     ///
-    /// Those of `call`: the looker has seen what it had seen. `NoPlace` if what the looker sees isn't longer or doesn't end
-    /// with this step and reply, as where it is a looker of another shared manager: the step is made and logged.
+    /// Those of `call`: then the reader reads nothing. `NoPlace` if the version that it reads has no more entries than it
+    /// has seen, or doesn't end with this step and reply, as for a reader of another shared manager: then the step was
+    /// made and logged all the same.
     pub fn call_with<R: Wait>(
         &self,
         rt: &R,
@@ -114,11 +115,11 @@ impl Shared {
         answer
     }
 
-    /// Waits until the task doesn't wait, and returns whether it owns the mutex then.
+    /// Blocks while the task waits, and then returns whether it owns the mutex.
     ///
     /// # Errors
     ///
-    /// `Closed` if the task waits and all further calls are refused, so that none can end its wait.
+    /// `Closed` if the task waits and all further calls are refused, so that no call can end its wait.
     pub fn settle<R: Wait>(
         &self,
         rt: &R,
@@ -133,10 +134,9 @@ impl Shared {
         book.settled(task, mutex).ok_or(SharedFault::Closed)
     }
 
-    /// Returns the manager and the log, whose entries are a run of the model from its start. From then on looks answer
-    /// `Closed`.
+    /// Returns the manager and the log, whose entries are a run of the model from its start. Later reads return `Closed`.
     ///
-    /// It waits for lookers that still read.
+    /// It waits for readers in a read.
     pub fn finish<R: Wait>(self, rt: &R) -> (Manager, Log)
         ensures { IsRun result.1.start result.1.entries result.0 }
     {
@@ -145,7 +145,7 @@ impl Shared {
     }
 }
 
-/// Returns so many lookers that have seen nothing.
+/// Returns `count` readers that have seen no entry.
 fn lookers_of(
     publisher: &mut Publisher,
     alloc: Global,

@@ -39,7 +39,7 @@ fn prio(rt: &impl Abort, level: u16) -> Prio {
     Prio::new(level).expect(rt, "a priority")
 }
 
-/// What a look tells of a task that executes at its base.
+/// What a read returns of a task that executes at its base.
 fn at_base(rt: &impl Abort, steps: u64, level: u16) -> Result<Option<Seen>, SharedFault> {
     Ok(Some(Seen {
         steps,

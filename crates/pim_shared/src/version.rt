@@ -1,4 +1,4 @@
-//! What lookers take.
+//! What readers read.
 
 ghost use Rattle.std.specs.Prelude.{◌≡◌};
 ghost use Rattle.pim_shared.specs.Versions.{first_version, next_version};
@@ -8,7 +8,7 @@ use pim_base::{Entry, Reply, Step};
 use pim_manager::Manager;
 use std::alloc::AllocError;
 
-/// The manager, how many entries were made, and the last of them.
+/// The manager, the number of entries so far, and the last of them.
 #[derive(Drop)]
 pub struct Version {
     pub manager: Manager,
@@ -28,7 +28,7 @@ impl Version {
         }
     }
 
-    /// Makes one step more.
+    /// Makes a step.
     fn step(&mut self, step: &Step)
         ensures { self.new ≡ next_version self.old step.now }
     {
@@ -40,15 +40,15 @@ impl Version {
 
 /// Returns the entry of a step and its reply.
 ///
-/// It is a call of its own since the generated proof copies a step only where it is handed to one.
+/// It is a function since the generated proof copies a step only as an argument.
 pub(crate) fn entry(step: Step, reply: Reply) -> Entry
     ensures { result ≡ record { step = step; reply = reply } }
 {
     Entry { step, reply }
 }
 
-/// A whole step is absorbed, by each copy for itself: from equal states the same step has equal replies and leaves
-/// equal states.
+/// Each copy absorbs the whole step by itself: from equal states the same step gets equal replies and leaves equal
+/// states.
 impl Absorb<Step> for Version {
     ghost use Rattle.pim_shared.specs.Versions.{next_version};
 

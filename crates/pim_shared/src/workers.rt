@@ -1,4 +1,4 @@
-//! Workers: each makes the steps of one task's script, in a thread of its own.
+//! Workers: each makes the steps of one task's script in its own thread.
 
 ghost use Rattle.std.specs.Prelude.{◌≡◌, ◌≤◌, length};
 ghost use Rattle.pim_base.specs.declared.limits.TheConstants.{MAX_WORKERS};
@@ -12,9 +12,8 @@ use std::sync::Wait;
 use std::thread;
 use std::thread::Threads;
 
-/// Makes the steps of a task: each line by one call, in order, and then one release of all its mutexes. After a lock
-/// that was queued it waits until the task has come out of that queue, and goes on whether it owns the mutex then or was
-/// withdrawn.
+/// Makes the steps of a task: each line by one call, in order, and then one release of all its mutexes. After a queued
+/// lock it waits until the task has left the queue. It goes on whether the task owns the mutex then or was withdrawn.
 ///
 /// # Errors
 ///
@@ -49,7 +48,7 @@ pub fn worker<G: Gate, R: Wait>(
     Ok(())
 }
 
-/// Returns the mutex that the operation waits for where it is queued, and `None` where it can't be.
+/// Returns the mutex that the operation waits for if it is queued, and `None` if it never is.
 fn mutex_to_wait_for(op: &Op) -> Option<MutexNo> {
     match op {
         Op::Lock(mutex) => Some(*mutex),
@@ -62,14 +61,14 @@ fn mutex_to_wait_for(op: &Op) -> Option<MutexNo> {
     }
 }
 
-/// Runs one worker for each script, each in a thread of its own: the first script is that of task 1, and so on.
+/// Runs one worker for each script, each in its own thread: the first script is task 1's, the second task 2's, and so on.
 /// Returns when all have ended.
 ///
 /// # Errors
 ///
-/// The fault of the least task whose fault isn't `Closed`, else `Closed` if any worker met it. Each worker has a fault
-/// of the gate, or `Memory` if its thread couldn't be started. `Memory` also if out of memory for their answers: then
-/// no worker starts.
+/// The fault of the least task whose fault isn't `Closed`, else `Closed` if any worker met it. A worker's fault is one of
+/// the gate, or `Memory` if its thread couldn't be started. `Memory` also if there is none for the answers: then no worker
+/// starts.
 pub fn run_scripts<G: Gate + Sync, R: Threads + Wait + Sync>(
     rt: &R,
     alloc: Global,
@@ -78,7 +77,7 @@ pub fn run_scripts<G: Gate + Sync, R: Threads + Wait + Sync>(
 ) -> Result<(), SharedFault>
     requires { length scripts.now ≤ MAX_WORKERS }
 {
-    // What stands for a worker that isn't started.
+    // The answer of a worker that isn't started.
     let mut answers = Vec::from_elem(alloc, Err(SharedFault::Memory), scripts.len())?;
     thread::scope(thread::scope_env(), rt, |scope| {
         for (task, (script, answer)) in (1..).zip(scripts.iter().zip(&mut answers)) {

@@ -1,4 +1,4 @@
-//! What is kept behind the lock.
+//! What the lock guards.
 
 use super::*;
 use crate::Settled;
@@ -46,7 +46,7 @@ fn a_full_book_is_closed_and_else_unchanged(rt: HostRuntime) {
     assert_eq!(rt; after, (1, Some(prio(&rt, 70))));
 }
 
-// what the book answers of each task and mutex
+// for each task and mutex the book returns this
 fn expect_settled(rt: &impl Abort, book: &Book, answers: &[(u16, u16, Option<Settled>)]) {
     for (task, mutex, settled) in answers {
         let answer = book.settled(TaskNo(*task), MutexNo(*mutex));

@@ -1,4 +1,4 @@
-//! What calls answer and log.
+//! What calls return and log.
 
 use super::*;
 use crate::Gate;

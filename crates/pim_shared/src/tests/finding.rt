@@ -1,4 +1,4 @@
-//! Calls that a looker learns of.
+//! Calls by `call_with`, and what its reader sees.
 
 use super::*;
 use pim_base::{Refusal, Reply};
@@ -17,7 +17,7 @@ fn a_looker_sees_the_call_made_with_it(rt: HostRuntime) {
     assert_eq!(rt; seen, [at_base(&rt, 1, 70), Ok(None)]);
 }
 
-/// A shared manager with room for three entries, and two lookers of it.
+/// A shared manager with room for three entries, and two readers of it.
 fn with_two_lookers<R: Wait + Abort>(rt: &R, alloc: Global) -> (Shared, Looker, Looker) {
     let (shared, mut lookers) = shared(rt, alloc, &[], 3, 2);
     let b = lookers.pop().expect(rt, "a looker");
@@ -25,13 +25,13 @@ fn with_two_lookers<R: Wait + Abort>(rt: &R, alloc: Global) -> (Shared, Looker, 
     (shared, a, b)
 }
 
-/// What a call is answered, and what its looker then sees of task 2.
+/// What a call returns, and what its reader then sees of task 2.
 type Found = (
     Result<Reply, SharedFault>,
     Result<Option<Seen>, SharedFault>,
 );
 
-/// Makes the call with the looker, and then looks.
+/// Makes the call with the reader, and then reads.
 fn find<R: Wait>(rt: &R, shared: &Shared, looker: &mut Looker, step: Step) -> Found {
     (shared.call_with(rt, looker, step), looker.look(SECOND))
 }

@@ -1,4 +1,4 @@
-//! What workers call, over gates that stand in the place of a manager.
+//! What workers call, over gates that replace a manager.
 
 use super::{FIRST, scripts_of};
 use crate::{Gate, Settled, SharedFault, run_scripts, worker};
@@ -73,7 +73,7 @@ impl Recorder {
         self.calls.into_inner().as_slice() == calls
     }
 
-    /// Returns whether these are the steps that the task has asked for, in this order.
+    /// Returns whether these are the steps of the task, in this order.
     fn has_asked(&self, rt: &impl Wait, task: u16, ops: &[Op]) -> bool {
         let mut due = ops.iter();
         for call in self.calls.lock(rt).as_slice() {
@@ -110,7 +110,7 @@ impl Gate for Recorder {
     }
 }
 
-/// A gate that has a fault for some tasks, task 1 first, and frees for the others.
+/// A gate with a fault for some tasks, task 1 first. It frees for the others.
 #[derive(Drop)]
 struct Refusing {
     faults: [Option<SharedFault>; 3],
@@ -136,7 +136,7 @@ impl Gate for Refusing {
     }
 }
 
-/// A gate that holds each call until another has come, for at most 1,000,000 turns. Then it answers `Torn`.
+/// A gate that holds each call until another one arrives, for at most 1,000,000 turns. Then it returns `Torn`.
 #[derive(Drop)]
 struct Rendezvous {
     calls: AtomicU64,
@@ -166,7 +166,7 @@ impl Gate for Rendezvous {
 
 const THIRD: TaskNo = TaskNo(3);
 
-// task 3 makes the lines, the gate keeps these calls, and the worker answers this
+// task 3 makes the lines, the gate keeps these calls, and the worker returns this
 fn expect_calls<R: Wait + Abort>(
     rt: &R,
     gate: Recorder,
@@ -181,7 +181,7 @@ fn expect_calls<R: Wait + Abort>(
 /// A lock and an unlock.
 const LOCKED: [Op; 2] = [Lock(FIRST), Unlock(FIRST)];
 
-/// The calls of a worker whose lock was queued, of which the last one is the release.
+/// The calls of a worker whose lock was queued. The last one is the release.
 const SETTLED: [Call; 4] = [
     Call::Step(Step {
         actor: THIRD,
@@ -279,12 +279,12 @@ fn each_queued_lock_is_settled_and_a_release_follows_a_release(rt: HostRuntime) 
     expect_calls(&rt, gate, &lines, Ok(()), &calls);
 }
 
-// the task has asked for these lines, and then for the release of all
+// the task has made these steps
 fn expect_asked<R: Wait + Abort>(rt: &R, gate: &Recorder, task: u16, ops: &[Op]) {
     assert!(rt; gate.has_asked(rt, task, ops), "{task}");
 }
 
-// runs the scripts over the gate, which has so many calls then
+// runs the scripts over the gate, which then has kept this number of calls
 fn expect_run<R: Threads + Wait + Abort + Sync>(
     rt: &R,
     alloc: Global,
@@ -345,7 +345,7 @@ const FULL: Option<SharedFault> = Some(SharedFault::Full);
 
 const MEMORY: Option<SharedFault> = Some(SharedFault::Memory);
 
-/// The fault of each task's call, and what the run answers.
+/// The fault of each task's call, and what the run returns.
 const FAULTS: [([Option<SharedFault>; 3], Result<(), SharedFault>); 6] = [
     ([None, None, None], Ok(())),
     ([CLOSED, FULL, None], Err(SharedFault::Full)),

@@ -35,7 +35,7 @@ type Steps = &'static [(u16, Line)];
 /// The lines of each script, task 1's first.
 type Scripts = &'static [&'static [Line]];
 
-/// A log of these steps. What was replied doesn't matter.
+/// A log of these steps. The replies don't matter.
 fn log_of(rt: &impl Abort, alloc: Global, steps: Steps) -> Log {
     let start = made(rt, alloc, &[10, 20], &[Protocol::None, Protocol::None]);
     let mut entries = Vec::new(alloc);

@@ -1,4 +1,4 @@
-//! What lookers see.
+//! What readers see.
 
 use super::*;
 use Op::Lock;
@@ -6,10 +6,10 @@ use pim_base::Reply;
 
 const SECOND: TaskNo = TaskNo(2);
 
-/// What a looker sees, or that it is closed.
+/// What a read returns.
 type Look = Result<Option<Seen>, SharedFault>;
 
-/// A shared manager with one looker.
+/// A shared manager with one reader.
 fn with_looker<R: Wait + Abort>(
     rt: &R,
     alloc: Global,
@@ -20,7 +20,7 @@ fn with_looker<R: Wait + Abort>(
     (shared, lookers.pop().expect(rt, "a looker"))
 }
 
-// the step is replied to so, and the looker then sees this of the task
+// the step gets this reply, and the reader then sees this of the task
 fn expect_call<R: Wait + Abort>(
     rt: &R,
     shared: &Shared,
@@ -137,7 +137,7 @@ fn a_closed_manager_is_still_looked_at(rt: HostRuntime) {
     assert_eq!(rt; seen, at_base(&rt, 1, 70));
 }
 
-// each looker sees one entry, by which task 2 is at 70
+// each reader sees one entry, which set the base of task 2 to 70
 fn expect_looks(rt: &impl Abort, lookers: Vec<Looker>) {
     for mut looker in lookers {
         assert_eq!(rt; looker.look(SECOND), at_base(rt, 1, 70));
@@ -155,7 +155,7 @@ fn as_many_lookers_as_asked_for_see_the_calls_of_their_own_manager(rt: HostRunti
     }
 }
 
-// the fault of a shared manager with so many lookers, if it has one
+// the fault of a shared manager with this number of readers, if it has one
 fn fault_of<R: Wait + Abort>(rt: &R, alloc: Global, count: u16) -> Option<SharedFault> {
     let manager = made(rt, alloc, &[10, 20], &[]);
     match Shared::new(rt, alloc, manager, 1, count) {

@@ -1,4 +1,4 @@
-//! What `settle` answers.
+//! What `settle` returns.
 
 use super::*;
 use crate::{Gate, Settled};
@@ -60,7 +60,7 @@ fn a_waiter_owns_after_the_hand_over(rt: HostRuntime) {
     assert_eq!(rt; settled, [Ok(Settled::Owns), Ok(Settled::Withdrawn)]);
 }
 
-/// What task 2, queued behind task 1 in a thread of its own, is answered when task 1 makes this step.
+/// What `settle` returns of task 2, which waits in its own thread, after task 1 makes this step.
 fn settled_by<R: Wait + Abort + std::thread::Threads + Sync>(
     rt: &R,
     alloc: Global,

@@ -1,4 +1,4 @@
-//! Threads that call one shared manager at once.
+//! Threads that call one shared manager at the same time.
 
 use super::*;
 use crate::version::entry;
@@ -9,7 +9,7 @@ use std::thread::join;
 
 const CALLS: usize = 100;
 
-/// Makes calls of this task, a try and an unlock by turns, and returns the steps with what they were answered.
+/// Makes calls of this task, a try and an unlock in turn, and returns the steps with their replies.
 fn try_and_unlock<R: Wait>(
     rt: &R,
     alloc: Global,
@@ -43,7 +43,7 @@ fn entries_of(alloc: Global, entries: &[Entry], task: u16) -> Result<Vec<Entry>,
     Ok(own)
 }
 
-// two tasks at 10 and 20 and a free mutex
+// there are two tasks, with the bases 10 and 20, and a free mutex
 fn expect_start(rt: &impl Abort, start: &Manager) {
     assert_eq!(rt; (start.tasks(), start.mutexes()), (2, 1));
     assert_eq!(rt; start.base(TaskNo(1)), Some(prio(rt, 10)));

@@ -1,4 +1,4 @@
-//! Lookers beside threads that call.
+//! Readers that read while other threads call.
 
 use super::*;
 use crate::Log;
@@ -12,10 +12,10 @@ const CALLS: u16 = 50;
 
 const LOOKS: u16 = 400;
 
-/// What was seen of which task.
+/// A task, and what was seen of it.
 type Look = (TaskNo, Seen);
 
-/// Makes calls of this task that queue, boost and hand over, by turns.
+/// Makes calls of this task that queue, boost and hand over, in turn.
 fn call_by_turns<R: Wait>(rt: &R, shared: &Shared, task: u16) -> Result<(), SharedFault> {
     let second = MutexNo(2);
     for turn in 0..CALLS {
@@ -33,7 +33,7 @@ fn call_by_turns<R: Wait>(rt: &R, shared: &Shared, task: u16) -> Result<(), Shar
     Ok(())
 }
 
-/// Looks at the tasks by turns, and returns what was seen.
+/// Reads the tasks in turn, and returns what was seen.
 fn watch(alloc: Global, looker: &mut Looker) -> Result<Vec<Look>, SharedFault> {
     let mut looks = Vec::with_capacity(alloc, usize::from(LOOKS))?;
     for turn in 0..LOOKS {
@@ -47,7 +47,7 @@ fn watch(alloc: Global, looker: &mut Looker) -> Result<Vec<Look>, SharedFault> {
     Ok(looks)
 }
 
-/// Returns whether each look, in order, shows what the manager shows after so many entries.
+/// Returns whether each read, in order, agrees with the manager after its number of entries.
 fn are_shown(start: Manager, entries: &[Entry], looks: &[Look]) -> bool {
     let mut manager = start;
     let mut made = 0;
@@ -73,7 +73,7 @@ fn are_shown(start: Manager, entries: &[Entry], looks: &[Look]) -> bool {
     true
 }
 
-/// Watches with each looker in a thread of its own.
+/// Reads with each reader in its own thread.
 fn watch_all<R: Threads + Wait + Sync>(
     rt: &R,
     alloc: Global,
@@ -93,7 +93,7 @@ fn watch_all<R: Threads + Wait + Sync>(
     Ok(watched)
 }
 
-/// Makes the calls of each task in a thread of its own.
+/// Makes the calls of each task in its own thread.
 fn call_all<R: Threads + Wait + Sync>(rt: &R, shared: &Shared) -> [Result<(), SharedFault>; 4] {
     let mut called = [Err(SharedFault::Memory); 4];
     thread::scope(thread::scope_env(), rt, |scope| {
@@ -104,7 +104,7 @@ fn call_all<R: Threads + Wait + Sync>(rt: &R, shared: &Shared) -> [Result<(), Sh
     called
 }
 
-// all looks of a looker were made, and show what the manager shows
+// a reader made all its reads, and they agree with the manager
 fn expect_shown(rt: &impl Abort, alloc: Global, log: &Log, looks: Result<Vec<Look>, SharedFault>) {
     let looks = looks.expect(rt, "400 looks");
     assert_eq!(rt; looks.len(), usize::from(LOOKS));

@@ -14,7 +14,7 @@ const SECOND: MutexNo = MutexNo(2);
 /// What each of two tasks does with two mutexes, the inner one released first.
 const NESTED: [Op; 4] = [Lock(FIRST), Lock(SECOND), Unlock(SECOND), Unlock(FIRST)];
 
-/// Whether each look tells at least as many steps as the last one.
+/// Returns whether no read has fewer steps than the one before.
 fn looks_rise(looker: &mut Looker) -> bool {
     let mut last = 0;
     for _look in 0..1_000 {
@@ -26,7 +26,7 @@ fn looks_rise(looker: &mut Looker) -> bool {
     true
 }
 
-/// Runs the scripts on a shared manager of two tasks, and returns the manager and the log, which is gathered.
+/// Runs the scripts on a shared manager of two tasks, and returns the manager and the gathered log.
 fn gathered<R: Threads + Wait + Abort + Sync>(
     rt: &R,
     alloc: Global,
@@ -45,7 +45,7 @@ fn gathered<R: Threads + Wait + Abort + Sync>(
     (manager, log)
 }
 
-// both mutexes are free, and no step was refused to a task that waits
+// both mutexes are free, and no step was refused because its task waits
 fn expect_ten_steps(rt: &impl Abort, manager: &Manager, entries: &[Entry]) {
     assert_eq!(rt; entries.len(), 10);
     for entry in entries {
@@ -66,13 +66,13 @@ fn every_run_of_two_scripts_is_gathered(rt: HostRuntime) {
     }
 }
 
-/// What the owner does that lowers the ceiling.
+/// The script of the owner, which lowers the ceiling.
 const LOWERED: [Op; 3] = [Lock(FIRST), SetCeiling(FIRST, 30), Unlock(FIRST)];
 
-/// What the other task does.
+/// The script of the other task.
 const LOCKED: [Op; 2] = [Lock(FIRST), Unlock(FIRST)];
 
-// the ceiling was set to 30, and is 30
+// the step that sets the ceiling to 30 was made, and the ceiling is 30
 fn expect_lowered(rt: &impl Abort, manager: &Manager, entries: &[Entry]) {
     assert_eq!(rt; entries.len(), 7);
     for entry in entries {
@@ -93,7 +93,7 @@ fn runs_in_which_an_owner_lowers_a_ceiling_are_gathered(rt: HostRuntime) {
     }
 }
 
-/// Runs the scripts, while the looker looks.
+/// Runs the scripts while the reader reads.
 fn run_beside<R: Threads + Wait + Sync>(
     rt: &R,
     alloc: Global,
@@ -126,7 +126,7 @@ fn workers_beside_a_looker(rt: HostRuntime) {
     assert_eq!(rt; seen, at_base(&rt, 10, 20));
 }
 
-// runs the scripts on a manager of three tasks whose log has so much room, which is too little
+// runs the scripts on a manager of three tasks whose log has too little room
 fn expect_full<R: Threads + Wait + Abort + Sync>(
     rt: &R,
     alloc: Global,
