@@ -5,8 +5,8 @@ use pim_shared::{Gate, Settled, Shared, SharedFault};
 use std::sync::Wait;
 use std::thread;
 
-/// A gate before a shared manager that lets other threads run after each call, so that workers wait for one another:
-/// else most of them make their whole script before the next one is started.
+/// A gate before a shared manager that lets other threads run after each call, so that workers wait for one another.
+/// Without it most workers finish their whole script before the next one is started.
 #[derive(Drop)]
 pub struct Crowd<'a> {
     shared: &'a Shared,

@@ -1,29 +1,29 @@
-//! What a soak comes to, in numbers.
+//! The result of a soak, in numbers.
 
 ghost use Rattle.std.specs.Prelude.{◌≡◌, ◌+◌, ◌-◌, ◌^◌, IsFalse, IsTrue, min};
 
 use std::fmt;
 
-/// How much was run and seen, and how often it differed from what the plain manager says.
+/// The numbers of runs and reads, and of their differences from the plain manager.
 #[derive(Clone, Copy, Debug, Default, PartialEq, Eq)]
 pub struct Figures {
-    /// How many scenes were run.
+    /// The number of scenes that were run.
     pub scripts: u64,
-    /// How many entries their logs have.
+    /// The number of entries in their logs.
     pub steps: u64,
-    /// How many of these were queued, refused as a deadlock, and refused by a ceiling.
+    /// The entries that were queued, refused as a deadlock, and refused for a ceiling.
     pub queued: u64,
     pub deadlocks: u64,
     pub ceilings: u64,
-    /// How often a looker looked, and how many of these looks told something else than its last one at that task.
+    /// The reads, and those of them that differ from the reader's last one of that task.
     pub looks: u64,
     pub distinct: u64,
-    /// How often a reply, a look or the manager at the end wasn't what the plain manager says.
+    /// The replies, reads and getters of the final manager that differ from the plain manager.
     pub differences: u64,
 }
 
 impl Figures {
-    /// Adds those of another soak.
+    /// Adds the figures of another soak.
     pub fn add(&mut self, other: &Figures)
         ensures scripts { self.new.scripts ≡ min (self.old.scripts + other.now.scripts) (2 ^ 64 - 1) }
         ensures steps { self.new.steps ≡ min (self.old.steps + other.now.steps) (2 ^ 64 - 1) }
@@ -55,7 +55,7 @@ impl Figures {
     }
 }
 
-/// Adds to a count, which stays at its largest value.
+/// Adds to a count, which saturates.
 pub fn count(sum: &mut u64, more: u64)
     ensures { sum.new ≡ min (sum.old + more) (2 ^ 64 - 1) }
 {

@@ -1,13 +1,13 @@
-//! Runs random scripts for some time, beside lookers, and compares all that came of them with the plain manager.
+//! Runs random scripts for some time while readers read, and compares replies and reads with the plain manager.
 //!
-//! `pim_soak SECONDS [SEED]` draws tasks, mutexes and a script for each task; runs the scripts, each by a worker in a
-//! thread of its own, while 8 lookers look all the time; makes the steps of the log again on the plain manager; and
-//! compares each reply, each look, and the manager at the end. Then it draws the next ones. Once a
-//! second it tells on standard error how far it is, and at the end it prints one line: how many scripts, steps and looks
-//! there were, and how many differences. The status is 0 where there was none, else 1.
+//! `pim_soak SECONDS [SEED]` generates tasks, mutexes and a script for each task. It runs the scripts, each by a worker in
+//! its own thread, while 8 wait-free readers read all the time. It makes the steps of the log again on the plain manager,
+//! and compares each reply, each read and the final manager. Then it generates the next scripts. Once a second it reports
+//! its progress on standard error. At the end it prints one line: the numbers of scripts, steps, reads and differences.
+//! The status is 0 without a difference, else 1.
 //!
-//! The scripts with number k are those of the seed SEED + k, so a difference is found again by the seed that is told of
-//! it, as far as the schedule of the threads lets it.
+//! The scripts with number k have the seed SEED + k. Each difference is reported with its seed, which finds it again as far
+//! as the schedule of the threads allows.
 #![tactic(auto)]
 
 mod crowd;
@@ -32,10 +32,10 @@ use std::sync::Wait;
 use std::thread::Threads;
 use std::time::{Duration, Instant};
 
-/// The exit status where something differs.
+/// The exit status after a difference.
 const DIFFERS: u8 = 1;
 
-/// The exit status for wrong words.
+/// The exit status for wrong arguments.
 const FAULT: u8 = 2;
 
 fn main(rt: HostRuntime) -> io::Result<ExitCode> {
@@ -50,7 +50,7 @@ fn main(rt: HostRuntime) -> io::Result<ExitCode> {
     Ok(ExitCode::from(if figures.differences == 0 { 0 } else { DIFFERS }))
 }
 
-/// Returns the two numbers of the command line, where the seed is 1 if it isn't there; None for other words.
+/// Returns the two numbers of the command line, or None if the arguments are wrong. The seed is 1 if it is missing.
 fn seconds_and_seed(words: &[String]) -> Option<(u64, u64)> {
     match words {
         [_program, seconds] => Some((seconds.parse().ok()?, 1)),
@@ -59,7 +59,7 @@ fn seconds_and_seed(words: &[String]) -> Option<(u64, u64)> {
     }
 }
 
-/// Runs scripts for so long, and tells on standard error how far it is.
+/// Runs scripts for this time, and reports its progress on standard error.
 ///
 /// # Errors
 ///

@@ -8,7 +8,7 @@ use rand_core::utils::NextWord;
 use rand_pcg::Pcg32;
 use std::alloc::{AllocError, Global};
 
-/// The most tasks, mutexes and lines of a task that are drawn.
+/// The most tasks, mutexes and lines of a task that are generated.
 const MOST_TASKS: u16 = 16;
 
 const MOST_MUTEXES: u16 = 8;
@@ -33,7 +33,7 @@ impl Scene {
         }
     }
 
-    /// Returns the scene that this seed draws: always the same one.
+    /// Returns the scene of this seed, which is always the same.
     ///
     /// # Errors
     ///
@@ -56,7 +56,7 @@ impl Scene {
     }
 }
 
-/// Returns how many entries the log of a run has: the lines, and a release by each task.
+/// Returns the number of entries in the log of a run: the lines, and a release by each task.
 pub fn entries_of(scripts: &[Vec<Op>]) -> usize {
     let mut entries = scripts.len();
     for script in scripts {
@@ -65,7 +65,7 @@ pub fn entries_of(scripts: &[Vec<Op>]) -> usize {
     entries
 }
 
-/// Draws a number below the bound.
+/// Generates a number below the bound.
 fn below(random: &mut Pcg32, bound: u16) -> u16
     requires { 0 < bound }
     ensures { result < bound }
@@ -73,7 +73,7 @@ fn below(random: &mut Pcg32, bound: u16) -> u16
     (random.next_word() % u32::from(bound)) as u16
 }
 
-/// Draws the parts of one scene.
+/// Generates the parts of one scene.
 #[derive(Drop)]
 struct Draw {
     random: Pcg32,
@@ -87,7 +87,7 @@ struct Draw {
 }
 
 impl Draw {
-    /// Draws how many tasks and mutexes there are: mostly more tasks than mutexes, so that they meet.
+    /// Generates the numbers of tasks and mutexes: mostly more tasks than mutexes, so that tasks wait.
     fn new(seed: u64) -> Draw {
         let mut random = Pcg32::new(seed, 54);
         let tasks = 1 + below(&mut random, MOST_TASKS);
@@ -100,7 +100,7 @@ impl Draw {
         }
     }
 
-    /// Draws a number below the bound.
+    /// Generates a number below the bound.
     fn below(&mut self, bound: u16) -> u16
         requires { 0 < bound }
         ensures { result < bound }
@@ -113,7 +113,7 @@ impl Draw {
         Prio::new(level).unwrap()
     }
 
-    /// Draws a protocol: most are PRIO_INHERIT, some of them recursive, and ceilings are high enough for most tasks.
+    /// Generates a protocol: most are PRIO_INHERIT, some of them recursive, and ceilings are high enough for most tasks.
     fn protocol(&mut self) -> Protocol {
         match self.below(8) {
             0 => Protocol::None,
@@ -126,12 +126,12 @@ impl Draw {
         }
     }
 
-    /// Draws a task: mostly a known one, sometimes 0 or the number behind the last.
+    /// Generates a task number: mostly a known one, sometimes 0 or the one after the last.
     fn task(&mut self) -> TaskNo {
         TaskNo(self.below(self.tasks + 2))
     }
 
-    /// Draws a mutex: mostly a known one, sometimes 0 or the number behind the last.
+    /// Generates a mutex number: mostly a known one, sometimes 0 or the one after the last.
     fn mutex(&mut self) -> MutexNo {
         MutexNo(match self.below(16) {
             0 => self.below(self.mutexes + 2),
@@ -139,7 +139,7 @@ impl Draw {
         })
     }
 
-    /// Draws what a task asks for: mostly a lock, or to unlock what it locked last.
+    /// Generates a step of a task: mostly a lock, or an unlock of what it locked last.
     fn op(&mut self, actor: TaskNo) -> Op {
         match self.below(22) {
             0..9 => {

@@ -1,4 +1,4 @@
-//! A few scripts of fixed seeds, those of all workers at once, and what is counted as a difference.
+//! A few scripts of fixed seeds, scripts of sixteen workers, and what counts as a difference.
 
 use crate::drawn;
 use crate::figures::Figures;
@@ -21,7 +21,7 @@ fn random_scripts_agree_with_the_plain_manager(rt: HostRuntime) -> Result<(), Fa
         assert!(rt; found.distinct > 0, "seed {seed}");
         all.add(&found);
     }
-    // Scripts in which nobody meets would agree, too.
+    // Scripts in which no task waits would agree, too.
     assert!(rt; all.queued > 0 && all.deadlocks > 0 && all.ceilings > 0);
     Ok(())
 }
@@ -81,8 +81,8 @@ fn boost() -> [Step; 2] {
     })
 }
 
-/// Returns the figures of a log in which the boost has this last reply, and of a looker that saw task 1 so after so many
-/// entries, and the end of the log last.
+/// Returns the figures of a log in which the boost has this last reply, and of a reader. After `steps` entries it saw this
+/// priority and reason of task 1, and at last it saw the whole log.
 fn boosted(
     alloc: Global,
     reply: Reply,
@@ -108,7 +108,7 @@ fn boosted(
     ];
     let mut record = Record::new(alloc);
     let task = TaskNo(1);
-    // Told twice, it is kept once.
+    // Seen twice, it is kept once.
     for _ in 0..2 {
         record.keep(task, steps, prio, reason);
     }
