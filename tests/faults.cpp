@@ -1,11 +1,14 @@
 // One call of a program that does not do what was asked: LD_PRELOAD loads this beside the program.
 //
-// FAULT_CALL names the call: alloc, read (of standard input) or write (to standard output).
+// FAULT_CALL names the call: alloc, thread (its start), read (of standard input) or write (to
+// standard output).
 // FAULT_KIND says what happens to it: fail, interrupt, nothing (0 bytes) or short (a single byte);
-// an alloc fails.
+// an alloc or a thread fails.
 // FAULT_AT is the number of the call that it happens to, counted from 1 over all threads, or 0 for
 // each of them.
 
+#include <dlfcn.h>
+#include <pthread.h>
 #include <sys/syscall.h>
 #include <unistd.h>
 
@@ -51,6 +54,13 @@ extern "C" ssize_t read(int stream, void* bytes, size_t count) {
 
 extern "C" ssize_t write(int stream, const void* bytes, size_t count) {
     return transfer(SYS_write, stream == 1 && is_chosen("write"), stream, bytes, count);
+}
+
+extern "C" int pthread_create(pthread_t* thread, const pthread_attr_t* attributes,
+                              void* (*run)(void*), void* argument) {
+    static const auto start =
+        reinterpret_cast<decltype(&pthread_create)>(dlsym(RTLD_NEXT, "pthread_create"));
+    return is_chosen("thread") ? EAGAIN : start(thread, attributes, run, argument);
 }
 
 extern "C" void* malloc(size_t size) { return is_chosen("alloc") ? nullptr : __libc_malloc(size); }
