@@ -27,9 +27,7 @@ fn main(rt: HostRuntime) -> io::Result<()> {
         Some("small") => FEW,
         _ => {
             println!(&rt; "usage: pim_bench full | small")?;
-            println!(&rt;
-                "Reads and calls a second, compared with locks round the same manager."
-            )?;
+            println!(&rt; "Reads and calls a second, compared with locks round the same manager.")?;
             return Ok(());
         }
     };

@@ -87,8 +87,6 @@ impl Tables {
     /// the PROTECT mutexes and the priorities of the first waiters for the INHERIT mutexes.
     ///
     /// This is a visit, and counted. It looks at each mutex that the task owns.
-    // Inlined, so that a visit of the walk makes no call for it.
-    #[inline(always)]
     pub fn local(&self, task: TaskNo, visits: &mut Visits) -> Prio
         requires known { IsTask self.now.state task }
         requires room { visits.old.count < 2 ^ 32 - 1 }
