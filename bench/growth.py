@@ -1,21 +1,21 @@
 #!/usr/bin/env python3
-"""How the cost of a step grows: with the tasks, with a queue, with a chain of waiting tasks.
+"""Measures how the cost of a step grows: with the tasks, a queue, or a chain of waiting tasks.
 
-Has pim and the judge in plain C++ (bench/judge.cpp, by g++ -O3) judge texts of bench/texts.py of
-several sizes, and checks that they write the same bytes. What a step takes is the difference
-between a text and one of twice as many steps, which begins as it does, for each step that it has
-more: so the start of the program and what is declared don't count. It includes the reading of the
-step's line and the writing of its report.
+pim and the judge in plain C++ (bench/judge.cpp, by g++ -O3) judge traces of bench/texts.py of
+several sizes, and must write the same bytes. A second trace begins like the first and has twice as
+many steps. The cost of a step is the difference between the two, divided by the steps that were
+added, so the start of the program and the declarations don't count. It includes reading the step's
+line and writing its report.
 
-Prints a table in Markdown of instructions, which are the same at each run, by perf or valgrind;
-or of nanoseconds of processor time, the least of --repeat runs by turns, with --time. --plot FILE
+Prints a table in Markdown of executed instructions, by perf or valgrind, which are the same in each
+run. With --time it is of nanoseconds of CPU time, the minimum of --repeat runs in turn. --plot FILE
 draws it as SVG.
 
 examples:
-  bench/growth.py                             the tables and the plot of docs/SPEED.md, in minutes
-  bench/growth.py --docs                      and put them there
-  bench/growth.py --time --plot /tmp/t.svg    in time, on a quiet machine
-  bench/growth.py --sizes 4 8 --steps 64      a trial of seconds
+  bench/growth.py                             the tables and plot of docs/SPEED.md; takes minutes
+  bench/growth.py --docs                      and write them there
+  bench/growth.py --time --plot /tmp/t.svg    in time, on an idle machine
+  bench/growth.py --sizes 4 8 --steps 64      a trial that takes seconds
 """
 import pathlib
 import tempfile
@@ -101,8 +101,8 @@ def words():
     steps = f"of the shorter text ({STEPS}, in time {STEPS_TIMED})"
     parser.add_argument("--steps", type=int, help=steps)
     parser.add_argument("--time", action="store_true", help="time in place of instructions")
-    parser.add_argument("--repeat", type=int, default=7, help="how often each is timed (7)")
-    parser.add_argument("--plot", metavar="FILE", help="draw it there")
+    parser.add_argument("--repeat", type=int, default=7, help="runs of each program (7)")
+    parser.add_argument("--plot", metavar="FILE", help="write the plot to FILE")
     options = runs.within_limits(parser)
     options.steps = options.steps or (STEPS_TIMED if options.time else STEPS)
     if not all(2 <= size <= runs.MOST_TASKS for size in options.sizes):

@@ -1,21 +1,21 @@
 #!/usr/bin/env python3
-"""How fast traces are judged: time, memory and instructions, beside a judge in plain C++.
+"""Compares the time, memory and instructions of pim with those of a judge in plain C++.
 
-Measures the repository's program, which ./pim builds, or PROGRAM, beside bench/judge.cpp, by g++
--O3, or beside the program of --beside. Each trace of bench/texts.py is judged by both, which must
-write the same bytes and end with the same status. Then they run by turns, the trace from a file
-and the report to /dev/null, and the least time of each counts: what else runs makes a run longer,
-and never shorter.
+Measures the repository's program, which ./pim builds, or PROGRAM, and bench/judge.cpp, compiled by
+g++ -O3, or the program of --beside in its place. Both judge each trace of bench/texts.py, and must
+write the same bytes and exit with the same status. Then they run in turn, with the trace from a
+file and the report to /dev/null. The minimum of each counts, because other load only makes a run
+longer.
 
-Prints a table in Markdown: milliseconds of processor time, the kernel's share included; the peak
-memory, where there is GNU time to tell it; and how long the report is. --instructions adds how
-many instructions are executed, which doesn't depend on what else runs, by perf or valgrind.
+Prints a table in Markdown: milliseconds of CPU time, user and system; the peak memory, if GNU time
+is installed; and the size of the report. --instructions adds the number of executed instructions,
+by perf or valgrind. It doesn't depend on other load.
 
 examples:
   bench/measure.py                                the table of docs/SPEED.md
   bench/measure.py --only chain --repeat 15       one trace, more often
   bench/measure.py --instructions --steps 4096    short traces, counted
-  bench/measure.py --beside /tmp/older/pim        this build beside an older one
+  bench/measure.py --beside /tmp/older/pim        this build and an older one
 """
 import argparse
 import pathlib
@@ -74,8 +74,9 @@ def main():
 def words():
     """Returns the options of the command line."""
     parser = runs.parser(__doc__, list(TEXTS), "the repository's own")
-    parser.add_argument("--beside", metavar="PROGRAM", help="in place of the judge in C++")
-    parser.add_argument("--repeat", type=int, default=7, help="how often each is timed (7)")
+    beside = "the program to compare with, in place of the judge in C++"
+    parser.add_argument("--beside", metavar="PROGRAM", help=beside)
+    parser.add_argument("--repeat", type=int, default=7, help="runs of each program (7)")
     parser.add_argument("--tasks", type=int, default=runs.MOST_TASKS, help="2 to 256 (256)")
     parser.add_argument("--steps", type=int, default=runs.MOST_STEPS, help="1 to 65,536 (65,536)")
     counted = "count instructions, too: minutes at full length"

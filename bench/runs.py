@@ -19,8 +19,8 @@ MOST_TASKS, MOST_STEPS = 256, 65536
 TIME = "/usr/bin/time"
 STATUSES = """exit status:
   0  measured
-  1  the two answer differently: what they take can't be compared
-  2  wrong words, or a tool or a program is missing"""
+  1  the two programs' answers differ, so their costs can't be compared
+  2  wrong arguments, or a tool or a program is missing"""
 
 
 def give_up(status, why):
@@ -42,10 +42,11 @@ def parser(doc, names, program):
     """Returns a parser with the arguments that all scripts take, and with this help."""
     as_written = argparse.RawDescriptionHelpFormatter
     made = argparse.ArgumentParser(description=doc, epilog=STATUSES, formatter_class=as_written)
-    made.add_argument("program", nargs="?", metavar="PROGRAM", help=f"in place of {program}")
-    only = f"one of {', '.join(names)}; again for more"
+    measured = f"the program to measure, in place of {program}"
+    made.add_argument("program", nargs="?", metavar="PROGRAM", help=measured)
+    only = f"one of {', '.join(names)}; may be repeated"
     made.add_argument("--only", metavar="NAME", choices=names, action="append", help=only)
-    made.add_argument("--docs", action="store_true", help="put what is found into docs/, too")
+    made.add_argument("--docs", action="store_true", help="also write the result into docs/")
     return made
 
 
@@ -53,7 +54,7 @@ def within_limits(parser, **least):
     """Returns the options of the command line, or gives up if a number is out of its limits."""
     options = parser.parse_args()
     if options.docs and options.only:
-        parser.error("--docs is for all of it, without --only")
+        parser.error("--docs needs all traces, so it can't be used with --only")
     limits = {"tasks": (2, MOST_TASKS), "steps": (1, MOST_STEPS), "repeat": (1, 10**6)}
     for name, (low, high) in limits.items():
         number = getattr(options, name, None)
