@@ -1,6 +1,6 @@
 /* A program without a C library, start files and a heap: the inversion in one static array. It ends
  * with status 0 where each answer is the right one, else with the number of the first that isn't.
- * For Linux on x86-64:
+ * For Linux on x86-64 and on 64-bit ARM:
  *
  * cc -ffreestanding -fno-stack-protector -nostdlib -static freestanding.c heap/static.c libpim.a */
 #include "pim.h"
@@ -45,11 +45,28 @@ static int run(void) {
     return wrong == 0 && locks.at != 0 ? 11 : wrong;
 }
 
-__attribute__((noreturn, used)) void start(void) {
-    long status = run();
+/* Ends the program, without a C library. */
+__attribute__((noreturn)) static void leave(long status) {
+#if defined(__x86_64__)
     __asm__ volatile("syscall" : : "a"(60L), "D"(status));
+#elif defined(__aarch64__)
+    register long number __asm__("x8") = 93;
+    register long first __asm__("x0") = status;
+    __asm__ volatile("svc #0" : : "r"(number), "r"(first));
+#else
+#error "the system call that ends a program is known for x86-64 and 64-bit ARM"
+#endif
     __builtin_unreachable();
 }
 
+__attribute__((noreturn, used)) void start(void) {
+    leave(run());
+}
+
 /* The stack is aligned as a function expects it. */
+#if defined(__x86_64__)
 __asm__(".globl _start\n_start:\n xor %ebp, %ebp\n and $-16, %rsp\n call start\n");
+#else
+__asm__(".globl _start\n_start:\n mov x29, xzr\n mov x30, xzr\n mov x9, sp\n"
+        " and sp, x9, #-16\n bl start\n");
+#endif

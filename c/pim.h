@@ -68,7 +68,9 @@
  *   - One call at a time on one handle, and none from a signal or interrupt handler that may come
  *     in the middle of another. What orders the calls, a lock or disabled interrupts, is the
  *     caller's, and lasts until the answer is done. Two handles share nothing.
- *   - The CPU is an x86-64 of level v2 at least, which has SSE4.2: pim_make uses its instructions.
+ *   - The CPU is the one that libpim.a was built for: an x86-64 of level v2 at least, which has
+ *     SSE4.2, since pim_make uses its instructions; or a 64-bit ARM, little-endian, of ARMv8.0-A
+ *     or later, which has AArch64 with its floating-point and vector registers.
  *   - A pointer that comes with a count points to that many items, is aligned, isn't null even
  *     where the count is 0, and overlaps no other memory of the call.
  *   - There are PIM_STACK bytes of stack.
@@ -84,14 +86,15 @@
  *
  * n tasks and m mutexes stand. Only pim_make and pim_drop call the heap. Nothing else is called but
  * memmove and memset, and nothing waits. The second column is the most bytes of stack that a call
- * takes as libpim is built for x86-64-v2, without what those functions take.
+ * takes on either CPU, as libpim is built for x86-64-v2 and for ARMv8.0-A, without what those
+ * functions take.
  *
  *   pim_make             640   allocates some m blocks, and fills them
  *   pim_drop             192   gives them back
  *   pim_lock             512   n hops at most for the test of deadlock, a queue, and the walk
  *   pim_try              512   the walk
  *   pim_unlock           512   a queue, and the walk
- *   pim_release_all      512   that for each mutex that the task owns
+ *   pim_release_all      576   that for each mutex that the task owns
  *   pim_cancel           512   a queue, and the walk
  *   pim_set_base         512   the walk
  *   pim_set_ceiling      512   the walk
@@ -128,7 +131,7 @@
 #include <stdint.h>
 
 #if defined(UINTPTR_MAX) && UINTPTR_MAX != 0xFFFFFFFFFFFFFFFFu
-#error "libpim is built for 64 bits: x86-64"
+#error "libpim is built for 64 bits: x86-64 and 64-bit ARM"
 #endif
 
 #ifdef __cplusplus

@@ -1,20 +1,18 @@
 """Checks of libpim.a: the symbols that it has and needs, and the stack that its functions take."""
 import re
-import subprocess
 
-from c_common import HEADER, OUT, README
+from c_common import ARM, HEADER, HERE, README, run, said
 from checks import check, difference
 
 
-def symbols(exports):
-    out = subprocess.run(["nm", "-g", OUT / "libpim.a"], capture_output=True, text=True, check=True).stdout
-    found = re.findall(r"^[0-9a-f ]{16} (\w) (\S+)$", out, re.M)
+def symbols(exports, machine=HERE):
+    found = re.findall(r"^[0-9a-f ]{16} (\w) (\S+)$", machine.tool("nm", "-g"), re.M)
     defined = {name for kind, name in found if kind != "U"}
     needed = {name for kind, name in found if kind == "U"}
     named = set(re.findall(r"`(\w+)`", re.search(r"^libpim calls (.*?)\.$", README, re.M | re.S)[1]))
     check("libpim has the exports, and no other symbol", difference((defined,), (exports,)))
     check("libpim needs the symbols that its README names", difference((needed,), (named,)))
-    sections = subprocess.run(["size", OUT / "libpim.a"], capture_output=True, text=True, check=True).stdout.split()
+    sections = machine.tool("size").split()
     check("libpim has no data of its own", difference(sections[7:9], ["0", "0"]))
 
 
@@ -23,39 +21,86 @@ def level():
 
     An earlier CPU executes tzcnt as bsf, with the same result for what isn't 0; compilers count on that.
     """
-    out = subprocess.run(["objdump", "-d", "--no-show-raw-insn", OUT / "libpim.a"], capture_output=True, text=True, check=True).stdout
-    used = set(re.findall(r"^ +[0-9a-f]+:\t(\w+)", out, re.M))
+    used = set(re.findall(r"^ +[0-9a-f]+:\t(\w+)", machine_code(HERE), re.M))
     second = {"pinsrb", "pinsrd", "pinsrq", "pextrb", "pextrd", "pshufb", "ptest", "popcnt", "pmaxud", "pminud"}
     check("libpim uses x86-64-v2", None if used & second else "none of its instructions")
     later = {name for name in used if re.match(r"v[a-z]|(andn|bextr|bls|bzhi|lzcnt|mulx|pdep|pext$|pext[lq]|rorx|s[ah][lr]x|movbe)", name)}
     check("libpim uses no later level", " ".join(sorted(later)))
 
 
-def frames():
+def arm_level(folder):
+    """libpim for ARM has only instructions of ARMv8.0-A: an assembler for that version takes all of them."""
+    lines = re.findall(r"^ +[0-9a-f]+:\t(.*?)(?:[ \t]+//.*)?$", machine_code(ARM), re.M)
+    lines = [re.sub(r"\b([0-9a-f]+) <.*>$", r"0x\1", line) for line in lines]
+    check("libpim for ARM has instructions", None if len(lines) > 1000 else str(len(lines)))
+    check("libpim for ARM uses ARMv8.0-A alone", assembled(folder, lines))
+    later = assembled(folder, [*lines, "ldaddal w0, w1, [x2]"])
+    check("an instruction of ARMv8.1-A would be seen", None if later and "ldaddal" in later else str(later))
+
+
+def assembled(folder, lines):
+    """Returns what the assembler for ARMv8.0-A says of these instructions, None where it takes them."""
+    source = f"{folder}/again.s"
+    with open(source, "w") as file:
+        file.write("\n".join([*lines, ""]))
+    status, out = run(f"{ARM.tools}as", "-march=armv8-a", source, "-o", f"{folder}/again.o")
+    return said(out) if status else None
+
+
+# ---- stack
+
+def machine_code(machine):
+    return machine.tool("objdump", "-dr", "--no-show-raw-insn")
+
+
+def taken_x86(line):
+    """Returns how many bytes of stack an instruction takes."""
+    if re.search(r"\tcall +\*", line):
+        return UNBOUNDED
+    moved = re.search(r"\tsub +\$0x([0-9a-f]+),%rsp", line)
+    return 8 if re.search(r"\tpush\b", line) else int(moved[1], 16) if moved else 0
+
+
+def taken_arm(line):
+    """Returns how many bytes of stack an instruction takes: a store that moves sp, or a subtraction from it."""
+    if re.search(r"\tblr\t|\tsub\tsp, sp, [xw]", line):
+        return UNBOUNDED
+    if stored := re.search(r"\tst[rp]\t.*\[sp, #-(\d+)\]!", line):
+        return int(stored[1])
+    moved = re.search(r"\tsub\tsp, sp, #0x([0-9a-f]+)(, lsl #12)?", line)
+    return int(moved[1], 16) << (12 if moved[2] else 0) if moved else 0
+
+
+UNBOUNDED = 1 << 20
+# What a call takes by itself, what an instruction takes, and the relocations of calls and jumps to functions.
+STACKS = {
+    HERE: (8, taken_x86, r"R_X86_64_PLT32"),
+    ARM: (0, taken_arm, r"R_AARCH64_(?:CALL26|JUMP26)"),
+}
+
+
+def frames(machine):
     """Returns the stack that each function of libpim takes by itself, and which it calls."""
-    out = subprocess.run(["objdump", "-dr", "--no-show-raw-insn", OUT / "libpim.a"], capture_output=True, text=True, check=True).stdout
+    call, taken, relocation = STACKS[machine]
+    calling = re.compile(relocation + r"\s+(?:\.text\.(?:unlikely\.)?)?(\S.*?)(?:-0x[0-9a-f]+)?$")
     own, calls, name = {}, {}, None
-    for line in out.splitlines():
+    for line in machine_code(machine).splitlines():
         if header := re.match(r"[0-9a-f]+ <(.*)>:$", line):
             name = header[1]
-            own[name], calls[name] = 8, set()
-        elif re.search(r"\tpush\b", line):
-            own[name] += 8
-        elif moved := re.search(r"\tsub +\$0x([0-9a-f]+),%rsp", line):
-            own[name] += int(moved[1], 16)
-        elif called := re.search(r"R_X86_64_PLT32\s+(?:\.text\.(?:unlikely\.)?)?(\S.*?)(?:-0x[0-9a-f]+)?$", line):
+            own[name], calls[name] = call, set()
+        elif called := calling.search(line):
             calls[name].add(called[1])
-        elif re.search(r"\tcall +\*", line):
-            own[name] = 1 << 20
+        elif name:
+            own[name] += taken(line)
     return own, calls
 
 
-def stack(exports):
+def stack(exports, machine=HERE):
     """The table of the header has each function, with at least the stack that its calls add up to."""
-    own, calls = frames()
+    own, calls = frames(machine)
 
     def most(name, above=()):
-        return 1 << 20 if name in above else own.get(name, 0) + max((most(n, (*above, name)) for n in calls.get(name, ())), default=0)
+        return UNBOUNDED if name in above else own.get(name, 0) + max((most(n, (*above, name)) for n in calls.get(name, ())), default=0)
 
     told = {name: int(size) for name, size in re.findall(r"^ \*   (pim_\w+) +(\d+)  ", HEADER, re.M)}
     check("the header's table of costs", difference((sorted(told),), (sorted(exports),)))

@@ -3,7 +3,7 @@ import errno
 import re
 import shutil
 
-from c_common import C, CRATE, HEADER, c_compiled, expect, passes, run, said
+from c_common import C, CRATE, HEADER, HERE, expect, run, said
 from checks import ROOT, check, difference
 
 LANGUAGES = {"cc": ("c99", "c11", "c17"), "clang": ("c99", "c11"), "g++": ("c++98", "c++17", "c++20"), "clang++": ("c++98",)}
@@ -44,9 +44,9 @@ def version(folder):
     source = f"{folder}/version.c"
     with open(source, "w") as file:
         file.write(body)
-    made = c_compiled(folder, "version", source)
+    made = HERE.compiled(folder, "version", source)
     if made:
-        passes("PIM_VERSION", made)
+        HERE.passes("PIM_VERSION", made)
 
 
 def numbers(folder):
@@ -61,7 +61,7 @@ def numbers(folder):
     compiles("the header's numbers", folder, tests)
 
 
-def layouts(folder):
+def layouts(folder, machine=HERE):
     texts, tests = sources(), []
     for name, c in STRUCTS.items():
         found = fields(texts, name)
@@ -70,7 +70,7 @@ def layouts(folder):
         in_rattle = [f"{kind} {field}".replace("* ", "*") for field, kind in found]
         check(f"the fields of struct {c}", difference((in_header,), (in_rattle,)))
         tests += laid_out(c, found)
-    compiles("the layouts of the structs", folder, tests)
+    compiles("the layouts of the structs", folder, tests, machine)
 
 
 def laid_out(c, found):
@@ -85,11 +85,12 @@ def laid_out(c, found):
     return [*tests, f'_Static_assert(sizeof(struct {c}) == {size}, "{c}");']
 
 
-def compiles(name, folder, tests):
+def compiles(name, folder, tests, machine=HERE):
     source = f"{folder}/tests.c"
     with open(source, "w") as file:
         file.write("\n".join(['#include "pim.h"', *tests, ""]))
-    status, out = run("cc", f"-I{C}", "-std=c11", "-Wall", "-Wextra", "-Werror", "-pedantic", "-fsyntax-only", source)
+    words = [machine.compiler, f"-I{C}", "-std=c11", "-Wall", "-Wextra", "-Werror", "-pedantic", "-fsyntax-only"]
+    status, out = run(*words, source)
     check(name, None if status == 0 else out.decode()[:300])
 
 
@@ -133,9 +134,9 @@ def names(folder):
         error = re.search(r"\((E[A-Z]+)\)", text)
         wanted.append(f"{spelled(name)} {getattr(errno, error[1] if error else 'EINVAL')}")
     wanted.append(f"? ? {errno.EINVAL} 0")
-    made = c_compiled(folder, "names", source)
+    made = HERE.compiled(folder, "names", source)
     if made:
-        expect("the names and the error numbers", run(made), ("\n".join(wanted) + "\n").encode())
+        expect("the names and the error numbers", HERE.run(made), ("\n".join(wanted) + "\n").encode())
 
 
 def spelled(name):
