@@ -55,7 +55,7 @@ def machine_code(machine):
 
 def taken_x86(line):
     """Returns how many bytes of stack an instruction takes."""
-    if re.search(r"\tcall +\*", line):
+    if re.search(r"\tcall +\*|\tsub +%\w+,%rsp", line):
         return UNBOUNDED
     moved = re.search(r"\tsub +\$0x([0-9a-f]+),%rsp", line)
     return 8 if re.search(r"\tpush\b", line) else int(moved[1], 16) if moved else 0
@@ -77,14 +77,32 @@ STACKS = {
     HERE: (8, taken_x86, r"R_X86_64_PLT32"),
     ARM: (0, taken_arm, r"R_AARCH64_(?:CALL26|JUMP26)"),
 }
+# Functions by hand, and the stack that each takes with those that it calls.
+BY_HAND = {
+    HERE: """
+        inner: push %rbx; sub $0x40,%rsp; add $0x40,%rsp; pop %rbx; ret       # 8 + 8 + 64
+        outer: sub $0x108,%rsp; call inner; call *%rax; ret                   # without bound
+        jumps: push %rbp; call last; pop %rbp; jmp inner                      # 8 + 8 + 80
+        moves: sub %rax,%rsp; ret                                             # without bound
+        last: ret                                                             # 8
+        """,
+    ARM: """
+        inner: stp x29, x30, [sp, #-32]!; sub sp, sp, #0x40; stp x19, x20, [sp, #16]; ret // 32 + 64
+        outer: str x30, [sp, #-16]!; bl inner; blr x8; ret                    // without bound
+        jumps: sub sp, sp, #0x2, lsl #12; bl last; b inner                    // 8192 + 96
+        moves: sub sp, sp, x1; ret                                            // without bound
+        last: ret                                                             // 0
+        """,
+}
+BY_HAND_TAKEN = {HERE: [80, UNBOUNDED, 96, UNBOUNDED, 8], ARM: [96, UNBOUNDED, 8288, UNBOUNDED, 0]}
 
 
-def frames(machine):
-    """Returns the stack that each function of libpim takes by itself, and which it calls."""
+def frames(machine, code):
+    """Returns the stack that each function takes by itself, and which it calls."""
     call, taken, relocation = STACKS[machine]
     calling = re.compile(relocation + r"\s+(?:\.text\.(?:unlikely\.)?)?(\S.*?)(?:-0x[0-9a-f]+)?$")
     own, calls, name = {}, {}, None
-    for line in machine_code(machine).splitlines():
+    for line in code.splitlines():
         if header := re.match(r"[0-9a-f]+ <(.*)>:$", line):
             name = header[1]
             own[name], calls[name] = call, set()
@@ -95,16 +113,36 @@ def frames(machine):
     return own, calls
 
 
+def most(own, calls, name, above=()):
+    """Returns the stack that a function takes with those that it calls."""
+    if name in above:
+        return UNBOUNDED
+    below = (most(own, calls, called, (*above, name)) for called in calls.get(name, ()))
+    return min(UNBOUNDED, own.get(name, 0) + max(below, default=0))
+
+
+def counted(folder, machine):
+    """The stack of functions by hand is counted as it is by hand."""
+    source, made = f"{folder}/by_hand.s", f"{folder}/by_hand.o"
+    names = re.findall(r"^ *(\w+):", BY_HAND[machine], re.M)
+    with open(source, "w") as file:
+        file.write(re.sub(r"^ *(\w+):", r".section .text.\1; .globl \1; \1:", BY_HAND[machine], flags=re.M))
+    status, out = run(f"{machine.tools}as", source, "-o", made)
+    if status:
+        return check("functions by hand are assembled", said(out))
+    status, out = run(f"{machine.tools}objdump", "-dr", "--no-show-raw-insn", made)
+    own, calls = frames(machine, out.decode())
+    got = [most(own, calls, name) for name in names]
+    check("the stack of functions by hand", difference((got,), (BY_HAND_TAKEN[machine],)))
+
+
 def stack(exports, machine=HERE):
     """The table of the header has each function, with at least the stack that its calls add up to."""
-    own, calls = frames(machine)
-
-    def most(name, above=()):
-        return UNBOUNDED if name in above else own.get(name, 0) + max((most(n, (*above, name)) for n in calls.get(name, ())), default=0)
-
+    own, calls = frames(machine, machine_code(machine))
     told = {name: int(size) for name, size in re.findall(r"^ \*   (pim_\w+) +(\d+)  ", HEADER, re.M)}
     check("the header's table of costs", difference((sorted(told),), (sorted(exports),)))
     for name in sorted(told):
-        check(f"the stack of {name}, at most {told[name]}", f"{most(name)} bytes" if most(name) > told[name] else None)
+        taken = most(own, calls, name)
+        check(f"the stack of {name}, at most {told[name]}", f"{taken} bytes" if taken > told[name] else None)
     limit = int(re.search(r"#define PIM_STACK (\d+)u", HEADER)[1])
     check("PIM_STACK", None if limit == max(told.values()) else f"{limit} and {max(told.values())}")
