@@ -1,8 +1,8 @@
 //! Worked scenarios, each run on both managers. The reply and the visits of each step, and the priority and the reason
-//! of each task after it, are worked out by hand from the definitions.
+//! of each task after it, are worked out by hand from the definitions. A function returns one scenario.
 
 use crate::scene::{
-    Act, Answer, Both, INHERIT, Kind, NONE, Part, RECURSIVE, Row, Seen, lock, play, play_parts,
+    Act, Answer, Both, INHERIT, Kind, NONE, Part, RECURSIVE, Row, Scene, Seen, lock, play,
 };
 use Act::{Cancel, Lock, Release, SetBase, SetCeiling, Try, Unlock};
 use Answer::{Freed, Granted, Handed, Kept, Queued, Refused, Released, Set, Withdrawn};
@@ -17,8 +17,7 @@ use pim_plain::PlainManager;
 use std::process::Abort;
 use std::test::Fail;
 
-#[test]
-fn unknown_numbers_are_refused(rt: HostRuntime) -> Result<(), Fail> {
+fn unknown_numbers_are_refused() -> &'static Scene {
     const ROWS: &[Row] = &[
         Row(Lock(2, 1), Refused(NoTask), 0, &[Base(10)]),
         Row(Lock(0, 1), Refused(NoTask), 0, &[Base(10)]),
@@ -29,11 +28,16 @@ fn unknown_numbers_are_refused(rt: HostRuntime) -> Result<(), Fail> {
         Row(SetBase(1, 2, 50), Refused(NoTask), 0, &[Base(10)]),
         Row(SetCeiling(1, 2, 0), Refused(NoMutex), 0, &[Base(10)]),
     ];
-    play(&rt, rt.alloc(), &[10], &[NONE], ROWS)
+    const SCENE: &Scene = &Scene {
+        name: "unknown numbers are refused",
+        bases: &[10],
+        kinds: &[NONE],
+        parts: &[Part(ROWS, None)],
+    };
+    SCENE
 }
 
-#[test]
-fn waiters_are_served_by_priority_and_ask_for_nothing(rt: HostRuntime) -> Result<(), Fail> {
+fn waiters_are_served_by_priority_and_ask_for_nothing() -> &'static Scene {
     const BASES: &[Seen] = &[Base(10), Base(30), Base(20)];
     const ROWS: &[Row] = &[
         Row(Lock(1, 1), Granted, 1, BASES),
@@ -45,11 +49,16 @@ fn waiters_are_served_by_priority_and_ask_for_nothing(rt: HostRuntime) -> Result
         Row(Unlock(3, 1), Freed, 1, BASES),
         Row(Unlock(3, 1), Refused(NotOwner), 0, BASES),
     ];
-    play(&rt, rt.alloc(), &[10, 30, 20], &[NONE], ROWS)
+    const SCENE: &Scene = &Scene {
+        name: "waiters are served by priority and ask for nothing",
+        bases: &[10, 30, 20],
+        kinds: &[NONE],
+        parts: &[Part(ROWS, None)],
+    };
+    SCENE
 }
 
-#[test]
-fn medium_task_cannot_delay_boosted_owner(rt: HostRuntime) -> Result<(), Fail> {
+fn medium_task_cannot_delay_boosted_owner() -> &'static Scene {
     const BASES: &[Seen] = &[Base(10), Base(50), Base(90)];
     const BOOSTED: &[Seen] = &[Lent(90, 3, 1), Base(50), Base(90)];
     const ROWS: &[Row] = &[
@@ -57,11 +66,16 @@ fn medium_task_cannot_delay_boosted_owner(rt: HostRuntime) -> Result<(), Fail> {
         Row(Lock(3, 1), Queued, 1, BOOSTED),
         Row(Unlock(1, 1), Handed(3), 2, BASES),
     ];
-    play(&rt, rt.alloc(), &[10, 50, 90], &[INHERIT], ROWS)
+    const SCENE: &Scene = &Scene {
+        name: "medium task cannot delay boosted owner",
+        bases: &[10, 50, 90],
+        kinds: &[INHERIT],
+        parts: &[Part(ROWS, None)],
+    };
+    SCENE
 }
 
-#[test]
-fn deadlock_is_refused_across_two_mutexes_and_to_the_owner(rt: HostRuntime) -> Result<(), Fail> {
+fn deadlock_is_refused_across_two_mutexes_and_to_the_owner() -> &'static Scene {
     const BASES: &[Seen] = &[Base(10), Base(20)];
     const BOOSTED: &[Seen] = &[Lent(20, 2, 1), Base(20)];
     const ROWS: &[Row] = &[
@@ -71,11 +85,16 @@ fn deadlock_is_refused_across_two_mutexes_and_to_the_owner(rt: HostRuntime) -> R
         Row(Lock(1, 2), Refused(Deadlock), 0, BOOSTED),
         Row(Lock(1, 1), Refused(Deadlock), 0, BOOSTED),
     ];
-    play(&rt, rt.alloc(), &[10, 20], &[INHERIT, INHERIT], ROWS)
+    const SCENE: &Scene = &Scene {
+        name: "deadlock is refused across two mutexes and to the owner",
+        bases: &[10, 20],
+        kinds: &[INHERIT, INHERIT],
+        parts: &[Part(ROWS, None)],
+    };
+    SCENE
 }
 
-#[test]
-fn try_answers_busy_where_lock_answers_deadlock(rt: HostRuntime) -> Result<(), Fail> {
+fn try_answers_busy_where_lock_answers_deadlock() -> &'static Scene {
     const BASES: &[Seen] = &[Base(10), Base(20), Base(30)];
     const BOOSTED: &[Seen] = &[Lent(20, 2, 1), Base(20), Base(30)];
     const ROWS: &[Row] = &[
@@ -88,17 +107,16 @@ fn try_answers_busy_where_lock_answers_deadlock(rt: HostRuntime) -> Result<(), F
         Row(Try(1, 3), Refused(Busy), 0, BOOSTED),
         Row(Try(1, 1), Refused(Busy), 0, BOOSTED),
     ];
-    play(
-        &rt,
-        rt.alloc(),
-        &[10, 20, 30],
-        &[INHERIT, NONE, INHERIT],
-        ROWS,
-    )
+    const SCENE: &Scene = &Scene {
+        name: "try answers busy where lock answers deadlock",
+        bases: &[10, 20, 30],
+        kinds: &[INHERIT, NONE, INHERIT],
+        parts: &[Part(ROWS, None)],
+    };
+    SCENE
 }
 
-#[test]
-fn deadlock_is_refused_through_mutexes_that_lend_nothing(rt: HostRuntime) -> Result<(), Fail> {
+fn deadlock_is_refused_through_mutexes_that_lend_nothing() -> &'static Scene {
     const ROWS: &[Row] = &[
         Row(Lock(1, 1), Granted, 1, &[Base(10), Base(20)]),
         Row(Lock(2, 2), Granted, 1, &[Base(10), Ceiling(30, 2)]),
@@ -110,11 +128,16 @@ fn deadlock_is_refused_through_mutexes_that_lend_nothing(rt: HostRuntime) -> Res
             &[Base(10), Ceiling(30, 2)],
         ),
     ];
-    play(&rt, rt.alloc(), &[10, 20], &[NONE, Protect(30)], ROWS)
+    const SCENE: &Scene = &Scene {
+        name: "deadlock is refused through mutexes that lend nothing",
+        bases: &[10, 20],
+        kinds: &[NONE, Protect(30)],
+        parts: &[Part(ROWS, None)],
+    };
+    SCENE
 }
 
-#[test]
-fn boost_stops_at_a_protect_mutex(rt: HostRuntime) -> Result<(), Fail> {
+fn boost_stops_at_a_protect_mutex() -> &'static Scene {
     const ONE: Seen = Ceiling(50, 1);
     const TWO: Seen = Base(40);
     const THREE: Seen = Base(90);
@@ -126,17 +149,16 @@ fn boost_stops_at_a_protect_mutex(rt: HostRuntime) -> Result<(), Fail> {
         Row(Lock(3, 2), Queued, 1, &[ONE, BOOSTED, THREE]),
         Row(Unlock(1, 1), Handed(2), 2, &[Base(20), BOOSTED, THREE]),
     ];
-    play(
-        &rt,
-        rt.alloc(),
-        &[20, 40, 90],
-        &[Protect(50), INHERIT],
-        ROWS,
-    )
+    const SCENE: &Scene = &Scene {
+        name: "boost stops at a protect mutex",
+        bases: &[20, 40, 90],
+        kinds: &[Protect(50), INHERIT],
+        parts: &[Part(ROWS, None)],
+    };
+    SCENE
 }
 
-#[test]
-fn raised_waiter_is_handed_a_mutex_that_lends_nothing(rt: HostRuntime) -> Result<(), Fail> {
+fn raised_waiter_is_handed_a_mutex_that_lends_nothing() -> &'static Scene {
     const BASES: &[Seen] = &[Base(10), Base(40), Base(30), Base(90)];
     const BOOSTED: &[Seen] = &[Base(10), Base(40), Lent(90, 4, 2), Base(90)];
     const FIRST: &[Row] = &[
@@ -148,15 +170,20 @@ fn raised_waiter_is_handed_a_mutex_that_lends_nothing(rt: HostRuntime) -> Result
     const RAISED: &[Row] = &[Row(Lock(4, 2), Queued, 1, BOOSTED)];
     const HANDED: &[Row] = &[Row(Unlock(1, 1), Handed(3), 2, BOOSTED)];
     const PARTS: &[Part] = &[
-        Part(FIRST, 1, &[2, 3]),
-        Part(RAISED, 1, &[3, 2]),
-        Part(HANDED, 1, &[2]),
+        Part(FIRST, Some((1, &[2, 3]))),
+        Part(RAISED, Some((1, &[3, 2]))),
+        Part(HANDED, Some((1, &[2]))),
     ];
-    play_parts(&rt, rt.alloc(), &[10, 40, 30, 90], &[NONE, INHERIT], PARTS)
+    const SCENE: &Scene = &Scene {
+        name: "raised waiter is handed a mutex that lends nothing",
+        bases: &[10, 40, 30, 90],
+        kinds: &[NONE, INHERIT],
+        parts: PARTS,
+    };
+    SCENE
 }
 
-#[test]
-fn boost_lasts_until_the_last_equal_waiter_withdraws(rt: HostRuntime) -> Result<(), Fail> {
+fn boost_lasts_until_the_last_equal_waiter_withdraws() -> &'static Scene {
     const ONE: Seen = Base(10);
     const TWO: Seen = Base(50);
     const THREE: Seen = Base(50);
@@ -167,11 +194,16 @@ fn boost_lasts_until_the_last_equal_waiter_withdraws(rt: HostRuntime) -> Result<
         Row(Cancel(2, 2), Withdrawn, 1, &[Lent(50, 3, 1), TWO, THREE]),
         Row(Cancel(3, 3), Withdrawn, 1, &[ONE, TWO, THREE]),
     ];
-    play(&rt, rt.alloc(), &[10, 50, 50], &[INHERIT], ROWS)
+    const SCENE: &Scene = &Scene {
+        name: "boost lasts until the last equal waiter withdraws",
+        bases: &[10, 50, 50],
+        kinds: &[INHERIT],
+        parts: &[Part(ROWS, None)],
+    };
+    SCENE
 }
 
-#[test]
-fn ceiling_is_compared_with_the_base_at_the_lock_alone(rt: HostRuntime) -> Result<(), Fail> {
+fn ceiling_is_compared_with_the_base_at_the_lock_alone() -> &'static Scene {
     const ROWS: &[Row] = &[
         Row(Lock(1, 1), Refused(Refusal::Ceiling), 0, &[Base(60)]),
         Row(Lock(1, 2), Granted, 1, &[Base(60)]),
@@ -181,11 +213,16 @@ fn ceiling_is_compared_with_the_base_at_the_lock_alone(rt: HostRuntime) -> Resul
         Row(SetBase(1, 1, 59), Set, 1, &[Ceiling(60, 2)]),
         Row(Try(1, 1), Granted, 1, &[Ceiling(60, 2)]),
     ];
-    play(&rt, rt.alloc(), &[60], &[Protect(59), Protect(60)], ROWS)
+    const SCENE: &Scene = &Scene {
+        name: "ceiling is compared with the base at the lock alone",
+        bases: &[60],
+        kinds: &[Protect(59), Protect(60)],
+        parts: &[Part(ROWS, None)],
+    };
+    SCENE
 }
 
-#[test]
-fn ceiling_is_set_by_the_owner_or_of_a_free_mutex(rt: HostRuntime) -> Result<(), Fail> {
+fn ceiling_is_set_by_the_owner_or_of_a_free_mutex() -> &'static Scene {
     const LOWERED: &[Seen] = &[Ceiling(30, 1), Base(40)];
     const BASES: &[Seen] = &[Base(20), Base(40)];
     const ROWS: &[Row] = &[
@@ -200,11 +237,16 @@ fn ceiling_is_set_by_the_owner_or_of_a_free_mutex(rt: HostRuntime) -> Result<(),
         Row(SetCeiling(2, 1, 45), Set, 0, BASES),
         Row(Lock(2, 1), Granted, 1, &[Base(20), Ceiling(45, 1)]),
     ];
-    play(&rt, rt.alloc(), &[20, 40], &[Protect(50), NONE], ROWS)
+    const SCENE: &Scene = &Scene {
+        name: "ceiling is set by the owner or of a free mutex",
+        bases: &[20, 40],
+        kinds: &[Protect(50), NONE],
+        parts: &[Part(ROWS, None)],
+    };
+    SCENE
 }
 
-#[test]
-fn lowered_ceiling_leaves_what_a_waiter_donates(rt: HostRuntime) -> Result<(), Fail> {
+fn lowered_ceiling_leaves_what_a_waiter_donates() -> &'static Scene {
     const KINDS: &[Kind] = &[Protect(70), INHERIT];
     const ROWS: &[Row] = &[
         Row(Lock(1, 1), Granted, 1, &[Ceiling(70, 1), Base(60)]),
@@ -215,11 +257,16 @@ fn lowered_ceiling_leaves_what_a_waiter_donates(rt: HostRuntime) -> Result<(), F
         Row(SetCeiling(1, 1, 65), Set, 1, &[Ceiling(65, 1), Base(60)]),
         Row(Unlock(1, 1), Freed, 1, &[Lent(60, 2, 2), Base(60)]),
     ];
-    play(&rt, rt.alloc(), &[10, 60], KINDS, ROWS)
+    const SCENE: &Scene = &Scene {
+        name: "lowered ceiling leaves what a waiter donates",
+        bases: &[10, 60],
+        kinds: KINDS,
+        parts: &[Part(ROWS, None)],
+    };
+    SCENE
 }
 
-#[test]
-fn owner_executes_at_the_highest_of_ceilings_and_waiters(rt: HostRuntime) -> Result<(), Fail> {
+fn owner_executes_at_the_highest_of_ceilings_and_waiters() -> &'static Scene {
     const KINDS: &[Kind] = &[Protect(30), Protect(50), INHERIT];
     const ROWS: &[Row] = &[
         Row(Lock(1, 1), Granted, 1, &[Ceiling(30, 1), Base(40)]),
@@ -229,11 +276,16 @@ fn owner_executes_at_the_highest_of_ceilings_and_waiters(rt: HostRuntime) -> Res
         Row(Unlock(1, 2), Freed, 1, &[Lent(40, 2, 3), Base(40)]),
         Row(Unlock(1, 3), Handed(2), 2, &[Ceiling(30, 1), Base(40)]),
     ];
-    play(&rt, rt.alloc(), &[10, 40], KINDS, ROWS)
+    const SCENE: &Scene = &Scene {
+        name: "owner executes at the highest of ceilings and waiters",
+        bases: &[10, 40],
+        kinds: KINDS,
+        parts: &[Part(ROWS, None)],
+    };
+    SCENE
 }
 
-#[test]
-fn hand_over_above_the_ceiling_goes_by_ticket(rt: HostRuntime) -> Result<(), Fail> {
+fn hand_over_above_the_ceiling_goes_by_ticket() -> &'static Scene {
     const ONE: Seen = Ceiling(40, 1);
     const TWO: Seen = Base(20);
     const THREE: Seen = Base(30);
@@ -248,11 +300,16 @@ fn hand_over_above_the_ceiling_goes_by_ticket(rt: HostRuntime) -> Result<(), Fai
         Row(Unlock(1, 1), Handed(2), 2, &[Base(10), HIGH2, HIGH3]),
         Row(Unlock(2, 1), Handed(3), 2, &[Base(10), HIGH2, HIGH3]),
     ];
-    play(&rt, rt.alloc(), &[10, 20, 30], &[Protect(40)], ROWS)
+    const SCENE: &Scene = &Scene {
+        name: "hand over above the ceiling goes by ticket",
+        bases: &[10, 20, 30],
+        kinds: &[Protect(40)],
+        parts: &[Part(ROWS, None)],
+    };
+    SCENE
 }
 
-#[test]
-fn ceiling_is_the_reason_before_a_waiter(rt: HostRuntime) -> Result<(), Fail> {
+fn ceiling_is_the_reason_before_a_waiter() -> &'static Scene {
     const ROWS: &[Row] = &[
         Row(Lock(1, 2), Granted, 1, &[Base(10), Base(50)]),
         Row(Lock(2, 2), Queued, 1, &[Lent(50, 2, 2), Base(50)]),
@@ -260,11 +317,16 @@ fn ceiling_is_the_reason_before_a_waiter(rt: HostRuntime) -> Result<(), Fail> {
         Row(Unlock(1, 2), Handed(2), 2, &[Ceiling(50, 1), Base(50)]),
         Row(Unlock(1, 1), Freed, 1, &[Base(10), Base(50)]),
     ];
-    play(&rt, rt.alloc(), &[10, 50], &[Protect(50), INHERIT], ROWS)
+    const SCENE: &Scene = &Scene {
+        name: "ceiling is the reason before a waiter",
+        bases: &[10, 50],
+        kinds: &[Protect(50), INHERIT],
+        parts: &[Part(ROWS, None)],
+    };
+    SCENE
 }
 
-#[test]
-fn release_hands_all_mutexes_over(rt: HostRuntime) -> Result<(), Fail> {
+fn release_hands_all_mutexes_over() -> &'static Scene {
     const KINDS: &[Kind] = &[Protect(40), Protect(50), NONE];
     const RAISED: &[Seen] = &[Ceiling(50, 2), Base(20), Base(30)];
     const RELEASED: &[Seen] = &[Base(10), Ceiling(40, 1), Ceiling(50, 2)];
@@ -277,11 +339,16 @@ fn release_hands_all_mutexes_over(rt: HostRuntime) -> Result<(), Fail> {
         Row(Release(1), Released(3), 3, RELEASED),
         Row(Release(1), Released(0), 0, RELEASED),
     ];
-    play(&rt, rt.alloc(), &[10, 20, 30], KINDS, ROWS)
+    const SCENE: &Scene = &Scene {
+        name: "release hands all mutexes over",
+        bases: &[10, 20, 30],
+        kinds: KINDS,
+        parts: &[Part(ROWS, None)],
+    };
+    SCENE
 }
 
-#[test]
-fn only_owners_unlock_and_only_waiters_withdraw(rt: HostRuntime) -> Result<(), Fail> {
+fn only_owners_unlock_and_only_waiters_withdraw() -> &'static Scene {
     const BASES: &[Seen] = &[Base(10), Base(20)];
     const ROWS: &[Row] = &[
         Row(Lock(1, 1), Granted, 1, BASES),
@@ -293,7 +360,13 @@ fn only_owners_unlock_and_only_waiters_withdraw(rt: HostRuntime) -> Result<(), F
         Row(Unlock(1, 1), Handed(2), 2, BASES),
         Row(Unlock(2, 1), Freed, 1, BASES),
     ];
-    play(&rt, rt.alloc(), &[10, 20], &[NONE, NONE], ROWS)
+    const SCENE: &Scene = &Scene {
+        name: "only owners unlock and only waiters withdraw",
+        bases: &[10, 20],
+        kinds: &[NONE, NONE],
+        parts: &[Part(ROWS, None)],
+    };
+    SCENE
 }
 
 // task 2 has the last ticket but one, and the last ticket is never used
@@ -317,12 +390,11 @@ fn last_ticket_is_given_out_and_no_more(rt: HostRuntime) -> Result<(), Fail> {
         Row(Try(3, 1), Refused(Busy), 0, BOOSTED),
     ];
     let mut both = Both::with_next_ticket(&rt, rt.alloc(), LEVELS, &[INHERIT], u64::MAX - 1)?;
-    both.play(ROWS);
+    both.play("the last ticket", ROWS);
     expect_last_ticket(&rt, &both)
 }
 
-#[test]
-fn recursive_mutex_goes_to_its_waiter_at_the_last_unlock(rt: HostRuntime) -> Result<(), Fail> {
+fn recursive_mutex_goes_to_its_waiter_at_the_last_unlock() -> &'static Scene {
     const BASES: &[Seen] = &[Base(10), Base(50)];
     const BOOSTED: &[Seen] = &[Lent(50, 2, 1), Base(50)];
     const ROWS: &[Row] = &[
@@ -340,7 +412,13 @@ fn recursive_mutex_goes_to_its_waiter_at_the_last_unlock(rt: HostRuntime) -> Res
         Row(Lock(2, 1), Granted, 0, BASES),
         Row(Release(2), Released(1), 1, BASES),
     ];
-    play(&rt, rt.alloc(), &[10, 50], &[RECURSIVE], ROWS)
+    const SCENE: &Scene = &Scene {
+        name: "recursive mutex goes to its waiter at the last unlock",
+        bases: &[10, 50],
+        kinds: &[RECURSIVE],
+        parts: &[Part(ROWS, None)],
+    };
+    SCENE
 }
 
 #[test]
@@ -359,8 +437,36 @@ fn relocks_end_at_255_and_the_deadlock_of_another_stays(rt: HostRuntime) -> Resu
     for _time in 0..255 {
         both.step(lock(1, 1));
     }
-    both.play(ROWS);
+    both.play("255 locks", ROWS);
     assert_eq!(rt; both.manager.count(MutexNo(1)), Some(1));
+    Ok(())
+}
+
+#[test]
+fn scenarios(rt: HostRuntime) -> Result<(), Fail> {
+    let scenes = [
+        unknown_numbers_are_refused(),
+        waiters_are_served_by_priority_and_ask_for_nothing(),
+        medium_task_cannot_delay_boosted_owner(),
+        deadlock_is_refused_across_two_mutexes_and_to_the_owner(),
+        try_answers_busy_where_lock_answers_deadlock(),
+        deadlock_is_refused_through_mutexes_that_lend_nothing(),
+        boost_stops_at_a_protect_mutex(),
+        raised_waiter_is_handed_a_mutex_that_lends_nothing(),
+        boost_lasts_until_the_last_equal_waiter_withdraws(),
+        ceiling_is_compared_with_the_base_at_the_lock_alone(),
+        ceiling_is_set_by_the_owner_or_of_a_free_mutex(),
+        lowered_ceiling_leaves_what_a_waiter_donates(),
+        owner_executes_at_the_highest_of_ceilings_and_waiters(),
+        hand_over_above_the_ceiling_goes_by_ticket(),
+        ceiling_is_the_reason_before_a_waiter(),
+        release_hands_all_mutexes_over(),
+        only_owners_unlock_and_only_waiters_withdraw(),
+        recursive_mutex_goes_to_its_waiter_at_the_last_unlock(),
+    ];
+    for scene in scenes {
+        play(&rt, rt.alloc(), scene)?;
+    }
     Ok(())
 }
 

@@ -241,21 +241,23 @@ impl<'a, R: Abort> Both<'a, R> {
     }
 
     /// Makes the step, and tests its reply, the manager's visits, and the priority and reason of task 1, task 2 and so
-    /// on after it.
-    pub fn expect_step(&mut self, step: Step, reply: Reply, visits: u32, tasks: &[Seen]) {
-        assert_eq!(self.rt; self.step(step), Done { reply, visits }, "{step:?}");
-        for (number, seen) in (1u16..257).zip(tasks) {
+    /// on after it. The name is the scenario's.
+    pub fn expect_step(&mut self, name: &str, step: Step, row: &Row) {
+        let (reply, visits) = (row.1.reply(), row.2);
+        let done = self.step(step);
+        assert_eq!(self.rt; done, Done { reply, visits }, "{name}: {step:?}");
+        for (number, seen) in (1u16..257).zip(row.3) {
             let task = TaskNo(number);
             let shown = (self.effective(task), self.reason(task));
             let expected = (seen.prio(), Some(seen.reason()));
-            assert_eq!(self.rt; shown, expected, "{task:?} after {step:?}");
+            assert_eq!(self.rt; shown, expected, "{name}: {task:?} after {step:?}");
         }
     }
 
-    /// Makes the step of each row, and tests what the row says.
-    pub fn play(&mut self, rows: &[Row]) {
+    /// Makes the step of each row of a scenario, and tests what the row says.
+    pub fn play(&mut self, name: &str, rows: &[Row]) {
         for row in rows {
-            self.expect_step(row.0.step(), row.1.reply(), row.2, row.3);
+            self.expect_step(name, row.0.step(), row);
         }
     }
 
@@ -277,35 +279,32 @@ impl<'a, R: Abort> Both<'a, R> {
     }
 }
 
-/// Makes both managers with these bases and protocols, and plays the rows.
-pub fn play<R: Abort>(
-    rt: &R,
-    alloc: Global,
-    bases: &[u16],
-    kinds: &[Kind],
-    rows: &[Row],
-) -> Result<(), Fail> {
-    Both::new(rt, alloc, bases, kinds)?.play(rows);
-    Ok(())
+/// Rows, and then a mutex and the tasks that wait for it, in order, or `None` if no queue is compared.
+#[derive(Clone, Copy)]
+pub struct Part(pub &'static [Row], pub Option<(u16, &'static [u16])>);
+
+/// A worked scenario.
+#[derive(Clone, Copy)]
+pub struct Scene {
+    /// What happens.
+    pub name: &'static str,
+    /// The base of task 1, task 2 and so on.
+    pub bases: &'static [u16],
+    /// The protocol of mutex 1, mutex 2 and so on.
+    pub kinds: &'static [Kind],
+    /// What is done and returned, in order.
+    pub parts: &'static [Part],
 }
 
-/// Rows, and then the tasks that wait for a mutex, in order.
-#[derive(Drop)]
-pub struct Part(pub &'static [Row], pub u16, pub &'static [u16]);
-
-/// Makes both managers with these bases and protocols, and plays the parts. After the rows of a part the queue of its
-/// mutex must be the one that it gives.
-pub fn play_parts<R: Abort>(
-    rt: &R,
-    alloc: Global,
-    bases: &[u16],
-    kinds: &[Kind],
-    parts: &[Part],
-) -> Result<(), Fail> {
-    let mut both = Both::new(rt, alloc, bases, kinds)?;
-    for part in parts {
-        both.play(part.0);
-        both.expect_queue(part.1, part.2)?;
+/// Makes both managers, and plays the parts of the scenario. After the rows of a part the queue of its mutex must be the
+/// one that it gives.
+pub fn play<R: Abort>(rt: &R, alloc: Global, scene: &Scene) -> Result<(), Fail> {
+    let mut both = Both::new(rt, alloc, scene.bases, scene.kinds)?;
+    for part in scene.parts {
+        both.play(scene.name, part.0);
+        if let Some((mutex, tasks)) = part.1 {
+            both.expect_queue(mutex, tasks)?;
+        }
     }
     Ok(())
 }

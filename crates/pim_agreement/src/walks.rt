@@ -1,6 +1,6 @@
 //! Scenarios of the walk, on both managers: where it goes, and where it stops early.
 
-use crate::scene::{Act, Answer, Both, INHERIT, Part, Row, Seen, lock, play, play_parts, set_base};
+use crate::scene::{Act, Answer, Both, INHERIT, Part, Row, Scene, Seen, lock, play, set_base};
 use Act::{Cancel, Lock, SetBase, Unlock};
 use Answer::{Granted, Handed, Queued, Refused, Set, Withdrawn};
 use Refusal::{Deadlock, NoTask};
@@ -52,42 +52,48 @@ const FIVE: Seen = Base(40);
 
 const BOOSTED: &[Seen] = &[Lent(90, 2, 1), Lent(90, 3, 2), Lent(90, 4, 3), FOUR, FIVE];
 
-// plays the rows of the chain and these rows, and tests that the queue of mutex 3 then has these tasks
-fn play_on_chain(
-    rt: &impl Abort,
-    alloc: Global,
-    rows: &'static [Row],
-    queue: &'static [u16],
-) -> Result<(), Fail> {
-    let parts = [Part(CHAIN, 3, &[4]), Part(rows, 3, queue)];
-    play_parts(rt, alloc, &[10, 20, 30, 90, 40], &[INHERIT; 3], &parts)
-}
+/// The chain, and the queue of mutex 3 then.
+const BEGIN: Part = Part(CHAIN, Some((3, &[4])));
 
-#[test]
-fn lower_waiter_changes_no_priority(rt: HostRuntime) -> Result<(), Fail> {
+fn lower_waiter_changes_no_priority() -> &'static Scene {
     const ROWS: &[Row] = &[Row(Lock(5, 3), Queued, 1, BOOSTED)];
-    play_on_chain(&rt, rt.alloc(), ROWS, &[4, 5])
+    const SCENE: &Scene = &Scene {
+        name: "lower waiter changes no priority",
+        bases: &[10, 20, 30, 90, 40],
+        kinds: &[INHERIT; 3],
+        parts: &[BEGIN, Part(ROWS, Some((3, &[4, 5])))],
+    };
+    SCENE
 }
 
-#[test]
-fn withdrawal_from_the_middle_cuts_the_chain(rt: HostRuntime) -> Result<(), Fail> {
+fn withdrawal_from_the_middle_cuts_the_chain() -> &'static Scene {
     const CUT: &[Seen] = &[Lent(20, 2, 1), Base(20), Lent(90, 4, 3), FOUR, FIVE];
     const ROWS: &[Row] = &[
         Row(Cancel(1, 3), Withdrawn, 2, CUT),
         Row(Cancel(5, 9), Refused(NoTask), 0, CUT),
     ];
-    play_on_chain(&rt, rt.alloc(), ROWS, &[4])
+    const SCENE: &Scene = &Scene {
+        name: "withdrawal from the middle cuts the chain",
+        bases: &[10, 20, 30, 90, 40],
+        kinds: &[INHERIT; 3],
+        parts: &[BEGIN, Part(ROWS, Some((3, &[4])))],
+    };
+    SCENE
 }
 
-#[test]
-fn new_base_of_the_last_waiter_lowers_the_whole_chain(rt: HostRuntime) -> Result<(), Fail> {
+fn new_base_of_the_last_waiter_lowers_the_whole_chain() -> &'static Scene {
     const LOWERED: &[Seen] = &[Lent(30, 2, 1), Lent(30, 3, 2), Base(30), Base(15), FIVE];
     const ROWS: &[Row] = &[Row(SetBase(1, 4, 15), Set, 4, LOWERED)];
-    play_on_chain(&rt, rt.alloc(), ROWS, &[4])
+    const SCENE: &Scene = &Scene {
+        name: "new base of the last waiter lowers the whole chain",
+        bases: &[10, 20, 30, 90, 40],
+        kinds: &[INHERIT; 3],
+        parts: &[BEGIN, Part(ROWS, Some((3, &[4])))],
+    };
+    SCENE
 }
 
-#[test]
-fn lowered_owner_keeps_what_another_waiter_donates(rt: HostRuntime) -> Result<(), Fail> {
+fn lowered_owner_keeps_what_another_waiter_donates() -> &'static Scene {
     const ONE: Seen = Base(10);
     const TWO: Seen = Base(20);
     const THREE: Seen = Base(30);
@@ -116,11 +122,16 @@ fn lowered_owner_keeps_what_another_waiter_donates(rt: HostRuntime) -> Result<()
         Row(Lock(5, 4), Queued, 3, RAISED),
         Row(Cancel(5, 5), Withdrawn, 3, LOWERED),
     ];
-    play(&rt, rt.alloc(), &[10, 20, 30, 60, 90], &[INHERIT; 4], ROWS)
+    const SCENE: &Scene = &Scene {
+        name: "lowered owner keeps what another waiter donates",
+        bases: &[10, 20, 30, 60, 90],
+        kinds: &[INHERIT; 4],
+        parts: &[Part(ROWS, None)],
+    };
+    SCENE
 }
 
-#[test]
-fn refused_deadlock_changes_no_priority(rt: HostRuntime) -> Result<(), Fail> {
+fn refused_deadlock_changes_no_priority() -> &'static Scene {
     const ONE: Seen = Base(10);
     const TWO: Seen = Base(20);
     const THREE: Seen = Base(30);
@@ -149,11 +160,16 @@ fn refused_deadlock_changes_no_priority(rt: HostRuntime) -> Result<(), Fail> {
         Row(Lock(1, 5), Queued, 1, BOOSTED),
         Row(Lock(5, 4), Refused(Deadlock), 0, BOOSTED),
     ];
-    play(&rt, rt.alloc(), &[10, 20, 30, 60, 90], &[INHERIT; 5], ROWS)
+    const SCENE: &Scene = &Scene {
+        name: "refused deadlock changes no priority",
+        bases: &[10, 20, 30, 60, 90],
+        kinds: &[INHERIT; 5],
+        parts: &[Part(ROWS, None)],
+    };
+    SCENE
 }
 
-#[test]
-fn new_owner_keeps_what_its_waiters_lend(rt: HostRuntime) -> Result<(), Fail> {
+fn new_owner_keeps_what_its_waiters_lend() -> &'static Scene {
     const ONE: Seen = Base(10);
     const TWO: Seen = Base(50);
     const THREE: Seen = Base(40);
@@ -165,11 +181,16 @@ fn new_owner_keeps_what_its_waiters_lend(rt: HostRuntime) -> Result<(), Fail> {
         Row(SetBase(1, 2, 20), Set, 1, &[ONE, Lent(40, 3, 1), THREE]),
         Row(SetBase(1, 2, 21), Set, 1, &[ONE, Lent(40, 3, 1), THREE]),
     ];
-    play(&rt, rt.alloc(), &[10, 50, 40], &[INHERIT], ROWS)
+    const SCENE: &Scene = &Scene {
+        name: "new owner keeps what its waiters lend",
+        bases: &[10, 50, 40],
+        kinds: &[INHERIT],
+        parts: &[Part(ROWS, None)],
+    };
+    SCENE
 }
 
-#[test]
-fn second_waiter_becomes_first_with_a_changed_priority(rt: HostRuntime) -> Result<(), Fail> {
+fn second_waiter_becomes_first_with_a_changed_priority() -> &'static Scene {
     const ONE: Seen = Base(10);
     const TWO: Seen = Base(20);
     const THREE: Seen = Base(30);
@@ -204,13 +225,30 @@ fn second_waiter_becomes_first_with_a_changed_priority(rt: HostRuntime) -> Resul
             &[BY5, BY1, THREE, FOUR, FIVE, SIX],
         ),
     ];
-    play(
-        &rt,
-        rt.alloc(),
-        &[10, 20, 30, 50, 70, 90],
-        &[INHERIT; 4],
-        ROWS,
-    )
+    const SCENE: &Scene = &Scene {
+        name: "second waiter becomes first with a changed priority",
+        bases: &[10, 20, 30, 50, 70, 90],
+        kinds: &[INHERIT; 4],
+        parts: &[Part(ROWS, None)],
+    };
+    SCENE
+}
+
+#[test]
+fn walks(rt: HostRuntime) -> Result<(), Fail> {
+    let scenes = [
+        lower_waiter_changes_no_priority(),
+        withdrawal_from_the_middle_cuts_the_chain(),
+        new_base_of_the_last_waiter_lowers_the_whole_chain(),
+        lowered_owner_keeps_what_another_waiter_donates(),
+        refused_deadlock_changes_no_priority(),
+        new_owner_keeps_what_its_waiters_lend(),
+        second_waiter_becomes_first_with_a_changed_priority(),
+    ];
+    for scene in scenes {
+        play(&rt, rt.alloc(), scene)?;
+    }
+    Ok(())
 }
 
 // 256 tasks in one chain: each but the last owns the mutex of its number, and waits for the one before
@@ -340,6 +378,6 @@ fn waiters_of_a_full_queue_are_raised_one_by_one(rt: HostRuntime) -> Result<(), 
         expect_lent(&rt, &both.manager, number)?;
     }
     both.queue(MutexNo(1))?;
-    both.play(&[HANDED]);
+    both.play("a full queue", &[HANDED]);
     Ok(())
 }
