@@ -30,6 +30,7 @@ mod make_fault;
 mod manager;
 mod noting;
 mod runs;
+mod shared_fault;
 mod steps;
 #[cfg(test)]
 mod tests;
@@ -38,3 +39,4 @@ pub use changed_tasks::{ChangedTask, ChangedTasks};
 pub use done::Done;
 pub use make_fault::MakeFault;
 pub use manager::Manager;
+pub use shared_fault::SharedFault;

@@ -8,8 +8,8 @@ use Rattle.pim_base.specs.Runs.{IsRun}
 use Rattle.pim_base.specs.declared.steps.Step.{Step}
 use Rattle.pim_base.specs.declared.steps.Entry.{Entry}
 use Rattle.pim_base.specs.declared.steps.Reply.{Reply}
-use Rattle.pim_shared.specs.declared.fault.SharedFault.{SharedFault}
-use Rattle.pim_shared.specs.declared.fault.SharedFault.TheVariants.{Full, Memory, Closed, Torn, NoPlace}
+use Rattle.pim_manager.specs.declared.shared_fault.SharedFault.{SharedFault}
+use Rattle.pim_manager.specs.declared.shared_fault.SharedFault.TheVariants.{Full, Memory, Closed, Torn, NoPlace}
 use Rattle.pim_shared.specs.declared.gate.Settled.{Settled}
 use Rattle.pim_shared.specs.Publishers.{Published}
 

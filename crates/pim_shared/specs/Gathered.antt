@@ -5,8 +5,8 @@ use Rattle.pim_base.specs.State.{State}
 use Rattle.pim_base.specs.Runs.{IsInterleaving}
 use Rattle.pim_base.specs.declared.steps.Op.{Op}
 use Rattle.pim_shared.specs.Logs.{History}
-use Rattle.pim_shared.specs.declared.fault.SharedFault.{SharedFault}
-use Rattle.pim_shared.specs.declared.fault.SharedFault.TheVariants.{Torn}
+use Rattle.pim_manager.specs.declared.shared_fault.SharedFault.{SharedFault}
+use Rattle.pim_manager.specs.declared.shared_fault.SharedFault.TheVariants.{Torn}
 
 -- the log starts at this state, and its entries are an interleaving of the scripts
 pub record IsLogOf (start : State) (scripts : List (List Op)) (log : History) : Type 0 where

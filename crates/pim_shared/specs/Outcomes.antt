@@ -1,7 +1,7 @@
 -- The one outcome of many workers.
 use Rattle.std.specs.Prelude.{List, [], ◌∷◌, Result, Ok, Err}
-use Rattle.pim_shared.specs.declared.fault.SharedFault.{SharedFault}
-use Rattle.pim_shared.specs.declared.fault.SharedFault.TheVariants.{Full, Memory, Closed, Torn, NoPlace}
+use Rattle.pim_manager.specs.declared.shared_fault.SharedFault.{SharedFault}
+use Rattle.pim_manager.specs.declared.shared_fault.SharedFault.TheVariants.{Full, Memory, Closed, Torn, NoPlace}
 
 -- the fault, or Closed for Ok
 abbrev pub or_closed : Result Unit SharedFault → Result Unit SharedFault

@@ -10,7 +10,7 @@ ghost use Rattle.pim_shared.specs.Books.{IsCall, IsCallWith, IsCallFault, settle
 ghost use Rattle.pim_shared.specs.Lookers.{EndsWithNew};
 ghost use Rattle.pim_shared.specs.Publishers.{unpublished};
 
-use crate::fault::SharedFault;
+use crate::SharedFault;
 use crate::gate::Settled;
 use crate::log::Log;
 use crate::looker::Looker;

@@ -1,6 +1,6 @@
 //! What a worker calls: a manager behind a lock, or a replacement for it.
 
-use crate::fault::SharedFault;
+use crate::SharedFault;
 use pim_base::{MutexNo, Reply, Step, TaskNo};
 use std::sync::Wait;
 

@@ -6,7 +6,7 @@ ghost use Rattle.pim_base.specs.declared.steps.Entry.{Entry};
 ghost use Rattle.pim_base.specs.declared.steps.Op.{Op};
 ghost use Rattle.pim_shared.specs.Gathered.{IsGathered, lines};
 
-use crate::fault::SharedFault;
+use crate::SharedFault;
 use crate::log::Log;
 use pim_base::{Entry, Op};
 use pim_manager::Manager;

@@ -16,7 +16,6 @@
 #![tactic(auto)]
 
 mod book;
-mod fault;
 mod gate;
 mod gathering;
 mod log;
@@ -30,10 +29,10 @@ mod version;
 mod workers;
 
 pub use book::Book;
-pub use fault::SharedFault;
 pub use gate::{Gate, Settled};
 pub use gathering::gather;
 pub use log::Log;
 pub use looker::{Looker, Seen};
+pub use pim_manager::SharedFault;
 pub use shared::Shared;
 pub use workers::{run_scripts, worker};

@@ -6,7 +6,7 @@ ghost use Rattle.left_right.specs.Sides.{view as known};
 ghost use Rattle.pim_shared.specs.Lookers.{history_of, seen_of, Shows, HasLooked, HasFoundLast, EndsWithNew};
 ghost use Rattle.pim_shared.specs.Rules.{KnowsStart};
 
-use crate::fault::SharedFault;
+use crate::SharedFault;
 use crate::rule::{Enters, VersionReader};
 use crate::version::Version;
 use core::mem::replace_with;

@@ -8,8 +8,8 @@ ghost use Rattle.pim_shared.specs.Books.{IsCallFault};
 ghost use Rattle.pim_shared.specs.Lookers.{HaveSeenNothing, EndsWithNew};
 ghost use Rattle.pim_base.specs.declared.limits.TheConstants.{MAX_LOOKERS};
 
+use crate::SharedFault;
 use crate::book::Book;
-use crate::fault::SharedFault;
 use crate::gate::{Gate, Settled};
 use crate::log::Log;
 use crate::looker::Looker;

@@ -4,7 +4,7 @@ ghost use Rattle.std.specs.Prelude.{◌≡◌, ◌≤◌, length};
 ghost use Rattle.pim_base.specs.declared.limits.TheConstants.{MAX_WORKERS};
 ghost use Rattle.pim_shared.specs.Outcomes.{outcome_of};
 
-use crate::fault::SharedFault;
+use crate::SharedFault;
 use crate::gate::Gate;
 use pim_base::{MutexNo, Op, Reply, Step, TaskNo};
 use std::alloc::Global;

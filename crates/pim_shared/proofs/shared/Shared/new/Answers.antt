@@ -2,7 +2,7 @@ use Rattle.std.proofs.Common.{◌≡◌, ◌⊎◌, inl, [], ap, ◌∙◌, rule
 use Rattle.std.specs.Prelude.{Result, Ok, Err, IfErr}
 use Rattle.std.specs.Result.{IsErrAnd}
 use Rattle.pim_base.specs.State.{State}
-use Rattle.pim_shared.specs.declared.fault.SharedFault.{SharedFault}
+use Rattle.pim_manager.specs.declared.shared_fault.SharedFault.{SharedFault}
 use Rattle.pim_shared.proofs.shared.Shared.new.Goals as goal
 
 memory_or :

@@ -1,12 +1,15 @@
-//! Why a call of the locked manager was refused.
+//! Why a call of a manager that threads share fails.
 
 ghost use Rattle.std.specs.Prelude.{◌≡◌};
-ghost use Rattle.pim_shared.specs.declared.fault.SharedFault.TheVariants.{Memory};
+ghost use Rattle.pim_manager.specs.declared.shared_fault.SharedFault.TheVariants.{Memory};
 
 use std::alloc::AllocError;
 use thiserror::Error;
 
-/// Why a call was refused, or why a log isn't a run of the scripts.
+/// Why a call of a manager that threads share was refused, or why the log of such calls isn't a run of the scripts.
+///
+/// The manager is behind a lock, and each call adds an entry to its log. `pim_shared` has both, and its calls return
+/// this fault.
 #[derive(Clone, Copy, Debug, PartialEq, Eq, Error)]
 pub enum SharedFault {
     /// The log holds as many entries as it has room for. Manager and log are unchanged, and closed from then on.
