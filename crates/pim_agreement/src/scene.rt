@@ -296,8 +296,8 @@ pub struct Scene {
     pub parts: &'static [Part],
 }
 
-/// Makes both managers, and plays the parts of the scenario. After the rows of a part the queue of its mutex must be the
-/// one that it gives.
+/// Makes both managers, and plays the parts of the scenario. After the rows of a part the queue of its mutex must be
+/// the one that it gives.
 pub fn play<R: Abort>(rt: &R, alloc: Global, scene: &Scene) -> Result<(), Fail> {
     let mut both = Both::new(rt, alloc, scene.bases, scene.kinds)?;
     for part in scene.parts {

@@ -1,12 +1,12 @@
 //! Tests: what each call that allocates returns while allocations fail.
 //!
-//! A test whose name ends in `_out_of_memory` makes one call, or one kind of value and its copy. In CI no allocation fails,
-//! and the call succeeds. `tests/memory` runs the test again and again: its first allocation fails, then its second, and so
-//! on. A call with a failed allocation must say so and change nothing, and what comes after it must work. The test then
-//! ends in the error `IN_CALL`.
+//! A test whose name ends in `_out_of_memory` makes one call, or a few of one shared manager. In CI no allocation fails,
+//! and the call succeeds. `tests/memory` runs the test again and again: its first allocation fails, then its second,
+//! and so on. A call whose allocation fails must say so and change nothing, and what comes after it must work. The test
+//! then ends in the error `IN_CALL`.
 //!
-//! The stack of a thread isn't allocated by `malloc`. The tests of `stacks` allocate all memory that there is, and free it
-//! a block at a time. The tests of `sizes` have ample memory: they make managers of every size.
+//! The stack of a thread isn't allocated by `malloc`. The tests of `stacks` allocate all large blocks of memory, and
+//! free them one by one. The tests of `sizes` have enough memory, and make managers of every size.
 #![tactic(auto)]
 
 #[cfg(test)]

@@ -50,8 +50,8 @@ const CLOSED: [Result<Reply, SharedFault>; 4] = [
     Err(SharedFault::Closed),
 ];
 
-/// The steps of the four calls: task 1 hands mutex 1 over to task 2, and isn't its owner any more. Task 2 unlocks it, and
-/// task 3 locks it.
+/// The steps of the four calls: task 1 hands mutex 1 over to task 2, and isn't its owner any more. Task 2 unlocks it,
+/// and task 3 locks it.
 fn steps() -> [Step; 4] {
     [unlock(1), unlock(1), unlock(2), lock(3)]
 }

@@ -1,5 +1,5 @@
-//! With ample memory the calls of a manager succeed at every size. What they made is compared with values worked out by
-//! hand.
+//! With enough memory the calls of a manager succeed at every size. What they made is compared with values worked out
+//! by hand.
 
 use pim_base::{MutexNo, Op, Prio, Protocol, Reason, Reply, Step, TaskNo};
 use pim_manager::{ChangedTask, ChangedTasks, Manager};
@@ -7,12 +7,12 @@ use std::alloc::Global;
 use std::process::Abort;
 use std::test::Fail;
 
-/// None, few and most, and those about 100, 150 and 200. A row has a number of tasks, and the base of the last of them, or
-/// 0 if there is none. The bases of tasks are 1 to 99, over and over.
+/// None, few and most, and those about 100, 150 and 200. A row has a number of tasks, and the base of the last of
+/// them, or 0 if there is none. The bases of tasks are 1 to 99, over and over.
 ///
-/// Then task 1 owns a mutex for which all others wait: the row has the first waiter and the last one, or 0 if nobody waits.
-/// The highest base is that of task 99. Of those who wait the lowest base is that of task 2, or of task 100, to which that
-/// of task 199 is equal.
+/// Then task 1 owns a mutex for which all others wait: the row has the first waiter and the last one, or 0 if nobody
+/// waits. The highest base is that of task 99. Of those who wait the lowest base is that of task 2, or of task 100,
+/// to which that of task 199 is equal.
 const SIZES: &[[u16; 4]] = &[
     [0, 0, 0, 0],
     [1, 1, 0, 0],
@@ -112,8 +112,8 @@ fn managers_of_every_size(rt: HostRuntime) -> Result<(), Fail> {
     Ok(())
 }
 
-/// What a manager shows of task 1 and of the last mutex: its owner, how many wait for it, and the first and the last of
-/// them, or 0; then the priority of task 1, and why it has it.
+/// What a manager shows of task 1 and of the last mutex: its owner, how many wait for it, and the first and the last
+/// of them, or 0; then the priority of task 1, and why it has it.
 #[derive(Clone, Copy, Debug, PartialEq, Eq)]
 struct Contended {
     owner: Option<Option<TaskNo>>,

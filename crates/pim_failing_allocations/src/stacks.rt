@@ -1,7 +1,7 @@
 //! The calls that start threads while there is no room for a stack.
 //!
-//! All large blocks of memory are allocated, and freed one by one: the smallest first, so that at last there is room for
-//! one stack, and then for two.
+//! All large blocks of memory are allocated, and freed one by one: the smallest first, so that at last there is room
+//! for one stack, and then for two.
 
 use crate::runs::{SCRIPT, expect_trace, expect_verdict, writer};
 use pim_shared::SharedFault;
@@ -15,8 +15,8 @@ const BLOCKS: usize = 65_536;
 /// The size of the largest blocks. With addresses of 47 bits they fill the address space.
 const LARGEST: usize = 1 << 34;
 
-/// Allocates all blocks of at least 128 KiB, so that no stack can be allocated: the largest first. Some smaller blocks stay
-/// free.
+/// Allocates all blocks of at least 128 KiB, so that no stack can be allocated: the largest first. Some smaller
+/// blocks stay free.
 fn all_large_blocks(alloc: Global) -> Result<Vec<Vec<u8>>, AllocError> {
     let small: Vec<u8> = Vec::with_capacity(alloc, 1 << 16)?;
     let mut blocks = Vec::with_capacity(alloc, BLOCKS)?;
@@ -32,8 +32,8 @@ fn all_large_blocks(alloc: Global) -> Result<Vec<Vec<u8>>, AllocError> {
     Ok(blocks)
 }
 
-/// Returns what the call returns once there is enough memory. It returns `None` if it is out of memory, and is tried again
-/// after each block that is freed.
+/// Returns what the call returns once there is enough memory. It returns `None` if it is out of memory, and is tried
+/// again after each block that is freed.
 ///
 /// # Errors
 ///
