@@ -12,7 +12,7 @@ use std::marker::Model;
 
 /// The tasks whose stored priority isn't the noted one, in ascending order.
 ///
-/// Its value in contracts is the list of those that are left. It looks at the noted tasks alone.
+/// Its value in contracts is the list of those that are left. It reads the noted tasks alone.
 #[derive(Drop)]
 pub struct Changed<'a> {
     noted: Numbers,
@@ -60,7 +60,7 @@ impl<'a> Iterator for Changed<'a> {
     }
 }
 
-// whether the task, if it is known, has another priority now than it had
+// Returns whether the task is known and has another priority now than it had.
 fn differs(had: &[u16], stored: &[Prio], task: u16) -> bool
     ensures { result ≡ differs_in had.now stored.now task }
 {

@@ -98,11 +98,11 @@ impl Tables {
         self.known_protocol(mutex).is_recursive() && 1 < self.count_of(mutex)
     }
 
-    /// Returns whether a task waits for the mutex with this ticket. Looks at each waiter.
+    /// Returns whether a task waits for the mutex with this ticket. Reads each waiter.
     pub fn has_ticket(&self, mutex: MutexNo, ticket: u64) -> bool
         ensures { IsTrue result ↔ ((t : ℕ) × (wait_of self.now.state t ≡ Some (record { mutex = mutex; ticket = ticket }))) }
     {
-        // Its contract tells the proof what always holds of the tables.
+        // The contract of this call gives the proof the invariant of the tables.
         let _tasks = self.tasks();
         match self.queue(mutex) {
             Some(queue) => queue.has_ticket(ticket),

@@ -13,30 +13,31 @@ impl Tables {
     pub fn blocker(&self, task: TaskNo) -> Option<TaskNo>
         ensures { result ≡ blocker self.now.state task }
     {
-        // Its contract tells the proof what always holds of the tables.
+        // The contract of this call gives the proof the invariant of the tables.
         let _tasks = self.tasks();
         self.known_owner(self.waits_for(task)?.mutex)
     }
 
-    // the same of a known task
+    // Returns the owner of the mutex that the known task waits for.
     #[inline(always)]
     fn known_blocker(&self, task: TaskNo) -> Option<TaskNo>
         requires { IsTask self.now.state task }
         ensures blocker { result ≡ blocker self.now.state task }
         ensures known { IfSome result (IsTask self.now.state) }
     {
-        // Its contract tells the proof what always holds of the tables.
+        // The contract of this call gives the proof the invariant of the tables.
         let _tasks = self.tasks();
         self.known_owner(self.known_wait(task)?.mutex)
     }
 
-    /// Returns whether the task is `from`, or is reached from it by hops to the owner of the mutex that a task waits for.
+    /// Returns whether the task is `from`, or is reached from it by hops to the owner of the mutex that a task waits
+    /// for.
     ///
     /// Makes at most as many hops as there are tasks, through mutexes of any protocol.
     pub fn on_chain(&self, from: TaskNo, task: TaskNo) -> bool
         ensures { result ≡ contains (waits_chain self.now.state from) task }
     {
-        // Its contract tells the proof what always holds of the tables.
+        // The contract of this call gives the proof the invariant of the tables.
         let _tasks = self.tasks();
         if task == from {
             return true;
@@ -47,7 +48,7 @@ impl Tables {
         self.known_on_chain(from, task)
     }
 
-    // the same from a known task
+    // Returns whether the task is on the chain of the known task `from`.
     #[tactic(auto, using(crate::proofs::Hopping::contains_onward))]
     #[inline(always)]
     fn known_on_chain(&self, from: TaskNo, task: TaskNo) -> bool
@@ -68,21 +69,21 @@ impl Tables {
         task == at
     }
 
-    /// Returns whether a request of the task for the mutex would close a cycle: whether its wait would lead back to it, and
-    /// it is no relock, which doesn't wait.
+    /// Returns whether a request of the task for the mutex would close a cycle: its wait would lead back to it. A
+    /// relock closes none, since it doesn't wait.
     pub fn closes_cycle(&self, task: TaskNo, mutex: MutexNo) -> bool
         ensures { result ≡ closes_cycle self.now.state task mutex }
     {
         !self.relocks(task, mutex) && self.leads_back(task, mutex)
     }
 
-    /// Returns whether a wait of the task for the mutex would lead back to it: whether the mutex is owned, and the task is on
+    /// Returns whether a wait of the task for the mutex would lead back to it: the mutex is owned, and the task is on
     /// the chain of its owner.
     #[inline(always)]
     pub fn leads_back(&self, task: TaskNo, mutex: MutexNo) -> bool
         ensures { result ≡ leads_back self.now.state task mutex }
     {
-        // Its contract tells the proof what always holds of the tables.
+        // The contract of this call gives the proof the invariant of the tables.
         let _tasks = self.tasks();
         match self.owner(mutex) {
             Some(owner) => self.known_on_chain(owner, task),

@@ -34,8 +34,9 @@ impl Tables {
 
     // Takes the mutex from its owner, which waits for nothing, and hands it to the first waiter, if there is one.
     //
-    // The stored priority of the old owner may be another than its local one, before and after: no other task's depends
-    // on it. All other tasks have their local ones before, and after. This is one visit, of the new owner, or none.
+    // The stored priority of the old owner may differ from its local one, before and after: no other task's priority
+    // depends on it. All other tasks have their local priorities before and after. This is one visit, of the new
+    // owner, or none.
     #[inline(always)]
     fn hand_over(&mut self, mutex: MutexNo, owner: TaskNo, visits: &mut Visits)
         requires settled { SettledBut self.old.state (stored_at self.old) (Some owner) }
@@ -49,7 +50,7 @@ impl Tables {
         ensures most { visits.new.count ≤ visits.old.count + 1 }
         ensures ready { Ready self.new }
     {
-        // Its contract tells the proof what always holds of the tables.
+        // The contract of this call gives the proof the invariant of the tables.
         let _tasks = self.tasks();
         let first = self.known_first(mutex);
         self.unbind(mutex);
@@ -60,8 +61,8 @@ impl Tables {
         }
     }
 
-    // Hands over all mutexes that the task owns, which waits for nothing, in ascending order, and returns how many. All
-    // tasks but this one have their local priorities then.
+    // Hands over all mutexes that the task owns, in ascending order, and returns how many. The task waits for nothing.
+    // All other tasks have their local priorities afterwards.
     fn hand_over_all(&mut self, task: TaskNo, visits: &mut Visits) -> u16
         requires settled { SettledBut self.old.state (stored_at self.old) None }
         requires known { IsTask self.old.state task }
@@ -72,7 +73,7 @@ impl Tables {
         ensures work { Tells (length self.old.state.base) (stored_at self.old) visits.old (stored_at self.new) visits.new }
         ensures most { visits.new.count ≤ visits.old.count + result }
     {
-        // Its contract tells the proof what always holds of the tables.
+        // The contract of this call gives the proof the invariant of the tables.
         let _tasks = self.tasks();
         let mut released = 0;
         for mutex in self.owned(task) {
@@ -85,8 +86,8 @@ impl Tables {
     /// Hands over all mutexes that the task owns, which must wait for nothing, in ascending order, and restores all
     /// stored priorities. They must be settled before. Returns how many mutexes it handed over.
     ///
-    /// Each new owner is visited once, and the task itself once, at the end. Until then its stored priority may be
-    /// another than its local one: it waits for nothing, so no other task's depends on it.
+    /// Each new owner is visited once, and the task itself once, at the end. Until then its stored priority may differ
+    /// from its local one: it waits for nothing, so no other task's priority depends on it.
     #[tactic(auto, using(crate::proofs::Told::tells_over))]
     pub fn release_all(&mut self, task: TaskNo, visits: &mut Visits) -> u16
         requires settled { SettledBut self.old.state (stored_at self.old) None }

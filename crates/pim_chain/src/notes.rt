@@ -1,4 +1,4 @@
-//! Notes of what tasks had.
+//! Notes of the priorities that tasks had.
 
 ghost use Rattle.std.specs.Prelude.{◌≡◌, ◌≢◌, ◌≤◌, ◌↔◌, IsTrue, ℕ, Some, None, IfOk, unwrap_or};
 ghost use Rattle.pim_base.specs.declared.limits.TheConstants.{MAX_TASKS};
@@ -14,7 +14,7 @@ use std::marker::Model;
 #[derive(Debug, Drop)]
 pub struct Notes {
     tasks: NumberSet,
-    // the level of each noted task; any number at the others
+    // The level of each noted task. The other items have no meaning.
     had: Vec<u16>,
 }
 
@@ -41,7 +41,7 @@ impl Notes {
         })
     }
 
-    /// Forgets all notes, at the cost of a few words.
+    /// Forgets all notes. The cost doesn't depend on how many there are.
     pub fn clear(&mut self)
         ensures { (t : ℕ) → noted_in self.new t ≡ None }
     {

@@ -9,8 +9,8 @@ use std::marker::Model;
 
 /// A set of numbers below 320, a bit for each.
 ///
-/// It has a bit for each of its words, too, that tells whether the word has a number: so an empty set is seen at once,
-/// and the least number is found without a look at empty words.
+/// A mask has a bit for each word that isn't empty. So the test for an empty set reads the mask alone, and the search
+/// for the least number skips the empty words.
 #[derive(Clone, Copy, Debug)]
 pub struct NumberSet {
     words: [u64; 5],
@@ -65,7 +65,7 @@ impl NumberSet {
         self.put_word(index, without_bit(self.words[index], (number % 64) as u32));
     }
 
-    // puts the word there, and tells whether it has a number
+    // Puts the word at this index, and sets or clears its bit of the mask.
     fn put_word(&mut self, index: usize, word: u64)
         requires { index < 5 }
         ensures { self.new.words ≡ set self.old.words index word }
@@ -78,7 +78,7 @@ impl NumberSet {
         };
     }
 
-    // the first word that has a number
+    // Returns the index of the first word that isn't empty.
     fn first_word(&self) -> Option<u32>
         ensures { IsFirstWord self.now.words result }
     {
@@ -89,7 +89,7 @@ impl NumberSet {
         }
     }
 
-    // all numbers of the set, of which none was taken out yet
+    // Returns the whole set, from which no number is taken out yet.
     fn rest(&self) -> Rest
         ensures { rest_words result.others.words result.index result.word ≡ self.now.words }
     {
@@ -110,19 +110,19 @@ impl NumberSet {
 
 /// What is left of a set whose numbers are taken out in ascending order.
 ///
-/// The word that is gone through is kept by itself, so that no number waits for the store of the one before.
+/// The current word is kept by itself, so that no number waits for the store of the one before.
 #[derive(Clone, Copy, Debug)]
 struct Rest {
-    // the other words
+    // The other words.
     others: NumberSet,
-    // the place of the word that is gone through, and what is left of it
+    // The index of the current word, and what is left of it.
     index: u32,
     word: u64,
     ghost behind: { IsBehind others.words index word },
 }
 
 impl Rest {
-    // goes on to the next word where nothing is left of this one, and returns whether a number is left
+    // Goes on to the next word if nothing is left of this one. Returns whether a number is left.
     fn find_word(&mut self) -> bool
         ensures same { rest_words self.new.others.words self.new.index self.new.word ≡ rest_words self.old.others.words self.old.index self.old.word }
         ensures some { result ≡ true → self.new.word ≢ 0 }
@@ -134,7 +134,7 @@ impl Rest {
         match self.others.first_word() {
             Some(index) => {
                 let word = self.others.words[index as usize];
-                // Before the two others, so that these are known from here on without a look at memory.
+                // Written before the other two fields, so that these stay in registers from here on.
                 self.others.put_word(index as usize, 0);
                 self.index = index;
                 self.word = word;
@@ -144,7 +144,7 @@ impl Rest {
         }
     }
 
-    // takes out the least number, and returns it
+    // Takes out the least number, and returns it.
     fn take_least(&mut self) -> Option<u16>
         ensures least { IsLeast (rest_words self.old.others.words self.old.index self.old.word) result }
         ensures others { IfSome result (λ n. (k : ℕ) → has (rest_words self.new.others.words self.new.index self.new.word) k ≡ (not (k == n) && has (rest_words self.old.others.words self.old.index self.old.word) k)) }

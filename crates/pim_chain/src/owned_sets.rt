@@ -1,4 +1,4 @@
-//! The sets of what each task owns.
+//! The sets of the mutexes that each task owns.
 
 ghost use Rattle.std.specs.Prelude.{◌≡◌, ◌≢◌, ◌≤◌, ◌<◌, ◌==◌, ◌&&◌, ◌||◌, ℕ, not, false, length, IfOk};
 ghost use Rattle.pim_chain.specs.Numbers.{has, members};

@@ -14,16 +14,16 @@ use pim_base::{MutexNo, Reason, TaskNo};
 impl Tables {
     /// Returns why the known task has its effective priority. The stored priorities must be settled.
     ///
-    /// The reason is the base, where that is the priority; else the least owned PROTECT mutex with this ceiling; else the
-    /// least owned INHERIT mutex with a waiter of this priority, and its first waiter. Looks once at each mutex that the
-    /// task owns.
+    /// The reason is the base if that is the priority, else the least owned PROTECT mutex with this ceiling, else the
+    /// least owned INHERIT mutex with a waiter of this priority, and its first waiter. Reads each mutex that the task
+    /// owns once.
     #[inline(always)]
     pub fn reason(&self, task: TaskNo) -> Reason
         requires settled { SettledBut self.now.state (stored_at self.now) None }
         requires known { IsTask self.now.state task }
         ensures { result ≡ reason_of self.now.state task }
     {
-        // Its contract tells the proof what always holds of the tables.
+        // The contract of this call gives the proof the invariant of the tables.
         let _tasks = self.tasks();
         let level = self.known_stored(task).get();
         if level == self.known_base(task).get() {
@@ -32,14 +32,14 @@ impl Tables {
         self.owned_reason(task, level)
     }
 
-    // the least mutex of the task with this ceiling, else the first waiter for the least INHERIT one that lends this
-    // priority, as a reason; one look at each mutex finds both
+    // Returns the least mutex of the task with this ceiling as the reason, else the first waiter for the least INHERIT
+    // mutex whose waiters donate this priority. One pass over the mutexes finds both.
     #[inline(always)]
     fn owned_reason(&self, task: TaskNo, level: u16) -> Reason
         requires { IsTask self.now.state task }
         ensures { result ≡ owned_reason self.now level None (owned self.now.state task) }
     {
-        // Its contract tells the proof what always holds of the tables.
+        // The contract of this call gives the proof the invariant of the tables.
         let _tasks = self.tasks();
         let mut lender = None;
         for mutex in self.owned(task) {
@@ -56,7 +56,7 @@ impl Tables {
         }
     }
 
-    // the first waiter for the known mutex, as a reason
+    // Returns the first waiter for the known mutex as the reason.
     fn waiter_reason(&self, mutex: MutexNo) -> Reason
         requires { IsMutex self.now.state mutex }
         ensures { result ≡ first_reason self.now mutex }
@@ -65,7 +65,7 @@ impl Tables {
         first.map_or(Reason::Base, |first| Reason::Waiter(first.task, mutex))
     }
 
-    // whether it is an INHERIT mutex whose first waiter has this priority
+    // Returns whether the mutex is an INHERIT one whose first waiter has this priority.
     fn lends(&self, mutex: MutexNo, level: u16) -> bool
         requires { IsMutex self.now.state mutex }
         ensures { result ≡ lends_now self.now level mutex }
@@ -73,7 +73,7 @@ impl Tables {
         self.is_inherit(mutex) && self.first_level(mutex) == level
     }
 
-    // the ceiling of the mutex as a number, 0 where it has none
+    // Returns the level of the mutex's ceiling, 0 if it has none.
     fn ceiling_level(&self, mutex: MutexNo) -> u16
         requires { IsMutex self.now.state mutex }
         ensures { result ≡ ceiling_of self.now.state mutex }
@@ -82,7 +82,7 @@ impl Tables {
         ceiling.map_or(0, |prio| prio.get())
     }
 
-    // whether it is an INHERIT mutex
+    // Returns whether the mutex is an INHERIT one.
     fn is_inherit(&self, mutex: MutexNo) -> bool
         requires { IsMutex self.now.state mutex }
         ensures { result ≡ is_inherit (protocol_of self.now.state mutex) }

@@ -28,9 +28,9 @@ use std::marker::Model;
 
 /// The facts about tasks and mutexes, the stored priorities and the queues.
 ///
-/// Only `new` and `try_clone` take memory: they make all the room that the other calls use. A getter returns `None` for
-/// an unknown number, and a test answers what the definitions say of it; the calls that change a fact, those whose
-/// name begins with `known`, and `owned`, `local`, `reason` and `settle_from` must be given known ones.
+/// Only `new` and `try_clone` allocate: they make all the room that the other calls use. A getter returns `None` for
+/// an unknown number, and a test returns what the definitions say of it. The other calls require known numbers: those
+/// that change a fact, those whose name begins with `known`, and `owned`, `local`, `reason` and `settle_from`.
 #[derive(Drop)]
 pub struct Tables {
     base: Vec<Prio>,
@@ -57,8 +57,8 @@ impl Model for Tables {
 }
 
 impl Tables {
-    /// Makes the tables of these tasks and mutexes: all mutexes are free, no task waits, each stored priority is the base,
-    /// and the next ticket is 1.
+    /// Makes the tables of these tasks and mutexes: all mutexes are free, no task waits, each stored priority is the
+    /// base, and the next ticket is 1.
     ///
     /// # Errors
     ///
@@ -104,7 +104,7 @@ impl Tables {
     }
 
     /// Returns whether bases, protocols, owners, counts, waits with their tickets and the next ticket are those of the
-    /// other tables. Looks at most once at each task and each mutex.
+    /// other tables. Reads each task and each mutex at most once.
     pub fn has_state_of(&self, other: &Tables) -> bool
         ensures { IsTrue result ↔ self.now.state ≡ other.now.state }
     {
@@ -168,7 +168,7 @@ impl Tables {
     pub fn owner(&self, mutex: MutexNo) -> Option<TaskNo>
         ensures { result ≡ owner_of self.now.state mutex }
     {
-        // Its contract tells the proof what always holds of the tables.
+        // The contract of this call gives the proof the invariant of the tables.
         let _tasks = self.tasks();
         if self.is_unknown_mutex(mutex) {
             return None;
@@ -176,14 +176,16 @@ impl Tables {
         self.known_owner(mutex)
     }
 
-    /// Returns how often its owner has locked the mutex and not yet unlocked it, 0 of a free one, `None` for an unknown one.
+    /// Returns how often its owner has locked the mutex and not yet unlocked it, 0 of a free one, `None` for an
+    /// unknown one.
     pub fn count(&self, mutex: MutexNo) -> Option<u16>
         ensures { result ≡ nth self.now.state.count mutex }
     {
         nth(&self.count, mutex.get()).map(|count| count as u16)
     }
 
-    /// Returns the owner of an INHERIT mutex, which gets the priority of those that wait for it, `None` for any other one.
+    /// Returns the owner of an INHERIT mutex, which gets the priority of those that wait for it, `None` for any other
+    /// one.
     pub fn heir_of(&self, mutex: MutexNo) -> Option<TaskNo>
         ensures { result ≡ heir_of self.now.state mutex }
     {
@@ -208,11 +210,12 @@ impl Tables {
         self.next
     }
 
-    /// Returns the mutex that the task waits for, with its ticket there, `None` where it waits for nothing or is unknown.
+    /// Returns the mutex that the task waits for, with its ticket there, `None` where it waits for nothing or is
+    /// unknown.
     pub fn waits_for(&self, task: TaskNo) -> Option<Wait>
         ensures { result ≡ wait_of self.now.state task }
     {
-        // Its contract tells the proof what always holds of the tables.
+        // The contract of this call gives the proof the invariant of the tables.
         let _tasks = self.tasks();
         if self.is_unknown_task(task) {
             return None;
@@ -269,7 +272,7 @@ impl Tables {
         requires { IsMutex self.now.state mutex }
         ensures { result ≡ owner_of self.now.state mutex }
     {
-        // Its contract tells the proof what always holds of the tables.
+        // The contract of this call gives the proof the invariant of the tables.
         let _tasks = self.tasks();
         self.owner[mutex.get() as usize - 1]
     }
@@ -287,7 +290,7 @@ impl Tables {
         requires { IsTask self.now.state task }
         ensures { result ≡ wait_of self.now.state task }
     {
-        // Its contract tells the proof what always holds of the tables.
+        // The contract of this call gives the proof the invariant of the tables.
         let _tasks = self.tasks();
         self.wait[task.get() as usize - 1]
     }
@@ -297,7 +300,7 @@ impl Tables {
         requires { IsMutex self.now.state mutex }
         ensures { result ≡ first_item (queue_at self.now mutex) }
     {
-        // Its contract tells the proof what always holds of the tables.
+        // The contract of this call gives the proof the invariant of the tables.
         let _tasks = self.tasks();
         self.queues.known_first(mutex)
     }
@@ -311,8 +314,8 @@ impl Tables {
         Waiter { task, prio, ticket }
     }
 
-    /// Returns the tasks whose stored priority isn't the one that the visits noted, in ascending order; none where the
-    /// visits keep no notes. Looks at the noted tasks alone.
+    /// Returns the tasks whose stored priority isn't the one that the visits noted, in ascending order. There are
+    /// none if the visits keep no notes. Reads the noted tasks alone.
     pub fn changed<'a>(&'a self, visits: &'a Visits) -> Changed<'a>
         ensures { result ≡ filter (has_changed (stored_at self.now) visits.now) (task_numbers self.now.state) }
     {
@@ -355,7 +358,7 @@ impl Tables {
         ensures unsettles { Unsettles self.old self.new (owner_of self.old.state mutex) }
         ensures ready { Ready self.new }
     {
-        // Its contract tells the proof what always holds of the tables.
+        // The contract of this call gives the proof the invariant of the tables.
         let _tasks = self.tasks();
         if let Some(owner) = self.known_owner(mutex) {
             put(&mut self.owner, mutex.get(), None);
@@ -364,7 +367,7 @@ impl Tables {
         }
     }
 
-    /// Counts one lock more of the mutex, which must be recursive and owned, and locked less than `MAX_COUNT` times.
+    /// Counts one more lock of the mutex, which must be recursive, owned and locked less than `MAX_COUNT` times.
     pub fn count_up(&mut self, mutex: MutexNo)
         requires owned { owner_of self.old.state mutex ≢ None }
         requires recursive { is_recursive (protocol_of self.old.state mutex) ≡ true }
@@ -377,7 +380,7 @@ impl Tables {
         put(&mut self.count, mutex.get(), count + 1);
     }
 
-    /// Counts one lock less of the mutex, which must be recursive and locked more than once.
+    /// Takes back one lock of the mutex, which must be recursive and locked more than once.
     pub fn count_down(&mut self, mutex: MutexNo)
         requires recursive { is_recursive (protocol_of self.old.state mutex) ≡ true }
         requires more { 1 < count_of self.old.state mutex }
@@ -409,11 +412,11 @@ impl Tables {
         put(&mut self.protocol, mutex.get(), Protocol::Protect(ceiling));
     }
 
-    /// Lets the task, which must wait for nothing, wait for the mutex with this ticket, which no task there must have. The
-    /// wait must close no cycle. The next ticket stays.
+    /// Lets the task, which must wait for nothing, wait for the mutex with this ticket, which no other waiter there
+    /// may have. The wait must close no cycle. The next ticket stays.
     ///
     /// Shifts the waiters behind its place in the queue.
-    // By itself: the search and the shift take all registers, and a step keeps its own over the call.
+    // Not inlined: the search and the shift use all registers, and a step keeps its own over the call.
     #[inline(never)]
     pub fn join(&mut self, task: TaskNo, mutex: MutexNo, ticket: u64)
         requires known { IsTask self.old.state task }
@@ -445,8 +448,7 @@ impl Tables {
         }
     }
 
-    // lets the task stop waiting for this mutex, where it has this ticket
-    // By itself, likewise.
+    // Lets the task stop waiting for this mutex with this ticket. Not inlined, for the reason given at `join`.
     #[inline(never)]
     fn end_wait(&mut self, task: TaskNo, mutex: MutexNo, ticket: u64)
         requires { wait_of self.old.state task ≡ Some (record { mutex = mutex; ticket = ticket }) }
@@ -454,7 +456,7 @@ impl Tables {
         ensures unsettles { Unsettles self.old self.new (blocker self.old.state task) }
         ensures ready { Ready self.new }
     {
-        // Its contract tells the proof what always holds of the tables.
+        // The contract of this call gives the proof the invariant of the tables.
         let _tasks = self.tasks();
         let leaver = self.waiter(task, ticket);
         self.queues.remove(mutex, &leaver);

@@ -19,7 +19,7 @@ use crate::visits::Visits;
 use pim_base::{MutexNo, Prio, Protocol, TaskNo, Wait, higher};
 
 impl Tables {
-    // the priority of the first waiter for the known mutex
+    // Returns the priority of the first waiter for the known mutex.
     fn first_prio(&self, mutex: MutexNo) -> Option<Prio>
         requires { IsMutex self.now.state mutex }
         ensures { unwrap_or result 0 ≡ first_prio (queue_at self.now mutex) }
@@ -27,7 +27,7 @@ impl Tables {
         self.known_first(mutex).map(|first| first.prio)
     }
 
-    // this priority as a number, 0 where no task waits
+    // Returns the level of this priority, 0 if no task waits.
     pub(crate) fn first_level(&self, mutex: MutexNo) -> u16
         requires { IsMutex self.now.state mutex }
         ensures { result ≡ first_prio (queue_at self.now mutex) }
@@ -35,13 +35,13 @@ impl Tables {
         self.first_prio(mutex).map_or(0, |prio| prio.get())
     }
 
-    // the priority that the owned mutex lends to its owner
+    // Returns the priority that the owned mutex gives its owner: its ceiling, or the donation of its first waiter.
     #[inline(always)]
     fn lent(&self, mutex: MutexNo) -> Option<Prio>
         requires { owner_of self.now.state mutex ≢ None }
         ensures { unwrap_or result 0 ≡ worth self.now mutex }
     {
-        // Its contract tells the proof what always holds of the tables.
+        // The contract of this call gives the proof the invariant of the tables.
         let _tasks = self.tasks();
         match self.known_protocol(mutex) {
             Protocol::Inherit | Protocol::InheritRecursive => self.first_prio(mutex),
@@ -50,7 +50,7 @@ impl Tables {
         }
     }
 
-    // this priority as a number, 0 where it lends none
+    // Returns the level of this priority, 0 if the mutex gives none.
     #[inline(always)]
     fn lent_level(&self, mutex: MutexNo) -> u16
         requires { owner_of self.now.state mutex ≢ None }
@@ -59,7 +59,7 @@ impl Tables {
         self.lent(mutex).map_or(0, |prio| prio.get())
     }
 
-    // Returns whether what the owned mutex gives its owner is no more than the task has.
+    // Returns whether the priority that the owned mutex gives its owner is no higher than the task's.
     #[inline(always)]
     pub(crate) fn lends_no_more(&self, mutex: MutexNo, task: TaskNo) -> bool
         requires owned { owner_of self.now.state mutex ≢ None }
@@ -69,7 +69,8 @@ impl Tables {
         self.lent_level(mutex) <= self.known_stored(task).get()
     }
 
-    // the priority that a known task lends to the owner of the known mutex, where it waits for that, as a number
+    // Returns the level that a known task donates to the owner of the known mutex that it waits for, 0 unless that is an
+    // INHERIT one.
     #[inline(always)]
     fn lent_by(&self, task: TaskNo, mutex: MutexNo) -> u16
         requires known { IsTask self.now.state task }
@@ -83,10 +84,10 @@ impl Tables {
         }
     }
 
-    /// Computes the local priority of the task: the greatest of its base and what its mutexes lend it, the ceilings of
-    /// the PROTECT mutexes and the priorities of the first waiters for the INHERIT mutexes.
+    /// Computes the local priority of the task: the greatest of its base, the ceilings of its PROTECT mutexes and the
+    /// donations of the first waiters for its INHERIT mutexes.
     ///
-    /// This is a visit, and counted. It looks at each mutex that the task owns.
+    /// This is a visit, and is counted. It reads each mutex that the task owns.
     pub fn local(&self, task: TaskNo, visits: &mut Visits) -> Prio
         requires known { IsTask self.now.state task }
         requires room { visits.old.count < 2 ^ 32 - 1 }
@@ -95,7 +96,7 @@ impl Tables {
         ensures ready { Ready self.now }
     {
         visits.add(); // this one
-        // Its contract tells the proof what always holds of the tables.
+        // The contract of this call gives the proof the invariant of the tables.
         let _tasks = self.tasks();
         let mut prio = self.known_base(task);
         for mutex in self.owned(task) {
@@ -106,7 +107,7 @@ impl Tables {
         prio
     }
 
-    // the priority of the first waiter in the queue that a task waits in, 0 where it waits in none
+    // Returns the level of the first waiter in the queue that a task waits in, 0 if it waits in none.
     fn level_there(&self, wait: &Option<Wait>) -> u16
         requires { (w : Wait) → wait.now ≡ Some w → IsMutex self.now.state w.mutex }
         ensures { result ≡ option_map_or (λ (w : Wait). first_prio (queue_at self.now w.mutex)) wait.now 0 }
@@ -117,7 +118,7 @@ impl Tables {
         }
     }
 
-    // where the walk goes on from the queue that a task waits in, whose first waiter had this priority before: [5] and [6]
+    // [5] and [6]: returns the task at which the walk goes on from a queue whose first waiter had this level before.
     fn onward(&self, wait: &Option<Wait>, before: u16) -> Option<TaskNo>
         requires { (w : Wait) → wait.now ≡ Some w → IsMutex self.now.state w.mutex }
         ensures { result ≡ option_and_then (onward_from before self.now) wait.now }
@@ -134,7 +135,7 @@ impl Tables {
         }
     }
 
-    // [3] and [4]: stores the priority, and moves the task to its place in the queue that it waits in
+    // [3] and [4]: stores the priority, and moves the task to its place in the queue that it waits in.
     #[inline(always)]
     pub(crate) fn restore(&mut self, task: TaskNo, wait: Option<Wait>, prio: Prio)
         requires known { IsTask self.old.state task }
@@ -150,7 +151,7 @@ impl Tables {
         put(&mut self.stored, task.get(), prio);
     }
 
-    // one turn of the walk, [2] to [6]: restores one task's priority, and returns the task to go on with
+    // [2] to [6], one turn of the walk: restores one task's priority, and returns the task to go on with.
     #[inline(always)]
     fn visit(&mut self, task: TaskNo, visits: &mut Visits) -> Option<TaskNo>
         requires settled { SettledBut self.old.state (stored_at self.old) (Some task) }
@@ -177,7 +178,8 @@ impl Tables {
         self.onward(&wait, before)
     }
 
-    /// Walks from a task whose local priority a change may have altered, and restores all stored priorities and queues.
+    /// Walks from a task whose local priority a change may have altered, and restores all stored priorities and
+    /// queues.
     ///
     /// 1. `[1]` Begin with the given task.
     /// 2. `[2]` Visit it: compute its local priority. If that is the stored one, stop.
@@ -191,9 +193,9 @@ impl Tables {
     ///
     /// # Cost
     ///
-    /// At most one visit more than there are tasks whose priority changes, and one visit alone where the task hands its
-    /// priority on to no task. A visit looks at each mutex that its task owns. `[4]` finds both places by binary search,
-    /// and shifts the waiters between them. The walk takes no memory, and never looks at all tasks.
+    /// At most one more visit than there are tasks whose priority changes, and a single visit if the task hands its
+    /// priority on to no task. A visit reads each mutex that its task owns. `[4]` finds both places by binary search,
+    /// and shifts the waiters between them. The walk never allocates, and never reads all tasks.
     pub fn settle_from(&mut self, task: TaskNo, visits: &mut Visits)
         requires settled { SettledBut self.old.state (stored_at self.old) (Some task) }
         requires known { IsTask self.old.state task }
@@ -207,7 +209,7 @@ impl Tables {
         ensures work { Tells (length self.old.state.base) (stored_at self.old) visits.old (stored_at self.new) visits.new }
         ensures at_most { visits.new.count ≤ visits.old.count + changed self.old self.new + 1 }
     {
-        // Its contract tells the proof what always holds of the tables.
+        // The contract of this call gives the proof the invariant of the tables.
         let _tasks = self.tasks();
         // [1]
         let mut next = Some(task);
@@ -216,11 +218,11 @@ impl Tables {
         }
     }
 
-    /// Makes the task, which must wait for nothing, the owner of the mutex, which must be free, and restores all stored
-    /// priorities. They must be settled before.
+    /// Makes the task, which must wait for nothing, the owner of the mutex, which must be free, and restores all
+    /// stored priorities. They must be settled before.
     ///
-    /// This is one visit. Where the mutex lends no more than the task has, one look at the mutex shows that nothing else
-    /// changes; else the visit looks at each mutex that the task owns.
+    /// This is one visit. If the mutex gives no higher priority than the task has, a comparison shows that nothing
+    /// else changes. Else the visit reads each mutex that the task owns.
     #[inline(always)]
     pub fn gain(&mut self, mutex: MutexNo, task: TaskNo, visits: &mut Visits)
         requires settled { SettledBut self.old.state (stored_at self.old) None }
@@ -235,7 +237,7 @@ impl Tables {
         ensures single { visits.new.count ≡ visits.old.count + 1 }
         ensures work { Tells (length self.old.state.base) (stored_at self.old) visits.old (stored_at self.new) visits.new }
     {
-        // Its contract tells the proof what always holds of the tables.
+        // The contract of this call gives the proof the invariant of the tables.
         let _tasks = self.tasks();
         self.bind(mutex, task);
         if self.lends_no_more(mutex, task) {
@@ -248,8 +250,8 @@ impl Tables {
     /// Makes the mutex free, whose owner must be this task, which must wait for nothing, and restores all stored
     /// priorities. They must be settled before.
     ///
-    /// This is one visit. Where the mutex lent less than the owner has, one look at the mutex shows that nothing else
-    /// changes; else the visit looks at each mutex that the owner still has.
+    /// This is one visit. If the mutex gave a lower priority than the owner has, a comparison shows that nothing else
+    /// changes. Else the visit reads each mutex that the owner still has.
     #[inline(always)]
     pub fn lose(&mut self, mutex: MutexNo, owner: TaskNo, visits: &mut Visits)
         requires settled { SettledBut self.old.state (stored_at self.old) None }
@@ -262,7 +264,7 @@ impl Tables {
         ensures single { visits.new.count ≡ visits.old.count + 1 }
         ensures work { Tells (length self.old.state.base) (stored_at self.old) visits.old (stored_at self.new) visits.new }
     {
-        // Its contract tells the proof what always holds of the tables.
+        // The contract of this call gives the proof the invariant of the tables.
         let _tasks = self.tasks();
         let lent = self.lent_level(mutex);
         self.unbind(mutex);
@@ -273,11 +275,11 @@ impl Tables {
         }
     }
 
-    /// Lets the task wait as `join` does, for the mutex that has this owner, and restores all stored priorities. They must
-    /// be settled before.
+    /// Lets the task wait as `join` does, for the mutex that has this owner, and restores all stored priorities. They
+    /// must be settled before.
     ///
-    /// Where the mutex then lends no more than its owner has, one look at it shows that nothing else changes, and counts as
-    /// a visit; else a walk begins with the owner.
+    /// If the mutex then gives no higher priority than its owner has, a comparison shows that nothing else changes,
+    /// and counts as a visit. Else a walk begins at the owner.
     #[inline(always)]
     pub fn enter(
         &mut self,
@@ -301,7 +303,7 @@ impl Tables {
         ensures work { Tells (length self.old.state.base) (stored_at self.old) visits.old (stored_at self.new) visits.new }
         ensures at_most { visits.new.count ≤ visits.old.count + changed self.old self.new + 1 }
     {
-        // Its contract tells the proof what always holds of the tables.
+        // The contract of this call gives the proof the invariant of the tables.
         let _tasks = self.tasks();
         self.join(task, mutex, ticket);
         if self.lends_no_more(mutex, owner) {
@@ -311,11 +313,11 @@ impl Tables {
         }
     }
 
-    /// Lets the task, which waits for this mutex, stop waiting, and restores all stored priorities. They must be settled
-    /// before.
+    /// Lets the task, which waits for this mutex, stop waiting, and restores all stored priorities. They must be
+    /// settled before.
     ///
-    /// Where the task lent the owner less than the owner has, one look at both shows that nothing else changes, and counts
-    /// as a visit; else a walk begins with the owner.
+    /// If the task donated a lower priority than the owner has, a comparison shows that nothing else changes, and
+    /// counts as a visit. Else a walk begins at the owner.
     #[inline(always)]
     pub fn exit(&mut self, task: TaskNo, mutex: MutexNo, owner: TaskNo, visits: &mut Visits)
         requires settled { SettledBut self.old.state (stored_at self.old) None }
@@ -328,7 +330,7 @@ impl Tables {
         ensures work { Tells (length self.old.state.base) (stored_at self.old) visits.old (stored_at self.new) visits.new }
         ensures at_most { visits.new.count ≤ visits.old.count + changed self.old self.new + 1 }
     {
-        // Its contract tells the proof what always holds of the tables.
+        // The contract of this call gives the proof the invariant of the tables.
         let _tasks = self.tasks();
         let lent = self.lent_by(task, mutex);
         self.leave(task);
