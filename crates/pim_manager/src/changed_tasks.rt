@@ -18,11 +18,9 @@ pub struct ChangedTask {
     pub reason: Reason,
 }
 
-/// The tasks whose effective priority a step changed, in ascending order. It has room for all
-/// tasks from the start.
+/// The tasks whose effective priority a step changed, in ascending order. It has room for all tasks from the start.
 ///
-/// In contracts its value is the list. Beside it stand the notes of what the tasks had before the
-/// step.
+/// Its value in contracts is the list. It also keeps the notes of the priorities that the tasks had before the step.
 #[derive(Drop)]
 pub struct ChangedTasks {
     pub(crate) tasks: Vec<ChangedTask>,

@@ -1,5 +1,4 @@
-//! The changes of a step, each with the walks from the tasks whose local priority it may have
-//! changed.
+//! The changes of a step, each with the walks from the tasks whose local priority it may have changed.
 
 ghost use Rattle.std.specs.Prelude.{◌≡◌, ◌≤◌, ◌<◌, ◌+◌, ◌-◌, ◌^◌, Some, None, true, false};
 ghost use Rattle.std.specs.Option.{option_map};
@@ -33,7 +32,7 @@ impl Manager {
         self.tables.gain(mutex, task, visits);
     }
 
-    /// Counts one lock more of the recursive mutex, which the task owns. No priority changes.
+    /// Counts one more lock of the recursive mutex, which the task owns. No priority changes.
     pub(crate) fn lock_again(&mut self, mutex: MutexNo, task: TaskNo, visits: &Visits)
         requires again { relocks self.old task mutex ≡ true }
         requires few { locked_too_often self.old task mutex ≡ false }
@@ -43,7 +42,7 @@ impl Manager {
         self.tables.count_up(mutex);
     }
 
-    /// Counts one lock less of the recursive mutex, which its owner keeps. No priority changes.
+    /// Takes back one lock of the recursive mutex, which its owner keeps. No priority changes.
     pub(crate) fn unlock_once(&mut self, mutex: MutexNo, visits: &Visits)
         requires { is_kept self.old mutex ≡ true }
         ensures state { self.new ≡ with_count self.old mutex (count_of self.old mutex - 1) }
@@ -52,8 +51,8 @@ impl Manager {
         self.tables.count_down(mutex);
     }
 
-    /// Lets the task, which doesn't wait, wait with the next ticket for the mutex, which has this
-    /// owner. That closes no cycle.
+    /// Lets the task, which doesn't wait, wait with the next ticket for the mutex, which has this owner. The wait
+    /// closes no cycle.
     #[inline(always)]
     pub(crate) fn enqueue(
         &mut self,
@@ -118,8 +117,8 @@ impl Manager {
         }
     }
 
-    /// Takes the mutex from its owner, who doesn't wait, and hands it to the first waiter, if
-    /// there is one. Returns that task.
+    /// Takes the mutex from its owner, which doesn't wait, and hands it to the first waiter if there is one. Returns
+    /// that task.
     #[inline(always)]
     pub(crate) fn hand_over(
         &mut self,

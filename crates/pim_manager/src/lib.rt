@@ -1,15 +1,13 @@
-//! A manager that grants mutexes to tasks, with the three protocols of POSIX.1-2017, as one
-//! thread uses it.
+//! A manager that grants mutexes to tasks, with the three protocols of POSIX.1-2017, for a single thread.
 //!
-//! A [`Manager`] keeps who owns and who waits, each queue in order, and the priority at which
-//! each task would execute. One [`Manager::step`] answers one request: the reply and the state
-//! after it are those of the definitions, and only the priorities that it may change are computed
-//! ([`Done::visits`] counts them). No step takes memory, and between two calls no cycle of waits
-//! stands. [`Manager::step_with_changes`] also lists the tasks whose priority the step changed,
-//! each with its priority and the reason.
+//! A [`Manager`] keeps the owners and the waiters, each queue in order, and the priority at which each task would
+//! execute. [`Manager::step`] answers one request: the reply and the state after it are those of the definitions. It
+//! computes only the priorities that the step may change, and [`Done::visits`] counts them. Steps never allocate, and
+//! between two calls there is never a cycle of waits. [`Manager::step_with_changes`] also lists the tasks whose
+//! priority the step changed, each with its priority and the reason.
 //!
-//! A low task owns what a high one asks for, so it executes at the high priority, and a medium
-//! one can't delay it:
+//! A low task owns the mutex that a high one requests. So it executes at the high priority, and a medium one can't
+//! delay it:
 //!
 //! ```text
 //! let mut manager = Manager::new(alloc, &[low, medium, high], &[Protocol::Inherit])?;

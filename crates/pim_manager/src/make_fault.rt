@@ -6,7 +6,7 @@ ghost use Rattle.pim_manager.specs.declared.make_fault.MakeFault.TheVariants.{Me
 use std::alloc::AllocError;
 use thiserror::Error;
 
-/// Why no manager was made. The first that applies is answered.
+/// Why no manager was made. The first that applies is returned.
 #[derive(Clone, Copy, Debug, PartialEq, Eq, Error)]
 pub enum MakeFault {
     /// There are more than `MAX_TASKS` tasks.

@@ -27,11 +27,11 @@ use std::marker::Model;
 
 /// The owners, the waiters and the priorities in force.
 ///
-/// Its value in contracts is the state of the definitions: what is declared, owned and waited
-/// for, and the next ticket. So equal managers answer alike and stay equal. Between two calls
-/// each stored priority is the effective one, each queue is in order, and the state is steady: no
-/// cycle of waits stands, each task that waits has a ticket of its own, which is below the next
-/// one, no free mutex has waiters, and each mutex has a count that goes with its owner.
+/// Its value in contracts is the state of the definitions: what is declared, owned and waited for, and the next
+/// ticket. So equal managers give equal replies and stay equal. Between two calls each stored priority is the
+/// effective one, each queue is in order, and the state is steady: there is no cycle of waits, each waiting task has
+/// a ticket of its own that is below the next one, no free mutex has waiters, and the count of each mutex fits its
+/// owner.
 #[derive(Drop)]
 pub struct Manager {
     pub(crate) tables: Tables,
@@ -49,13 +49,13 @@ impl Model for Manager {
 }
 
 impl Manager {
-    /// Returns a manager of tasks with these base priorities and of mutexes with these protocols.
-    /// All mutexes are free, no task waits, and the next ticket is 1.
+    /// Returns a manager of tasks with these base priorities and of mutexes with these protocols. All mutexes are
+    /// free, no task waits, and the next ticket is 1.
     ///
     /// # Errors
     ///
-    /// `TooManyTasks` above `MAX_TASKS`, else `TooManyMutexes` above `MAX_MUTEXES`, else `Memory`
-    /// if out of memory.
+    /// Returns `TooManyTasks` above `MAX_TASKS`, else `TooManyMutexes` above `MAX_MUTEXES`, else `Memory` if out of
+    /// memory.
     pub fn new(alloc: Global, bases: &[Prio], protocols: &[Protocol]) -> Result<Manager, MakeFault>
         ensures made { IfOk result (λ manager. manager ≡ start bases.now protocols.now 1) }
         ensures tasks { IsErrOf result MakeFault.TooManyTasks ↔ (MAX_TASKS < length bases.now) }
@@ -64,12 +64,12 @@ impl Manager {
         Manager::with_next_ticket(alloc, bases, protocols, 1)
     }
 
-    /// Returns such a manager with another next ticket, which is at least 1. Above `LAST_TICKET` no
+    /// Returns a manager as `new` does, but with this next ticket, which must be at least 1. Above `LAST_TICKET` no
     /// ticket is left.
     ///
     /// # Errors
     ///
-    /// Those of `new`.
+    /// Returns the errors of `new`.
     pub fn with_next_ticket(
         alloc: Global,
         bases: &[Prio],
@@ -104,8 +104,8 @@ impl Manager {
         Ok(Manager { tables })
     }
 
-    /// Returns whether the other manager is equal: it has the same bases, protocols, owners, counts,
-    /// waits with their tickets, and next ticket. Looks at most once at each task and each mutex.
+    /// Returns whether the other manager has the same bases, protocols, owners, counts, waits with their tickets, and
+    /// next ticket. Reads each task and each mutex at most once.
     pub fn has_state_of(&self, other: &Manager) -> bool
         ensures { IsTrue result ↔ self.now ≡ other.now }
     {
@@ -121,8 +121,7 @@ impl Manager {
         self.tables.tasks()
     }
 
-    /// Returns how many mutexes there are, at most `MAX_MUTEXES`. They have the numbers from 1
-    /// on.
+    /// Returns how many mutexes there are, at most `MAX_MUTEXES`. They have the numbers from 1 on.
     pub fn mutexes(&self) -> u16
         ensures count { result ≡ length self.now.protocol }
         ensures few { result ≤ MAX_MUTEXES }
@@ -130,7 +129,7 @@ impl Manager {
         self.tables.mutexes()
     }
 
-    /// Returns the ticket that the next waiter gets; above `LAST_TICKET` none is left.
+    /// Returns the ticket that the next waiter gets. Above `LAST_TICKET` none is left.
     pub fn next_ticket(&self) -> u64
         ensures { result ≡ self.now.next }
     {
@@ -151,8 +150,8 @@ impl Manager {
         self.tables.base(task)
     }
 
-    /// Returns why the task has its effective priority, `None` for an unknown one. It looks at the
-    /// mutexes that the task owns.
+    /// Returns why the task has its effective priority, `None` for an unknown one. Reads the mutexes that the task
+    /// owns.
     pub fn reason(&self, task: TaskNo) -> Option<Reason>
         ensures { result ≡ of_task self.now task (reason_of self.now task) }
     {
@@ -163,8 +162,7 @@ impl Manager {
         }
     }
 
-    /// Returns the mutex that the task waits for, or that it waits for none; `None` for an unknown
-    /// one.
+    /// Returns the mutex that the task waits for, `Some(None)` if it doesn't wait, and `None` for an unknown task.
     pub fn waits_for(&self, task: TaskNo) -> Option<Option<MutexNo>>
         ensures waits { result ≡ of_task self.now task (option_map (λ (w : Wait). w.mutex) (wait_of self.now task)) }
         ensures no_cycle { ¬ HasCycle self.now }
@@ -176,7 +174,7 @@ impl Manager {
         }
     }
 
-    /// Returns the owner of the mutex, or that it is free; `None` for an unknown one.
+    /// Returns the owner of the mutex, `Some(None)` if it is free, and `None` for an unknown mutex.
     pub fn owner(&self, mutex: MutexNo) -> Option<Option<TaskNo>>
         ensures { result ≡ of_mutex self.now mutex (owner_of self.now mutex) }
     {
@@ -187,13 +185,13 @@ impl Manager {
         }
     }
 
-    /// Returns how often its owner has locked the mutex and not yet unlocked it, `None` for an unknown
-    /// one: 0 where it is free, 1 where it is owned and not recursive, else 1 to `MAX_COUNT`.
+    /// Returns how often its owner has locked the mutex and not yet unlocked it, `None` for an unknown one. It is 0
+    /// if the mutex is free, 1 if it is owned and not recursive, else 1 to `MAX_COUNT`.
     pub fn count(&self, mutex: MutexNo) -> Option<u16>
         ensures count { result ≡ of_mutex self.now mutex (count_of self.now mutex) }
         ensures fits { IfSome result (IsCountOf (protocol_of self.now mutex) (owner_of self.now mutex)) }
     {
-        // Its contract tells the proof that the state is steady.
+        // The contract of this call gives the proof that the state is steady.
         let _steady = self.tasks();
         self.tables.count(mutex)
     }
@@ -205,8 +203,8 @@ impl Manager {
         self.tables.protocol(mutex)
     }
 
-    /// Returns those who wait for the mutex, each with its effective priority and its ticket: the
-    /// higher priority first, then the smaller ticket. `None` for an unknown mutex.
+    /// Returns the waiters for the mutex, each with its effective priority and its ticket: the higher priority first,
+    /// then the smaller ticket. Returns `None` for an unknown mutex.
     pub fn waiters(&self, mutex: MutexNo) -> Option<&[Waiter]>
         ensures queue { option_copied result ≡ of_mutex self.now mutex (queue_of self.now mutex) }
         ensures in_order { IfSome (option_copied result) (AllPairs Precedes) }
@@ -217,15 +215,13 @@ impl Manager {
         }
     }
 
-    /// Makes one step, which is always answered. A refused step changes nothing at all, and no
-    /// step takes memory.
+    /// Makes one step, and always returns a reply. A refused step changes nothing, and steps never allocate.
     ///
-    /// The visits count the priorities that were computed: at least the tasks whose effective
-    /// priority differs then, and at most one more and two for each mutex whose owner differs.
-    /// What they do not count is bounded by numbers of its own: a visit looks once at each mutex
-    /// that its task owns; a task whose priority is stored, or that queues or leaves a queue,
-    /// shifts at most the waiters of that queue; and the deadlock test of a lock makes at most as
-    /// many hops as there are tasks.
+    /// The visits count the priorities that were computed. There are at least as many as tasks whose effective
+    /// priority differs then, and at most one more and two for each mutex whose owner differs. The other work is
+    /// bounded, too: a visit reads each mutex of its task once, a task whose priority is stored or that joins or
+    /// leaves a queue shifts at most the waiters of that queue, and the deadlock test of a lock makes at most as many
+    /// hops as there are tasks.
     pub fn step(&mut self, step: Step) -> Done
         ensures reply { result.reply ≡ reply_of self.old step }
         ensures state { self.new ≡ after self.old step }
@@ -240,10 +236,9 @@ impl Manager {
         }
     }
 
-    /// Makes one step as `step` does, and lists the tasks whose effective priority differs then,
-    /// in ascending order, each with that priority and the reason. This takes no memory either.
-    /// Beyond the step it looks at each task whose priority was stored, and for a reason at each
-    /// mutex that a listed task owns.
+    /// Makes one step as `step` does, and lists the tasks whose effective priority differs then, in ascending order,
+    /// each with that priority and the reason. It never allocates. Beyond the step it reads each task whose priority
+    /// was stored and, for the reasons, each mutex that a listed task owns.
     pub fn step_with_changes(&mut self, step: Step, changed: &mut ChangedTasks) -> Done
         ensures reply { result.reply ≡ reply_of self.old step }
         ensures state { self.new ≡ after self.old step }
@@ -270,7 +265,7 @@ impl Manager {
         for task in self.tables.changed(visits) {
             let prio = self.tables.known_stored(task);
             let reason = self.tables.reason(task);
-            // There is room: no more tasks are listed than there are.
+            // There is room, since no task is listed twice.
             tasks.push(ChangedTask { task, prio, reason }).unwrap();
         }
     }

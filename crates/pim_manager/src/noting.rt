@@ -14,9 +14,9 @@ use pim_base::{Step, TaskNo};
 use pim_chain::{Changed, Visits};
 
 impl Manager {
-    /// Makes one step as `step` does, and notes the tasks whose effective priority differs then: `changed` goes through
-    /// them. The visits keep notes, and are begun anew. This takes no memory either.
-    // Inlined, as is `reply_to`: where the caller knows the kind of step, no other is left of it.
+    /// Makes one step as `step` does, and notes the tasks whose effective priority differs then. `changed` returns
+    /// them. The visits must keep notes, and begin anew. It never allocates.
+    // Inlined, as is `reply_to`: if the caller knows the kind of step, only the code of that kind is left.
     #[inline(always)]
     pub fn step_with_notes(&mut self, step: Step, visits: &mut Visits) -> Done
         requires { IsSome visits.old.notes }
@@ -35,7 +35,7 @@ impl Manager {
         }
     }
 
-    /// Returns the tasks whose effective priority isn't the noted one, in ascending order. It looks at the noted tasks
+    /// Returns the tasks whose effective priority isn't the noted one, in ascending order. Reads the noted tasks
     /// alone.
     pub fn changed<'a>(&'a self, visits: &'a Visits) -> Changed<'a>
         ensures { result ≡ noted_changes self.now visits.now }
@@ -43,8 +43,8 @@ impl Manager {
         self.tables.changed(visits)
     }
 
-    /// Returns the task with its effective priority and the reason, None for an unknown one. It looks at the mutexes
-    /// that the task owns.
+    /// Returns the task with its effective priority and the reason, `None` for an unknown one. Reads the mutexes that
+    /// the task owns.
     pub fn changed_task(&self, task: TaskNo) -> Option<ChangedTask>
         ensures { result ≡ of_task self.now task (changed_task self.now task) }
     {

@@ -18,7 +18,7 @@ impl Manager {
         ensures run { IsRun self.old (entries steps.now (replies_of self.old steps.now)) self.new }
         ensures no_cycle { ¬ HasCycle self.new }
     {
-        // Its contract tells the proof that the state is steady.
+        // The contract of this call gives the proof that the state is steady.
         let _steady = self.tasks();
         for step in steps {
             self.step(*step);
@@ -29,7 +29,7 @@ impl Manager {
     ///
     /// # Errors
     ///
-    /// Returns `AllocError` if out of memory, before the first step: then nothing has changed.
+    /// Returns `AllocError` if out of memory, before the first step. Nothing has changed then.
     pub fn run_replies(&mut self, alloc: Global, steps: &[Step]) -> Result<Vec<Reply>, AllocError>
         ensures run { IfOk result (λ replies. IsRun self.old (entries steps.now replies.items) self.new) }
         ensures count { IfOk result (λ replies. length replies.items ≡ length steps.now) }

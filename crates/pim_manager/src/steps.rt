@@ -1,4 +1,4 @@
-//! The steps: what each is answered, and what it changes.
+//! The steps: the reply to each, and what it changes.
 
 ghost use Rattle.std.specs.Prelude.{◌≡◌, ◌≤◌, ◌+◌, ◌*◌, None, true};
 ghost use Rattle.pim_base.specs.State.{IsTask, wait_of, relocks};
@@ -12,7 +12,7 @@ use pim_base::{LAST_TICKET, MutexNo, Op, Prio, Refusal, Reply, Step, TaskNo};
 use pim_chain::Visits;
 
 impl Manager {
-    /// Makes the step with these visits, of which there were none, and returns the reply.
+    /// Makes the step, counts its visits from 0, and returns the reply.
     #[inline(always)]
     pub(crate) fn reply_to(&mut self, step: Step, visits: &mut Visits) -> Reply
         requires { visits.old.count ≡ 0 }
@@ -39,9 +39,9 @@ impl Manager {
         }
     }
 
-    /// Answers a lock by a known task that does not wait: the mutex is granted if it is free, or
-    /// once more to its owner if it is recursive, else the actor queues for it. The deadlock test
-    /// makes at most as many hops as there are tasks.
+    /// Answers a lock by a known task that doesn't wait: the mutex is granted if it is free, or once more to its
+    /// owner if it is recursive, else the actor queues for it. The deadlock test makes at most as many hops as there
+    /// are tasks.
     #[inline(always)]
     fn answer_lock(&mut self, actor: TaskNo, mutex: MutexNo, visits: &mut Visits) -> Reply
         requires known { IsTask self.old actor }
@@ -75,8 +75,8 @@ impl Manager {
         Reply::Queued
     }
 
-    /// Answers a try by a known task that does not wait: the mutex is granted if it is free, or
-    /// once more to its owner if it is recursive.
+    /// Answers a try by a known task that doesn't wait: the mutex is granted if it is free, or once more to its owner
+    /// if it is recursive.
     #[inline(always)]
     fn answer_try(&mut self, actor: TaskNo, mutex: MutexNo, visits: &mut Visits) -> Reply
         requires known { IsTask self.old actor }
@@ -103,8 +103,8 @@ impl Manager {
         Reply::Granted
     }
 
-    /// Answers a lock or a try of a recursive mutex by its owner: it is locked once more, unless it
-    /// is locked as often as can be counted.
+    /// Answers a lock or a try of a recursive mutex by its owner: the mutex is locked once more, unless its count is
+    /// `MAX_COUNT`.
     fn answer_relock(&mut self, actor: TaskNo, mutex: MutexNo, visits: &Visits) -> Reply
         requires { relocks self.old actor mutex ≡ true }
         ensures reply { result ≡ relocked self.old mutex }
@@ -118,8 +118,8 @@ impl Manager {
         Reply::Granted
     }
 
-    /// Answers an unlock by a task that does not wait: a mutex that the task has locked more often
-    /// stays with it; else the mutex goes to the first waiter, or is free.
+    /// Answers an unlock by a task that doesn't wait. The task keeps a mutex that it has locked more than once. Else
+    /// the mutex goes to the first waiter, or is free.
     #[inline(always)]
     fn answer_unlock(&mut self, actor: TaskNo, mutex: MutexNo, visits: &mut Visits) -> Reply
         requires idle { wait_of self.old actor ≡ None }
@@ -145,8 +145,8 @@ impl Manager {
         }
     }
 
-    /// Answers a release by a task that does not wait: all mutexes that it owns are handed over,
-    /// in ascending order. Each new owner is visited once, and the actor once, at the end.
+    /// Answers a release by a task that doesn't wait: all mutexes that it owns are handed over, in ascending order.
+    /// Each new owner is visited once, and the actor once, at the end.
     fn answer_release_all(&mut self, actor: TaskNo, visits: &mut Visits) -> Reply
         requires known { IsTask self.old actor }
         requires idle { wait_of self.old actor ≡ None }
@@ -172,7 +172,7 @@ impl Manager {
         if self.tables.is_unknown_task(task) {
             return Reply::Refused(Refusal::NoTask);
         }
-        // Who waits is blocked by an owner, since no free mutex has waiters.
+        // A waiting task is blocked by an owner, since no free mutex has waiters.
         let Some(owner) = self.tables.blocker(task) else {
             return Reply::Refused(Refusal::NotWaiting);
         };
@@ -207,7 +207,7 @@ impl Manager {
         }
     }
 
-    /// Answers the change of a ceiling, which the owner may ask for, too.
+    /// Answers the change of a ceiling, which the owner of the mutex may request, too.
     #[inline(always)]
     fn answer_set_ceiling(
         &mut self,
