@@ -12,7 +12,7 @@ count (suc n) test = count n test + cond (test (suc n)) 1 0
 abbrev pub differing : ℕ → (ℕ → ℕ) → (ℕ → ℕ) → ℕ
 differing n f g = count n (λ t. not (f t == g t))
 
--- the two owners are one, or both are none
+-- the two owners are the same, or there are none
 abbrev pub same_owner : Option ℕ → Option ℕ → Bool
 same_owner None None = true
 same_owner (Some t) (Some u) = t == u
@@ -22,6 +22,6 @@ same_owner _ _ = false
 abbrev pub changed_task_count : State → State → ℕ
 changed_task_count S T = differing (length S.base) (effective_priority S) (effective_priority T)
 
--- how many mutexes have another owner, where none counts as one
+-- how many mutexes have another owner; to become free or owned counts, too
 abbrev pub handed_mutex_count : State → State → ℕ
 handed_mutex_count S T = count (length S.protocol) (λ m. not (same_owner (owner_of S m) (owner_of T m)))

@@ -16,8 +16,8 @@ use Rattle.pim_base.specs.declared.steps.Step.{Step}
 use Rattle.pim_base.specs.declared.steps.Wait.{Wait}
 use Rattle.pim_base.specs.declared.steps.Waiter.{Waiter}
 
--- Without a cycle of waits, the wait of a task that doesn't wait yet makes one exactly where `closes_cycle` says so. It speaks
--- of each request but a relock, which doesn't wait. (POSIX.1-2017, pthread_mutex_lock: EDEADLK)
+-- In a state without a cycle of waits, the wait of a task that doesn't wait yet makes one exactly if `closes_cycle`
+-- says so. This holds of each request but a relock, which doesn't wait. (POSIX.1-2017, pthread_mutex_lock: EDEADLK)
 abbrev pub ClosingLaw : Type 0
 ClosingLaw =
     (S : State) (t m ticket : ℕ)
@@ -39,12 +39,13 @@ kind Protocol.Inherit = 1
 kind (Protocol.Protect c) = 2
 kind Protocol.InheritRecursive = 3
 
--- Whatever the step, each mutex is of the kind that it was: a step may change a ceiling, and nothing else of a protocol.
+-- Whatever the step, each mutex is of the kind that it was: a step may change a ceiling, and nothing else of a
+-- protocol.
 abbrev pub KindLaw : Type 0
 KindLaw = (S : State) (step : Step) (m : ℕ) → kind (protocol_of (after S step) m) ≡ kind (protocol_of S m)
 
--- Without a cycle of waits, priorities that agree with their neighbours are the effective ones, and the other way round.
--- (It is why a walk along one chain may stop where nothing changes: the Linux rt-mutex design.)
+-- Without a cycle of waits, priorities that agree with their neighbours are the effective ones, and the other way
+-- round. (It is why a walk along one chain may stop where nothing changes: the Linux rt-mutex design.)
 abbrev pub StoredLaw : Type 0
 StoredLaw =
     (S : State) (stored : ℕ → ℕ)
@@ -83,7 +84,7 @@ pub record IsQueueOfWaiters (S : State) (m : ℕ) : Type 0 where
   pub all : (t : ℕ) (w : Waiter) → IsTask S t → waiter_of S m t ≡ Some w → Contains (queue_of S m) w
   pub in_order : AllPairs Precedes (queue_of S m)
 
--- It is so wherever each waiting task has a ticket of its own.
+-- This holds of each state in which each waiting task has a ticket of its own.
 abbrev pub QueueLaw : Type 0
 QueueLaw = (S : State) (m : ℕ) → HasOwnTickets S → IsQueueOfWaiters S m
 
@@ -91,13 +92,13 @@ QueueLaw = (S : State) (m : ℕ) → HasOwnTickets S → IsQueueOfWaiters S m
 abbrev pub IsNoneOnly : State → Type 0
 IsNoneOnly S = (m : ℕ) → protocol_of S m ≡ Protocol.None
 
--- POSIX.1-2017, PRIO_NONE: owning the mutex doesn't affect the owner's priority. Where all mutexes are so, every task
--- has its base priority, whoever owns and waits for what.
+-- POSIX.1-2017, PRIO_NONE: owning the mutex doesn't affect the owner's priority. If all mutexes are PRIO_NONE, every
+-- task has its base priority, whatever is owned and waited for.
 abbrev pub NoneLaw : Type 0
 NoneLaw = (S : State) (t : ℕ) → IsNoneOnly S → effective_priority S t ≡ base_of S t
 
--- What a reason says of t's priority: it is t's base; or the ceiling of m, which t owns; or that of u, which waits for the
--- INHERIT mutex m of t.
+-- What a reason says of t's priority: it is t's base; or the ceiling of m, which t owns; or that of u, which waits
+-- for the INHERIT mutex m of t.
 abbrev pub Gives : State → ℕ → Reason → Type 0
 Gives S t Reason.Base = effective_priority S t ≡ base_of S t
 Gives S t (Reason.Ceiling m) = (owner_of S m ≡ Some t) × (ceiling (protocol_of S m) ≡ Some (effective_priority S t))
@@ -106,6 +107,6 @@ Gives S t (Reason.Waiter u m) =
     × (option_map (λ (w : Wait). w.mutex) (wait_of S u) ≡ Some m)
     × (effective_priority S u ≡ effective_priority S t)
 
--- The reason of a known task says the truth, in each state that a run from the start can reach.
+-- The reason of a known task is true in each state that a run from the start can reach.
 abbrev pub ReasonLaw : Type 0
 ReasonLaw = (S : State) (t : ℕ) → IsSteady S → IsTask S t → Gives S t (reason_of S t)

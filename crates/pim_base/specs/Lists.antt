@@ -1,4 +1,4 @@
--- Words on lists, options and tests that the definitions use.
+-- Operations on lists and options that the definitions use.
 use Rattle.std.specs.Prelude.{ℕ, zero, suc, max, ◌==◌, Bool, false, List, [], ◌∷◌, slice_get, slice_set, if◌then◌else◌, Option, Some, None}
 use Rattle.std.specs.List.{fold, range_with_len, list_any}
 
@@ -34,11 +34,11 @@ abbrev pub first_item : {X : Type 0} → List X → Option X
 first_item [] = None
 first_item (x ∷ xs) = Some x
 
--- the list in which the item stands in front of the first one that it comes before
+-- the list with the item inserted in front of the first one that it precedes
 abbrev pub insert_by : {X : Type 0} → (X → X → Bool) → List X → X → List X
 insert_by precedes [] x = x ∷ []
 insert_by precedes (y ∷ ys) x = if precedes x y then x ∷ y ∷ ys else y ∷ insert_by precedes ys x
 
--- the items in order, each put in its place
+-- the items in order, by insertion
 abbrev pub sort_by : {X : Type 0} → (X → X → Bool) → List X → List X
 sort_by precedes xs = fold (insert_by precedes) [] xs

@@ -1,5 +1,5 @@
--- Why a task has its effective priority: the first of its base, a ceiling and a waiter that gives it. (This project's
--- choice of words; POSIX.1-2017 has the three causes)
+-- Why a task has its effective priority: the first of its base, a ceiling and a waiter that gives it. (The names are
+-- this project's; POSIX.1-2017 has the three causes)
 use Rattle.std.specs.Prelude.{ℕ, ◌==◌, ◌&&◌, Bool, true, false, Option, Some, None, if◌then◌else◌}
 use Rattle.std.specs.List.{find, list_any}
 use Rattle.std.specs.Option.{option_map_or}
@@ -20,17 +20,17 @@ is_inherit (Protocol.Protect c) = false
 abbrev pub lends : State → ℕ → ℕ → Bool
 lends S p m = is_inherit (protocol_of S m) && list_any (λ w. w.prio == p) (queue_of S m)
 
--- the first waiter of the mutex that lends, if one does
+-- the first waiter of the mutex whose waiters donate the priority, if there is such a mutex
 abbrev pub waiter_reason : State → Option ℕ → Reason
 waiter_reason S None = Reason.Base
 waiter_reason S (Some m) = option_map_or (λ w. Reason.Waiter w.task m) (first_of S m) Reason.Base
 
--- the least owned mutex whose ceiling it is, else the least owned one that lends it
+-- the least owned mutex with this ceiling, else the least owned one whose waiters donate the priority
 abbrev pub owning_reason : State → ℕ → Option ℕ → Reason
 owning_reason S t (Some m) = Reason.Ceiling m
 owning_reason S t None = waiter_reason S (find (lends S (effective_priority S t)) (owned S t))
 
--- the base where that is the priority, else a mutex that the task owns
+-- the base if that is the priority, else a mutex that the task owns
 abbrev pub reason_of : State → ℕ → Reason
 reason_of S t =
     if effective_priority S t == base_of S t then Reason.Base

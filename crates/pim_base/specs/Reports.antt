@@ -79,7 +79,7 @@ reply_kind Reply.Set = 7
 reply_kind (Reply.Refused r) = 8
 reply_kind Reply.Kept = 9
 
--- what a reply of some kind says besides: the task, the count, or the number of the refusal
+-- the number in a reply of this kind: the task, the count, or the number of the refusal
 abbrev pub reply_detail : Reply → ℕ
 reply_detail Reply.Granted = 0
 reply_detail Reply.Queued = 0
@@ -95,7 +95,7 @@ reply_detail Reply.Kept = 0
 abbrev pub same_reply : Reply → Reply → Bool
 same_reply r q = (reply_kind r == reply_kind q) && (reply_detail r == reply_detail q)
 
--- no reply was recorded, or this one
+-- no reply was recorded, or this reply was
 abbrev pub agrees : Option Reply → Reply → Bool
 agrees None reply = true
 agrees (Some recorded) reply = same_reply recorded reply
@@ -106,7 +106,7 @@ answer_lines k S line =
     let T : State = after S line.step in
     reply_line k (reply_of S line.step) ++ flat_map (change_line T) (changed_tasks S T)
 
--- the reply beside the recorded one, and the rejection
+-- the reply and the recorded one, and the rejection
 abbrev pub rejection_lines : ℕ → Reply → Option Reply → List ℕ
 rejection_lines k reply None = []
 rejection_lines k reply (Some recorded) = differing_line k reply recorded ++ rejected k
@@ -124,7 +124,7 @@ report_from k S (line ∷ ls) =
     step_lines k S line
     ++ (if agrees line.recorded (reply_of S line.step) then report_from (k + 1) (after S line.step) ls else [])
 
--- what that report says in the end
+-- the verdict of that report
 abbrev pub verdict_from : ℕ → State → List StepLine → Verdict
 verdict_from k S [] = Verdict.Accepted (k - 1)
 verdict_from k S (line ∷ ls) =

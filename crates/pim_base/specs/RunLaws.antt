@@ -31,7 +31,7 @@ pub record LimitsLaw : Type 0 where
   pub versions : LAST_VERSION ≡ 2
   pub counts : MAX_COUNT ≡ 255
 
--- Two replies are taken for the same exactly where they are equal.
+-- Two replies are taken for the same exactly if they are equal.
 abbrev pub SameReplyLaw : Type 0
 SameReplyLaw = (r q : Reply) → IsTrue (same_reply r q) ↔ r ≡ q
 
@@ -48,8 +48,8 @@ SameRunLaw =
     → map (λ (e : Entry). e.step) es ≡ map (λ (e : Entry). e.step) fs
     → (es ≡ fs) × (end ≡ other)
 
--- Each step leaves a steady state steady: no cycle of waits, a ticket of its own for each that waits, no free mutex with
--- waiters, and for each mutex a count that goes with its owner.
+-- Each step leaves a steady state steady: there is no cycle of waits, each waiting task has a ticket of its own, no
+-- free mutex has waiters, and the count of each mutex fits its owner.
 abbrev pub SteadyStepLaw : Type 0
 SteadyStepLaw = (S : State) (step : Step) → IsSteady S → IsSteady (after S step)
 
@@ -61,8 +61,8 @@ SteadyRunLaw = (S end : State) (es : List Entry) → IsRun S es end → IsSteady
 abbrev pub StartLaw : Type 0
 StartLaw = (bases : List ℕ) (protocols : List Protocol) (next : ℕ) → IsSteady (start bases protocols next)
 
--- A run of a script has an entry for each step of the script and one release for each task, and the report of its trace
--- accepts them all.
+-- A run of a script has an entry for each step of the script and one release for each task, and the report of its
+-- trace accepts them all.
 abbrev pub RecordingLaw : Type 0
 RecordingLaw =
     (script : Trace) (es : List Entry)
@@ -71,8 +71,8 @@ RecordingLaw =
     → IsRunOf script es
     → (length es ≡ length script.steps + length script.bases) × (verdict_of (recording script es) ≡ Verdict.Accepted (length es))
 
--- The trace of a run of a script is within the limits of a text, and has no line that the script's version hasn't, wherever
--- it has no more steps than a text may have.
+-- The trace of a run of a script is within the limits of a text, and each of its lines exists in the script's
+-- version, if it has no more steps than a text may have.
 abbrev pub RecordedTraceLaw : Type 0
 RecordedTraceLaw =
     (script : Trace) (es : List Entry)

@@ -6,9 +6,9 @@ use Rattle.pim_base.specs.Lists.{nth, put, numbers, holds}
 use Rattle.pim_base.specs.declared.steps.Protocol.{Protocol}
 use Rattle.pim_base.specs.declared.steps.Wait.{Wait}
 
--- A list of tasks begins with task 1, and a list of mutexes with mutex 1. There are no priorities in force and no
--- queues: those are computed from what is here. `count` says how often the owner of each mutex has locked it and not
--- yet unlocked it, and `next` is the next ticket.
+-- A list of tasks begins with task 1, and a list of mutexes with mutex 1. The state has no effective priorities and no
+-- queues: they are computed from it. `count` says how often the owner of each mutex has locked it and not yet unlocked
+-- it, and `next` is the next ticket.
 pub record State : Type 0 where
   pub base : List ℕ
   pub protocol : List Protocol
@@ -17,7 +17,7 @@ pub record State : Type 0 where
   pub wait : List (Option Wait)
   pub next : ℕ
 
--- these bases and protocols, where no mutex is owned and no task waits
+-- the state with these bases and protocols in which no mutex is owned and no task waits
 abbrev pub start : List ℕ → List Protocol → ℕ → State
 start bases protocols next = record {
   base = bases;
@@ -85,18 +85,18 @@ IsTask S t = (1 ≤ t) × (t ≤ length S.base)
 abbrev pub IsMutex : State → ℕ → Type 0
 IsMutex S m = (1 ≤ m) × (m ≤ length S.protocol)
 
--- The changes of one fact, at a known number; at any other nothing changes.
+-- The changes of one fact, at a known number. At an unknown number nothing changes.
 
--- how often a new owner has locked the mutex: once; and nobody has locked a free one
+-- the count of a mutex that has just been granted or freed: a new owner has locked it once, and nobody a free one
 abbrev pub first_count : Option ℕ → ℕ
 first_count None = 0
 first_count (Some t) = 1
 
--- m has this new owner, or none, and the count that goes with it
+-- m has this new owner, or none, and the count that fits it
 abbrev pub with_owner : State → ℕ → Option ℕ → State
 with_owner S m o = record S { owner = put S.owner m o; count = put S.count m (first_count o) }
 
--- m has been locked so often by its owner (POSIX.1-2017, pthread_mutex_lock: the lock count)
+-- its owner has locked m this often (POSIX.1-2017, pthread_mutex_lock: the lock count)
 abbrev pub with_count : State → ℕ → ℕ → State
 with_count S m k = record S { count = put S.count m k }
 
@@ -112,7 +112,7 @@ with_base S t p = record S { base = put S.base t p }
 abbrev pub with_ceiling : State → ℕ → ℕ → State
 with_ceiling S m c = record S { protocol = put S.protocol m (Protocol.Protect c) }
 
--- t waits for m with the next ticket, which is then one more
+-- t waits for m with the next ticket, and the next ticket is one more
 abbrev pub queued : State → ℕ → ℕ → State
 queued S t m = record S {
   wait = put S.wait t (Some (record { mutex = m; ticket = S.next }));

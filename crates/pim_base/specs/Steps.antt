@@ -10,22 +10,23 @@ use Rattle.pim_base.specs.declared.steps.Refusal.{Refusal}
 use Rattle.pim_base.specs.declared.steps.Reply.{Reply}
 use Rattle.pim_base.specs.declared.steps.Waiter.{Waiter}
 
--- the first refusal whose test holds, or the answer where none does
+-- the first refusal whose test holds, else this answer
 abbrev pub unless : List (Bool × Refusal) → Reply → Reply
 unless [] answer = answer
 unless (check ∷ checks) answer = if check.0 then Reply.Refused check.1 else unless checks answer
 
--- the reply to an unlock, by who is the first of the queue: who gets the mutex at once. (POSIX.1-2017, pthread_mutex_unlock)
+-- the reply to an unlock, by the first of the queue, which gets the mutex immediately. (POSIX.1-2017,
+-- pthread_mutex_unlock)
 abbrev pub handed : Option Waiter → Reply
 handed None = Reply.Freed
 handed (Some w) = Reply.Handed w.task
 
--- the owner keeps the mutex when it unlocks it: it has locked it more often than that. (POSIX.1-2017,
+-- the owner keeps the mutex when it unlocks it, since it has locked it more than once. (POSIX.1-2017,
 -- pthread_mutex_unlock: a recursive mutex is available when its lock count is zero)
 abbrev pub is_kept : State → ℕ → Bool
 is_kept S m = is_recursive (protocol_of S m) && nat_lt 1 (count_of S m)
 
--- the reply where nothing refuses
+-- the reply if nothing refuses the step
 abbrev pub served : State → ℕ → Op → Reply
 served S a (Op.Lock m) = if is_busy S a m then Reply.Queued else Reply.Granted
 served S a (Op.Try m) = Reply.Granted
@@ -43,7 +44,7 @@ answer S a op = unless (checks S a op) (served S a op)
 abbrev pub reply_of : State → Step → Reply
 reply_of S step = unless (first_checks S step) (answer S step.actor step.op)
 
--- a has m, or has it once more
+-- a owns m, or has locked it once more
 abbrev pub granted : State → ℕ → ℕ → State
 granted S a m = if relocks S a m then with_count S m (count_of S m + 1) else with_owner S m (Some a)
 
@@ -56,7 +57,7 @@ hand_over_to S m (Some w) = with_wait (with_owner S m (Some w.task)) w.task None
 abbrev pub hand_over : State → ℕ → State
 hand_over S m = hand_over_to S m (first_of S m)
 
--- the mutex that the operation names, or 0, which is the number of none
+-- the mutex that the operation names, else 0, which no mutex has as its number
 abbrev pub mutex_of : Op → ℕ
 mutex_of (Op.Lock m) = m
 mutex_of (Op.Try m) = m
@@ -66,7 +67,7 @@ mutex_of (Op.Cancel t) = 0
 mutex_of (Op.SetBase t p) = 0
 mutex_of (Op.SetCeiling m p) = m
 
--- the task that the operation is to change, or 0, which is the number of none
+-- the task that the operation is to change, else 0, which no task has as its number
 abbrev pub target_of : Op → ℕ
 target_of (Op.Lock m) = 0
 target_of (Op.Try m) = 0

@@ -29,8 +29,8 @@ mutex_lines n (protocol ∷ protocols) = lines.Mutex n protocol ∷ mutex_lines 
 abbrev pub declared : Trace → List Line
 declared t = task_lines 1 t.bases ++ (mutex_lines 1 t.protocols ++ map lines.Step t.steps)
 
--- a text of a known version, within the limits on numbers and on how many lines each part has, of lines that its version
--- has
+-- a text of a known version, within the limits on numbers and on the lines of each part; each line exists in its
+-- version
 pub record IsWithinLimits (t : Trace) : Type 0 where
   pub version : (1 ≤ t.version) × (t.version ≤ LAST_VERSION)
   pub tasks : length t.bases ≤ MAX_TASKS
@@ -51,8 +51,7 @@ Spells ls t = IsWithinLimits t × (ls ≡ spelled_lines t)
 abbrev pub IsTrace : List (List ℕ) → Type 0
 IsTrace ls = (t : Trace) × Spells ls t
 
--- lines 1 to n - 1 are as they are to be, and lines 1 to n are not; n is 1 where there is no line, or the first alone
--- is not
+-- lines 1 to n aren't such a list, but lines 1 to n - 1 are, unless n is 1
 abbrev pub FirstBad : (List (List ℕ) → Type 0) → List (List ℕ) → ℕ → Type 0
 FirstBad Is ls n = ((n ≡ 1) ⊎ Is (take (n - 1) ls)) × (0 < n) × (Is (take n ls) → ⊥)
 
@@ -60,7 +59,7 @@ FirstBad Is ls n = ((n ≡ 1) ⊎ Is (take (n - 1) ls)) × (0 < n) × (Is (take 
 abbrev pub FirstBadLine : List (List ℕ) → ℕ → Type 0
 FirstBadLine ls n = FirstBad IsTrace ls n
 
--- the parts between newlines, without the last where that is empty
+-- the parts between newlines, without the last if that is empty
 abbrev pub without_empty_last : List (List ℕ) → List (List ℕ)
 without_empty_last [] = []
 without_empty_last ([] ∷ []) = []
