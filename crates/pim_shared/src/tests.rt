@@ -7,7 +7,6 @@ use std::alloc::Global;
 use std::process::Abort;
 use std::sync::Wait;
 
-mod books;
 mod calls;
 mod finding;
 mod gates;
@@ -17,7 +16,6 @@ mod settling;
 mod starting;
 mod threads;
 mod waking;
-mod watching;
 mod working;
 
 const FIRST: MutexNo = MutexNo(1);

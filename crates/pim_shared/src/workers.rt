@@ -106,26 +106,3 @@ fn outcome_of(answers: &[Result<(), SharedFault>]) -> Result<(), SharedFault>
         Ok(())
     }
 }
-
-#[cfg(test)]
-mod tests {
-    use super::*;
-    use SharedFault::{Closed, Full, Memory, NoPlace, Torn};
-
-    #[test]
-    fn the_first_fault_that_is_not_closed(rt: HostRuntime) {
-        let done = Ok(());
-        for (answers, outcome) in [
-            (&[][..], done),
-            (&[done, done], done),
-            (&[Err(Closed), Err(Full)], Err(Full)),
-            (&[Err(Closed), done, Err(Closed)], Err(Closed)),
-            (&[done, Err(Closed), done], Err(Closed)),
-            (&[Err(Memory), Err(Full), Err(Closed)], Err(Memory)),
-            (&[done, Err(Torn), Err(NoPlace)], Err(Torn)),
-            (&[Err(NoPlace), Err(Torn)], Err(NoPlace)),
-        ] {
-            assert_eq!(rt; outcome_of(answers), outcome, "{answers:?}");
-        }
-    }
-}

@@ -1,10 +1,11 @@
-//! The order of lock, step and wake-up, and the places of a publisher.
+//! What the lock guards, the order of lock, step and wake-up, and the places of a publisher.
 
 use super::lookers_of;
 use crate::publisher::Publisher;
 use crate::tests::{base, made, shared};
-use crate::{Looker, Shared, SharedFault};
-use pim_base::Reply;
+use crate::version::entry;
+use crate::{Looker, Settled, Shared, SharedFault};
+use pim_base::{MutexNo, Reply, TaskNo};
 use std::alloc::Global;
 use std::process::Abort;
 use std::rt::Clock;
@@ -94,4 +95,20 @@ fn there_is_no_place_for_more_lookers_than_were_made(rt: HostRuntime) {
     let fault = lookers_of(&mut publisher, alloc, 3).err();
     publisher.end(&rt);
     assert_eq!(rt; fault, Some(SharedFault::NoPlace));
+}
+
+#[test]
+fn a_book_shows_the_manager_as_it_is_now(rt: HostRuntime) {
+    let (shared, _) = shared(&rt, rt.alloc(), &[], 2, 0);
+    let Shared { book, changed: _ } = shared;
+    let mut book = book.into_inner();
+    let before = (book.manager().tasks(), book.entries().len());
+    let answer = book.call(&rt, base(2, 70));
+    let base_now = book.manager().base(TaskNo(2)).map(|prio| prio.get());
+    let after = (book.is_closed(), book.settled(TaskNo(2), MutexNo(1)));
+    let is_entry = book.entries() == [entry(base(2, 70), Reply::Set)].as_slice();
+    let (_, _log) = book.end(&rt);
+    assert_eq!(rt; (before, answer), ((2, 0), Ok(Reply::Set)));
+    assert_eq!(rt; after, (false, Some(Settled::Withdrawn)));
+    assert_eq!(rt; (base_now, is_entry), (Some(70), true));
 }

@@ -32,30 +32,6 @@ fn a_full_log_closes(rt: HostRuntime) {
     assert_eq!(rt; owner, Some(None));
 }
 
-#[test]
-fn a_log_without_room_is_full_at_once(rt: HostRuntime) {
-    let (shared, _) = shared(&rt, rt.alloc(), &[], 0, 0);
-    assert_eq!(rt; shared.call(&rt, base(2, 70)), Err(SharedFault::Full));
-    assert_eq!(rt; shared.call(&rt, base(2, 70)), Err(SharedFault::Closed));
-    let (manager, log) = shared.finish(&rt);
-    assert_eq!(rt; log.entries().len(), 0);
-    assert_eq!(rt; manager.base(TaskNo(2)), Some(prio(&rt, 20)));
-}
-
-#[test]
-fn a_refused_step_is_an_entry_like_any_other(rt: HostRuntime) {
-    let (shared, _) = shared(&rt, rt.alloc(), &[Protocol::None], 3, 0);
-    let answer = shared.call(&rt, by(2, Unlock(FIRST)));
-    assert_eq!(rt; answer, Ok(Reply::Refused(Refusal::NotOwner)));
-    assert_eq!(rt; shared.call(&rt, by(1, ReleaseAll)), Ok(Reply::Released(0)));
-    let (_, log) = shared.finish(&rt);
-    let entries = [
-        entry(by(2, Unlock(FIRST)), Reply::Refused(Refusal::NotOwner)),
-        entry(by(1, ReleaseAll), Reply::Released(0)),
-    ];
-    assert!(rt; log.entries() == entries.as_slice());
-}
-
 // task 1 at 70 owns the mutex, and task 2 at 20 waits for it with the first ticket
 fn expect_waiting(rt: &impl Abort, manager: &Manager) {
     assert_eq!(rt; manager.owner(FIRST), Some(Some(TaskNo(1))));
@@ -83,16 +59,6 @@ fn the_log_begins_at_the_manager_handed_in(rt: HostRuntime) {
     expect_handed(&rt, &manager);
     assert_eq!(rt; answer, Ok(Reply::Handed(TaskNo(2))));
     assert_eq!(rt; log.entries().len(), 1);
-}
-
-#[test]
-fn nothing_called_leaves_the_manager_and_an_empty_log(rt: HostRuntime) {
-    let (shared, lookers) = shared(&rt, rt.alloc(), &[Protocol::None], 4, 8);
-    let lookers = lookers.len();
-    let (manager, log) = shared.finish(&rt);
-    let entries = log.entries().len();
-    let sizes = (log.start().tasks(), manager.mutexes());
-    assert_eq!(rt; (lookers, entries, sizes), (8, 0, (2, 1)));
 }
 
 /// Steps of two tasks over a recursive mutex and another one, with a reply of each kind.

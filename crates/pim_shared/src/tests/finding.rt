@@ -6,17 +6,6 @@ use std::thread::join;
 
 const SECOND: TaskNo = TaskNo(2);
 
-#[test]
-fn a_looker_sees_the_call_made_with_it(rt: HostRuntime) {
-    let (shared, mut lookers) = shared(&rt, rt.alloc(), &[], 3, 1);
-    let looker = lookers.get_mut(0).expect(&rt, "a looker");
-    let answer = shared.call_with(&rt, looker, base(2, 70));
-    let seen = [looker.look(SECOND), looker.look(TaskNo(3))];
-    let (_, log) = shared.finish(&rt);
-    assert_eq!(rt; (answer, log.entries().len()), (Ok(Reply::Set), 1));
-    assert_eq!(rt; seen, [at_base(&rt, 1, 70), Ok(None)]);
-}
-
 /// A shared manager with room for three entries, and two readers of it.
 fn with_two_lookers<R: Wait + Abort>(rt: &R, alloc: Global) -> (Shared, Looker, Looker) {
     let (shared, mut lookers) = shared(rt, alloc, &[], 3, 2);

@@ -198,54 +198,23 @@ const SETTLED: [Call; 4] = [
     }),
 ];
 
-#[test]
-fn a_worker_settles_after_a_queued_lock(rt: HostRuntime) {
-    for settled in [Settled::Owns, Settled::Withdrawn] {
-        let gate = Recorder::new(&rt, rt.alloc(), 9, Ok(settled));
-        expect_calls(&rt, gate, &LOCKED, Ok(()), &SETTLED);
-    }
-}
+/// The room of the gate, what its `settle` returns, what the worker returns, and how many of its calls are kept.
+const ENDS: [(usize, Settling, Result<(), SharedFault>, usize); 8] = [
+    (9, OWNS, Ok(()), 4),
+    (9, Ok(Settled::Withdrawn), Ok(()), 4),
+    (0, OWNS, Err(SharedFault::Full), 0),
+    (1, OWNS, Err(SharedFault::Full), 1),
+    (2, OWNS, Err(SharedFault::Full), 2),
+    (3, OWNS, Err(SharedFault::Full), 3),
+    (9, Err(SharedFault::Closed), Err(SharedFault::Closed), 2),
+    (9, Err(SharedFault::Full), Err(SharedFault::Full), 2),
+];
 
 #[test]
-fn a_worker_settles_after_no_other_line(rt: HostRuntime) {
-    const LINES: [Op; 3] = [Try(FIRST), SetBase(THIRD, 7), Lock(SECOND)];
-    const CALLS: [Call; 5] = [
-        Call::Step(Step {
-            actor: THIRD,
-            op: Try(FIRST),
-        }),
-        Call::Step(Step {
-            actor: THIRD,
-            op: SetBase(THIRD, 7),
-        }),
-        Call::Step(Step {
-            actor: THIRD,
-            op: Lock(SECOND),
-        }),
-        Call::Settle(THIRD, SECOND),
-        Call::Step(Step {
-            actor: THIRD,
-            op: ReleaseAll,
-        }),
-    ];
-    let gate = Recorder::new(&rt, rt.alloc(), 9, OWNS);
-    expect_calls(&rt, gate, &LINES, Ok(()), &CALLS);
-}
-
-#[test]
-fn a_fault_ends_the_worker(rt: HostRuntime) {
-    for room in 0..4 {
-        let gate = Recorder::new(&rt, rt.alloc(), room, OWNS);
-        let full = Err(SharedFault::Full);
-        expect_calls(&rt, gate, &LOCKED, full, &SETTLED[..room]);
-    }
-}
-
-#[test]
-fn a_fault_of_settle_ends_the_worker(rt: HostRuntime) {
-    for fault in [SharedFault::Closed, SharedFault::Full] {
-        let gate = Recorder::new(&rt, rt.alloc(), 9, Err(fault));
-        expect_calls(&rt, gate, &LOCKED, Err(fault), &SETTLED[..2]);
+fn a_worker_settles_after_a_queued_lock_and_ends_at_a_fault(rt: HostRuntime) {
+    for (room, settled, answer, kept) in ENDS {
+        let gate = Recorder::new(&rt, rt.alloc(), room, settled);
+        expect_calls(&rt, gate, &LOCKED, answer, &SETTLED[..kept.min(4)]);
     }
 }
 
@@ -266,7 +235,16 @@ fn a_worker_goes_on_after_a_refusal(rt: HostRuntime) {
 
 #[test]
 fn each_queued_lock_is_settled_and_a_release_follows_a_release(rt: HostRuntime) {
+    let lines = [
+        Try(FIRST),
+        SetBase(THIRD, 7),
+        Lock(SECOND),
+        Lock(FIRST),
+        ReleaseAll,
+    ];
     let calls = [
+        asked(Try(FIRST)),
+        asked(SetBase(THIRD, 7)),
         asked(Lock(SECOND)),
         Call::Settle(THIRD, SECOND),
         asked(Lock(FIRST)),
@@ -275,7 +253,6 @@ fn each_queued_lock_is_settled_and_a_release_follows_a_release(rt: HostRuntime) 
         asked(ReleaseAll),
     ];
     let gate = Recorder::new(&rt, rt.alloc(), 9, OWNS);
-    let lines = [Lock(SECOND), Lock(FIRST), ReleaseAll];
     expect_calls(&rt, gate, &lines, Ok(()), &calls);
 }
 
@@ -345,55 +322,36 @@ const FULL: Option<SharedFault> = Some(SharedFault::Full);
 
 const MEMORY: Option<SharedFault> = Some(SharedFault::Memory);
 
-/// The fault of each task's call, and what the run returns.
-const FAULTS: [([Option<SharedFault>; 3], Result<(), SharedFault>); 6] = [
-    ([None, None, None], Ok(())),
-    ([CLOSED, FULL, None], Err(SharedFault::Full)),
-    ([CLOSED, CLOSED, CLOSED], Err(SharedFault::Closed)),
-    ([None, None, CLOSED], Err(SharedFault::Closed)),
-    ([CLOSED, MEMORY, FULL], Err(SharedFault::Memory)),
-    ([FULL, MEMORY, CLOSED], Err(SharedFault::Full)),
+/// The number of scripts, the fault of each task's call, and what the run returns.
+const FAULTS: [(usize, [Option<SharedFault>; 3], Result<(), SharedFault>); 9] = [
+    (3, [None, None, None], Ok(())),
+    (3, [CLOSED, FULL, None], Err(SharedFault::Full)),
+    (3, [CLOSED, CLOSED, CLOSED], Err(SharedFault::Closed)),
+    (3, [None, None, CLOSED], Err(SharedFault::Closed)),
+    (3, [CLOSED, MEMORY, FULL], Err(SharedFault::Memory)),
+    (3, [FULL, MEMORY, CLOSED], Err(SharedFault::Full)),
+    (2, [CLOSED, FULL, None], Err(SharedFault::Full)),
+    (2, [CLOSED, CLOSED, CLOSED], Err(SharedFault::Closed)),
+    (16, [CLOSED, CLOSED, CLOSED], Err(SharedFault::Closed)),
 ];
 
-// runs the scripts over a gate with these faults, which answers this
-fn expect_outcome<R: Threads + Wait + Abort + Sync>(
+/// Runs this number of empty scripts over a gate with these faults.
+fn outcome<R: Threads + Wait + Abort + Sync>(
     rt: &R,
     alloc: Global,
-    scripts: &[Vec<Op>],
+    count: usize,
     faults: [Option<SharedFault>; 3],
-    answer: Result<(), SharedFault>,
-) {
+) -> Result<(), SharedFault> {
+    let empty: [&[Op]; MAX_WORKERS] = [&[]; MAX_WORKERS];
+    let scripts = scripts_of(rt, alloc, &empty[..count.min(MAX_WORKERS)]);
     assert!(rt; scripts.len() <= MAX_WORKERS);
-    let gate = Refusing { faults };
-    assert_eq!(rt; run_scripts(rt, alloc, &gate, scripts), answer);
+    run_scripts(rt, alloc, &Refusing { faults }, &scripts)
 }
 
 #[test]
 fn the_fault_of_the_least_task_that_is_not_closed(rt: HostRuntime) {
-    let scripts = scripts_of(&rt, rt.alloc(), &[&[], &[], &[]]);
-    for (faults, answer) in FAULTS {
-        expect_outcome(&rt, rt.alloc(), &scripts, faults, answer);
+    for (count, faults, answer) in FAULTS {
+        let shown = outcome(&rt, rt.alloc(), count, faults);
+        assert_eq!(rt; shown, answer, "{count} {faults:?}");
     }
-}
-
-#[test]
-fn faults_of_two_empty_scripts(rt: HostRuntime) {
-    let scripts = scripts_of(&rt, rt.alloc(), &[&[], &[]]);
-    let (closed, full) = (Err(SharedFault::Closed), Err(SharedFault::Full));
-    for (faults, answer) in [([CLOSED, FULL, None], full), ([CLOSED; 3], closed)] {
-        expect_outcome(&rt, rt.alloc(), &scripts, faults, answer);
-    }
-}
-
-#[test]
-fn sixteen_closed_workers_come_to_closed(rt: HostRuntime) {
-    let empty: [&[Op]; MAX_WORKERS] = [&[]; MAX_WORKERS];
-    let scripts = scripts_of(&rt, rt.alloc(), &empty);
-    expect_outcome(
-        &rt,
-        rt.alloc(),
-        &scripts,
-        [CLOSED; 3],
-        Err(SharedFault::Closed),
-    );
 }

@@ -87,28 +87,92 @@ fn expect_gathered(rt: &impl Abort, alloc: Global, rows: &[(bool, Steps, Scripts
     }
 }
 
-#[test]
-fn each_line_and_one_release(rt: HostRuntime) {
-    const STEPS: Steps = &[(1, Lock(1)), (1, Release)];
-    const ROWS: &[(bool, Steps, Scripts)] = &[
-        (true, STEPS, &[&[Lock(1)]]),
-        (false, STEPS, &[&[Lock(1), Unlock(1)]]),
-        (false, STEPS, &[&[Lock(1), Release]]),
-        (false, STEPS, &[&[]]),
-    ];
-    expect_gathered(&rt, rt.alloc(), ROWS);
-}
+const LOCKED: Steps = &[(1, Lock(1)), (1, Release)];
+
+const LOWERED: Steps = &[(1, SetCeiling(1, 30)), (1, Release)];
+
+const UNLOCKED: Steps = &[(1, Lock(1)), (1, Unlock(1)), (1, Release)];
+
+const RELEASED_TWICE: Steps = &[(1, Lock(1)), (1, Release), (1, Release)];
+
+/// Logs of one task, each with scripts, and whether the log is theirs.
+const ONE_TASK: &[(bool, Steps, Scripts)] = &[
+    (true, LOCKED, &[&[Lock(1)]]),
+    (false, LOCKED, &[&[Lock(1), Unlock(1)]]),
+    (false, LOCKED, &[&[Lock(1), Release]]),
+    (false, LOCKED, &[&[]]),
+    (true, LOWERED, &[&[SetCeiling(1, 30)]]),
+    (false, LOWERED, &[&[SetCeiling(1, 31)]]),
+    (false, LOWERED, &[&[SetCeiling(2, 30)]]),
+    (false, LOWERED, &[&[SetBase(1, 30)]]),
+    // A step too many.
+    (false, UNLOCKED, &[&[Lock(1)]]),
+    (false, RELEASED_TWICE, &[&[Lock(1)]]),
+    (true, RELEASED_TWICE, &[&[Lock(1), Release]]),
+    // A release that is missing.
+    (false, &[(1, Lock(1))], &[&[Lock(1)]]),
+    (false, &[(1, Release)], &[&[Lock(1)]]),
+    (false, &[], &[&[Lock(1)]]),
+    (true, &[], &[]),
+    (false, &[(1, Release)], &[]),
+];
 
 #[test]
-fn a_ceiling_that_is_set(rt: HostRuntime) {
-    const STEPS: Steps = &[(1, SetCeiling(1, 30)), (1, Release)];
-    const ROWS: &[(bool, Steps, Scripts)] = &[
-        (true, STEPS, &[&[SetCeiling(1, 30)]]),
-        (false, STEPS, &[&[SetCeiling(1, 31)]]),
-        (false, STEPS, &[&[SetCeiling(2, 30)]]),
-        (false, STEPS, &[&[SetBase(1, 30)]]),
-    ];
-    expect_gathered(&rt, rt.alloc(), ROWS);
+fn each_line_and_one_release(rt: HostRuntime) {
+    expect_gathered(&rt, rt.alloc(), ONE_TASK);
+}
+
+/// Two scripts that aren't equal.
+const TWO_LINES: Scripts = &[&[Lock(1), Lock(2)], &[Lock(2)]];
+
+const BETWEEN: Steps = &[
+    (2, Lock(2)),
+    (1, Lock(1)),
+    (2, Release),
+    (1, Lock(2)),
+    (1, Release),
+];
+
+const ONE_BY_ONE: Steps = &[
+    (1, Lock(1)),
+    (1, Lock(2)),
+    (1, Release),
+    (2, Lock(2)),
+    (2, Release),
+];
+
+const OTHER_ORDER: Steps = &[
+    (1, Lock(2)),
+    (1, Lock(1)),
+    (1, Release),
+    (2, Lock(2)),
+    (2, Release),
+];
+
+/// Two equal scripts.
+const ONE_LINE: Scripts = &[&[Lock(1)], &[Lock(1)]];
+
+const BOTH: Steps = &[(1, Lock(1)), (2, Lock(1)), (1, Release), (2, Release)];
+
+const ONE_ALONE: Steps = &[(1, Lock(1)), (1, Lock(1)), (1, Release), (1, Release)];
+
+/// Logs of two tasks, each with scripts, and whether the log is theirs.
+const TWO_TASKS: &[(bool, Steps, Scripts)] = &[
+    (true, BETWEEN, TWO_LINES),
+    (true, ONE_BY_ONE, TWO_LINES),
+    (false, OTHER_ORDER, TWO_LINES),
+    (true, BOTH, ONE_LINE),
+    (false, ONE_ALONE, ONE_LINE),
+    // An entry of a task without a script.
+    (false, &[(1, Release), (0, Release)], &[&[]]),
+    (false, &[(1, Release), (2, Release)], &[&[]]),
+    (false, &[(1, Release), (u16::MAX, Release)], &[&[]]),
+    (true, &[(1, Release), (2, Release)], &[&[], &[]]),
+];
+
+#[test]
+fn each_task_in_its_own_order(rt: HostRuntime) {
+    expect_gathered(&rt, rt.alloc(), TWO_TASKS);
 }
 
 #[test]
@@ -133,81 +197,4 @@ fn starts_that_differ_in_counts_alone(rt: HostRuntime) {
     let gathered = gather(Log::new(start, Vec::new(alloc)), &other, &[]);
     drop(other);
     assert!(rt; matches!(gathered, Err(SharedFault::Torn)));
-}
-
-#[test]
-fn a_step_too_many(rt: HostRuntime) {
-    const UNLOCKED: Steps = &[(1, Lock(1)), (1, Unlock(1)), (1, Release)];
-    const RELEASED_TWICE: Steps = &[(1, Lock(1)), (1, Release), (1, Release)];
-    const ROWS: &[(bool, Steps, Scripts)] = &[
-        (false, UNLOCKED, &[&[Lock(1)]]),
-        (false, RELEASED_TWICE, &[&[Lock(1)]]),
-        (true, RELEASED_TWICE, &[&[Lock(1), Release]]),
-    ];
-    expect_gathered(&rt, rt.alloc(), ROWS);
-}
-
-#[test]
-fn a_release_that_is_missing(rt: HostRuntime) {
-    const SCRIPTS: Scripts = &[&[Lock(1)]];
-    const ROWS: &[(bool, Steps, Scripts)] = &[
-        (false, &[(1, Lock(1))], SCRIPTS),
-        (false, &[(1, Release)], SCRIPTS),
-        (false, &[], SCRIPTS),
-    ];
-    expect_gathered(&rt, rt.alloc(), ROWS);
-}
-
-#[test]
-fn an_entry_of_a_task_without_a_script(rt: HostRuntime) {
-    const ROWS: &[(bool, Steps, Scripts)] = &[
-        (false, &[(1, Release), (0, Release)], &[&[]]),
-        (false, &[(1, Release), (2, Release)], &[&[]]),
-        (false, &[(1, Release), (u16::MAX, Release)], &[&[]]),
-        (true, &[(1, Release), (2, Release)], &[&[], &[]]),
-        (true, &[], &[]),
-        (false, &[(1, Release)], &[]),
-    ];
-    expect_gathered(&rt, rt.alloc(), ROWS);
-}
-
-#[test]
-fn each_task_in_its_own_order(rt: HostRuntime) {
-    const SCRIPTS: Scripts = &[&[Lock(1), Lock(2)], &[Lock(2)]];
-    const BETWEEN: Steps = &[
-        (2, Lock(2)),
-        (1, Lock(1)),
-        (2, Release),
-        (1, Lock(2)),
-        (1, Release),
-    ];
-    const ONE_BY_ONE: Steps = &[
-        (1, Lock(1)),
-        (1, Lock(2)),
-        (1, Release),
-        (2, Lock(2)),
-        (2, Release),
-    ];
-    const OTHER_ORDER: Steps = &[
-        (1, Lock(2)),
-        (1, Lock(1)),
-        (1, Release),
-        (2, Lock(2)),
-        (2, Release),
-    ];
-    const ROWS: &[(bool, Steps, Scripts)] = &[
-        (true, BETWEEN, SCRIPTS),
-        (true, ONE_BY_ONE, SCRIPTS),
-        (false, OTHER_ORDER, SCRIPTS),
-    ];
-    expect_gathered(&rt, rt.alloc(), ROWS);
-}
-
-#[test]
-fn equal_scripts_of_two_tasks(rt: HostRuntime) {
-    const SCRIPTS: Scripts = &[&[Lock(1)], &[Lock(1)]];
-    const BOTH: Steps = &[(1, Lock(1)), (2, Lock(1)), (1, Release), (2, Release)];
-    const ONE_ALONE: Steps = &[(1, Lock(1)), (1, Lock(1)), (1, Release), (1, Release)];
-    const ROWS: &[(bool, Steps, Scripts)] = &[(true, BOTH, SCRIPTS), (false, ONE_ALONE, SCRIPTS)];
-    expect_gathered(&rt, rt.alloc(), ROWS);
 }

@@ -55,18 +55,6 @@ fn a_looker_that_made_no_call_sees_one(rt: HostRuntime) {
 }
 
 #[test]
-fn an_unknown_task_has_no_priority(rt: HostRuntime) {
-    let (shared, mut looker) = with_looker(&rt, rt.alloc(), &[], 3);
-    let seen = [
-        looker.look(TaskNo(0)),
-        looker.look(TaskNo(3)),
-        looker.look(TaskNo(u16::MAX)),
-    ];
-    let (_, _log) = shared.finish(&rt);
-    assert_eq!(rt; seen, [Ok(None); 3]);
-}
-
-#[test]
 fn a_looker_sees_whose_wait_boosts_an_owner(rt: HostRuntime) {
     let (shared, mut looker) = with_looker(&rt, rt.alloc(), &[Protocol::Inherit], 3);
     let own = at_base(&rt, 1, 10);
@@ -99,44 +87,6 @@ fn a_looker_sees_whose_wait_boosts_an_owner(rt: HostRuntime) {
     let (_, _log) = shared.finish(&rt);
 }
 
-#[test]
-fn a_looker_sees_the_ceiling_of_an_owned_mutex(rt: HostRuntime) {
-    let fifty = prio(&rt, 50);
-    let (shared, mut looker) = with_looker(&rt, rt.alloc(), &[Protocol::Protect(fifty)], 3);
-    let raised = Seen {
-        steps: 1,
-        prio: fifty,
-        reason: Reason::Ceiling(FIRST),
-    };
-    let seen = Ok(Some(raised));
-    let lock = by(1, Lock(FIRST));
-    expect_call(
-        &rt,
-        &shared,
-        &mut looker,
-        lock,
-        Reply::Granted,
-        TaskNo(1),
-        seen,
-    );
-    let (_, _log) = shared.finish(&rt);
-}
-
-#[test]
-fn a_closed_manager_is_still_looked_at(rt: HostRuntime) {
-    let (shared, mut looker) = with_looker(&rt, rt.alloc(), &[], 1);
-    let answers = [
-        shared.call(&rt, base(2, 70)),
-        shared.call(&rt, base(2, 80)),
-        shared.call(&rt, base(2, 90)),
-    ];
-    let seen = looker.look(SECOND);
-    let (_, _log) = shared.finish(&rt);
-    let (full, closed) = (Err(SharedFault::Full), Err(SharedFault::Closed));
-    assert_eq!(rt; answers, [Ok(Reply::Set), full, closed]);
-    assert_eq!(rt; seen, at_base(&rt, 1, 70));
-}
-
 // each reader sees one entry, which set the base of task 2 to 70
 fn expect_looks(rt: &impl Abort, lookers: Vec<Looker>) {
     for mut looker in lookers {
@@ -152,25 +102,5 @@ fn as_many_lookers_as_asked_for_see_the_calls_of_their_own_manager(rt: HostRunti
         expect_looks(&rt, lookers);
         let (_, _log) = shared.finish(&rt);
         assert_eq!(rt; (made, set), (usize::from(count), Ok(Reply::Set)));
-    }
-}
-
-// the fault of a shared manager with this number of readers, if it has one
-fn fault_of<R: Wait + Abort>(rt: &R, alloc: Global, count: u16) -> Option<SharedFault> {
-    let manager = made(rt, alloc, &[10, 20], &[]);
-    match Shared::new(rt, alloc, manager, 1, count) {
-        Ok((shared, _lookers)) => {
-            let (_, _log) = shared.finish(rt);
-            None
-        }
-        Err(fault) => Some(fault),
-    }
-}
-
-#[test]
-fn there_is_no_place_for_a_ninth_looker(rt: HostRuntime) {
-    for count in [9, 10, u16::MAX] {
-        let fault = fault_of(&rt, rt.alloc(), count);
-        assert_eq!(rt; fault, Some(SharedFault::NoPlace));
     }
 }
