@@ -1,8 +1,2 @@
-pub mod EndsLemmas
-pub mod DecimalLemmas
-pub mod PutsLemmas
-pub mod PrintingLemmas
-pub mod ReportLemmas
-pub mod TraceLineLemmas
 pub mod CommandLemmas
 pub mod RunningLemmas

@@ -4,11 +4,8 @@ pub use Rattle.pim_base.specs.Scripts
 pub use Rattle.pim_text.specs.Reading
 pub use Rattle.pim_base.specs.Reports
 pub use Rattle.pim_base.specs.Recordings
-pub mod Faults
-pub mod Ends
-pub mod Printed
-pub mod Numerals
-pub mod Taken
+pub use Rattle.pim_judge.specs.Faults
+pub use Rattle.pim_judge.specs.Ends
+pub use Rattle.pim_judge.specs.Status
 pub mod Running
-pub mod Status
 pub mod Words

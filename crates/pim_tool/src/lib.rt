@@ -18,32 +18,15 @@
 #![tactic(auto)]
 
 mod command_line;
-mod ends;
-mod fault;
-mod judging;
-mod memory_ends;
-mod numerals;
-mod page;
-mod printer;
-mod puts;
-mod reading;
-mod report;
 mod running;
 mod scripts;
-mod streams;
-mod trace;
-mod transfer;
 
 pub use command_line::{Job, command};
-pub use ends::{Failed, Sink, Source};
-pub use fault::Fault;
-pub use judging::{Judged, judge, judge_bytes, status};
-pub use memory_ends::{MemoryReader, MemoryWriter, Trouble};
-pub use pim_base::{StepLine, Verdict};
-pub use pim_text::Text;
-pub use reading::{parse, parse_script};
+pub use pim_judge::{
+    Failed, Fault, Input, Judged, MemoryReader, MemoryWriter, Output, Sink, Source, StepLine, Text,
+    Trouble, Verdict, judge, judge_bytes, parse, parse_script, status,
+};
 pub use running::{check, run};
-pub use streams::{Input, Output};
 
 #[cfg(test)]
 mod tests;

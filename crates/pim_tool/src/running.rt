@@ -1,25 +1,17 @@
 //! Runs of scripts: a worker for each task, and the trace of the run.
-ghost use Rattle.std.specs.Prelude.{◌≡◌, ◌<◌, ◌≤◌, ◌^◌, [], length, map, Some, IfOk, IfErr, IfSome};
+ghost use Rattle.std.specs.Prelude.{◌≡◌, [], Some, IfOk, IfErr, IfSome};
 ghost use Rattle.pim_base.specs.Texts.{lines_of};
-ghost use Rattle.pim_base.specs.Reports.{agrees, verdict_from};
-ghost use Rattle.pim_base.specs.Recordings.{IsRunOf, entry_line};
+ghost use Rattle.pim_base.specs.Recordings.{IsRunOf};
 ghost use Rattle.pim_text.specs.Reading.{trace_of};
-ghost use Rattle.pim_tool.specs.Ends.{Prints};
 ghost use Rattle.pim_tool.specs.Running.{IsRunnable, SpellsRunnable, IsTraceOfRun, IsEndOfReport, IsVerdictOfRun};
 ghost use Rattle.pim_tool.specs.Running.{Unread, IsOfRun, Wrote, StandsAfter, call};
-ghost use Rattle.pim_tool.specs.Printed.{verdict_line};
 
-use crate::ends::{Sink, Source};
-use crate::fault::Fault;
-use crate::judging::manager_of;
-use crate::page::Page;
-use crate::printer::Printer;
-use crate::reading::parse_script;
 use crate::scripts::scripts_of;
-use crate::trace::print_trace;
-use crate::transfer::read_all;
-use pim_base::{Entry, MAX_WORKERS, Reply, Verdict};
-use pim_manager::Manager;
+use pim_base::{MAX_WORKERS, Verdict};
+use pim_judge::{
+    Fault, Sink, Source, judge_entries, manager_of, parse_script, print_trace, print_verdict,
+    read_all,
+};
 use pim_shared::{Log, Shared, gather, run_scripts};
 use pim_text::Text;
 use std::alloc::Global;
@@ -126,39 +118,4 @@ fn log_of_run<T: Threads + Wait + Sync>(rt: &T, alloc: Global, script: &Text) ->
     let (_end, log) = shared.finish(rt);
     ran?;
     Ok(gather(log, &start, &scripts)?)
-}
-
-/// Makes the steps of the entries, with their replies as the recorded ones, and returns the report's verdict.
-fn judge_entries(manager: &mut Manager, entries: &[Entry]) -> Verdict
-    requires few { length entries.now < 2 ^ 32 }
-    ensures { result ≡ verdict_from 1 manager.old (map entry_line entries.now) }
-{
-    for (index, entry) in entries.iter().enumerate() {
-        let reply = manager.step(entry.step).reply;
-        if !is_recorded(entry, &reply) {
-            return Verdict::Rejected(index as u32 + 1);
-        }
-    }
-    Verdict::Accepted(entries.len() as u32)
-}
-
-/// Returns whether this is the reply of the entry.
-fn is_recorded(entry: &Entry, reply: &Reply) -> bool
-    ensures { result ≡ agrees (Some entry.now.reply) reply.now }
-{
-    entry.reply == *reply
-}
-
-/// Writes the last line of a report.
-#[tactic(auto, using(crate::proofs::PrintingLemmas::prints_unwritten))]
-fn print_verdict<W: Sink>(alloc: Global, writer: &mut W, verdict: &Verdict) -> Result<(), Fault>
-    ensures { Prints (W.told writer.old) (W.told writer.new) (verdict_line verdict.now) [] result }
-{
-    let mut page = Page::new(alloc)?;
-    match verdict {
-        Verdict::Accepted(count) => page.accepted(*count)?,
-        Verdict::Rejected(number) => page.rejected(*number)?,
-    }
-    let mut printer = Printer::new(writer, &mut page);
-    printer.write()
 }

@@ -1,21 +1,9 @@
-//! Worked texts with their reports, invalid ones, scripts that are run, answers, words of the command line, and ends
-//! that fail.
+//! Scripts that are run, invalid ones, ends that fail, and words of the command line.
 
-mod answers;
-mod boosts;
-mod ceilings;
 mod command_words;
-mod expected;
-mod failing_ends;
-mod invalid_texts;
+mod invalid_scripts;
 mod judged_runs;
-mod odd_sizes;
-mod pages;
 mod recursive;
-mod refusals;
 mod running;
 mod running_ends;
 mod scripts;
-mod sizes;
-mod streams;
-mod worked;

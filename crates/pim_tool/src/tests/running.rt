@@ -1,7 +1,7 @@
 //! Scripts that are run: the traces of their runs, and the verdicts of these.
 
 use crate::Verdict::Accepted;
-use crate::tests::invalid_texts::expect_not_run;
+use crate::tests::invalid_scripts::expect_not_run;
 use crate::tests::scripts::{checked, in_opposite_orders, of_tasks, ran};
 use crate::{Fault, Judged, judge_bytes, status};
 use std::alloc::AllocGlobal;

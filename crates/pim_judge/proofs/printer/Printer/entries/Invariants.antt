@@ -1,0 +1,14 @@
+use Rattle.std.proofs.Common.{◌≡◌, ◌++◌, drop}
+use Rattle.std.specs.List.{flat_map}
+use Rattle.pim_judge.specs.Ends.{Puts}
+use Rattle.pim_judge.specs.Printed.{entry_text}
+use Rattle.pim_judge.proofs.printer.Printer.entries.Given as goal
+
+-- all is written but the page and the lines of the other entries
+abbrev pub invariant-loop-entry : goal.invariant-loop-entry
+invariant-loop-entry g l = record {
+  same_writer : l.self.writer.ghost_name ≡ l.fn.self.writer.ghost_name;
+  put : Puts (g.W.Sink.told l.fn.self.writer.now) (g.W.Sink.told l.self.writer.now)
+      (l.fn.self.page.now ++ flat_map entry_text l.entries)
+      (l.self.page.now ++ flat_map entry_text (drop l.entry-index l.entries));
+}

@@ -1,0 +1,9 @@
+use Rattle.std.proofs.Common.{subst}
+use Rattle.pim_judge.specs.Ends.{Happened}
+use Rattle.pim_judge.proofs.EndsLemmas.{raised}
+use Rattle.pim_judge.proofs.transfer.read_all.Goals as goal
+
+pub returns-in_default-clause-read : goal.returns-in_default-clause-read
+returns-in_default-clause-read g c = λ e.
+    subst (λ old. Happened old (g.R.Source.failures c.read.new.self)) c.loop-count.invariant.failures
+    (raised _ _ c.in_default.ensures.err)

@@ -1,0 +1,12 @@
+pub use Rattle.pim_base.specs.State
+pub use Rattle.pim_base.specs.Texts
+pub use Rattle.pim_base.specs.Scripts
+pub use Rattle.pim_text.specs.Reading
+pub use Rattle.pim_base.specs.Reports
+pub use Rattle.pim_base.specs.Recordings
+pub mod Faults
+pub mod Ends
+pub mod Printed
+pub mod Numerals
+pub mod Taken
+pub mod Status

@@ -1,0 +1,57 @@
+//! Buffered writing of lines.
+ghost use Rattle.std.specs.Prelude.{◌≡◌, ◌<◌, length, []};
+ghost use Rattle.pim_judge.specs.declared.page.TheConstants.{FULL};
+
+use crate::ends::Sink;
+use crate::fault::Fault;
+use crate::page::Page;
+use crate::transfer::write_all;
+
+/// A buffered writer of lines: a writer, and a page of what is not yet written.
+///
+/// Lines go to the page, and the page goes to the writer whenever it is full. The lines of a report are in `report`,
+/// and the lines of a trace in `trace`.
+///
+/// # Errors
+///
+/// A call fails with `Fault::Write` if a write fails, and with `Fault::Memory` if an allocation fails. What was written
+/// is then a prefix of what was to be printed.
+#[derive(Drop)]
+pub(crate) struct Printer<'a, W> {
+    writer: &'a mut W,
+    pub(crate) page: &'a mut Page,
+}
+
+impl<'a, W: Sink> Printer<'a, W> {
+    ghost use Rattle.pim_judge.specs.Taken.{Takes};
+
+    /// Returns a printer that writes the bytes of the page first.
+    pub fn new(writer: &'a mut W, page: &'a mut Page) -> Printer<'a, W>
+        ensures same_writer { result.writer.ghost_name ≡ writer.entry.ghost_name }
+        ensures told { result.writer.now ≡ writer.old }
+        ensures page { result.page.now ≡ page.old }
+    {
+        Printer { writer, page }
+    }
+
+    /// Writes all that is not yet written, if the page is full.
+    pub fn write_if_full(&mut self) -> Result<(), Fault>
+        ensures takes { Takes W.told self.old self.new [] result }
+        ensures room { length self.new.page.now < FULL }
+    {
+        if self.page.is_full() {
+            self.write()?;
+        }
+        Ok(())
+    }
+
+    /// Writes all that is not yet written.
+    pub fn write(&mut self) -> Result<(), Fault>
+        ensures takes { Takes W.told self.old self.new [] result }
+        ensures all { self.new.page.now ≡ [] }
+    {
+        let written = write_all(self.writer, self.page.as_slice());
+        self.page.clear();
+        written
+    }
+}

@@ -1,0 +1,49 @@
+//! The lines of a report, for a printer.
+ghost use Rattle.std.specs.Prelude.{◌≡◌, IfOk};
+ghost use Rattle.pim_base.specs.Reports.{agrees, accepted};
+ghost use Rattle.pim_judge.specs.Printed.{shown_lines};
+
+use crate::ends::Sink;
+use crate::fault::Fault;
+use crate::printer::Printer;
+use pim_base::Reply;
+use pim_manager::ChangedTask;
+
+impl<'a, W: Sink> Printer<'a, W> {
+    ghost use Rattle.pim_judge.specs.Taken.{Takes};
+
+    /// Adds the line of a step's reply, and one for each task whose priority the step changed. If the recorded reply
+    /// differs it adds both lines of the rejection instead. Returns whether the replies agree.
+    #[tactic(auto, using(crate::proofs::PrintingLemmas::prints_unwritten), unfolding(crate::specs::Printed::shown_lines))]
+    pub fn step(
+        &mut self,
+        number: u32,
+        reply: &Reply,
+        recorded: &Option<Reply>,
+        changed: &[ChangedTask],
+    ) -> Result<bool, Fault>
+        ensures lines { Takes W.told self.old self.new (shown_lines number reply.now recorded.now changed.now) result }
+        ensures agrees { IfOk result (λ goes_on. goes_on ≡ agrees recorded.now reply.now) }
+    {
+        match recorded {
+            Some(recorded) if recorded != reply => {
+                self.page.rejection(number, reply, recorded)?;
+                Ok(false)
+            }
+            _ => {
+                self.page.answer(number, reply, changed)?;
+                self.write_if_full()?;
+                Ok(true)
+            }
+        }
+    }
+
+    /// Adds the last line of a report in which no recorded reply differs.
+    #[tactic(auto, using(crate::proofs::PrintingLemmas::prints_unwritten))]
+    pub fn accepted(&mut self, count: u32) -> Result<(), Fault>
+        ensures { Takes W.told self.old self.new (accepted count) result }
+    {
+        self.page.accepted(count)?;
+        Ok(())
+    }
+}
