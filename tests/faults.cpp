@@ -6,6 +6,9 @@
 // an alloc or a thread fails.
 // FAULT_AT is the number of the call that it happens to, counted from 1 over all threads, or 0 for
 // each of them.
+//
+// If FAULT_CALL is sizes, nothing happens to any call, and the size of each allocation is written to
+// standard error, one a line.
 
 #include <dlfcn.h>
 #include <pthread.h>
@@ -14,6 +17,7 @@
 
 #include <atomic>
 #include <cerrno>
+#include <cstdio>
 #include <cstdlib>
 #include <string_view>
 
@@ -33,6 +37,16 @@ bool is_chosen(std::string_view call) {
     if (variable("FAULT_CALL") != call) return false;
     const long at = std::atol(std::getenv("FAULT_AT"));
     return at == 0 || ++calls == at;
+}
+
+// Returns whether an allocation is to fail. Writes its size, if that is asked for.
+bool fails(size_t size) {
+    if (variable("FAULT_CALL") == "sizes") {
+        char line[32];
+        const int count = std::snprintf(line, sizeof line, "%zu\n", size);
+        syscall(SYS_write, 2, line, count);
+    }
+    return is_chosen("alloc");
 }
 
 // Makes a call on a stream, or lets happen to it what is asked for.
@@ -63,8 +77,8 @@ extern "C" int pthread_create(pthread_t* thread, const pthread_attr_t* attribute
     return is_chosen("thread") ? EAGAIN : start(thread, attributes, run, argument);
 }
 
-extern "C" void* malloc(size_t size) { return is_chosen("alloc") ? nullptr : __libc_malloc(size); }
+extern "C" void* malloc(size_t size) { return fails(size) ? nullptr : __libc_malloc(size); }
 
 extern "C" void* realloc(void* block, size_t size) {
-    return is_chosen("alloc") ? nullptr : __libc_realloc(block, size);
+    return fails(size) ? nullptr : __libc_realloc(block, size);
 }
