@@ -1,0 +1,66 @@
+-- The header of a log.
+use Rattle.std.specs.Prelude.{ℕ, ◌+◌, ◌*◌, ◌-◌, ◌/◌, ◌==◌, min, nat_lt, nat_le, List, length, Bool, not, ◌&&◌, ◌||◌, if◌then◌else◌, Option, Some, None}
+use Rattle.std.specs.Option.{option_or}
+use Rattle.pim_log.specs.Numbers.{number_at}
+use Rattle.pim_log.specs.declared.header.Header.{Header}
+use Rattle.pim_log.specs.declared.header.TheConstants.{HEADER_BYTES, SLOT_BYTES, CHUNK_SLOTS, RECORDS_OF_CHUNK, MAGIC, BYTE_ORDER, VERSION, COMMAND_BYTES}
+use Rattle.pim_log.specs.declared.fault.HeaderFault.{HeaderFault}
+use Rattle.pim_log.specs.declared.fault.HeaderFault.TheVariants.{NotALog, OtherByteOrder, OtherVersion, OtherSizes, Contradiction, CutShort, TooManyNumbers}
+
+-- the fields of a header, each by its offset
+abbrev pub header_of : List ℕ → Header
+header_of bytes = record {
+  known = number_at 4 28 bytes;
+  chunks = number_at 8 32 bytes;
+  process = number_at 4 40 bytes;
+  parent = number_at 4 44 bytes;
+  began = number_at 8 48 bytes;
+  began_real_time = number_at 8 56 bytes;
+  command_length = number_at 4 64 bytes;
+  next_number = number_at 8 128 bytes;
+  next_chunk = number_at 8 192 bytes;
+  next_thread = number_at 8 200 bytes;
+  lost = number_at 8 208 bytes;
+  first_lost = number_at 8 216 bytes;
+  left_out = number_at 8 224 bytes;
+}
+
+-- the sizes are those of version 1: of the header, a record, and a chunk
+abbrev pub has_sizes : List ℕ → Bool
+has_sizes bytes = (number_at 4 16 bytes == HEADER_BYTES && number_at 4 20 bytes == SLOT_BYTES) && number_at 4 24 bytes == CHUNK_SLOTS
+
+-- what is wrong with the parts that each log has: the first line that applies
+abbrev pub form_fault_of : List ℕ → Option HeaderFault
+form_fault_of bytes =
+    if nat_lt (length bytes) HEADER_BYTES || not (number_at 8 0 bytes == MAGIC) then Some NotALog
+    else if not (number_at 4 12 bytes == BYTE_ORDER) then Some OtherByteOrder
+    else if not (number_at 4 8 bytes == VERSION) then Some OtherVersion
+    else if not (has_sizes bytes) then Some OtherSizes
+    else None
+
+-- the chunks that a reader reads: those that were taken, and for which there was room
+abbrev pub chunks_of : Header → ℕ
+chunks_of h = min h.next_chunk h.chunks
+
+-- the number from which on the log isn't whole
+abbrev pub end_of : Header → ℕ
+end_of h = if h.first_lost == 0 then h.next_number else h.first_lost
+
+-- no recorder writes such counters
+abbrev pub is_contradictory : Header → Bool
+is_contradictory h =
+    h.next_number == 0 || h.next_thread == 0 || nat_lt COMMAND_BYTES h.command_length
+    || (h.lost == 0 && not (h.first_lost == 0)) || (not (h.lost == 0) && h.first_lost == 0)
+    || nat_le h.next_number h.lost || nat_le h.next_number h.first_lost
+
+-- what is wrong with the counters, in a log of that many bytes: the first line that applies
+abbrev pub counter_fault : Header → ℕ → Option HeaderFault
+counter_fault h bytes =
+    if is_contradictory h then Some Contradiction
+    else if nat_lt ((bytes - HEADER_BYTES) / (SLOT_BYTES * CHUNK_SLOTS)) (chunks_of h) then Some CutShort
+    else if nat_lt (RECORDS_OF_CHUNK * chunks_of h + 1) (end_of h) then Some TooManyNumbers
+    else None
+
+-- what is wrong with a header
+abbrev pub header_fault : List ℕ → Option HeaderFault
+header_fault bytes = option_or (form_fault_of bytes) (counter_fault (header_of bytes) (length bytes))

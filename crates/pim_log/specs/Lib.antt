@@ -1,0 +1,4 @@
+pub mod Numbers
+pub mod Events
+pub mod Headers
+pub mod Logs

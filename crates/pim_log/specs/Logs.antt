@@ -1,0 +1,129 @@
+-- What a log is, and which records it has.
+--
+-- Behind the header a log has slots of 32 bytes. Slot s is the head of a chunk if 512 divides s; the others have room for
+-- a record of that chunk's thread.
+use Rattle.std.specs.Prelude.{◌≡◌, ◌≢◌, ℕ, ◌+◌, ◌-◌, ◌*◌, ◌%◌, ◌<◌, ◌==◌, nat_lt, List, length, slice_index, Bool, not, ◌&&◌, ◌||◌, if◌then◌else◌, Option, Some, None}
+use Rattle.pim_log.specs.Numbers.{number_at}
+use Rattle.pim_log.specs.Events.{is_event, code_of}
+use Rattle.pim_log.specs.Headers.{header_of, header_fault, end_of, chunks_of}
+use Rattle.pim_log.specs.declared.header.Header.{Header}
+use Rattle.pim_log.specs.declared.header.TheConstants.{HEADER_BYTES, SLOT_BYTES, CHUNK_SLOTS}
+use Rattle.pim_log.specs.declared.slots.TheConstants.{CHUNK_MARK}
+use Rattle.pim_log.specs.declared.record.Record.{Record}
+use Rattle.pim_log.specs.declared.fault.SlotFault.{SlotFault}
+use Rattle.pim_log.specs.declared.fault.SlotFault.TheVariants.{DamagedHead, OutsideChunk, OutOfOrder, NumberTooHigh, UnknownEvent}
+use Rattle.pim_log.specs.declared.fault.LogFault.{LogFault}
+use Rattle.pim_log.specs.declared.fault.LogFault.TheVariants as faults
+
+-- the offset of a slot
+abbrev pub slot_at : ℕ → ℕ
+slot_at s = HEADER_BYTES + SLOT_BYTES * s
+
+-- the slot of the head of the chunk that a slot is in
+abbrev pub head_of : ℕ → ℕ
+head_of s = s - s % CHUNK_SLOTS
+
+-- how many slots a log has
+abbrev pub slots_of : Header → ℕ
+slots_of h = CHUNK_SLOTS * chunks_of h
+
+-- the number of the record in a slot; 0 where there is none
+abbrev pub number_in : List ℕ → ℕ → ℕ
+number_in bytes s = number_at 8 (slot_at s) bytes
+
+-- the mark of a slot's chunk; 0 where no thread began it
+abbrev pub mark_in : List ℕ → ℕ → ℕ
+mark_in bytes s = number_at 8 (slot_at (head_of s)) bytes
+
+-- the thread of a slot's chunk
+abbrev pub thread_in : List ℕ → ℕ → ℕ
+thread_in bytes s = number_at 4 (slot_at (head_of s) + 16) bytes
+
+-- what is wrong with the head of a chunk
+abbrev pub head_fault : List ℕ → ℕ → Option SlotFault
+head_fault bytes s =
+    if mark_in bytes s == 0 then None
+    else if not (mark_in bytes s == CHUNK_MARK) || thread_in bytes s == 0 || not (nat_lt (thread_in bytes s) (header_of bytes).next_thread)
+    then Some DamagedHead else None
+
+-- a slot is the first of its chunk that has room for a record, or has a record behind one of a lower number
+abbrev pub is_in_order : List ℕ → ℕ → Bool
+is_in_order bytes s =
+    s % CHUNK_SLOTS == 1 || (nat_lt 0 (number_in bytes (s - 1)) && nat_lt (number_in bytes (s - 1)) (number_in bytes s))
+
+-- what is wrong with a record: the first line that applies
+abbrev pub record_fault : List ℕ → ℕ → Option SlotFault
+record_fault bytes s =
+    if number_in bytes s == 0 then None
+    else if mark_in bytes s == 0 then Some OutsideChunk
+    else if not (is_in_order bytes s) then Some OutOfOrder
+    else if not (nat_lt (number_in bytes s) (header_of bytes).next_number) then Some NumberTooHigh
+    else if not (is_event (slice_index bytes (slot_at s + 30))) then Some UnknownEvent
+    else None
+
+-- what is wrong with a slot
+unfoldable pub slot_fault : List ℕ → ℕ → Option SlotFault
+slot_fault bytes s = if s % CHUNK_SLOTS == 0 then head_fault bytes s else record_fault bytes s
+
+-- a slot has the record with this number, which is below those from which on the log isn't whole
+pub record IsNumbered (bytes : List ℕ) (s number : ℕ) : Type 0 where
+  pub slot : s < slots_of (header_of bytes)
+  pub no_head : s % CHUNK_SLOTS ≢ 0
+  pub stored : number_in bytes s ≡ number
+  pub above : 0 < number
+  pub below : number < end_of (header_of bytes)
+
+-- a slot has the number of one before it
+pub record IsRepeated (bytes : List ℕ) (s : ℕ) : Type 0 where
+  pub number : ℕ
+  pub earlier : ℕ
+  pub before : earlier < s
+  pub first : IsNumbered bytes earlier number
+  pub again : IsNumbered bytes s number
+
+-- nothing is wrong with a slot, and its record has a number of its own
+pub record IsSlot (bytes : List ℕ) (s : ℕ) : Type 0 where
+  pub whole : slot_fault bytes s ≡ None
+  pub own : IsRepeated bytes s → ⊥
+
+-- so are all slots below one
+abbrev pub AreSlots : List ℕ → ℕ → Type 0
+AreSlots bytes end = (s : ℕ) → s < end → IsSlot bytes s
+
+-- bytes are a log
+pub record IsLog (bytes : List ℕ) : Type 0 where
+  pub header : header_fault bytes ≡ None
+  pub slots : AreSlots bytes (slots_of (header_of bytes))
+
+-- bytes are no log: at this offset is the first slot with something wrong
+pub record FailsAt (bytes : List ℕ) (at s : ℕ) : Type 0 where
+  pub header : header_fault bytes ≡ None
+  pub slot : s < slots_of (header_of bytes)
+  pub place : at ≡ slot_at s
+  pub before : AreSlots bytes s
+
+-- why bytes are not read as a log
+abbrev pub IsFault : List ℕ → LogFault → Type 0
+IsFault bytes (faults.Header fault) = header_fault bytes ≡ Some fault
+IsFault bytes (faults.Slot at fault) = (s : ℕ) × FailsAt bytes at s × (slot_fault bytes s ≡ Some fault)
+IsFault bytes (faults.Repeated at) = (s : ℕ) × FailsAt bytes at s × (slot_fault bytes s ≡ None) × IsRepeated bytes s
+IsFault bytes faults.Memory = Unit {0}
+
+-- the record in a slot: its fields, and those of its chunk's head
+pub record IsRecord (bytes : List ℕ) (s : ℕ) (r : Record) : Type 0 where
+  pub number : r.number ≡ number_in bytes s
+  pub time : r.time ≡ number_at 8 (slot_at s + 8) bytes
+  pub object : r.object ≡ number_at 8 (slot_at s + 16) bytes
+  pub value : r.value ≡ number_at 4 (slot_at s + 24) bytes
+  pub detail : r.detail ≡ number_at 2 (slot_at s + 28) bytes
+  pub event : code_of r.event ≡ slice_index bytes (slot_at s + 30)
+  pub how : r.how ≡ slice_index bytes (slot_at s + 31)
+  pub process : r.process ≡ number_at 4 (slot_at (head_of s) + 8) bytes
+  pub task : r.task ≡ number_at 4 (slot_at (head_of s) + 12) bytes
+  pub thread : r.thread ≡ thread_in bytes s
+
+-- the slots of an index are those of the records of the first slots, by their numbers; 0 where there is none
+pub record IsIndex (bytes : List ℕ) (end : ℕ) (index : List ℕ) : Type 0 where
+  pub room : length index ≡ end_of (header_of bytes)
+  pub has : (number : ℕ) → slice_index index number ≢ 0 → (slice_index index number < end) × IsNumbered bytes (slice_index index number) number
+  pub lacks : (s number : ℕ) → s < end → IsNumbered bytes s number → slice_index index number ≢ 0

@@ -1,0 +1,174 @@
+//! The header of a log.
+ghost use Rattle.std.specs.Prelude.{◌≡◌, ◌≤◌, length, None, Some, MatchResult};
+ghost use Rattle.pim_log.specs.Headers.{header_of, has_sizes, form_fault_of, counter_fault, header_fault, is_contradictory, end_of, chunks_of};
+
+use crate::fault::HeaderFault;
+use crate::numbers::{u32_at, u64_at};
+
+/// The bytes of a header.
+pub const HEADER_BYTES: usize = 4096;
+/// The bytes of a slot: of a record, or of a chunk's head.
+pub const SLOT_BYTES: usize = 32;
+/// The slots of a chunk, of which the first is its head.
+pub const CHUNK_SLOTS: usize = 512;
+/// The records that a chunk has room for.
+const RECORDS_OF_CHUNK: u64 = 511;
+
+/// `pimlog`, 13, 10.
+const MAGIC: u64 = 0x0a0d_676f_6c6d_6970;
+
+const BYTE_ORDER: u32 = 0x0102_0304;
+
+const VERSION: u32 = 1;
+
+const COMMAND_BYTES: u32 = 2048;
+
+/// Returns what is wrong with the parts of a header that each log has.
+fn form_fault(bytes: &[u8]) -> Option<HeaderFault>
+    ensures { result ≡ form_fault_of bytes.now }
+{
+    if bytes.len() < HEADER_BYTES || u64_at(bytes, 0) != MAGIC {
+        Some(HeaderFault::NotALog)
+    } else if u32_at(bytes, 12) != BYTE_ORDER {
+        Some(HeaderFault::OtherByteOrder)
+    } else if u32_at(bytes, 8) != VERSION {
+        Some(HeaderFault::OtherVersion)
+    } else if !has_sizes(bytes) {
+        Some(HeaderFault::OtherSizes)
+    } else {
+        None
+    }
+}
+
+/// Returns whether the sizes are those of version 1.
+fn has_sizes(bytes: &[u8]) -> bool
+    requires { HEADER_BYTES ≤ length bytes.now }
+    ensures { result ≡ has_sizes bytes.now }
+{
+    u32_at(bytes, 16) as usize == HEADER_BYTES
+        && u32_at(bytes, 20) as usize == SLOT_BYTES
+        && u32_at(bytes, 24) as usize == CHUNK_SLOTS
+}
+
+/// What the header of a log says.
+#[derive(Clone, Copy, Debug, PartialEq, Eq)]
+pub struct Header {
+    /// What is known of mutexes: bit 0 their kinds, bit 1 their ceilings, bit 2 their owners.
+    pub known: u32,
+    /// For how many chunks the file has room.
+    pub chunks: u64,
+    /// The process that the log begins with.
+    pub process: u32,
+    /// The process that started it.
+    pub parent: u32,
+    /// CLOCK_MONOTONIC at the start, in nanoseconds.
+    pub began: u64,
+    /// CLOCK_REALTIME at the start, in nanoseconds.
+    pub began_real_time: u64,
+    /// How many bytes of the command there are.
+    pub command_length: u32,
+    /// A number above each one in the log.
+    pub next_number: u64,
+    /// How many chunks were taken.
+    pub next_chunk: u64,
+    /// A number above each thread's.
+    pub next_thread: u64,
+    /// The records for which there was no room.
+    pub lost: u64,
+    /// The lowest number of those, or 0 where nothing was lost.
+    pub first_lost: u64,
+    /// The calls of which something couldn't be known.
+    pub left_out: u64,
+}
+
+impl Header {
+    /// Reads the header of a log.
+    ///
+    /// # Errors
+    ///
+    /// Returns the first `HeaderFault` that applies.
+    pub(crate) fn read(bytes: &[u8]) -> Result<Header, HeaderFault>
+        ensures { MatchResult result
+            (λ header. (header_fault bytes.now ≡ None) × (header ≡ header_of bytes.now))
+            (λ fault. header_fault bytes.now ≡ Some fault) }
+    {
+        if let Some(fault) = form_fault(bytes) {
+            return Err(fault);
+        }
+        let header = Header::of(bytes);
+        match header.fault(bytes.len()) {
+            Some(fault) => Err(fault),
+            None => Ok(header),
+        }
+    }
+
+    /// Returns the fields of a header.
+    fn of(bytes: &[u8]) -> Header
+        requires { HEADER_BYTES ≤ length bytes.now }
+        ensures { result ≡ header_of bytes.now }
+    {
+        Header {
+            known: u32_at(bytes, 28),
+            chunks: u64_at(bytes, 32),
+            process: u32_at(bytes, 40),
+            parent: u32_at(bytes, 44),
+            began: u64_at(bytes, 48),
+            began_real_time: u64_at(bytes, 56),
+            command_length: u32_at(bytes, 64),
+            next_number: u64_at(bytes, 128),
+            next_chunk: u64_at(bytes, 192),
+            next_thread: u64_at(bytes, 200),
+            lost: u64_at(bytes, 208),
+            first_lost: u64_at(bytes, 216),
+            left_out: u64_at(bytes, 224),
+        }
+    }
+
+    /// Returns what is wrong with the counters, in a log of that many bytes.
+    fn fault(&self, length: usize) -> Option<HeaderFault>
+        requires { HEADER_BYTES ≤ length }
+        ensures { result ≡ counter_fault self.now length }
+    {
+        let whole_chunks = (length - HEADER_BYTES) / (SLOT_BYTES * CHUNK_SLOTS);
+        if self.is_contradictory() {
+            Some(HeaderFault::Contradiction)
+        } else if (whole_chunks as u64) < self.chunks_taken() {
+            Some(HeaderFault::CutShort)
+        } else if RECORDS_OF_CHUNK * self.chunks_taken() + 1 < self.end() {
+            Some(HeaderFault::TooManyNumbers)
+        } else {
+            None
+        }
+    }
+
+    /// Returns whether no recorder writes such counters.
+    fn is_contradictory(&self) -> bool
+        ensures { result ≡ is_contradictory self.now }
+    {
+        self.next_number == 0
+            || self.next_thread == 0
+            || self.command_length > COMMAND_BYTES
+            || self.lost == 0 && self.first_lost != 0
+            || self.lost != 0 && self.first_lost == 0
+            || self.lost >= self.next_number
+            || self.first_lost >= self.next_number
+    }
+
+    /// Returns how many chunks a reader reads.
+    pub fn chunks_taken(&self) -> u64
+        ensures { result ≡ chunks_of self.now }
+    {
+        self.next_chunk.min(self.chunks)
+    }
+
+    /// Returns the number from which on the log isn't whole: records have lower ones.
+    pub fn end(&self) -> u64
+        ensures { result ≡ end_of self.now }
+    {
+        if self.first_lost == 0 {
+            self.next_number
+        } else {
+            self.first_lost
+        }
+    }
+}

@@ -1,0 +1,79 @@
+//! A log.
+ghost use Rattle.std.specs.Prelude.{◌≡◌, ℕ, MatchOption, MatchResult};
+ghost use Rattle.pim_log.specs.Headers.{header_of, end_of};
+ghost use Rattle.pim_log.specs.Logs.{IsLog, IsFault, IsNumbered, IsRecord};
+
+use crate::fault::LogFault;
+use crate::header::Header;
+use crate::index::index_of;
+use crate::record::Record;
+use crate::slots::record_of;
+use std::alloc::Global;
+use std::marker::Model;
+
+/// The records of a log by their numbers. In a contract it is the bytes that it was read from.
+#[derive(Drop)]
+pub struct Log<'a> {
+    bytes: &'a [u8],
+    header: Header,
+    index: Vec<usize>,
+}
+
+impl<'a> Model for Log<'a> {
+    ghost use Rattle.std.specs.Prelude.{◌≡◌, ℕ, List};
+    ghost use Rattle.pim_log.specs.Headers.{header_of};
+    ghost use Rattle.pim_log.specs.Logs.{IsLog, IsIndex, slots_of};
+
+    ghost Value = { List ℕ };
+
+    ghost view = { λ log. log.bytes.now };
+
+    ghost invariant = { λ log. IsLog log.bytes.now × (log.header ≡ header_of log.bytes.now)
+        × IsIndex log.bytes.now (slots_of (header_of log.bytes.now)) log.index.items };
+}
+
+impl<'a> Log<'a> {
+    /// Reads a log. Its index takes eight bytes a number; the records stay where they are.
+    ///
+    /// # Errors
+    ///
+    /// Returns what is wrong with the header, else the offset of the first slot with something wrong, and what it is;
+    /// `LogFault::Memory` if out of memory.
+    pub fn read(alloc: Global, bytes: &'a [u8]) -> Result<Log<'a>, LogFault>
+        ensures { MatchResult result (λ log. (log ≡ bytes.now) × IsLog bytes.now) (IsFault bytes.now) }
+    {
+        let header = match Header::read(bytes) {
+            Ok(header) => header,
+            Err(fault) => return Err(LogFault::Header(fault)),
+        };
+        let index = index_of(alloc, &header, bytes)?;
+        Ok(Log {
+            bytes,
+            header,
+            index,
+        })
+    }
+
+    /// Returns what the header says.
+    pub fn header(&self) -> &Header
+        ensures { result.now ≡ header_of self.now }
+    {
+        &self.header
+    }
+
+    /// Returns the record with this number, or `None` where no record has it. Takes the same time for each.
+    pub fn record(&self, number: u64) -> Option<Record>
+        ensures { MatchOption result
+            ((slot : ℕ) → IsNumbered self.now slot number → ⊥)
+            (λ found. (slot : ℕ) × (IsNumbered self.now slot number × IsRecord self.now slot found)) }
+    {
+        if number >= self.header.end() {
+            return None;
+        }
+        let slot = self.index[number as usize];
+        if slot == 0 {
+            return None;
+        }
+        record_of(self.bytes, slot)
+    }
+}

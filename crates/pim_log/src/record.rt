@@ -1,0 +1,28 @@
+//! A record of a log.
+
+use crate::event::Event;
+
+/// What a thread did, or what is known of it. record/FORMAT.md says what the fields of each event mean.
+#[derive(Clone, Copy, Debug, PartialEq, Eq)]
+pub struct Record {
+    /// Its place in the order of all records, from 1 on.
+    pub number: u64,
+    /// CLOCK_MONOTONIC in nanoseconds.
+    pub time: u64,
+    /// A mutex, a thread's pthread_t, an address, or a record's number.
+    pub object: u64,
+    /// A duration, a length, or a number of a task or thread.
+    pub value: u32,
+    /// What a mutex or a priority is.
+    pub detail: u16,
+    /// What happened.
+    pub event: Event,
+    /// The call, the error, or what is known.
+    pub how: u8,
+    /// The kernel's number of the process.
+    pub process: u32,
+    /// The kernel's number of the thread, which another thread may have later.
+    pub task: u32,
+    /// The log's number of the thread, which no other thread has.
+    pub thread: u32,
+}

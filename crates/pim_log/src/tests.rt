@@ -1,0 +1,6 @@
+//! Logs of a few records, one byte of them changed, and a log that pim-record wrote.
+
+mod damaged;
+mod logs;
+mod recorded;
+mod recording;
