@@ -3,8 +3,8 @@
  * calls it.
  *
  * Each task is a thread under SCHED_FIFO at its base priority. The controller is one at 99. All are
- * bound to one CPU: while the controller runs, no task does. So what it reads of them in /proc is of
- * one moment, and a step is over when every thread sleeps. */
+ * bound to one CPU: while the controller runs, no task does. So what it reads of them in /proc is
+ * of one moment, and a step is over when every thread sleeps. */
 #define _GNU_SOURCE
 #include "task.h"
 
@@ -72,11 +72,12 @@ static const char *of_unknown(const struct step *step) {
 }
 
 /* Answers a step for which POSIX has no call: by a task that waits, or that isn't there; a cancel
- * of a task that doesn't wait; and what would block where a ceiling is set. Returns NULL for others. */
+ * of a task that doesn't wait; a ceiling of another's mutex, which would block. NULL for others. */
 static const char *answer_without_call(const struct step *step) {
     const char *unknown = of_unknown(step);
     if (unknown) return unknown;
-    if (step->request == CANCEL) return task_is_busy(&tasks[step->first]) ? NULL : "refused not-waiting";
+    if (step->request == CANCEL)
+        return task_is_busy(&tasks[step->first]) ? NULL : "refused not-waiting";
     if (step->request == RELEASE || step->request == BASE) return NULL;
     const struct mutex *mutex = &mutexes[step->first];
     bool is_own = mutex->owner == step->actor;
@@ -121,9 +122,9 @@ static struct woken find_woken(const struct step *step, char *rest, size_t bytes
         else if (task->answer == ETIMEDOUT && step->request == CANCEL && t == step->first)
             found.withdrawn = t;
         else if (task->answer != 0 || step->request != RELEASE) {
-            int length = snprintf(rest, bytes, "  ! task %d left the wait for mutex %d with %s\n", t,
-                                  task->waits, task->answer ? strerrorname_np(task->answer)
-                                                            : "the mutex");
+            const char *with = task->answer ? strerrorname_np(task->answer) : "the mutex";
+            int length = snprintf(rest, bytes, "  ! task %d left the wait for mutex %d with %s\n",
+                                  t, task->waits, with);
             if ((size_t)length < bytes) rest += length, bytes -= (size_t)length;
         }
         task->waits = 0;

@@ -39,7 +39,7 @@ extern struct task tasks[MAX_TASKS + 1];
 extern struct mutex mutexes[MAX_MUTEXES + 1];
 extern int task_count, mutex_count;
 
-/* Makes the mutexes, and a thread for each task, all on these CPUs. Ends the program if it can't. */
+/* Makes the mutexes, and a thread for each task on these CPUs. Ends the program if it can't. */
 void tasks_start(const struct text *text, const cpu_set_t *cpus);
 
 bool task_is_busy(struct task *task);
