@@ -1,7 +1,8 @@
 """Checks of libpim.a: the symbols that it has and needs, and the stack that its functions take."""
+import os
 import re
 
-from c_common import ARM, HEADER, HERE, README, run, said
+from c_common import ARM, C, HEADER, HERE, README, expect, run, said
 from checks import check, difference
 
 
@@ -14,6 +15,33 @@ def symbols(exports, machine=HERE):
     check("libpim needs the symbols that its README names", difference((needed,), (named,)))
     sections = machine.tool("size").split()
     check("libpim has no data of its own", difference(sections[7:9], ["0", "0"]))
+
+
+def shared(folder, prefix, machine):
+    """The shared library has the symbols of the archive and the version's name, and a program uses it."""
+    library = f"{prefix}/lib/pim/libpim.so"
+    name = "libpim.so." + re.search(r'#define PIM_VERSION "(\d+\.\d+)\.', HEADER)[1]
+    check("libpim.so is a link", difference((os.path.islink(library) and os.readlink(library),), (f"../{name}",)))
+    check("the SONAME of libpim.so", difference((dynamic(machine, library, "SONAME"),), ([name],)))
+    check("libpim.so needs no library", " ".join(dynamic(machine, library, "NEEDED")))
+    status, out = run(f"{machine.tools}nm", "-D", library)
+    found = sorted(re.findall(r"(\w \S+)$", out.decode(), re.M))
+    wanted = sorted(re.findall(r"^[0-9a-f ]{16} (\w \S+)$", machine.tool("nm", "-g"), re.M))
+    check("the symbols of libpim.so", difference((found,), (wanted,)))
+    own, source = f"{folder}/own_shared", C / "demo.c"
+    status, flags = run("pkg-config", "--cflags", "--libs", "pim-shared")
+    status, out = run(machine.compiler, "-std=c11", source, *flags.decode().split(), "-lpim_malloc", "-o", own)
+    if status:
+        return check("the demo with libpim.so", said(out))
+    check("the demo needs libpim.so", None if name in dynamic(machine, own, "NEEDED") else "it doesn't")
+    path = f"LD_LIBRARY_PATH={prefix}/lib"
+    runs = [*machine.runs, "-E", path] if machine.runs else ["env", path]
+    expect("the demo with libpim.so", run(*runs, own), (C / "demo.expected").read_bytes())
+
+
+def dynamic(machine, file, tag):
+    status, out = run(f"{machine.tools}readelf", "-dW", file)
+    return re.findall(rf"\({tag}\).*\[(.*)\]", out.decode())
 
 
 def level():
