@@ -4,7 +4,7 @@ ghost use Rattle.std.specs.Prelude.{◌≡◌};
 ghost use Rattle.pim_web.specs.Judged.{verdict_on};
 
 use crate::numbers::{ACCEPTED, REJECTED};
-use pim_tool::Verdict;
+use pim_base::Verdict;
 
 /// The verdict on a text, or the fault that prevented one.
 #[repr(C)]

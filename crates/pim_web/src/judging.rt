@@ -7,7 +7,7 @@ ghost use Rattle.pim_web.specs.declared.numbers.TheConstants.{INVALID, NO_MEMORY
 
 use crate::judged::CJudged;
 use crate::numbers::{INVALID, NO_MEMORY};
-use pim_tool::{Fault, judge_bytes};
+use pim_judge::{Fault, judge_bytes};
 use std::alloc::Global;
 
 /// Judges the text, and writes its report into the buffer, as far as it fits. A host whose buffer was too short makes a
