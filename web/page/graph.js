@@ -10,7 +10,7 @@ class Layout {
     this.state = state
     this.broad = width
     this.narrow = narrow
-    this.task = narrow ? { w: 94, h: 46 } : { w: 104, h: 46 }
+    this.task = narrow ? { w: 94, h: 46 } : { w: 116, h: 46 }
     this.mutex = narrow ? { w: 80, h: 40 } : { w: 88, h: 40 }
     this.owned = state.tasks.map((_, i) =>
       state.mutexes.flatMap((m, j) => m.owner === i + 1 ? [j + 1] : []))
