@@ -35,7 +35,7 @@ pub fn waited_for(alloc: Global) -> Result<Manager, Fail> {
     Ok(manager)
 }
 
-// the manager, unless an allocation failed, which must be the fault
+/// Returns the manager, unless an allocation failed, which must be the fault.
 fn made(rt: &impl Abort, answer: Result<Manager, MakeFault>) -> Result<Manager, Fail> {
     match answer {
         Ok(manager) => Ok(manager),
@@ -46,7 +46,7 @@ fn made(rt: &impl Abort, answer: Result<Manager, MakeFault>) -> Result<Manager, 
     }
 }
 
-// three tasks of base 10, two free mutexes, and this next ticket
+/// Tests that there are three tasks of base 10, two free mutexes, and this next ticket.
 fn expect_free(rt: &impl Abort, manager: &Manager, next: u64) {
     let counts = (manager.tasks(), manager.mutexes(), manager.next_ticket());
     assert_eq!(rt; counts, (3, 2, next));

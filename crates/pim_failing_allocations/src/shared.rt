@@ -34,7 +34,7 @@ fn at_base(rt: &impl Abort, steps: u64) -> Result<Option<Seen>, SharedFault> {
     }))
 }
 
-// ends the shared manager, by which nothing was made or logged
+/// Ends the shared manager, and tests that it made and logged nothing.
 fn finish_unchanged<R: Abort + Wait>(rt: &R, shared: Shared) {
     let (manager, log) = shared.finish(rt);
     assert!(rt; log.entries().is_empty());
@@ -50,13 +50,8 @@ const CLOSED: [Result<Reply, SharedFault>; 4] = [
     Err(SharedFault::Closed),
 ];
 
-/// The steps of the four calls: task 1 hands mutex 1 over to task 2, and isn't its owner any more. Task 2 unlocks it,
-/// and task 3 locks it.
-fn steps() -> [Step; 4] {
-    [unlock(1), unlock(1), unlock(2), lock(3)]
-}
-
-/// What the four calls return if none is out of memory.
+/// What the four calls return if none is out of memory: task 1 hands mutex 1 over to task 2, and isn't its owner any
+/// more. Task 2 unlocks it, and task 3 locks it.
 const REPLIES: [Result<Reply, SharedFault>; 4] = [
     Ok(Reply::Handed(TaskNo(2))),
     Ok(Reply::Refused(Refusal::NotOwner)),
@@ -64,7 +59,7 @@ const REPLIES: [Result<Reply, SharedFault>; 4] = [
     Ok(Reply::Granted),
 ];
 
-// the four steps are logged with their replies, and task 3 owns mutex 1
+/// Tests that the four steps are logged with their replies, and task 3 owns mutex 1.
 fn expect_four_calls(rt: &impl Abort, manager: &Manager, log: &Log) {
     let made = [
         Entry {
@@ -88,7 +83,7 @@ fn expect_four_calls(rt: &impl Abort, manager: &Manager, log: &Log) {
     assert_eq!(rt; manager.owner(FIRST), Some(Some(TaskNo(3))));
 }
 
-// ends the shared manager, which made all four calls or none, as they returned
+/// Ends the shared manager, and tests that it made all four calls or none, as they returned.
 fn finish_calls<R: Abort + Wait>(
     rt: &R,
     shared: Shared,
@@ -105,7 +100,7 @@ fn finish_calls<R: Abort + Wait>(
     Ok(())
 }
 
-// a shared manager whose task 2 waits for task 1, with one looker
+/// Makes a shared manager whose task 2 waits for task 1, with one reader.
 fn shared_by_two<R: Abort + Wait>(rt: &R, alloc: Global) -> Result<(Shared, Looker), Fail> {
     let manager = waited_for(alloc)?;
     let (shared, mut lookers) = Shared::new(rt, alloc, manager, 10, 1).map_err(|_fault| BEFORE)?;
@@ -113,7 +108,7 @@ fn shared_by_two<R: Abort + Wait>(rt: &R, alloc: Global) -> Result<(Shared, Look
     Ok((shared, looker))
 }
 
-// the looker sees task 1 at its base, after so many entries
+/// Tests that the reader sees task 1 at its base, after this number of entries.
 fn expect_look(rt: &impl Abort, looker: &mut Looker, steps: u64) {
     assert_eq!(rt; looker.look(TaskNo(1)), at_base(rt, steps));
 }
@@ -139,7 +134,12 @@ fn shared_new_out_of_memory(rt: HostRuntime) -> Result<(), Fail> {
 fn call_out_of_memory(rt: HostRuntime) -> Result<(), Fail> {
     let (shared, mut looker) = shared_by_two(&rt, rt.alloc())?;
     expect_look(&rt, &mut looker, 0);
-    let answers = steps().map(|step| shared.call(&rt, step));
+    let answers = [
+        shared.call(&rt, unlock(1)),
+        shared.call(&rt, unlock(1)),
+        shared.call(&rt, unlock(2)),
+        shared.call(&rt, lock(3)),
+    ];
     expect_look(&rt, &mut looker, if answers[0].is_ok() { 4 } else { 0 });
     finish_calls(&rt, shared, &answers)
 }
@@ -147,7 +147,12 @@ fn call_out_of_memory(rt: HostRuntime) -> Result<(), Fail> {
 #[test]
 fn call_with_out_of_memory(rt: HostRuntime) -> Result<(), Fail> {
     let (shared, mut looker) = shared_by_two(&rt, rt.alloc())?;
-    let answers = steps().map(|step| shared.call_with(&rt, &mut looker, step));
+    let answers = [
+        shared.call_with(&rt, &mut looker, unlock(1)),
+        shared.call_with(&rt, &mut looker, unlock(1)),
+        shared.call_with(&rt, &mut looker, unlock(2)),
+        shared.call_with(&rt, &mut looker, lock(3)),
+    ];
     expect_look(&rt, &mut looker, if answers[0].is_ok() { 4 } else { 0 });
     finish_calls(&rt, shared, &answers)
 }
@@ -219,7 +224,7 @@ fn settle_and_call<R: Threads + Wait + Sync>(rt: &R, gate: &Waiting<'_>) -> Opti
     Some((settled, called?))
 }
 
-// ends the shared manager after the unlock and both releases; task 2 releases its mutex, too
+/// Ends the shared manager after the unlock and both releases; task 2 releases its mutex, too.
 fn finish_three<R: Abort + Wait>(rt: &R, shared: Shared) {
     let (manager, log) = shared.finish(rt);
     assert_eq!(rt; log.entries().len(), 3);
@@ -261,7 +266,7 @@ fn scripts(alloc: Global) -> Result<Vec<Vec<Op>>, SharedFault> {
     Ok(scripts)
 }
 
-// some of the ten steps were made, and had the replies of a manager that makes them one by one
+/// Tests that some of the ten steps were made, with the replies of a manager that makes them one by one.
 fn expect_part(rt: &impl Abort, mut manager: Manager, entries: &[Entry]) {
     assert!(rt; entries.len() < 10);
     for entry in entries {

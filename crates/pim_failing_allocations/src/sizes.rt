@@ -7,12 +7,32 @@ use std::alloc::Global;
 use std::process::Abort;
 use std::test::Fail;
 
-/// None, few and most, and those about 100, 150 and 200. A row has a number of tasks, and the base of the last of
-/// them, or 0 if there is none. The bases of tasks are 1 to 99, over and over.
+/// How many tasks or mutexes there are. The bases of tasks are 1 to 99, over and over.
+#[derive(Clone, Copy)]
+struct Size {
+    count: u16,
+    /// The base of the last task, or 0 if there is none.
+    last_base: u16,
+    /// If task 1 owns a mutex for which all others wait: the first waiter and the last one, or 0 if nobody waits.
+    first: u16,
+    last: u16,
+}
+
+/// Returns the size of a row.
+fn sized(row: &[u16; 4]) -> Size {
+    let [count, last_base, first, last] = *row;
+    Size {
+        count,
+        last_base,
+        first,
+        last,
+    }
+}
+
+/// None, few and most, and those about 100, 150 and 200. A row is a size.
 ///
-/// Then task 1 owns a mutex for which all others wait: the row has the first waiter and the last one, or 0 if nobody
-/// waits. The highest base is that of task 99. Of those who wait the lowest base is that of task 2, or of task 100,
-/// to which that of task 199 is equal.
+/// The highest base is that of task 99. Of those who wait the lowest base is that of task 2, or of task 100, to which that
+/// of task 199 is equal.
 const SIZES: &[[u16; 4]] = &[
     [0, 0, 0, 0],
     [1, 1, 0, 0],
@@ -34,96 +54,61 @@ fn step(actor: u16, op: Op) -> Step {
     }
 }
 
-fn bases(alloc: Global, tasks: u16) -> Result<Vec<Prio>, Fail> {
+fn bases(alloc: Global, tasks: Size) -> Result<Vec<Prio>, Fail> {
     let mut bases = Vec::new(alloc);
-    for place in 0..tasks {
+    for place in 0..tasks.count {
         bases.push(Prio::new(place % 99 + 1).ok_or("a priority")?)?;
     }
     Ok(bases)
 }
 
-fn inherit(alloc: Global, mutexes: u16) -> Result<Vec<Protocol>, Fail> {
-    Ok(vec![in alloc; Protocol::Inherit; mutexes as usize]?)
+fn inherit(alloc: Global, mutexes: Size) -> Result<Vec<Protocol>, Fail> {
+    Ok(vec![in alloc; Protocol::Inherit; mutexes.count as usize]?)
 }
 
-fn new_manager(alloc: Global, tasks: u16, mutexes: u16) -> Result<Manager, Fail> {
+fn new_manager(alloc: Global, tasks: Size, mutexes: Size) -> Result<Manager, Fail> {
     let bases = bases(alloc, tasks)?;
     Ok(Manager::new(alloc, &bases, &inherit(alloc, mutexes)?)?)
 }
 
-fn with_ticket_7(alloc: Global, tasks: u16, mutexes: u16) -> Result<Manager, Fail> {
+fn with_ticket_7(alloc: Global, tasks: Size, mutexes: Size) -> Result<Manager, Fail> {
     let bases = bases(alloc, tasks)?;
     let protocols = inherit(alloc, mutexes)?;
     Ok(Manager::with_next_ticket(alloc, &bases, &protocols, 7)?)
 }
 
-/// What a manager shows of its sizes, its last task and its last mutex.
-#[derive(Clone, Copy, Debug, PartialEq, Eq)]
-struct Shown {
-    counts: [u16; 2],
-    next: u64,
-    prios: [Option<Prio>; 2],
-    wait: Option<Option<MutexNo>>,
-    owner: Option<Option<TaskNo>>,
+/// Tests that all mutexes are free and no task waits.
+fn expect_fresh(rt: &impl Abort, manager: &Manager, tasks: Size, mutexes: Size, next: u64) {
+    let counts = (manager.tasks(), manager.mutexes(), manager.next_ticket());
+    assert_eq!(rt; counts, (tasks.count, mutexes.count, next));
+    let (task, mutex) = (TaskNo(tasks.count), MutexNo(mutexes.count));
+    let base = Prio::new(tasks.last_base);
+    assert_eq!(rt; manager.base(task), base);
+    assert_eq!(rt; manager.effective(task), base);
+    assert_eq!(rt; manager.waits_for(task), base.map(|_base| None));
+    let owner = if mutexes.count == 0 { None } else { Some(None) };
+    assert_eq!(rt; manager.owner(mutex), owner);
 }
 
-fn shown_by(manager: &Manager) -> Shown {
-    let counts = [manager.tasks(), manager.mutexes()];
-    let task = TaskNo(manager.tasks());
-    Shown {
-        counts,
-        next: manager.next_ticket(),
-        prios: [manager.base(task), manager.effective(task)],
-        wait: manager.waits_for(task),
-        owner: manager.owner(MutexNo(manager.mutexes())),
-    }
-}
-
-// a manager, one whose next ticket is 7, and a copy of it
-fn made(alloc: Global, tasks: u16, mutexes: u16) -> Result<[Shown; 3], Fail> {
-    let first = shown_by(&new_manager(alloc, tasks, mutexes)?);
-    let later = with_ticket_7(alloc, tasks, mutexes)?;
-    let copy = shown_by(&later.try_clone(alloc)?);
-    Ok([first, shown_by(&later), copy])
-}
-
-// all mutexes are free and no task waits
-fn fresh(tasks: u16, base: u16, mutexes: u16, next: u64) -> Shown {
-    let base = Prio::new(base);
-    Shown {
-        counts: [tasks, mutexes],
-        next,
-        prios: [base, base],
-        wait: base.map(|_base| None),
-        owner: if mutexes == 0 { None } else { Some(None) },
-    }
+fn expect_managers(rt: &impl Abort, alloc: Global, tasks: Size, mutexes: Size) -> Result<(), Fail> {
+    expect_fresh(rt, &new_manager(alloc, tasks, mutexes)?, tasks, mutexes, 1);
+    let made = with_ticket_7(alloc, tasks, mutexes)?;
+    expect_fresh(rt, &made, tasks, mutexes, 7);
+    expect_fresh(rt, &made.try_clone(alloc)?, tasks, mutexes, 7);
+    Ok(())
 }
 
 #[test]
 fn managers_of_every_size(rt: HostRuntime) -> Result<(), Fail> {
-    for [tasks, base, ..] in SIZES {
-        for [mutexes, ..] in SIZES {
-            let first = fresh(*tasks, *base, *mutexes, 1);
-            let later = fresh(*tasks, *base, *mutexes, 7);
-            let managers = made(rt.alloc(), *tasks, *mutexes)?;
-            assert_eq!(rt; managers, [first, later, later]);
+    for tasks in SIZES {
+        for mutexes in SIZES {
+            expect_managers(&rt, rt.alloc(), sized(tasks), sized(mutexes))?;
         }
     }
     Ok(())
 }
 
-/// What a manager shows of task 1 and of the last mutex: its owner, how many wait for it, and the first and the last
-/// of them, or 0; then the priority of task 1, and why it has it.
-#[derive(Clone, Copy, Debug, PartialEq, Eq)]
-struct Contended {
-    owner: Option<Option<TaskNo>>,
-    waiting: Option<(usize, u16, u16)>,
-    next: u64,
-    level: Option<Prio>,
-    reason: Option<Reason>,
-}
-
-// how many wait, and the first and the last of them, or 0
+/// Returns how many wait, and the first and the last of them, or 0.
 fn ends(manager: &Manager, mutex: MutexNo) -> Option<(usize, u16, u16)> {
     let waiters = manager.waiters(mutex)?;
     let first = waiters.first().map_or(0, |waiter| waiter.task.get());
@@ -131,56 +116,52 @@ fn ends(manager: &Manager, mutex: MutexNo) -> Option<(usize, u16, u16)> {
     Some((waiters.len(), first, last))
 }
 
-fn shown_locked(manager: &Manager) -> Contended {
+/// Tests that task 1 owns the last mutex, and all others wait for it.
+fn expect_contended(rt: &impl Abort, manager: &Manager, tasks: Size) {
     let mutex = MutexNo(manager.mutexes());
-    Contended {
-        owner: manager.owner(mutex),
-        waiting: ends(manager, mutex),
-        next: manager.next_ticket(),
-        level: manager.effective(TaskNo(1)),
-        reason: manager.reason(TaskNo(1)),
-    }
-}
-
-// a manager whose tasks all lock the last mutex, and a copy of it
-fn locked(alloc: Global, tasks: u16, mutexes: u16) -> Result<[Contended; 2], Fail> {
-    let mut manager = new_manager(alloc, tasks, mutexes)?;
-    for number in 1..manager.tasks() + 1 {
-        manager.step(step(number, Op::Lock(MutexNo(mutexes))));
-    }
-    let copy = shown_locked(&manager.try_clone(alloc)?);
-    Ok([shown_locked(&manager), copy])
-}
-
-// task 1 owns the last mutex, and all others wait for it
-fn expected(tasks: u16, mutexes: u16, first: u16, last: u16) -> Contended {
-    let (level, reason) = if first == 0 {
+    let others = tasks.count.saturating_sub(1) as usize;
+    let waiting = Some((others, tasks.first, tasks.last));
+    assert_eq!(rt; ends(manager, mutex), waiting);
+    let owned = (manager.owner(mutex), manager.next_ticket());
+    let owner = Some(Some(TaskNo(1)));
+    assert_eq!(rt; owned, (owner, u64::from(tasks.count)));
+    let (level, reason) = if tasks.first == 0 {
         (1, Reason::Base)
     } else {
-        (first, Reason::Waiter(TaskNo(first), MutexNo(mutexes)))
+        (tasks.first, Reason::Waiter(TaskNo(tasks.first), mutex))
     };
-    Contended {
-        owner: Some(Some(TaskNo(1))),
-        waiting: Some((tasks.saturating_sub(1) as usize, first, last)),
-        next: u64::from(tasks),
-        level: Prio::new(level),
-        reason: Some(reason),
+    let shown = (manager.effective(TaskNo(1)), manager.reason(TaskNo(1)));
+    assert_eq!(rt; shown, (Prio::new(level), Some(reason)));
+}
+
+/// Makes a manager whose tasks all lock the last mutex.
+fn contended(alloc: Global, tasks: Size, mutexes: Size) -> Result<Manager, Fail> {
+    let mut manager = new_manager(alloc, tasks, mutexes)?;
+    let mutex = MutexNo(manager.mutexes());
+    for number in 1..manager.tasks() + 1 {
+        manager.step(step(number, Op::Lock(mutex)));
     }
+    Ok(manager)
+}
+
+fn expect_copies(rt: &impl Abort, alloc: Global, tasks: Size, mutexes: Size) -> Result<(), Fail> {
+    let manager = contended(alloc, tasks, mutexes)?;
+    expect_contended(rt, &manager, tasks);
+    expect_contended(rt, &manager.try_clone(alloc)?, tasks);
+    Ok(())
 }
 
 #[test]
 fn copies_with_every_number_of_waiters(rt: HostRuntime) -> Result<(), Fail> {
-    for [tasks, _, first, last] in &SIZES[1..] {
-        for [mutexes, ..] in &SIZES[1..] {
-            let expected = expected(*tasks, *mutexes, *first, *last);
-            let found = locked(rt.alloc(), *tasks, *mutexes)?;
-            assert_eq!(rt; found, [expected, expected]);
+    for tasks in &SIZES[1..] {
+        for mutexes in &SIZES[1..] {
+            expect_copies(&rt, rt.alloc(), sized(tasks), sized(mutexes))?;
         }
     }
     Ok(())
 }
 
-// a lock and an unlock by turns
+/// Returns a lock and an unlock in turn.
 fn lock_and_unlock(alloc: Global, count: usize) -> Result<Vec<Step>, Fail> {
     let lock = step(1, Op::Lock(MutexNo(1)));
     let unlock = step(1, Op::Unlock(MutexNo(1)));
@@ -191,7 +172,7 @@ fn lock_and_unlock(alloc: Global, count: usize) -> Result<Vec<Step>, Fail> {
     Ok(steps)
 }
 
-// granted and freed by turns
+/// Tests that the replies are Granted and Freed in turn.
 fn expect_turns(rt: &impl Abort, replies: &[Reply], count: usize) {
     assert_eq!(rt; replies.len(), count);
     let mut granted = replies.iter().step_by(2);
@@ -202,7 +183,8 @@ fn expect_turns(rt: &impl Abort, replies: &[Reply], count: usize) {
 }
 
 fn expect_replies(rt: &impl Abort, alloc: Global, count: usize) -> Result<(), Fail> {
-    let mut manager = new_manager(alloc, 1, 1)?;
+    let one = sized(&[1, 1, 0, 0]);
+    let mut manager = new_manager(alloc, one, one)?;
     let steps = lock_and_unlock(alloc, count)?;
     expect_turns(rt, &manager.run_replies(alloc, &steps)?, count);
     let owner = if count % 2 == 0 {
@@ -223,9 +205,9 @@ fn replies_of_every_number_of_steps(rt: HostRuntime) -> Result<(), Fail> {
     Ok(())
 }
 
-// each task but the first waits for the one before, and all are at base 10
-fn chain(alloc: Global, tasks: u16) -> Result<Manager, Fail> {
-    let bases = vec![in alloc; Prio::new(10).ok_or("a priority")?; tasks as usize]?;
+/// Makes a manager whose tasks are at base 10 and wait for the one before, but the first.
+fn chain(alloc: Global, tasks: Size) -> Result<Manager, Fail> {
+    let bases = vec![in alloc; Prio::new(10).ok_or("a priority")?; tasks.count as usize]?;
     let mut manager = Manager::new(alloc, &bases, &inherit(alloc, tasks)?)?;
     for number in 1..manager.tasks() + 1 {
         manager.step(step(number, Op::Lock(MutexNo(number))));
@@ -236,7 +218,7 @@ fn chain(alloc: Global, tasks: u16) -> Result<Manager, Fail> {
     Ok(manager)
 }
 
-// so many tasks are raised to 50: the last by its base, and each other one by the next
+/// Tests that so many tasks are raised to 50: the last by its base, and each other one by the next.
 fn expect_raised(rt: &impl Abort, changed: &[ChangedTask], count: u16) {
     assert_eq!(rt; changed.len(), count as usize);
     let numbers = (1u16..257).zip(2u16..258);
@@ -251,21 +233,21 @@ fn expect_raised(rt: &impl Abort, changed: &[ChangedTask], count: u16) {
     }
 }
 
-fn expect_changed(rt: &impl Abort, alloc: Global, tasks: u16) -> Result<(), Fail> {
+fn expect_changed(rt: &impl Abort, alloc: Global, tasks: Size) -> Result<(), Fail> {
     let mut manager = chain(alloc, tasks)?;
     let mut changed = ChangedTasks::new(alloc)?;
-    let raise = step(1, Op::SetBase(TaskNo(tasks), 50));
+    let raise = step(1, Op::SetBase(TaskNo(tasks.count), 50));
     let done = manager.step_with_changes(raise, &mut changed);
-    expect_raised(rt, changed.as_slice(), tasks);
-    let visits = u32::from(tasks);
+    expect_raised(rt, changed.as_slice(), tasks.count);
+    let visits = u32::from(tasks.count);
     assert_eq!(rt; (done.reply, done.visits), (Reply::Set, visits));
     Ok(())
 }
 
 #[test]
 fn every_number_of_changed_tasks(rt: HostRuntime) -> Result<(), Fail> {
-    for [tasks, ..] in &SIZES[1..] {
-        expect_changed(&rt, rt.alloc(), *tasks)?;
+    for tasks in &SIZES[1..] {
+        expect_changed(&rt, rt.alloc(), sized(tasks))?;
     }
     Ok(())
 }

@@ -54,7 +54,7 @@ fn started_at_last<T: Drop, F: FnMut() -> Option<T>>(alloc: Global, mut call: F)
     Err("it was out of memory with all memory free")?
 }
 
-// the answer, unless an allocation or the start of a thread failed
+/// Returns the answer, unless an allocation or the start of a thread failed.
 fn served<T: Drop>(answer: Result<T, Fault>) -> Option<Result<T, Fault>> {
     match answer {
         Err(Fault::Memory)
