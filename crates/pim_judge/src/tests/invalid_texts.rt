@@ -1,9 +1,9 @@
 //! Invalid texts: the judge writes nothing, and names the first invalid line.
 
 use crate::Verdict::Accepted;
+use crate::judge_bytes;
 use crate::tests::expected::expect_line;
 use crate::tests::worked::TEXT;
-use crate::judge_bytes;
 use std::alloc::AllocGlobal;
 use std::process::Abort;
 use std::test::Fail;
@@ -95,11 +95,7 @@ fn odd_bytes_make_a_line_invalid(rt: HostRuntime) {
 }
 
 /// The text that begins with this has a number of 100,000 digits next, and is invalid at this line.
-fn expect_no_number(
-    rt: &(impl Abort + AllocGlobal),
-    before: &[u8],
-    line: u32,
-) -> Result<(), Fail> {
+fn expect_no_number(rt: &(impl Abort + AllocGlobal), before: &[u8], line: u32) -> Result<(), Fail> {
     let mut text = before.to_vec(rt.alloc())?;
     for _ in 0..100_000 {
         text.push(b'1')?;
