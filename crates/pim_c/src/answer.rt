@@ -1,4 +1,4 @@
-//! What a step is answered.
+//! The answer to a step.
 
 ghost use Rattle.std.specs.Prelude.{◌≡◌};
 ghost use Rattle.pim_c.specs.Answers.{no_answer};
@@ -7,7 +7,7 @@ ghost use Rattle.pim_c.specs.Numbers.{reply_number, reply_refusal, reply_detail}
 use crate::numbers::{NO_MANAGER, number_of_refusal, number_of_reply};
 use pim_base::Reply;
 
-/// What a step is answered in C.
+/// The answer to a step, in C.
 #[repr(C)]
 #[derive(Clone, Copy, Debug, PartialEq, Eq)]
 pub struct CAnswer {
@@ -15,14 +15,14 @@ pub struct CAnswer {
     pub kind: u8,
     /// The number of the refusal, or 0.
     pub refusal: u8,
-    /// The task that was handed the mutex, or how many mutexes were released, or 0.
+    /// The task that the mutex was handed to, or how many mutexes were released, or 0.
     pub number: u16,
-    /// How many visits the step made: computed priorities, and comparisons that show that one stays.
+    /// How many visits the step made. Each computes a priority, or shows by a comparison that it stays.
     pub visits: u32,
 }
 
 impl CAnswer {
-    /// Returns the answer where there is no manager.
+    /// Returns the answer of a handle without a manager.
     pub fn none() -> CAnswer
         ensures { result ≡ no_answer }
     {
@@ -34,7 +34,7 @@ impl CAnswer {
         }
     }
 
-    /// Returns this reply, which took so many visits.
+    /// Returns this reply to a step with this number of visits.
     pub fn of(reply: Reply, visits: u32) -> CAnswer
         ensures { result ≡ record { kind = reply_number reply; refusal = reply_refusal reply; number = reply_detail reply; visits = visits } }
     {
@@ -49,7 +49,7 @@ impl CAnswer {
     }
 }
 
-// Returns the number of the refusal, 0 for any other reply.
+// Returns the number of the refusal, or 0 for any other reply.
 fn refusal_in(reply: &Reply) -> u8
     ensures { result ≡ reply_refusal reply.now }
 {
@@ -60,7 +60,7 @@ fn refusal_in(reply: &Reply) -> u8
     }
 }
 
-// Returns the task that was handed the mutex, or how many mutexes were released, 0 for any other reply.
+// Returns the task that the mutex was handed to, or how many mutexes were released, or 0 for any other reply.
 fn number_in(reply: &Reply) -> u16
     ensures { result ≡ reply_detail reply.now }
 {

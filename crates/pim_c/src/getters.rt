@@ -1,4 +1,4 @@
-//! What C may ask without changing anything.
+//! The getters, which change nothing.
 
 ghost use Rattle.std.specs.Prelude.{◌≡◌};
 ghost use Rattle.pim_c.specs.Getters.{base_in, count_in, effective_in, mutex_count, or_zero, owner_in, protocol_in, reason_in, task_count, ticket_in, waits_for_in};
@@ -10,7 +10,7 @@ use crate::reason::CReason;
 use pim_base::{MutexNo, Prio, TaskNo};
 use std::alloc::Global;
 
-/// Returns how many tasks there are, 0 where there is no manager.
+/// Returns how many tasks there are, or 0 if there is no manager.
 #[unsafe(no_mangle)]
 pub extern "C" fn pim_task_count(alloc: Global, handle: &mut Handle) -> u16
     ensures count { result ≡ task_count handle.old.held }
@@ -26,7 +26,7 @@ pub extern "C" fn pim_task_count(alloc: Global, handle: &mut Handle) -> u16
     }
 }
 
-/// Returns how many mutexes there are, 0 where there is no manager.
+/// Returns how many mutexes there are, or 0 if there is no manager.
 #[unsafe(no_mangle)]
 pub extern "C" fn pim_mutex_count(alloc: Global, handle: &mut Handle) -> u16
     ensures count { result ≡ mutex_count handle.old.held }
@@ -42,7 +42,7 @@ pub extern "C" fn pim_mutex_count(alloc: Global, handle: &mut Handle) -> u16
     }
 }
 
-/// Returns the ticket that the next waiter gets, 0 where there is no manager.
+/// Returns the ticket that the next waiter gets, or 0 if there is no manager.
 #[unsafe(no_mangle)]
 pub extern "C" fn pim_next_ticket(alloc: Global, handle: &mut Handle) -> u64
     ensures ticket { result ≡ ticket_in handle.old.held }
@@ -58,7 +58,7 @@ pub extern "C" fn pim_next_ticket(alloc: Global, handle: &mut Handle) -> u64
     }
 }
 
-/// Returns the priority at which the task would execute, 0 for an unknown one.
+/// Returns the effective priority of the task, or 0 for an unknown task.
 #[unsafe(no_mangle)]
 pub extern "C" fn pim_effective_prio(alloc: Global, handle: &mut Handle, task: u16) -> u16
     ensures level { result ≡ effective_in handle.old.held task }
@@ -74,7 +74,7 @@ pub extern "C" fn pim_effective_prio(alloc: Global, handle: &mut Handle, task: u
     }
 }
 
-/// Returns the base priority of the task, 0 for an unknown one.
+/// Returns the base priority of the task, or 0 for an unknown task.
 #[unsafe(no_mangle)]
 pub extern "C" fn pim_base_prio(alloc: Global, handle: &mut Handle, task: u16) -> u16
     ensures level { result ≡ base_in handle.old.held task }
@@ -90,7 +90,7 @@ pub extern "C" fn pim_base_prio(alloc: Global, handle: &mut Handle, task: u16) -
     }
 }
 
-/// Returns why the task has its effective priority. It looks at the mutexes that the task owns, twice at most.
+/// Returns why the task has its effective priority. It reads each mutex that the task owns at most twice.
 #[unsafe(no_mangle)]
 pub extern "C" fn pim_task_reason(alloc: Global, handle: &mut Handle, task: u16) -> CReason
     ensures reason { result ≡ reason_in handle.old.held task }
@@ -109,7 +109,7 @@ pub extern "C" fn pim_task_reason(alloc: Global, handle: &mut Handle, task: u16)
     }
 }
 
-/// Returns the mutex that the task waits for, 0 where it waits for none, `UNKNOWN` for an unknown one.
+/// Returns the mutex that the task waits for, 0 if it waits for none, or `UNKNOWN` for an unknown task.
 #[unsafe(no_mangle)]
 pub extern "C" fn pim_waits_for(alloc: Global, handle: &mut Handle, task: u16) -> u16
     ensures mutex { result ≡ waits_for_in handle.old.held task }
@@ -129,7 +129,7 @@ pub extern "C" fn pim_waits_for(alloc: Global, handle: &mut Handle, task: u16) -
     }
 }
 
-/// Returns the owner of the mutex, 0 where it is free, `UNKNOWN` for an unknown one.
+/// Returns the owner of the mutex, 0 if it is free, or `UNKNOWN` for an unknown mutex.
 #[unsafe(no_mangle)]
 pub extern "C" fn pim_owner(alloc: Global, handle: &mut Handle, mutex: u16) -> u16
     ensures owner { result ≡ owner_in handle.old.held mutex }
@@ -149,7 +149,7 @@ pub extern "C" fn pim_owner(alloc: Global, handle: &mut Handle, mutex: u16) -> u
     }
 }
 
-/// Returns how often the owner of the mutex has locked it, 0 where it is free, `UNKNOWN` for an unknown one.
+/// Returns how many unlocks free the mutex, 0 if it is free, or `UNKNOWN` for an unknown mutex.
 #[unsafe(no_mangle)]
 pub extern "C" fn pim_count(alloc: Global, handle: &mut Handle, mutex: u16) -> u16
     ensures count { result ≡ count_in handle.old.held mutex }
@@ -165,7 +165,7 @@ pub extern "C" fn pim_count(alloc: Global, handle: &mut Handle, mutex: u16) -> u
     }
 }
 
-/// Returns the protocol of the mutex; its kind is `UNKNOWN` for an unknown one.
+/// Returns the protocol of the mutex, of the kind `UNKNOWN` for an unknown mutex.
 #[unsafe(no_mangle)]
 pub extern "C" fn pim_mutex_protocol(alloc: Global, handle: &mut Handle, mutex: u16) -> CProtocol
     ensures protocol { result ≡ protocol_in handle.old.held mutex }
@@ -184,7 +184,7 @@ pub extern "C" fn pim_mutex_protocol(alloc: Global, handle: &mut Handle, mutex: 
     }
 }
 
-/// Returns the level, 0 for none.
+/// Returns the level of the priority, or 0 if there is none.
 fn level_of(prio: Option<Prio>) -> u16
     ensures { result ≡ or_zero prio }
 {

@@ -13,10 +13,10 @@ use std::marker::Model;
 use std::mem::{forget, replace};
 use std::ptr::null_mut;
 
-/// A pointer to a manager, null where there is none. C copies it nowhere, and reads nothing behind it.
+/// A pointer to a manager, or null. C must not copy it, nor read what it points to.
 ///
-/// In contracts `held` is what it leads to. Rattle's own code can't lose a manager: a handle that goes out of scope
-/// gives its memory back. C has no such end of a scope, and calls `pim_drop`.
+/// In contracts `held` is what it points to. In Rattle a handle that goes out of scope frees its manager; C calls
+/// `pim_drop`.
 #[repr(C)]
 pub struct Handle {
     at: *mut u8,
@@ -50,8 +50,8 @@ impl Handle {
         }
     }
 
-    /// Puts a manager in, where there is none.
-    // A plain assignment would test at run time whether there is one to drop, which is proved not to be.
+    /// Puts a manager into an empty handle.
+    // A plain assignment would test at run time whether there is a manager to drop. It is proved that there is none.
     #[inline(always)]
     pub fn put(&mut self, held: Box<Held, Global>)
         requires { self.old.held ≡ None }

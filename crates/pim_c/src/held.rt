@@ -1,4 +1,4 @@
-//! What a handle leads to.
+//! What a handle points to.
 
 ghost use Rattle.std.specs.Prelude.{◌≡◌, ◌↔◌, ◌<◌, ◌≤◌, [], IfOk, IsErrOf, length, map};
 ghost use Rattle.pim_base.specs.State.{start};
@@ -18,7 +18,7 @@ use std::marker::Model;
 
 /// A manager, and the tasks that its last step changed.
 ///
-/// These are noted while the step is made, and listed where C asks for them, right into its memory.
+/// The step notes them. They are copied to memory of the caller only when C asks for them.
 #[derive(Drop)]
 pub struct Held {
     manager: Manager,
@@ -38,8 +38,8 @@ impl Model for Held {
 }
 
 impl Held {
-    /// Returns a manager of tasks with these base priorities and of mutexes with these protocols, on the heap. No step
-    /// was made.
+    /// Returns a manager of tasks with these base priorities and of mutexes with these protocols, on the heap. It has
+    /// made no step.
     ///
     /// # Errors
     ///
@@ -78,7 +78,7 @@ impl Held {
         CAnswer::of(done.reply, done.visits)
     }
 
-    /// Copies the tasks that the last step changed, as far as there is room, and returns how many there are.
+    /// Copies the tasks that the last step changed, as many as there is room for. Returns how many there are.
     pub fn copy_changed(&self, to: &mut [CChangedTask]) -> usize
         ensures count { result ≡ length self.now.changed }
         ensures copied { to.new ≡ copied (map c_changed_task self.now.changed) to.old }
@@ -87,17 +87,17 @@ impl Held {
     }
 }
 
-/// Copies the tasks whose effective priority isn't the noted one, as far as there is room, and returns how many there
+/// Copies the tasks whose effective priority isn't the noted one, as many as there is room for. Returns how many there
 /// are.
 fn copy_noted(manager: &Manager, visits: &Visits, to: &mut [CChangedTask]) -> usize
     ensures count { result ≡ length (noted_changes manager.now visits.now) }
     ensures copied { to.new ≡ copied (map c_changed_task (map (changed_task manager.now) (noted_changes manager.now visits.now))) to.old }
 {
-    // Most steps change no priority: then there is nothing to go through.
+    // Most steps change no priority, and then there is nothing to copy.
     if visits.is_unnoted() {
         return 0;
     }
-    // Its contract tells the proof how many tasks there are at most.
+    // The contract of this call gives the proof the greatest number of tasks.
     let _tasks = manager.tasks();
     let mut count = 0;
     for task in manager.changed(visits) {

@@ -1,9 +1,9 @@
 //! The manager for callers in C, and in all that calls C: kernels, run-time libraries, other languages.
 //!
 //! C holds a [`Handle`](handle::Handle), which is one pointer, null until `pim_make` makes a manager. Each function
-//! takes the handle by its address, and returns by value or into memory of the caller's. Only `pim_make` takes memory,
-//! and `pim_drop` gives it back. No function requires anything of the numbers that it is passed: those that name
-//! nothing are answered so. `c/pim.h` is the header, and `c/README.md` tells how to link.
+//! takes the address of the handle, and returns a value or writes to memory of the caller. Only `pim_make` allocates,
+//! and `pim_drop` frees. Any number may be passed: the answer says that it names no task or no mutex. `c/pim.h` is the
+//! header, and `c/README.md` says how to link.
 //!
 //! ```text
 //! struct pim_handle locks = PIM_HANDLE_INIT;

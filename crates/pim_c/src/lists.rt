@@ -1,4 +1,4 @@
-//! Lists that are copied into memory of the caller's.
+//! Lists, copied to memory of the caller.
 
 ghost use Rattle.std.specs.Prelude.{◌≡◌, length, map};
 ghost use Rattle.pim_c.specs.Shapes.{c_changed_task, c_waiter, copied};
@@ -10,8 +10,8 @@ use crate::waiter::CWaiter;
 use pim_base::{MutexNo, Waiter};
 use std::alloc::Global;
 
-/// Copies those who wait for the mutex, the next owner first, as far as there is room, and returns how many wait; 0 for
-/// an unknown mutex.
+/// Copies the waiters for the mutex, the next owner first, as many as there is room for. Returns how many wait, or 0
+/// for an unknown mutex.
 #[unsafe(no_mangle)]
 pub extern "C" fn pim_waiters(
     alloc: Global,
@@ -36,8 +36,8 @@ pub extern "C" fn pim_waiters(
     }
 }
 
-/// Copies the tasks whose effective priority the last step changed, in ascending order, as far as there is room, and
-/// returns how many there are.
+/// Copies the tasks whose effective priority the last step changed, in ascending order, as many as there is room for.
+/// Returns how many there are.
 #[unsafe(no_mangle)]
 pub extern "C" fn pim_changed(alloc: Global, handle: &mut Handle, to: &mut [CChangedTask]) -> usize
     ensures count { result ≡ length (changed_in handle.old.held) }
@@ -54,7 +54,7 @@ pub extern "C" fn pim_changed(alloc: Global, handle: &mut Handle, to: &mut [CCha
     }
 }
 
-/// Copies the waiters as far as there is room, and returns how many there are.
+/// Copies the waiters, as many as there is room for. Returns how many there are.
 fn copy_waiters(from: &[Waiter], to: &mut [CWaiter]) -> usize
     ensures count { result ≡ length from.now }
     ensures copied { to.new ≡ copied (map c_waiter from.now) to.old }

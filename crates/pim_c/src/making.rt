@@ -14,10 +14,13 @@ use crate::protocol::CProtocol;
 use pim_base::{MAX_MUTEXES, MAX_TASKS, Prio, Protocol};
 use std::alloc::{AllocError, Global};
 
-/// Makes a manager of tasks with these base priorities and of mutexes with these protocols. All mutexes are free, nobody
-/// waits, and the next ticket is 1. Returns `MADE`, or the first fault, and then the handle is as it was: `OCCUPIED` has
-/// a manager already, `TOO_MANY_TASKS` and `TOO_MANY_MUTEXES` are more than 256, `BAD_BASE` isn't 1 to 99,
-/// `BAD_PROTOCOL` means none, `NO_MEMORY` is out of memory.
+/// Makes a manager of tasks with these base priorities and of mutexes with these protocols. All mutexes are free, no
+/// task waits, and the next ticket is 1.
+///
+/// Returns `MADE`, or the first of these faults that applies, and then the handle stays as it was: `OCCUPIED` if it has
+/// a manager already, `TOO_MANY_TASKS` or `TOO_MANY_MUTEXES` if there are more than 256, `BAD_BASE` if a base isn't 1
+/// to 99, `BAD_PROTOCOL` if the kind of a protocol is unknown or its ceiling isn't 1 to 99, `NO_MEMORY` if out of
+/// memory.
 #[unsafe(no_mangle)]
 pub extern "C" fn pim_make(
     alloc: Global,
@@ -55,7 +58,7 @@ pub extern "C" fn pim_make(
     }
 }
 
-/// Drops the manager, if there is one, and gives its memory back.
+/// Drops the manager, if there is one, and frees its memory.
 #[unsafe(no_mangle)]
 pub extern "C" fn pim_drop(alloc: Global, handle: &mut Handle)
     ensures { handle.new.held ≡ None }
@@ -70,18 +73,18 @@ fn are_priorities(bases: &[u16]) -> bool
     bases.iter().all(|base| 1 <= *base && *base <= 99)
 }
 
-/// Returns whether each means a protocol.
+/// Returns whether each has a known kind, and a priority as its ceiling where it needs one.
 fn are_protocols(protocols: &[CProtocol]) -> bool
     ensures { result ≡ list_all is_protocol protocols.now }
 {
     protocols.iter().all(|protocol| protocol.read().is_some())
 }
 
-/// Returns a manager of these.
+/// Returns a manager of tasks with these base priorities and of mutexes with these protocols.
 ///
 /// # Errors
 ///
-/// Returns `AllocError` if out of memory, or where there are more tasks or mutexes than a manager has.
+/// Returns `AllocError` if out of memory, or if there are more than 256 tasks or mutexes.
 #[tactic(auto, using(crate::proofs::Priorities::priorities_meant_of_priorities))]
 fn hold(
     alloc: Global,
@@ -99,7 +102,7 @@ fn hold(
     }
 }
 
-/// Returns the priorities that are meant.
+/// Returns those of the levels that are priorities.
 ///
 /// # Errors
 ///
@@ -113,14 +116,14 @@ fn read_bases(alloc: Global, bases: &[u16]) -> Result<Vec<Prio>, AllocError>
         .collect(alloc)
 }
 
-/// Returns the priority that is meant, if one is.
+/// Returns the priority of this level, or `None` if it is none.
 fn read_base(level: u16) -> Option<Prio>
     ensures { result ≡ priority_meant level }
 {
     Prio::new(level)
 }
 
-/// Returns the protocols that are meant.
+/// Returns those that are valid, as protocols.
 ///
 /// # Errors
 ///

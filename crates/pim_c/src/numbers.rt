@@ -17,7 +17,7 @@ pub const PROTECT: u16 = 2;
 
 pub const INHERIT_RECURSIVE: u16 = 3;
 
-// ---- what a step is answered
+// ---- replies to steps
 
 pub const NO_MANAGER: u8 = 0;
 
@@ -39,7 +39,7 @@ pub const REFUSED: u8 = 8;
 
 pub const KEPT: u8 = 9;
 
-// ---- why a step is refused, 0 where it isn't
+// ---- why a step is refused; 0 if it isn't
 
 pub const NO_TASK: u8 = 1;
 
@@ -75,7 +75,7 @@ pub const OF_CEILING: u16 = 2;
 
 pub const OF_WAITER: u16 = 3;
 
-// ---- what making a manager is answered
+// ---- results of pim_make
 
 pub const MADE: u32 = 0;
 
@@ -91,8 +91,7 @@ pub const BAD_PROTOCOL: u32 = 5;
 
 pub const NO_MEMORY: u32 = 6;
 
-/// What stands for the owner of an unknown mutex, for what an unknown task waits for, and for the protocol of an
-/// unknown mutex.
+/// Returned as the owner and the kind of protocol of an unknown mutex, and as the mutex that an unknown task waits for.
 pub const UNKNOWN: u16 = 65535;
 
 /// Returns the number of the reply.

@@ -12,7 +12,7 @@ use pim_base::{Prio, Protocol};
 pub struct CProtocol {
     /// The number of the protocol.
     pub kind: u16,
-    /// The ceiling of a PROTECT mutex; that of the others isn't read.
+    /// The ceiling of a PROTECT mutex. For other mutexes it isn't read.
     pub ceiling: u16,
 }
 
@@ -51,7 +51,7 @@ impl CProtocol {
         }
     }
 
-    /// Returns the protocol that is meant, None where the kind is unknown or the ceiling isn't a priority.
+    /// Returns this as a protocol, or `None` if the kind is unknown or the ceiling of a PROTECT mutex isn't a priority.
     pub fn read(self) -> Option<Protocol>
         ensures { result ≡ protocol_meant self }
     {

@@ -8,12 +8,12 @@ use std::marker::Model;
 
 /// A box, as its pointer and its allocator.
 ///
-/// It is generic because the proofs of its functions are written by hand: for any type, they are given how a value is
-/// dropped and what an allocator does.
+/// It is generic because the proofs of its functions are written by hand: a proof for any type has as premises how a
+/// value is dropped and what an allocator does.
 pub struct RawBox<T, A: Allocator> {
-    /// Where the value lies.
+    /// Where the value is.
     pub at: *mut T,
-    /// What gave the memory.
+    /// The allocator that it is from.
     pub alloc: A,
     pub ghost value: { T },
 }
@@ -31,7 +31,7 @@ impl<T: Drop, A: Allocator> RawBox<T, A> {
         RawBox { at, alloc }
     }
 
-    /// Makes the box again.
+    /// Puts the box together again.
     pub fn into_box(self) -> Box<T, A>
         ensures { result.value ≡ self.value }
     {

@@ -1,4 +1,4 @@
-//! The steps.
+//! The steps, a function each.
 
 ghost use Rattle.std.specs.Prelude.{◌≡◌};
 ghost use Rattle.pim_c.specs.Held.{after_step};
@@ -9,7 +9,8 @@ use crate::handle::Handle;
 use pim_base::{MutexNo, Op, Step, TaskNo};
 use std::alloc::Global;
 
-/// `pthread_mutex_lock`: the task owns the mutex if it is free, else waits for it.
+/// `pthread_mutex_lock`: the task locks the mutex if it is free, or if the task owns it and it is recursive. Else the
+/// task waits, or is refused.
 #[unsafe(no_mangle)]
 pub extern "C" fn pim_lock(alloc: Global, handle: &mut Handle, task: u16, mutex: u16) -> CAnswer
     ensures answer { IsAnswered handle.old.held (record { actor = task; op = Op.Lock mutex }) result }
@@ -18,7 +19,8 @@ pub extern "C" fn pim_lock(alloc: Global, handle: &mut Handle, task: u16, mutex:
     make_step(alloc, handle, task, Op::Lock(MutexNo(mutex)))
 }
 
-/// `pthread_mutex_trylock`: the task owns the mutex if it is free, else is refused.
+/// `pthread_mutex_trylock`: the task locks the mutex if it is free, or if the task owns it and it is recursive. Else it
+/// is refused.
 #[unsafe(no_mangle)]
 pub extern "C" fn pim_try(alloc: Global, handle: &mut Handle, task: u16, mutex: u16) -> CAnswer
     ensures answer { IsAnswered handle.old.held (record { actor = task; op = Op.Try mutex }) result }
@@ -27,7 +29,8 @@ pub extern "C" fn pim_try(alloc: Global, handle: &mut Handle, task: u16, mutex: 
     make_step(alloc, handle, task, Op::Try(MutexNo(mutex)))
 }
 
-/// `pthread_mutex_unlock`: the mutex goes to the first of its queue, or is free.
+/// `pthread_mutex_unlock`: hands the mutex to the first waiter, or frees it. The owner keeps a recursive mutex until
+/// the last of its unlocks.
 #[unsafe(no_mangle)]
 pub extern "C" fn pim_unlock(alloc: Global, handle: &mut Handle, task: u16, mutex: u16) -> CAnswer
     ensures answer { IsAnswered handle.old.held (record { actor = task; op = Op.Unlock mutex }) result }
@@ -45,7 +48,7 @@ pub extern "C" fn pim_release_all(alloc: Global, handle: &mut Handle, task: u16)
     make_step(alloc, handle, task, Op::ReleaseAll)
 }
 
-/// Withdraws the target, which waits, from its queue, as the task asks.
+/// Withdraws the waiting target from its queue. The task asks for it.
 #[unsafe(no_mangle)]
 pub extern "C" fn pim_cancel(alloc: Global, handle: &mut Handle, task: u16, target: u16) -> CAnswer
     ensures answer { IsAnswered handle.old.held (record { actor = task; op = Op.Cancel target }) result }
@@ -54,7 +57,7 @@ pub extern "C" fn pim_cancel(alloc: Global, handle: &mut Handle, task: u16, targ
     make_step(alloc, handle, task, Op::Cancel(TaskNo(target)))
 }
 
-/// `pthread_setschedprio`: sets the base priority of the target to this level, as the task asks.
+/// `pthread_setschedprio`: sets the base priority of the target to this level. The task asks for it.
 #[unsafe(no_mangle)]
 pub extern "C" fn pim_set_base(
     alloc: Global,
@@ -69,8 +72,8 @@ pub extern "C" fn pim_set_base(
     make_step(alloc, handle, task, Op::SetBase(TaskNo(target), level))
 }
 
-/// `pthread_mutex_setprioceiling`: sets the ceiling of the PROTECT mutex to this level, as the task asks. Unlike that call,
-/// it locks nothing, and the owner may ask.
+/// `pthread_mutex_setprioceiling`: sets the ceiling of the PROTECT mutex to this level. The task asks for it. Unlike
+/// the call of POSIX it locks nothing, and the owner may ask for it.
 #[unsafe(no_mangle)]
 pub extern "C" fn pim_set_ceiling(
     alloc: Global,
@@ -87,7 +90,7 @@ pub extern "C" fn pim_set_ceiling(
 
 /// Makes the step, if there is a manager.
 ///
-/// It goes into each call above, of which each is then left with its own kind of step.
+/// It is inlined into each call above, so that each is compiled for its own kind of step.
 #[inline(always)]
 fn make_step(alloc: Global, handle: &mut Handle, task: u16, op: Op) -> CAnswer
     ensures answer { IsAnswered handle.old.held (record { actor = task; op = op }) result }
