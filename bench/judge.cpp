@@ -343,7 +343,7 @@ struct Mutex {
     bool inherits() const { return protocol == Protocol::Inherit || is_recursive(); }
     bool protects() const { return protocol == Protocol::Protect; }
     uint8_t first_prio() const { return queue.empty() ? 0 : queue.front().prio; }
-    uint8_t lends() const { return protects() ? ceiling : inherits() ? first_prio() : 0; }
+    uint8_t gives() const { return protects() ? ceiling : inherits() ? first_prio() : 0; }
 };
 
 class Manager {
@@ -424,7 +424,7 @@ protected:
     uint8_t priority(const Task& task) const {
         uint8_t highest = task.base;
         each_owned(task, [&](uint16_t m) {
-            highest = std::max(highest, mutexes[m].lends());
+            highest = std::max(highest, mutexes[m].gives());
             return true;
         });
         return highest;
@@ -450,14 +450,14 @@ protected:
 
     // Restores the priority of a task that a mutex gives this priority from now on. It rises only
     // if this is above the task's present one.
-    void raise(uint16_t t, uint8_t lent) {
-        if (lent > tasks[t].stored) settle_from(t);
+    void raise(uint16_t t, uint8_t given) {
+        if (given > tasks[t].stored) settle_from(t);
     }
 
     // Restores the priority of a task that a mutex gave this priority until now. It falls only if
     // this is the task's present one.
-    void lower(uint16_t t, uint8_t lent) {
-        if (lent == tasks[t].stored) settle_from(t);
+    void lower(uint16_t t, uint8_t given) {
+        if (given == tasks[t].stored) settle_from(t);
     }
 
     void touch(uint16_t t) {
@@ -518,7 +518,7 @@ protected:
 
     Reply grant(uint16_t actor, uint16_t m) {
         bind(m, actor);
-        raise(actor, mutexes[m].lends());
+        raise(actor, mutexes[m].gives());
         return {Answer::Granted};
     }
 
@@ -536,7 +536,7 @@ protected:
         const Waiter waiter{task.ticket, actor, task.stored};
         mutex.queue.insert(
             std::lower_bound(mutex.queue.begin(), mutex.queue.end(), waiter, precedes), waiter);
-        raise(mutex.owner, mutex.lends());
+        raise(mutex.owner, mutex.gives());
         return {Answer::Queued};
     }
 
@@ -558,7 +558,7 @@ protected:
         mutex.queue.erase(mutex.queue.begin());
         tasks[t].waits_for = 0;
         bind(m, t);
-        raise(t, mutex.lends());
+        raise(t, mutex.gives());
         return t;
     }
 
@@ -569,9 +569,9 @@ protected:
             --mutexes[m].count;
             return {Answer::Kept};
         }
-        const uint8_t lent = mutexes[m].lends();
+        const uint8_t given = mutexes[m].gives();
         const uint16_t t = hand_over(m);
-        lower(actor, lent);
+        lower(actor, given);
         return t ? Reply{Answer::Handed, t} : Reply{Answer::Freed};
     }
 
@@ -623,14 +623,14 @@ protected:
     // its first waiter.
     Cause cause(const Task& task) const {
         if (task.stored == task.base) return {};
-        uint16_t lender = 0, ceiling = 0;
+        uint16_t source = 0, ceiling = 0;
         each_owned(task, [&](uint16_t m) {
-            if (mutexes[m].lends() != task.stored) return true;
+            if (mutexes[m].gives() != task.stored) return true;
             if (mutexes[m].protects()) ceiling = m;
-            else if (!lender) lender = m;
+            else if (!source) source = m;
             return ceiling == 0;
         });
-        return ceiling ? Cause{ceiling, 0} : Cause{lender, mutexes[lender].queue.front().task};
+        return ceiling ? Cause{ceiling, 0} : Cause{source, mutexes[source].queue.front().task};
     }
 
     void write_reason(Output& out, const Task& task) const {

@@ -50,7 +50,7 @@ static void check_task(uint16_t task) {
         return;
     }
     must(why.kind == PIM_OF_WAITER, "reason waiter");
-    must(protocol.kind == PIM_INHERIT || protocol.kind == PIM_INHERIT_RECURSIVE, "reason waiter of a mutex that lends nothing");
+    must(protocol.kind == PIM_INHERIT || protocol.kind == PIM_INHERIT_RECURSIVE, "reason waiter of a mutex that passes on no priority");
     must(pim_waits_for(&locks, why.task) == why.mutex && pim_effective_prio(&locks, why.task) == prio, "the reason's waiter");
 }
 

@@ -11,7 +11,7 @@ use Refusal::{
     Again, Busy, Deadlock, NoMutex, NoTask, NotOwner, NotProtect, NotWaiting, Priority, Tickets,
     Waiting,
 };
-use Seen::{Base, Ceiling, Lent};
+use Seen::{Base, Ceiling, Donated};
 use pim_base::{MutexNo, Prio, Protocol, Refusal, TaskNo};
 use pim_plain::PlainManager;
 use std::process::Abort;
@@ -60,7 +60,7 @@ fn waiters_are_served_by_priority_and_ask_for_nothing() -> &'static Scene {
 
 fn medium_task_cannot_delay_boosted_owner() -> &'static Scene {
     const BASES: &[Seen] = &[Base(10), Base(50), Base(90)];
-    const BOOSTED: &[Seen] = &[Lent(90, 3, 1), Base(50), Base(90)];
+    const BOOSTED: &[Seen] = &[Donated(90, 3, 1), Base(50), Base(90)];
     const ROWS: &[Row] = &[
         Row(Lock(1, 1), Granted, 1, BASES),
         Row(Lock(3, 1), Queued, 1, BOOSTED),
@@ -77,7 +77,7 @@ fn medium_task_cannot_delay_boosted_owner() -> &'static Scene {
 
 fn deadlock_is_refused_across_two_mutexes_and_to_the_owner() -> &'static Scene {
     const BASES: &[Seen] = &[Base(10), Base(20)];
-    const BOOSTED: &[Seen] = &[Lent(20, 2, 1), Base(20)];
+    const BOOSTED: &[Seen] = &[Donated(20, 2, 1), Base(20)];
     const ROWS: &[Row] = &[
         Row(Lock(1, 1), Granted, 1, BASES),
         Row(Lock(2, 2), Granted, 1, BASES),
@@ -96,7 +96,7 @@ fn deadlock_is_refused_across_two_mutexes_and_to_the_owner() -> &'static Scene {
 
 fn try_answers_busy_where_lock_answers_deadlock() -> &'static Scene {
     const BASES: &[Seen] = &[Base(10), Base(20), Base(30)];
-    const BOOSTED: &[Seen] = &[Lent(20, 2, 1), Base(20), Base(30)];
+    const BOOSTED: &[Seen] = &[Donated(20, 2, 1), Base(20), Base(30)];
     const ROWS: &[Row] = &[
         Row(Lock(1, 1), Granted, 1, BASES),
         Row(Lock(2, 2), Granted, 1, BASES),
@@ -116,7 +116,7 @@ fn try_answers_busy_where_lock_answers_deadlock() -> &'static Scene {
     SCENE
 }
 
-fn deadlock_is_refused_through_mutexes_that_lend_nothing() -> &'static Scene {
+fn deadlock_is_refused_through_mutexes_that_pass_on_no_priority() -> &'static Scene {
     const ROWS: &[Row] = &[
         Row(Lock(1, 1), Granted, 1, &[Base(10), Base(20)]),
         Row(Lock(2, 2), Granted, 1, &[Base(10), Ceiling(30, 2)]),
@@ -129,7 +129,7 @@ fn deadlock_is_refused_through_mutexes_that_lend_nothing() -> &'static Scene {
         ),
     ];
     const SCENE: &Scene = &Scene {
-        name: "deadlock is refused through mutexes that lend nothing",
+        name: "deadlock is refused through mutexes that pass on no priority",
         bases: &[10, 20],
         kinds: &[NONE, Protect(30)],
         parts: &[Part(ROWS, None)],
@@ -141,7 +141,7 @@ fn boost_stops_at_a_protect_mutex() -> &'static Scene {
     const ONE: Seen = Ceiling(50, 1);
     const TWO: Seen = Base(40);
     const THREE: Seen = Base(90);
-    const BOOSTED: Seen = Lent(90, 3, 2);
+    const BOOSTED: Seen = Donated(90, 3, 2);
     const ROWS: &[Row] = &[
         Row(Lock(1, 1), Granted, 1, &[ONE, TWO, THREE]),
         Row(Lock(2, 2), Granted, 1, &[ONE, TWO, THREE]),
@@ -158,9 +158,9 @@ fn boost_stops_at_a_protect_mutex() -> &'static Scene {
     SCENE
 }
 
-fn raised_waiter_is_handed_a_mutex_that_lends_nothing() -> &'static Scene {
+fn raised_waiter_is_handed_a_mutex_that_passes_on_no_priority() -> &'static Scene {
     const BASES: &[Seen] = &[Base(10), Base(40), Base(30), Base(90)];
-    const BOOSTED: &[Seen] = &[Base(10), Base(40), Lent(90, 4, 2), Base(90)];
+    const BOOSTED: &[Seen] = &[Base(10), Base(40), Donated(90, 4, 2), Base(90)];
     const FIRST: &[Row] = &[
         Row(Lock(1, 1), Granted, 1, BASES),
         Row(Lock(3, 2), Granted, 1, BASES),
@@ -175,7 +175,7 @@ fn raised_waiter_is_handed_a_mutex_that_lends_nothing() -> &'static Scene {
         Part(HANDED, Some((1, &[2]))),
     ];
     const SCENE: &Scene = &Scene {
-        name: "raised waiter is handed a mutex that lends nothing",
+        name: "raised waiter is handed a mutex that passes on no priority",
         bases: &[10, 40, 30, 90],
         kinds: &[NONE, INHERIT],
         parts: PARTS,
@@ -189,9 +189,9 @@ fn boost_lasts_until_the_last_equal_waiter_withdraws() -> &'static Scene {
     const THREE: Seen = Base(50);
     const ROWS: &[Row] = &[
         Row(Lock(1, 1), Granted, 1, &[ONE, TWO, THREE]),
-        Row(Lock(2, 1), Queued, 1, &[Lent(50, 2, 1), TWO, THREE]),
-        Row(Lock(3, 1), Queued, 1, &[Lent(50, 2, 1), TWO, THREE]),
-        Row(Cancel(2, 2), Withdrawn, 1, &[Lent(50, 3, 1), TWO, THREE]),
+        Row(Lock(2, 1), Queued, 1, &[Donated(50, 2, 1), TWO, THREE]),
+        Row(Lock(3, 1), Queued, 1, &[Donated(50, 2, 1), TWO, THREE]),
+        Row(Cancel(2, 2), Withdrawn, 1, &[Donated(50, 3, 1), TWO, THREE]),
         Row(Cancel(3, 3), Withdrawn, 1, &[ONE, TWO, THREE]),
     ];
     const SCENE: &Scene = &Scene {
@@ -252,10 +252,10 @@ fn lowered_ceiling_leaves_what_a_waiter_donates() -> &'static Scene {
         Row(Lock(1, 1), Granted, 1, &[Ceiling(70, 1), Base(60)]),
         Row(Lock(1, 2), Granted, 1, &[Ceiling(70, 1), Base(60)]),
         Row(Lock(2, 2), Queued, 1, &[Ceiling(70, 1), Base(60)]),
-        Row(SetCeiling(1, 1, 40), Set, 1, &[Lent(60, 2, 2), Base(60)]),
+        Row(SetCeiling(1, 1, 40), Set, 1, &[Donated(60, 2, 2), Base(60)]),
         Row(SetCeiling(1, 1, 60), Set, 1, &[Ceiling(60, 1), Base(60)]),
         Row(SetCeiling(1, 1, 65), Set, 1, &[Ceiling(65, 1), Base(60)]),
-        Row(Unlock(1, 1), Freed, 1, &[Lent(60, 2, 2), Base(60)]),
+        Row(Unlock(1, 1), Freed, 1, &[Donated(60, 2, 2), Base(60)]),
     ];
     const SCENE: &Scene = &Scene {
         name: "lowered ceiling leaves what a waiter donates",
@@ -271,9 +271,9 @@ fn owner_executes_at_the_highest_of_ceilings_and_waiters() -> &'static Scene {
     const ROWS: &[Row] = &[
         Row(Lock(1, 1), Granted, 1, &[Ceiling(30, 1), Base(40)]),
         Row(Lock(1, 3), Granted, 1, &[Ceiling(30, 1), Base(40)]),
-        Row(Lock(2, 3), Queued, 1, &[Lent(40, 2, 3), Base(40)]),
+        Row(Lock(2, 3), Queued, 1, &[Donated(40, 2, 3), Base(40)]),
         Row(Lock(1, 2), Granted, 1, &[Ceiling(50, 2), Base(40)]),
-        Row(Unlock(1, 2), Freed, 1, &[Lent(40, 2, 3), Base(40)]),
+        Row(Unlock(1, 2), Freed, 1, &[Donated(40, 2, 3), Base(40)]),
         Row(Unlock(1, 3), Handed(2), 2, &[Ceiling(30, 1), Base(40)]),
     ];
     const SCENE: &Scene = &Scene {
@@ -312,7 +312,7 @@ fn hand_over_above_the_ceiling_goes_by_ticket() -> &'static Scene {
 fn ceiling_is_the_reason_before_a_waiter() -> &'static Scene {
     const ROWS: &[Row] = &[
         Row(Lock(1, 2), Granted, 1, &[Base(10), Base(50)]),
-        Row(Lock(2, 2), Queued, 1, &[Lent(50, 2, 2), Base(50)]),
+        Row(Lock(2, 2), Queued, 1, &[Donated(50, 2, 2), Base(50)]),
         Row(Lock(1, 1), Granted, 1, &[Ceiling(50, 1), Base(50)]),
         Row(Unlock(1, 2), Handed(2), 2, &[Ceiling(50, 1), Base(50)]),
         Row(Unlock(1, 1), Freed, 1, &[Base(10), Base(50)]),
@@ -382,7 +382,7 @@ fn expect_last_ticket(rt: &impl Abort, both: &Both<'_, impl Abort>) -> Result<()
 #[test]
 fn last_ticket_is_given_out_and_no_more(rt: HostRuntime) -> Result<(), Fail> {
     const LEVELS: &[u16] = &[10, 20, 30];
-    const BOOSTED: &[Seen] = &[Lent(20, 2, 1), Base(20), Base(30)];
+    const BOOSTED: &[Seen] = &[Donated(20, 2, 1), Base(20), Base(30)];
     const ROWS: &[Row] = &[
         Row(Lock(1, 1), Granted, 1, &[Base(10), Base(20), Base(30)]),
         Row(Lock(2, 1), Queued, 1, BOOSTED),
@@ -396,7 +396,7 @@ fn last_ticket_is_given_out_and_no_more(rt: HostRuntime) -> Result<(), Fail> {
 
 fn recursive_mutex_goes_to_its_waiter_at_the_last_unlock() -> &'static Scene {
     const BASES: &[Seen] = &[Base(10), Base(50)];
-    const BOOSTED: &[Seen] = &[Lent(50, 2, 1), Base(50)];
+    const BOOSTED: &[Seen] = &[Donated(50, 2, 1), Base(50)];
     const ROWS: &[Row] = &[
         Row(Lock(1, 1), Granted, 1, BASES),
         Row(Lock(1, 1), Granted, 0, BASES),
@@ -424,7 +424,7 @@ fn recursive_mutex_goes_to_its_waiter_at_the_last_unlock() -> &'static Scene {
 #[test]
 fn relocks_end_at_255_and_the_deadlock_of_another_stays(rt: HostRuntime) -> Result<(), Fail> {
     const BASES: &[Seen] = &[Base(10), Base(20)];
-    const BOOSTED: &[Seen] = &[Lent(20, 2, 1), Base(20)];
+    const BOOSTED: &[Seen] = &[Donated(20, 2, 1), Base(20)];
     const ROWS: &[Row] = &[
         Row(Lock(1, 1), Refused(Again), 0, BASES),
         Row(Try(1, 1), Refused(Again), 0, BASES),
@@ -450,9 +450,9 @@ fn scenarios(rt: HostRuntime) -> Result<(), Fail> {
         medium_task_cannot_delay_boosted_owner(),
         deadlock_is_refused_across_two_mutexes_and_to_the_owner(),
         try_answers_busy_where_lock_answers_deadlock(),
-        deadlock_is_refused_through_mutexes_that_lend_nothing(),
+        deadlock_is_refused_through_mutexes_that_pass_on_no_priority(),
         boost_stops_at_a_protect_mutex(),
-        raised_waiter_is_handed_a_mutex_that_lends_nothing(),
+        raised_waiter_is_handed_a_mutex_that_passes_on_no_priority(),
         boost_lasts_until_the_last_equal_waiter_withdraws(),
         ceiling_is_compared_with_the_base_at_the_lock_alone(),
         ceiling_is_set_by_the_owner_or_of_a_free_mutex(),

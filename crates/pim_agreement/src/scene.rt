@@ -128,14 +128,14 @@ pub enum Seen {
     /// The task is at the ceiling of this mutex, which it owns.
     Ceiling(u16, u16),
     /// The task is at the priority of this waiter for this mutex, which the task owns.
-    Lent(u16, u16, u16),
+    Donated(u16, u16, u16),
 }
 
 impl Seen {
     /// Returns the effective priority.
     fn prio(self) -> Option<Prio> {
         match self {
-            Seen::Base(level) | Seen::Ceiling(level, _) | Seen::Lent(level, _, _) => {
+            Seen::Base(level) | Seen::Ceiling(level, _) | Seen::Donated(level, _, _) => {
                 Prio::new(level)
             }
         }
@@ -146,7 +146,7 @@ impl Seen {
         match self {
             Seen::Base(_) => Reason::Base,
             Seen::Ceiling(_, mutex) => Reason::Ceiling(MutexNo(mutex)),
-            Seen::Lent(_, task, mutex) => Reason::Waiter(TaskNo(task), MutexNo(mutex)),
+            Seen::Donated(_, task, mutex) => Reason::Waiter(TaskNo(task), MutexNo(mutex)),
         }
     }
 }

@@ -4,7 +4,7 @@ use crate::scene::{Act, Answer, Both, INHERIT, Part, Row, Scene, Seen, lock, pla
 use Act::{Cancel, Lock, SetBase, Unlock};
 use Answer::{Granted, Handed, Queued, Refused, Set, Withdrawn};
 use Refusal::{Deadlock, NoTask};
-use Seen::{Base, Lent};
+use Seen::{Base, Donated};
 use pim_base::{MutexNo, Prio, Reason, Refusal, Reply, TaskNo, Waiter};
 use pim_manager::{ChangedTasks, Done, Manager};
 use std::alloc::Global;
@@ -35,13 +35,13 @@ const CHAIN: &[Row] = &[
         Lock(2, 1),
         Queued,
         1,
-        &[Lent(20, 2, 1), Base(20), Base(30), FOUR, FIVE],
+        &[Donated(20, 2, 1), Base(20), Base(30), FOUR, FIVE],
     ),
     Row(
         Lock(3, 2),
         Queued,
         2,
-        &[Lent(30, 2, 1), Lent(30, 3, 2), Base(30), FOUR, FIVE],
+        &[Donated(30, 2, 1), Donated(30, 3, 2), Base(30), FOUR, FIVE],
     ),
     Row(Lock(4, 3), Queued, 3, BOOSTED),
 ];
@@ -50,7 +50,13 @@ const FOUR: Seen = Base(90);
 
 const FIVE: Seen = Base(40);
 
-const BOOSTED: &[Seen] = &[Lent(90, 2, 1), Lent(90, 3, 2), Lent(90, 4, 3), FOUR, FIVE];
+const BOOSTED: &[Seen] = &[
+    Donated(90, 2, 1),
+    Donated(90, 3, 2),
+    Donated(90, 4, 3),
+    FOUR,
+    FIVE,
+];
 
 /// The chain, and the queue of mutex 3 then.
 const BEGIN: Part = Part(CHAIN, Some((3, &[4])));
@@ -67,7 +73,7 @@ fn lower_waiter_changes_no_priority() -> &'static Scene {
 }
 
 fn withdrawal_from_the_middle_cuts_the_chain() -> &'static Scene {
-    const CUT: &[Seen] = &[Lent(20, 2, 1), Base(20), Lent(90, 4, 3), FOUR, FIVE];
+    const CUT: &[Seen] = &[Donated(20, 2, 1), Base(20), Donated(90, 4, 3), FOUR, FIVE];
     const ROWS: &[Row] = &[
         Row(Cancel(1, 3), Withdrawn, 2, CUT),
         Row(Cancel(5, 9), Refused(NoTask), 0, CUT),
@@ -82,7 +88,13 @@ fn withdrawal_from_the_middle_cuts_the_chain() -> &'static Scene {
 }
 
 fn new_base_of_the_last_waiter_lowers_the_whole_chain() -> &'static Scene {
-    const LOWERED: &[Seen] = &[Lent(30, 2, 1), Lent(30, 3, 2), Base(30), Base(15), FIVE];
+    const LOWERED: &[Seen] = &[
+        Donated(30, 2, 1),
+        Donated(30, 3, 2),
+        Base(30),
+        Base(15),
+        FIVE,
+    ];
     const ROWS: &[Row] = &[Row(SetBase(1, 4, 15), Set, 4, LOWERED)];
     const SCENE: &Scene = &Scene {
         name: "new base of the last waiter lowers the whole chain",
@@ -99,8 +111,14 @@ fn lowered_owner_keeps_what_another_waiter_donates() -> &'static Scene {
     const THREE: Seen = Base(30);
     const FOUR: Seen = Base(60);
     const FIVE: Seen = Base(90);
-    const LOWERED: &[Seen] = &[Lent(60, 2, 1), Lent(60, 4, 3), THREE, FOUR, FIVE];
-    const RAISED: &[Seen] = &[Lent(90, 2, 1), Lent(90, 3, 2), Lent(90, 5, 4), FOUR, FIVE];
+    const LOWERED: &[Seen] = &[Donated(60, 2, 1), Donated(60, 4, 3), THREE, FOUR, FIVE];
+    const RAISED: &[Seen] = &[
+        Donated(90, 2, 1),
+        Donated(90, 3, 2),
+        Donated(90, 5, 4),
+        FOUR,
+        FIVE,
+    ];
     const ROWS: &[Row] = &[
         Row(Lock(1, 1), Granted, 1, &[ONE, TWO, THREE, FOUR, FIVE]),
         Row(Lock(2, 2), Granted, 1, &[ONE, TWO, THREE, FOUR, FIVE]),
@@ -110,13 +128,13 @@ fn lowered_owner_keeps_what_another_waiter_donates() -> &'static Scene {
             Lock(3, 2),
             Queued,
             1,
-            &[ONE, Lent(30, 3, 2), THREE, FOUR, FIVE],
+            &[ONE, Donated(30, 3, 2), THREE, FOUR, FIVE],
         ),
         Row(
             Lock(4, 3),
             Queued,
             1,
-            &[ONE, Lent(60, 4, 3), THREE, FOUR, FIVE],
+            &[ONE, Donated(60, 4, 3), THREE, FOUR, FIVE],
         ),
         Row(Lock(2, 1), Queued, 1, LOWERED),
         Row(Lock(5, 4), Queued, 3, RAISED),
@@ -137,7 +155,7 @@ fn refused_deadlock_changes_no_priority() -> &'static Scene {
     const THREE: Seen = Base(30);
     const FOUR: Seen = Base(60);
     const FIVE: Seen = Base(90);
-    const BOOSTED: &[Seen] = &[Lent(60, 2, 1), Lent(60, 4, 3), THREE, FOUR, FIVE];
+    const BOOSTED: &[Seen] = &[Donated(60, 2, 1), Donated(60, 4, 3), THREE, FOUR, FIVE];
     const ROWS: &[Row] = &[
         Row(Lock(5, 5), Granted, 1, &[ONE, TWO, THREE, FOUR, FIVE]),
         Row(Lock(1, 1), Granted, 1, &[ONE, TWO, THREE, FOUR, FIVE]),
@@ -148,13 +166,13 @@ fn refused_deadlock_changes_no_priority() -> &'static Scene {
             Lock(3, 2),
             Queued,
             1,
-            &[ONE, Lent(30, 3, 2), THREE, FOUR, FIVE],
+            &[ONE, Donated(30, 3, 2), THREE, FOUR, FIVE],
         ),
         Row(
             Lock(4, 3),
             Queued,
             1,
-            &[ONE, Lent(60, 4, 3), THREE, FOUR, FIVE],
+            &[ONE, Donated(60, 4, 3), THREE, FOUR, FIVE],
         ),
         Row(Lock(2, 1), Queued, 1, BOOSTED),
         Row(Lock(1, 5), Queued, 1, BOOSTED),
@@ -169,20 +187,20 @@ fn refused_deadlock_changes_no_priority() -> &'static Scene {
     SCENE
 }
 
-fn new_owner_keeps_what_its_waiters_lend() -> &'static Scene {
+fn new_owner_keeps_what_its_waiters_donate() -> &'static Scene {
     const ONE: Seen = Base(10);
     const TWO: Seen = Base(50);
     const THREE: Seen = Base(40);
     const ROWS: &[Row] = &[
         Row(Lock(1, 1), Granted, 1, &[ONE, TWO, THREE]),
-        Row(Lock(2, 1), Queued, 1, &[Lent(50, 2, 1), TWO, THREE]),
-        Row(Lock(3, 1), Queued, 1, &[Lent(50, 2, 1), TWO, THREE]),
+        Row(Lock(2, 1), Queued, 1, &[Donated(50, 2, 1), TWO, THREE]),
+        Row(Lock(3, 1), Queued, 1, &[Donated(50, 2, 1), TWO, THREE]),
         Row(Unlock(1, 1), Handed(2), 2, &[ONE, TWO, THREE]),
-        Row(SetBase(1, 2, 20), Set, 1, &[ONE, Lent(40, 3, 1), THREE]),
-        Row(SetBase(1, 2, 21), Set, 1, &[ONE, Lent(40, 3, 1), THREE]),
+        Row(SetBase(1, 2, 20), Set, 1, &[ONE, Donated(40, 3, 1), THREE]),
+        Row(SetBase(1, 2, 21), Set, 1, &[ONE, Donated(40, 3, 1), THREE]),
     ];
     const SCENE: &Scene = &Scene {
-        name: "new owner keeps what its waiters lend",
+        name: "new owner keeps what its waiters donate",
         bases: &[10, 50, 40],
         kinds: &[INHERIT],
         parts: &[Part(ROWS, None)],
@@ -197,11 +215,11 @@ fn second_waiter_becomes_first_with_a_changed_priority() -> &'static Scene {
     const FOUR: Seen = Base(50);
     const FIVE: Seen = Base(70);
     const SIX: Seen = Base(90);
-    const BY1: Seen = Lent(70, 1, 3);
-    const BY2: Seen = Lent(90, 2, 3);
-    const BY4: Seen = Lent(50, 4, 2);
-    const BY5: Seen = Lent(70, 5, 4);
-    const BY6: Seen = Lent(90, 6, 1);
+    const BY1: Seen = Donated(70, 1, 3);
+    const BY2: Seen = Donated(90, 2, 3);
+    const BY4: Seen = Donated(50, 4, 2);
+    const BY5: Seen = Donated(70, 5, 4);
+    const BY6: Seen = Donated(90, 6, 1);
     const ROWS: &[Row] = &[
         Row(Lock(2, 1), Granted, 1, &[ONE, TWO, THREE, FOUR, FIVE, SIX]),
         Row(Lock(2, 2), Granted, 1, &[ONE, TWO, THREE, FOUR, FIVE, SIX]),
@@ -242,7 +260,7 @@ fn walks(rt: HostRuntime) -> Result<(), Fail> {
         new_base_of_the_last_waiter_lowers_the_whole_chain(),
         lowered_owner_keeps_what_another_waiter_donates(),
         refused_deadlock_changes_no_priority(),
-        new_owner_keeps_what_its_waiters_lend(),
+        new_owner_keeps_what_its_waiters_donate(),
         second_waiter_becomes_first_with_a_changed_priority(),
     ];
     for scene in scenes {
@@ -299,8 +317,8 @@ fn chain_of_all_tasks_is_raised_and_lowered(rt: HostRuntime) -> Result<(), Fail>
     for row in RAISED {
         expect_walk(&rt, &mut both, &mut changed, row);
     }
-    let lent = Some(Reason::Waiter(TaskNo(101), MutexNo(100)));
-    assert_eq!(rt; both.reason(TaskNo(100)), lent);
+    let donated = Some(Reason::Waiter(TaskNo(101), MutexNo(100)));
+    assert_eq!(rt; both.reason(TaskNo(100)), donated);
     expect_ends(&rt, &both, 99, 99);
     expect_walk(&rt, &mut both, &mut changed, &LOWERED);
     expect_ends(&rt, &both, 10, 5);
@@ -351,12 +369,12 @@ fn expect_raised(rt: &impl Abort, queue: &[Waiter], first: u16) {
 }
 
 // task 1 owns mutex 1, and has the priority of its first waiter
-fn expect_lent(rt: &impl Abort, manager: &Manager, first: u16) -> Result<(), Fail> {
+fn expect_donated(rt: &impl Abort, manager: &Manager, first: u16) -> Result<(), Fail> {
     let queue = manager.waiters(MutexNo(1)).ok_or("a known mutex")?;
     expect_raised(rt, queue, first);
-    let lent = Reason::Waiter(TaskNo(first), MutexNo(1));
+    let donated = Reason::Waiter(TaskNo(first), MutexNo(1));
     let shown = (manager.effective(TaskNo(1)), manager.reason(TaskNo(1)));
-    assert_eq!(rt; shown, (Prio::new(50), Some(lent)));
+    assert_eq!(rt; shown, (Prio::new(50), Some(donated)));
     Ok(())
 }
 
@@ -375,7 +393,7 @@ fn waiters_of_a_full_queue_are_raised_one_by_one(rt: HostRuntime) -> Result<(), 
         let reply = Reply::Set;
         let done = both.step(set_base(1, number, 50));
         assert_eq!(rt; done, Done { reply, visits }, "{number}");
-        expect_lent(&rt, &both.manager, number)?;
+        expect_donated(&rt, &both.manager, number)?;
     }
     both.queue(MutexNo(1))?;
     both.play("a full queue", &[HANDED]);

@@ -11,7 +11,7 @@ use Rattle.pim_base.specs.State.{State, IsTask, IsMutex, base_of, owner_of, prot
 use Rattle.pim_base.specs.Chains.{heir, heir_in, heir_of}
 use Rattle.pim_base.specs.Priorities.{ceiling_of, effective_priority}
 use Rattle.pim_base.specs.Queues.{Precedes, waiter_of, queue_of}
-use Rattle.pim_base.specs.Reasons.{is_inherit, lends}
+use Rattle.pim_base.specs.Reasons.{is_inherit, donates}
 use Rattle.pim_base.specs.Steady.{IsSteady}
 use Rattle.pim_base.specs.Laws.{IsQueueOfWaiters, Gives, ReasonLaw}
 use Rattle.pim_base.specs.declared.steps.Protocol.{Protocol}
@@ -85,7 +85,7 @@ inherit_from_heir : (p : Protocol) (o : Option ℕ) (t : ℕ) → heir_in p o �
 inherit_from_heir p o t h = search rules
 
 -- the first of a queue with a waiter at t's priority waits at it for t
-first_lends :
+first_donates :
     (S : State) (t m : ℕ)
     → IsSteady S
     → IsTask S t
@@ -94,8 +94,8 @@ first_lends :
     → queue_of S m ≡ q
     → list_any (λ w. eqb w.prio (effective_priority S t)) q ≡ true
     → Gives S t (option_map_or (λ (w : Waiter). Reason.Waiter w.task m) (first_item q) Reason.Base)
-first_lends S t m ok task heir_is [] same any = cc
-first_lends S t m ok task heir_is (w ∷ q) same any = (to_t, at_m, le_antisymm low high)
+first_donates S t m ok task heir_is [] same any = cc
+first_donates S t m ok task heir_is (w ∷ q) same any = (to_t, at_m, le_antisymm low high)
   where
     law : IsQueueOfWaiters S m
     law = queue_law S m ok.tickets
@@ -129,15 +129,15 @@ first_lends S t m ok task heir_is (w ∷ q) same any = (to_t, at_m, le_antisymm 
     high = omega (arith, found (eqb w.prio (effective_priority S t)) refl any, it.prio)
 
 -- a mutex that gives t this priority
-record Lends (S : State) (t prio : ℕ) : Type 0 where
+record Donates (S : State) (t prio : ℕ) : Type 0 where
   mutex : ℕ
   known : IsMutex S mutex
   owner : owner_of S mutex ≡ Some t
-  lends : lends S prio mutex ≡ true
+  donates : donates S prio mutex ≡ true
 
 -- a task whose heir is t waits for a mutex that gives t its priority
-lends_from_heir : (S : State) (u t : ℕ) → IsSteady S → IsTask S u → heir S u ≡ Some t → Lends S t (effective_priority S u)
-lends_from_heir S u t ok task e = go (wait_of S u) refl e
+donates_from_heir : (S : State) (u t : ℕ) → IsSteady S → IsTask S u → heir S u ≡ Some t → Donates S t (effective_priority S u)
+donates_from_heir S u t ok task e = go (wait_of S u) refl e
   where
     e_of : Waiter → Bool
     e_of v = eqb v.prio (effective_priority S u)
@@ -148,7 +148,7 @@ lends_from_heir S u t ok task e = go (wait_of S u) refl e
         let c = (queue_law S w.mutex ok.tickets).all u it task (waiter_of-waits S w.mutex u w waits refl) in
         list_any_at e_of (queue_of S w.mutex) c.0 it c.1 (ap e_of c.2 ∙ eq-eqb (effective_priority S u) (effective_priority S u) refl)
 
-    go : (o : Option Wait) → wait_of S u ≡ o → option_and_then (λ (w : Wait). heir_of S w.mutex) o ≡ Some t → Lends S t (effective_priority S u)
+    go : (o : Option Wait) → wait_of S u ≡ o → option_and_then (λ (w : Wait). heir_of S w.mutex) o ≡ Some t → Donates S t (effective_priority S u)
     go None waits h = cc
     go (Some w) waits h =
         let owner : owner_of S w.mutex ≡ Some t = heir_in-owner (protocol_of S w.mutex) (owner_of S w.mutex) t h in
@@ -156,7 +156,7 @@ lends_from_heir S u t ok task e = go (wait_of S u) refl e
           mutex = w.mutex;
           known = known_from_owner S w.mutex t ok.sound.lists owner;
           owner = owner;
-          lends = and_from _ _ (inherit_from_heir (protocol_of S w.mutex) (owner_of S w.mutex) t h) (there w waits);
+          donates = and_from _ _ (inherit_from_heir (protocol_of S w.mutex) (owner_of S w.mutex) t h) (there w waits);
         }
 
 -- whether the task owns the mutex
@@ -172,38 +172,38 @@ abbrev ceilings : State → ℕ → ℕ
 ceilings S t = greatest_of (ceiling_of S) (owns S t) (length S.protocol)
 
 -- the greatest priority of the tasks whose heir t is
-abbrev lent : State → ℕ → ℕ
-lent S t = greatest_of (effective_priority S) (λ u. holds (heir S u) t) (length S.base)
+abbrev donated : State → ℕ → ℕ
+donated S t = greatest_of (effective_priority S) (λ u. holds (heir S u) t) (length S.base)
 
-greatest_of_three : (S : State) (t : ℕ) → IsSteady S → IsTask S t → effective_priority S t ≡ max (max (base_of S t) (ceilings S t)) (lent S t)
+greatest_of_three : (S : State) (t : ℕ) → IsSteady S → IsTask S t → effective_priority S t ≡ max (max (base_of S t) (ceilings S t)) (donated S t)
 greatest_of_three S t ok task =
     (stored_law S (effective_priority S) ok.sound).1 (λ u known. refl) t task
     ∙ local_is S (effective_priority S) t
-    ∙ ap (λ n. max n (lent S t)) (greatest-cons (base_of S t) (map (ceiling_of S) (owned S t)))
+    ∙ ap (λ n. max n (donated S t)) (greatest-cons (base_of S t) (map (ceiling_of S) (owned S t)))
 
 -- a mutex of t with this ceiling
 abbrev HasCeiling : State → ℕ → ℕ → Type 0
 HasCeiling S t p = IsReached (ceiling_of S) (owns S t) (length S.protocol) p
 
 -- a priority that isn't the base comes from a ceiling or from a waiter
-ceiling_or_lends :
+ceiling_or_donates :
     (S : State) (t : ℕ)
     → IsSteady S
     → IsTask S t
     → effective_priority S t ≢ base_of S t
-    → HasCeiling S t (effective_priority S t) ⊎ Lends S t (effective_priority S t)
-ceiling_or_lends S t ok task other =
+    → HasCeiling S t (effective_priority S t) ⊎ Donates S t (effective_priority S t)
+ceiling_or_donates S t ok task other =
     go (greatest_of_reached (ceiling_of S) (owns S t) (length S.protocol))
     (greatest_of_reached (effective_priority S) (λ u. holds (heir S u) t) (length S.base))
   where
-    whole : effective_priority S t ≡ max (max (base_of S t) (ceilings S t)) (lent S t)
+    whole : effective_priority S t ≡ max (max (base_of S t) (ceilings S t)) (donated S t)
     whole = greatest_of_three S t ok task
 
     go :
         (ceilings S t ≡ 0) ⊎ HasCeiling S t (ceilings S t)
-        → (lent S t ≡ 0) ⊎ IsReached (effective_priority S) (λ u. holds (heir S u) t) (length S.base) (lent S t)
-        → HasCeiling S t (effective_priority S t) ⊎ Lends S t (effective_priority S t)
-    go x y = elim (cases_lt (lent S t) (effective_priority S t)) [
+        → (donated S t ≡ 0) ⊎ IsReached (effective_priority S) (λ u. holds (heir S u) t) (length S.base) (donated S t)
+        → HasCeiling S t (effective_priority S t) ⊎ Donates S t (effective_priority S t)
+    go x y = elim (cases_lt (donated S t) (effective_priority S t)) [
       | inl low ↦
           let is : ceilings S t ≡ effective_priority S t = omega (arith, whole, low, other) in
           elim x [
@@ -211,10 +211,10 @@ ceiling_or_lends S t ok task other =
             | inr k ↦ inl (k.0, k.1, k.2, k.3, k.4 ∙ is)
           ]
       | inr high ↦
-          let is : lent S t ≡ effective_priority S t = omega (arith, whole, high) in
+          let is : donated S t ≡ effective_priority S t = omega (arith, whole, high) in
           elim y [
             | inl none ↦ absurd (omega (arith, is, none, whole, other))
-            | inr u ↦ inr (subst (Lends S t) (u.4 ∙ is) (lends_from_heir S u.0 t ok (u.1, u.2) (from_holds (heir S u.0) t u.3)))
+            | inr u ↦ inr (subst (Donates S t) (u.4 ∙ is) (donates_from_heir S u.0 t ok (u.1, u.2) (from_holds (heir S u.0) t u.3)))
           ]
     ]
 
@@ -225,22 +225,22 @@ one_is_found :
     → IsTask S t
     → effective_priority S t ≢ base_of S t
     → find (at_ceiling S (effective_priority S t)) (owned S t) ≡ None
-    → find (lends S (effective_priority S t)) (owned S t) ≡ None
+    → find (donates S (effective_priority S t)) (owned S t) ≡ None
     → ⊥
-one_is_found S t ok task other no_ceiling no_lender = elim (ceiling_or_lends S t ok task other) [
+one_is_found S t ok task other no_ceiling no_source = elim (ceiling_or_donates S t ok task other) [
   | inl k ↦
       both_ways (at_ceiling S e k.0)
       (none_passes (at_ceiling S e) (owns S t) 1 (length S.protocol) k.0 no_ceiling k.1 (omega (arith, k.2)) k.3)
       (eq-eqb (ceiling_of S k.0) e k.4)
   | inr l ↦
-      both_ways (lends S e l.mutex)
-      (none_passes (lends S e) (owns S t) 1 (length S.protocol) l.mutex no_lender l.known.0 (omega (arith, l.known.1))
+      both_ways (donates S e l.mutex)
+      (none_passes (donates S e) (owns S t) 1 (length S.protocol) l.mutex no_source l.known.0 (omega (arith, l.known.1))
       (holds_from (owner_of S l.mutex) t l.owner))
-      l.lends
+      l.donates
 ]
   where
     e : ℕ
     e = effective_priority S t
 
 pub reason_law : ReasonLaw
-reason_law S t ok task = grind (arith, one_is_found, found_passes, first_lends, greatest_of_three)
+reason_law S t ok task = grind (arith, one_is_found, found_passes, first_donates, greatest_of_three)

@@ -259,12 +259,12 @@ refused_deadlock_leaves_priorities :
     ∷ says Queued ∷ says (Refused Refusal.Deadlock) ∷ []
 refused_deadlock_leaves_priorities = refl
 
-new_owner_keeps_what_its_waiters_lend :
+new_owner_keeps_what_its_waiters_donate :
     report (start (10 ∷ 50 ∷ 40 ∷ []) (inherit ∷ []) 1)
     ((1, Lock 1) ∷ (2, Lock 1) ∷ (3, Lock 1) ∷ (1, Unlock 1) ∷ (1, SetBase 2 20) ∷ (1, SetBase 2 21) ∷ [])
     ≡ says Granted ∷ says Queued ∷ at 1 50 (Waiter 2 1) ∷ says Queued ∷ says (Handed 2) ∷ at 1 10 Base
     ∷ says Set ∷ at 2 40 (Waiter 3 1) ∷ says Set ∷ []
-new_owner_keeps_what_its_waiters_lend = refl
+new_owner_keeps_what_its_waiters_donate = refl
 
 second_waiter_becomes_first_with_a_changed_priority :
     report (start (10 ∷ 20 ∷ 30 ∷ 50 ∷ 70 ∷ 90 ∷ []) (inherit ∷ inherit ∷ inherit ∷ inherit ∷ []) 1)

@@ -17,8 +17,8 @@ is_inherit Protocol.InheritRecursive = true
 is_inherit (Protocol.Protect c) = false
 
 -- m is a PRIO_INHERIT mutex, and a task waits for it at this priority
-abbrev pub lends : State → ℕ → ℕ → Bool
-lends S p m = is_inherit (protocol_of S m) && list_any (λ w. w.prio == p) (queue_of S m)
+abbrev pub donates : State → ℕ → ℕ → Bool
+donates S p m = is_inherit (protocol_of S m) && list_any (λ w. w.prio == p) (queue_of S m)
 
 -- the first waiter of the mutex whose waiters donate the priority, if there is such a mutex
 abbrev pub waiter_reason : State → Option ℕ → Reason
@@ -28,7 +28,7 @@ waiter_reason S (Some m) = option_map_or (λ w. Reason.Waiter w.task m) (first_o
 -- the least owned mutex with this ceiling, else the least owned one whose waiters donate the priority
 abbrev pub owning_reason : State → ℕ → Option ℕ → Reason
 owning_reason S t (Some m) = Reason.Ceiling m
-owning_reason S t None = waiter_reason S (find (lends S (effective_priority S t)) (owned S t))
+owning_reason S t None = waiter_reason S (find (donates S (effective_priority S t)) (owned S t))
 
 -- the base if that is the priority, else a mutex that the task owns
 abbrev pub reason_of : State → ℕ → Reason

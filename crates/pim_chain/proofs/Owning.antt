@@ -11,7 +11,7 @@ use Rattle.pim_chain.specs.declared.number_set.NumberSet.{NumberSet}
 use Rattle.pim_chain.specs.Numbers.{has, members}
 use Rattle.pim_chain.specs.Sets.{words_in, owner_in, AreEmpty, AreOwned}
 use Rattle.pim_chain.specs.Views.{View, Ready}
-use Rattle.pim_chain.proofs.Lent.{owned_known}
+use Rattle.pim_chain.proofs.LocalOfOwned.{owned_known}
 use Rattle.pim_chain.proofs.Members.{members_known, no_number}
 use Rattle.pim_chain.proofs.Repeated.{nth-replicate_none}
 

@@ -9,7 +9,7 @@ use Rattle.pim_base.specs.State.{State, IsState, IsTask, IsMutex, mutex_numbers,
 use Rattle.pim_base.specs.Chains.{heir_in, heir_of}
 use Rattle.pim_base.specs.Priorities.{ceiling_of, effective_priority}
 use Rattle.pim_base.specs.Queues.{precedes, queue_of}
-use Rattle.pim_base.specs.Reasons.{is_inherit, lends, waiter_reason, owning_reason, reason_of}
+use Rattle.pim_base.specs.Reasons.{is_inherit, donates, waiter_reason, owning_reason, reason_of}
 use Rattle.pim_base.specs.declared.steps.Protocol.{Protocol}
 use Rattle.pim_base.specs.declared.steps.Reason.{Reason}
 use Rattle.pim_base.specs.declared.steps.Waiter.{Waiter}
@@ -18,9 +18,9 @@ use Rattle.pim_queue.specs.Waiters.{IsOrdered}
 use Rattle.pim_queue.proofs.Order.{before_prio}
 use Rattle.pim_chain.specs.Views.{View, stored_at, queue_at, first_prio, Shows}
 use Rattle.pim_chain.specs.Settled.{Calm}
-use Rattle.pim_chain.specs.Owned.{lends_now, first_reason, owned_reason}
+use Rattle.pim_chain.specs.Owned.{donates_now, first_reason, owned_reason}
 use Rattle.pim_chain.proofs.Local.{heir_at, waits_for_from}
-use Rattle.pim_chain.proofs.Lent.{owned_known}
+use Rattle.pim_chain.proofs.LocalOfOwned.{owned_known}
 use Rattle.pim_chain.proofs.Waiting.{waiting_known}
 use Rattle.pim_chain.proofs.Walking.{settled_effective}
 use Rattle.pim_chain.proofs.Models.{queue_is}
@@ -76,14 +76,14 @@ behind_first p w (v ∷ vs) less h =
     let le : v.prio ≤ w.prio = before_prio w v h.0 in
     or_from _ _ (ne_eqb v.prio p (λ e. absurd (omega (arith, e, le, less)))) (behind_first p w vs less h.1)
 
-first_lends :
+first_donates :
     (p : ℕ) (ws : List Waiter)
     → 1 ≤ p
     → IsOrdered ws
     → first_prio ws ≤ p
     → (first_prio ws == p) ≡ list_any (λ (v : Waiter). v.prio == p) ws
-first_lends p [] low ordered le = ne_eqb 0 p (λ e. absurd (omega (arith, e, low)))
-first_lends p (w ∷ ws) low ordered le = go (cases_eq w.prio p)
+first_donates p [] low ordered le = ne_eqb 0 p (λ e. absurd (omega (arith, e, low)))
+first_donates p (w ∷ ws) low ordered le = go (cases_eq w.prio p)
   where
     go : (w.prio ≡ p) ⊎ (w.prio ≡ p → ⊥) → eqb w.prio p ≡ list_any (λ (v : Waiter). v.prio == p) (w ∷ ws)
     go (inl is) = eq-eqb w.prio p is ∙ sym (or_left _ _ (eq-eqb w.prio p is))
@@ -118,8 +118,8 @@ module _ (v : View) (t : ℕ) (calm : Calm v) (known : IsTask v.state t) where
           (heir_at v.state m w.task (waits_for_from (wait_of v.state) w.task _ h.0.waits) ∙ leads)))
 
   -- an owned mutex gives the priority now exactly if the definitions' mutex does
-  same_lends : 1 ≤ stored_at v t → (m : ℕ) → holds (owner_of v.state m) t ≡ true → lends_now v (stored_at v t) m ≡ lends v.state (stored_at v t) m
-  same_lends low m mine = go (is_inherit (protocol_of v.state m)) refl
+  same_donates : 1 ≤ stored_at v t → (m : ℕ) → holds (owner_of v.state m) t ≡ true → donates_now v (stored_at v t) m ≡ donates v.state (stored_at v t) m
+  same_donates low m mine = go (is_inherit (protocol_of v.state m)) refl
     where
       go :
           (b : Bool)
@@ -128,7 +128,7 @@ module _ (v : View) (t : ℕ) (calm : Calm v) (known : IsTask v.state t) where
       go false _ = refl
       go true inherit =
           let isk : IsMutex v.state m = owned_known v.state calm.ready.sound.lists m t mine in
-          first_lends (stored_at v t) (queue_at v m) low (calm.ready.queues m isk).ordered
+          first_donates (stored_at v t) (queue_at v m) low (calm.ready.queues m isk).ordered
           (front_le m isk (inherits v.state m t (from_holds (owner_of v.state m) t mine) inherit))
           ∙ ap (list_any (λ w. w.prio == stored_at v t)) (queue_is v m calm isk)
 
@@ -160,31 +160,31 @@ module _ (v : View) (t : ℕ) (calm : Calm v) (known : IsTask v.state t) where
     reason_waiter :
         (o : Option ℕ)
         → find (λ k. ceiling_of v.state k == stored_at v t) (owned v.state t) ≡ None
-        → find (lends_now v (stored_at v t)) (owned v.state t) ≡ o
+        → find (donates_now v (stored_at v t)) (owned v.state t) ≡ o
         → 1 ≤ stored_at v t
         → waiter_reason v.state o ≡ reason_of v.state t
     reason_waiter o none is low =
         sym (from_owned None none
-        ∙ ap (λ p. waiter_reason v.state (find (lends v.state p) (owned v.state t))) now
-        ∙ ap (waiter_reason v.state) (sym (find_same (lends_now v (stored_at v t)) (lends v.state (stored_at v t))
-        (λ k. holds (owner_of v.state k) t) (same_lends low) (mutex_numbers v.state)) ∙ is))
+        ∙ ap (λ p. waiter_reason v.state (find (donates v.state p) (owned v.state t))) now
+        ∙ ap (waiter_reason v.state) (sym (find_same (donates_now v (stored_at v t)) (donates v.state (stored_at v t))
+        (λ k. holds (owner_of v.state k) t) (same_donates low) (mutex_numbers v.state)) ∙ is))
 
     -- the reason by the owned mutexes is the reason of the definitions
     pub reason_owned : 1 ≤ stored_at v t → owned_reason v (stored_at v t) None (owned v.state t) ≡ reason_of v.state t
     reason_owned low = go (find (λ k. ceiling_of v.state k == stored_at v t) (owned v.state t)) refl
       where
-        lender : Option ℕ
-        lender = find (lends_now v (stored_at v t)) (owned v.state t)
+        source : Option ℕ
+        source = find (donates_now v (stored_at v t)) (owned v.state t)
 
         go :
             (o : Option ℕ)
             → find (λ k. ceiling_of v.state k == stored_at v t) (owned v.state t) ≡ o
-            → option_map_or Reason.Ceiling o (option_map_or (first_reason v) lender Reason.Base) ≡ reason_of v.state t
+            → option_map_or Reason.Ceiling o (option_map_or (first_reason v) source Reason.Base) ≡ reason_of v.state t
         go (Some m) is = reason_ceiling m is
-        go None none = last lender refl
+        go None none = last source refl
           where
-            last : (o : Option ℕ) → lender ≡ o → option_map_or (first_reason v) o Reason.Base ≡ reason_of v.state t
+            last : (o : Option ℕ) → source ≡ o → option_map_or (first_reason v) o Reason.Base ≡ reason_of v.state t
             last None is = reason_waiter None none is low
             last (Some m) is =
-                waiter_here v m calm (found_known v calm.ready.sound.lists t m (lends_now v (stored_at v t)) is)
+                waiter_here v m calm (found_known v calm.ready.sound.lists t m (donates_now v (stored_at v t)) is)
                 ∙ reason_waiter (Some m) none is low

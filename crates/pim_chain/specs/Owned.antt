@@ -16,20 +16,20 @@ abbrev pub worth : View → ℕ → ℕ
 worth v m = max (ceiling_of v.state m) (cond (is_some (heir_of v.state m)) (first_prio (queue_at v m)) 0)
 
 -- the priority that a task donates to the owner of the mutex that it waits for: its own if that is inherited, else 0
-abbrev pub lent_by : View → ℕ → ℕ → ℕ
-lent_by v t m = cond (is_inherit (protocol_of v.state m)) (stored_at v t) 0
+abbrev pub donated_by : View → ℕ → ℕ → ℕ
+donated_by v t m = cond (is_inherit (protocol_of v.state m)) (stored_at v t) 0
 
 -- the mutex is a PRIO_INHERIT one, and its first waiter has the priority
-abbrev pub lends_now : View → ℕ → ℕ → Bool
-lends_now v p m = is_inherit (protocol_of v.state m) && (first_prio (queue_at v m) == p)
+abbrev pub donates_now : View → ℕ → ℕ → Bool
+donates_now v p m = is_inherit (protocol_of v.state m) && (first_prio (queue_at v m) == p)
 
 -- the first waiter of the mutex, as a reason
 abbrev pub first_reason : View → ℕ → Reason
 first_reason v m = option_map_or (λ (w : Waiter). Reason.Waiter w.task m) (first_item (queue_at v m)) Reason.Base
 
--- The reason is the least of these mutexes with the ceiling, if there is one. Else it is the first waiter for the
--- lender or, if no lender is known, for the least mutex that donates the priority.
+-- The reason is the least of these mutexes with the ceiling, if there is one. Else it is the first waiter for the mutex
+-- that was found before or, if none was, for the least of these mutexes whose waiters donate the priority.
 abbrev pub owned_reason : View → ℕ → Option ℕ → List ℕ → Reason
-owned_reason v p lender ms =
+owned_reason v p source ms =
     option_map_or Reason.Ceiling (find (λ m. ceiling_of v.state m == p) ms)
-    (option_map_or (first_reason v) (option_map_or Some lender (find (lends_now v p) ms)) Reason.Base)
+    (option_map_or (first_reason v) (option_map_or Some source (find (donates_now v p) ms)) Reason.Base)

@@ -6,7 +6,7 @@ ghost use Rattle.pim_base.specs.Priorities.{ceiling_of};
 ghost use Rattle.pim_base.specs.Reasons.{is_inherit, reason_of};
 ghost use Rattle.pim_chain.specs.Views.{stored_at};
 ghost use Rattle.pim_chain.specs.Settled.{SettledBut};
-ghost use Rattle.pim_chain.specs.Owned.{lends_now, first_reason, owned_reason};
+ghost use Rattle.pim_chain.specs.Owned.{donates_now, first_reason, owned_reason};
 
 use crate::tables::Tables;
 use pim_base::{MutexNo, Reason, TaskNo};
@@ -41,16 +41,16 @@ impl Tables {
     {
         // The contract of this call gives the proof the invariant of the tables.
         let _tasks = self.tasks();
-        let mut lender = None;
+        let mut source = None;
         for mutex in self.owned(task) {
             if self.ceiling_level(mutex) == level {
                 return Reason::Ceiling(mutex);
             }
-            if lender.is_none() && self.lends(mutex, level) {
-                lender = Some(mutex);
+            if source.is_none() && self.donates(mutex, level) {
+                source = Some(mutex);
             }
         }
-        match lender {
+        match source {
             Some(mutex) => self.waiter_reason(mutex),
             None => Reason::Base,
         }
@@ -66,9 +66,9 @@ impl Tables {
     }
 
     // Returns whether the mutex is an INHERIT one whose first waiter has this priority.
-    fn lends(&self, mutex: MutexNo, level: u16) -> bool
+    fn donates(&self, mutex: MutexNo, level: u16) -> bool
         requires { IsMutex self.now.state mutex }
-        ensures { result ≡ lends_now self.now level mutex }
+        ensures { result ≡ donates_now self.now level mutex }
     {
         self.is_inherit(mutex) && self.first_level(mutex) == level
     }

@@ -5,8 +5,8 @@ use pim_base::{MAX_MUTEXES, MAX_TASKS, MutexNo, Prio, Protocol, TaskNo};
 use std::alloc::Global;
 use std::test::Fail;
 
-/// None, few and most, and those about 100, 150 and 200; with the base of the last task, or 0 if there is none. The bases
-/// of tasks are 1 to 99, over and over.
+/// Numbers of tasks: none, few and most, and those about 100, 150 and 200; with the base of the last task, or 0 if there
+/// is none. The bases of tasks are 1 to 99, over and over.
 const SIZES: &[[u16; 2]] = &[
     [0, 0],
     [1, 1],
@@ -33,8 +33,8 @@ fn tables(alloc: Global, tasks: u16, mutexes: u16) -> Result<Tables, Fail> {
     Ok(Tables::new(alloc, &bases, &protocols)?)
 }
 
-/// What is seen of the last task and of the last mutex: base, stored priority, whether it waits; the owner, how many wait,
-/// and whether there is room for one more.
+/// What is seen of the last task and of the last mutex: base, stored priority, whether it waits; the owner, how many
+/// wait, and whether there is room for one more.
 #[derive(Clone, Copy, Debug, PartialEq, Eq)]
 struct Shown {
     prios: [Option<Prio>; 2],

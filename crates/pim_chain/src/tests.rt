@@ -1,5 +1,5 @@
-//! Scenarios over the calls of the tables, with every stored priority and the number of visits after each step worked out
-//! from the definitions.
+//! Scenarios over the calls of the tables, with every stored priority and the number of visits after each step worked
+//! out from the definitions.
 
 ghost use Rattle.std.specs.Prelude.{None, IfOk};
 ghost use Rattle.pim_chain.specs.Views.{stored_at};
@@ -250,7 +250,7 @@ fn refused_deadlock_leaves_priorities(rt: HostRuntime) -> Result<(), Fail> {
 }
 
 #[test]
-fn new_owner_keeps_what_its_waiters_lend(rt: HostRuntime) -> Result<(), Fail> {
+fn new_owner_keeps_what_its_waiters_donate(rt: HostRuntime) -> Result<(), Fail> {
     let mut tables = tables(&rt, rt.alloc(), &[10, 50, 40], &[INHERIT])?;
     const ROWS: &[Row] = &[
         Row(Event::Lock(1, 1), 1, &[10, 50, 40]),
@@ -326,7 +326,9 @@ fn ceiling_hands_nothing_on(rt: HostRuntime) -> Result<(), Fail> {
 }
 
 #[test]
-fn raised_waiter_is_first_of_a_mutex_that_lends_nothing(rt: HostRuntime) -> Result<(), Fail> {
+fn raised_waiter_is_first_of_a_mutex_that_passes_on_no_priority(
+    rt: HostRuntime,
+) -> Result<(), Fail> {
     const ROWS: &[Row] = &[
         Row(Event::Lock(1, 1), 1, &[10, 40, 30, 90]),
         Row(Event::Lock(3, 2), 1, &[10, 40, 30, 90]),

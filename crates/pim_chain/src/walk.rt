@@ -9,7 +9,7 @@ ghost use Rattle.pim_base.specs.Priorities.{local_priority, effective_priority};
 ghost use Rattle.pim_base.specs.Queues.{queue_of};
 ghost use Rattle.pim_base.specs.declared.steps.Wait.{Wait};
 ghost use Rattle.pim_chain.specs.Views.{Ready, stored_at, queue_at, first_prio};
-ghost use Rattle.pim_chain.specs.Owned.{worth, lent_by};
+ghost use Rattle.pim_chain.specs.Owned.{worth, donated_by};
 ghost use Rattle.pim_chain.specs.Settled.{SettledBut, Visited, onward_from, next_of, changed, restored};
 ghost use Rattle.pim_chain.specs.Work.{Tells, VisitedOnce};
 
@@ -37,7 +37,7 @@ impl Tables {
 
     // Returns the priority that the owned mutex gives its owner: its ceiling, or the donation of its first waiter.
     #[inline(always)]
-    fn lent(&self, mutex: MutexNo) -> Option<Prio>
+    fn given(&self, mutex: MutexNo) -> Option<Prio>
         requires { owner_of self.now.state mutex ≢ None }
         ensures { unwrap_or result 0 ≡ worth self.now mutex }
     {
@@ -52,30 +52,30 @@ impl Tables {
 
     // Returns the level of this priority, 0 if the mutex gives none.
     #[inline(always)]
-    fn lent_level(&self, mutex: MutexNo) -> u16
+    fn given_level(&self, mutex: MutexNo) -> u16
         requires { owner_of self.now.state mutex ≢ None }
         ensures { result ≡ worth self.now mutex }
     {
-        self.lent(mutex).map_or(0, |prio| prio.get())
+        self.given(mutex).map_or(0, |prio| prio.get())
     }
 
     // Returns whether the priority that the owned mutex gives its owner is no higher than the task's.
     #[inline(always)]
-    pub(crate) fn lends_no_more(&self, mutex: MutexNo, task: TaskNo) -> bool
+    pub(crate) fn gives_no_more(&self, mutex: MutexNo, task: TaskNo) -> bool
         requires owned { owner_of self.now.state mutex ≢ None }
         requires known { IsTask self.now.state task }
         ensures { IsTrue result ↔ (worth self.now mutex ≤ stored_at self.now task) }
     {
-        self.lent_level(mutex) <= self.known_stored(task).get()
+        self.given_level(mutex) <= self.known_stored(task).get()
     }
 
-    // Returns the level that a known task donates to the owner of the known mutex that it waits for, 0 unless that is an
-    // INHERIT one.
+    // Returns the level that a known task donates to the owner of the known mutex that it waits for, or 0 unless that is
+    // an INHERIT one.
     #[inline(always)]
-    fn lent_by(&self, task: TaskNo, mutex: MutexNo) -> u16
+    fn donated_by(&self, task: TaskNo, mutex: MutexNo) -> u16
         requires known { IsTask self.now.state task }
         requires mutex { IsMutex self.now.state mutex }
-        ensures { result ≡ lent_by self.now task mutex }
+        ensures { result ≡ donated_by self.now task mutex }
     {
         if self.known_protocol(mutex).is_inherit() {
             self.known_stored(task).get()
@@ -100,8 +100,8 @@ impl Tables {
         let _tasks = self.tasks();
         let mut prio = self.known_base(task);
         for mutex in self.owned(task) {
-            if let Some(lent) = self.lent(mutex) {
-                prio = higher(prio, lent);
+            if let Some(given) = self.given(mutex) {
+                prio = higher(prio, given);
             }
         }
         prio
@@ -240,7 +240,7 @@ impl Tables {
         // The contract of this call gives the proof the invariant of the tables.
         let _tasks = self.tasks();
         self.bind(mutex, task);
-        if self.lends_no_more(mutex, task) {
+        if self.gives_no_more(mutex, task) {
             visits.add();
         } else {
             self.settle_from(task, visits);
@@ -266,9 +266,9 @@ impl Tables {
     {
         // The contract of this call gives the proof the invariant of the tables.
         let _tasks = self.tasks();
-        let lent = self.lent_level(mutex);
+        let given = self.given_level(mutex);
         self.unbind(mutex);
-        if lent < self.known_stored(owner).get() {
+        if given < self.known_stored(owner).get() {
             visits.add();
         } else {
             self.settle_from(owner, visits);
@@ -306,7 +306,7 @@ impl Tables {
         // The contract of this call gives the proof the invariant of the tables.
         let _tasks = self.tasks();
         self.join(task, mutex, ticket);
-        if self.lends_no_more(mutex, owner) {
+        if self.gives_no_more(mutex, owner) {
             visits.add();
         } else {
             self.settle_from(owner, visits);
@@ -332,9 +332,9 @@ impl Tables {
     {
         // The contract of this call gives the proof the invariant of the tables.
         let _tasks = self.tasks();
-        let lent = self.lent_by(task, mutex);
+        let donated = self.donated_by(task, mutex);
         self.leave(task);
-        if lent < self.known_stored(owner).get() {
+        if donated < self.known_stored(owner).get() {
             visits.add();
         } else {
             self.settle_from(owner, visits);

@@ -219,8 +219,8 @@ const RECURSIVE: [(u16, Op, Reply, u16); 11] = [
 fn expect_counts(rt: &impl Abort, manager: &mut Manager) {
     for (actor, op, reply, count) in RECURSIVE {
         assert_eq!(rt; manager.step(by(actor, op)).reply, reply, "{actor} {op:?}");
-        let lent = reply == Reply::Queued || reply == Reply::Kept;
-        let level = if lent { 50 } else { 10 };
+        let donated = reply == Reply::Queued || reply == Reply::Kept;
+        let level = if donated { 50 } else { 10 };
         let shown = (manager.count(FIRST), manager.effective(TaskNo(1)));
         assert_eq!(rt; shown, (Some(count), Prio::new(level)), "{actor} {op:?}");
     }

@@ -6,7 +6,7 @@ ghost use Rattle.pim_base.specs.State.{IsTask, owned};
 ghost use Rattle.pim_base.specs.Checks.{unknown_task};
 ghost use Rattle.pim_base.specs.Priorities.{ceiling_of};
 ghost use Rattle.pim_base.specs.Queues.{queue_of};
-ghost use Rattle.pim_base.specs.Reasons.{reason_of, waiter_reason, lends};
+ghost use Rattle.pim_base.specs.Reasons.{reason_of, waiter_reason, donates};
 
 use crate::plain_manager::PlainManager;
 use pim_base::{MutexNo, Prio, Reason, TaskNo};
@@ -35,7 +35,7 @@ impl PlainManager {
         }
         match self.ceiling_at(task, prio) {
             Some(mutex) => Reason::Ceiling(mutex),
-            None => self.waiter_reason(self.lender_at(task, prio)),
+            None => self.waiter_reason(self.source_at(task, prio)),
         }
     }
 
@@ -62,17 +62,17 @@ impl PlainManager {
     }
 
     /// Returns the least INHERIT mutex that the task owns for which a task waits at that priority.
-    fn lender_at(&self, task: TaskNo, prio: Prio) -> Option<MutexNo>
-        ensures { result ≡ find (lends self.now prio) (owned self.now task) }
+    fn source_at(&self, task: TaskNo, prio: Prio) -> Option<MutexNo>
+        ensures { result ≡ find (donates self.now prio) (owned self.now task) }
     {
-        self.least_owned(task, |mutex| self.lends(mutex, prio))
+        self.least_owned(task, |mutex| self.donates(mutex, prio))
     }
 
     /// Returns the first waiter for this mutex as the reason.
-    fn waiter_reason(&self, lender: Option<MutexNo>) -> Reason
-        ensures { result ≡ waiter_reason self.now lender }
+    fn waiter_reason(&self, source: Option<MutexNo>) -> Reason
+        ensures { result ≡ waiter_reason self.now source }
     {
-        let Some(mutex) = lender else {
+        let Some(mutex) = source else {
             return Reason::Base;
         };
         match &self.first_of(mutex) {
@@ -89,8 +89,8 @@ impl PlainManager {
     }
 
     /// Returns whether the mutex is an INHERIT mutex for which a task waits at this priority.
-    fn lends(&self, mutex: MutexNo, prio: Prio) -> bool
-        ensures { result ≡ lends self.now prio mutex }
+    fn donates(&self, mutex: MutexNo, prio: Prio) -> bool
+        ensures { result ≡ donates self.now prio mutex }
     {
         let protocol = self.protocol(mutex);
         protocol.is_some_and(|protocol| protocol.is_inherit()) && self.has_waiter_at(mutex, prio)

@@ -1,10 +1,10 @@
-//! Priorities that waiters lend, and take back.
+//! Priorities that waiters donate, and take back.
 
 use crate::Verdict::Accepted;
 use crate::tests::expected::expect_report;
 
 #[test]
-fn waiter_lends_its_priority_until_the_unlock(rt: HostRuntime) {
+fn waiter_donates_its_priority_until_the_unlock(rt: HostRuntime) {
     let text = "\
 pim 1
 task 1 10
@@ -216,7 +216,7 @@ accepted 5
 }
 
 #[test]
-fn raised_waiter_is_handed_a_mutex_that_lends_nothing(rt: HostRuntime) {
+fn raised_waiter_is_handed_a_mutex_that_passes_on_no_priority(rt: HostRuntime) {
     let text = "\
 pim 1
 task 1 10

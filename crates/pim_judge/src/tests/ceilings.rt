@@ -1,4 +1,4 @@
-//! Ceilings: from the grant to the release, and beside what waiters lend.
+//! Ceilings: from the grant to the release, and beside what waiters donate.
 
 use crate::Verdict::Accepted;
 use crate::tests::expected::expect_report;

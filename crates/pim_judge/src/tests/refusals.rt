@@ -1,4 +1,4 @@
-//! Steps that are refused, replies that were recorded, and queues of mutexes that lend nothing.
+//! Steps that are refused, replies that were recorded, and queues of mutexes that pass on no priority.
 
 use crate::Verdict::{Accepted, Rejected};
 use crate::tests::expected::expect_report;
@@ -78,7 +78,7 @@ accepted 5
 }
 
 #[test]
-fn deadlock_is_refused_through_mutexes_that_lend_nothing(rt: HostRuntime) {
+fn deadlock_is_refused_through_mutexes_that_pass_on_no_priority(rt: HostRuntime) {
     let text = "\
 pim 1
 task 1 10

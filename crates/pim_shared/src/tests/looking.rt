@@ -73,7 +73,7 @@ fn a_looker_sees_whose_wait_boosts_an_owner(rt: HostRuntime) {
         prio: prio(&rt, 20),
         reason: Reason::Waiter(SECOND, FIRST),
     };
-    let lent = Ok(Some(boosted));
+    let donated = Ok(Some(boosted));
     let lock = by(2, Lock(FIRST));
     expect_call(
         &rt,
@@ -82,7 +82,7 @@ fn a_looker_sees_whose_wait_boosts_an_owner(rt: HostRuntime) {
         lock,
         Reply::Queued,
         TaskNo(1),
-        lent,
+        donated,
     );
     let (_, _log) = shared.finish(&rt);
 }

@@ -21,13 +21,13 @@ ceiling_level-requires c =
     owned_mutex c.args.self.now.state c.in-Some.mutex c.args.task c.tasks-tasks.ensures.ready.sound.lists
     (next_all _ _ _ _ c.in-Some.ensures.steps c.loop-mutex.invariant.mine).0
 
-pub lends-requires : goal.lends-requires
-lends-requires c =
+pub donates-requires : goal.donates-requires
+donates-requires c =
     owned_mutex c.args.self.now.state c.in-Some.mutex c.args.task c.tasks-tasks.ensures.ready.sound.lists
     (next_all _ _ _ _ c.in-Some.ensures.steps c.loop-mutex.invariant.mine).0
 
-pub loop-mutex-preserved-then-lends : goal.loop-mutex-preserved-then-lends
-loop-mutex-preserved-then-lends c =
+pub loop-mutex-preserved-then-donates : goal.loop-mutex-preserved-then-donates
+loop-mutex-preserved-then-donates c =
     let S = c.args.self.now.state in
     record {
       tells = search rules;

@@ -8,10 +8,10 @@ use Rattle.pim_manager.proofs.Works.{Walked, walked, steady_shown}
 use Rattle.pim_manager.proofs.manager.Manager.set_ceiling.Goals as goal
 
 -- the owner has the priority that it has then
-lent :
+given :
     (c : goal.After-settle_from)
     → Walked c.args.self.now c.put_ceiling.new.self c.settle_from.new.self c.args.visits.now c.settle_from.new.visits
-lent c =
+given c =
     let S : State = c.args.self.now in
     walked c.self.inside.tables _ _ S (with_ceiling S c.args.mutex c.args.ceiling) _ _ c.self.invariant c.self.view_is
     (steady_kept.set_ceiling S c.args.mutex c.args.ceiling (steady_shown c.self.invariant c.self.view_is) c.requires.protect)
@@ -21,10 +21,10 @@ lent c =
     c.settle_from.ensures.state c.settle_from.ensures.settled c.settle_from.ensures.ready c.settle_from.ensures.work
 
 pub returns-in-Some-clause-work : goal.returns-in-Some-clause-work
-returns-in-Some-clause-work c = (lent c).work
+returns-in-Some-clause-work c = (given c).work
 
 pub returns-in-Some-clause-most : goal.returns-in-Some-clause-most
-returns-in-Some-clause-most c = let most = c.settle_from.ensures.at_most in omega (arith, most, (lent c).count)
+returns-in-Some-clause-most c = let most = c.settle_from.ensures.at_most in omega (arith, most, (given c).count)
 
 -- a free mutex gives no priority, whatever its ceiling
 pub returns-in_default-clause-work : goal.returns-in_default-clause-work

@@ -70,10 +70,10 @@ worth_all :
     (greatest_of (λ m. first_prio (queue_at v m)) (λ m. holds (heir_of v.state m) t) n)
 worth_all v t zero = refl
 worth_all v t (suc n) =
-    let lent = greatest_of-more (worth v) (λ m. holds (owner_of v.state m) t) (suc n) n (omega arith) in
+    let given = greatest_of-more (worth v) (λ m. holds (owner_of v.state m) t) (suc n) n (omega arith) in
     let ceilings = greatest_of-more (ceiling_of v.state) (λ m. holds (owner_of v.state m) t) (suc n) n (omega arith) in
     let fronts = greatest_of-more (λ m. first_prio (queue_at v m)) (λ m. holds (heir_of v.state m) t) (suc n) n (omega arith) in
-    omega (arith, lent, ceilings, fronts, worth_here v t (suc n), worth_all v t n)
+    omega (arith, given, ceilings, fronts, worth_here v t (suc n), worth_all v t n)
 
 -- the local priority by the priorities that the owned mutexes give
 pub local_by_owned :
@@ -100,14 +100,14 @@ local_by_owned v t ready =
 
 -- one more mutex
 pub greatest_next :
-    (f : ℕ → ℕ) (xs ys : List ℕ) (m prio lent : ℕ)
+    (f : ℕ → ℕ) (xs ys : List ℕ) (m prio given : ℕ)
     → xs ≡ m ∷ ys
-    → lent ≡ f m
-    → max prio (greatest (map f xs)) ≡ max (max prio lent) (greatest (map f ys))
-greatest_next f xs ys m prio lent is same =
+    → given ≡ f m
+    → max prio (greatest (map f xs)) ≡ max (max prio given) (greatest (map f ys))
+greatest_next f xs ys m prio given is same =
     ap (λ zs. max prio (greatest (map f zs))) is
     ∙ ap (max prio) (greatest-cons (f m) (map f ys) ∙ ap (λ n. max n (greatest (map f ys))) (sym same))
-    ∙ assoc prio lent (greatest (map f ys))
+    ∙ assoc prio given (greatest (map f ys))
   where
     assoc : (a b d : ℕ) → max a (max b d) ≡ max (max a b) d
     assoc a b d = omega arith

@@ -20,11 +20,11 @@ use Rattle.pim_base.proofs.Greatest.{greatest_of, greatest_of-le, le-greatest_of
 use Rattle.pim_base.proofs.Stored.{from_holds, holds_from}
 use Rattle.pim_base.proofs.NoCycle.{unwrap_or-put_same}
 use Rattle.pim_chain.specs.Views.{View, Ready, Shows, IsQueue, stored_at, queue_at, queue_in, put_queue, first_prio, with_state}
-use Rattle.pim_chain.specs.Owned.{worth, lent_by}
+use Rattle.pim_chain.specs.Owned.{worth, donated_by}
 use Rattle.pim_chain.specs.Settled.{SettledBut}
 use Rattle.pim_chain.proofs.Changes.{owner_other, view_other, view_same}
 use Rattle.pim_chain.proofs.Known.{owned_mutex}
-use Rattle.pim_chain.proofs.Lent.{local_by_owned}
+use Rattle.pim_chain.proofs.LocalOfOwned.{local_by_owned}
 use Rattle.pim_chain.proofs.Visit.{visited_same}
 
 -- all mutexes but one give the task the same priority
@@ -145,7 +145,7 @@ worth_under v t m ready mine =
     (subst (λ n. greatest_of (worth v) (λ k. holds (owner_of v.state k) t) (length v.state.protocol) ≤ n) (local_by_owned v t ready) (le-max_right _ _))
 
 -- only the priority that one mutex gives its owner may change: it doesn't fall, nor rise above the owner's
-lent_settled :
+donated_settled :
     (v w : View) (t m : ℕ)
     → Ready v
     → Ready w
@@ -158,7 +158,7 @@ lent_settled :
     → worth v m ≤ worth w m
     → worth w m ≤ stored_at v t
     → SettledBut w.state (stored_at w) None
-lent_settled v w t m ready after same was is had before but low high =
+donated_settled v w t m ready after same was is had before but low high =
     (visited_same w t but (had ∙ right ∙ le_antisymm
     (local_under v w t m _ ready after same (λ _. le_trans low (worth_under w t m after is)) (omega arith))
     (local_under w v t m _ after ready (back same) (λ _. subst (λ n. worth w m ≤ n) right high) (omega arith)))).settled
@@ -222,7 +222,7 @@ pub joined_settled :
     → worth w m ≤ stored_at w t
     → SettledBut w.state (stored_at w) None
 joined_settled v w x t m o u ready after is known owned before but low =
-    lent_settled v w t m ready after (subst (λ z. Alike v z t m) (sym is) (alike_requeued v t x m o _)) owned
+    donated_settled v w t m ready after (subst (λ z. Alike v z t m) (sym is) (alike_requeued v t x m o _)) owned
     (ap (λ (z : View). owner_of z.state m) is ∙ owned) had before but
     (subst (λ (z : View). worth v m ≤ worth z m) (sym is) (worth_joined v x m o u ready known))
     (subst (λ n. worth w m ≤ n) had low)
@@ -261,16 +261,16 @@ is_some-heir_in Protocol.InheritRecursive t = refl
 is_some-heir_in (Protocol.Protect c) t = refl
 
 -- one waiter less doesn't raise the priority that a mutex gives, and lowers it only if that waiter donated as much
-record WorthLeft (before after lent : ℕ) : Type 0 where
+record WorthLeft (before after donated : ℕ) : Type 0 where
   less : after ≤ before
-  by_lent : before ≤ max after lent
+  by_donated : before ≤ max after donated
 
 worth_left :
     (v : View) (x t m : ℕ) (o : Option Wait)
     → Ready v
     → IsMutex v.state m
     → owner_of v.state m ≡ Some t
-    → WorthLeft (worth v m) (worth (requeued v x o m (without x (queue_at v m))) m) (lent_by v x m)
+    → WorthLeft (worth v m) (worth (requeued v x o m (without x (queue_at v m))) m) (donated_by v x m)
 worth_left v x t m o ready known owned = go (is_some (heir_of v.state m)) inherits
   where
     queue : IsQueue (wait_of v.state) (stored_at v) m (queue_at v m)
@@ -288,8 +288,8 @@ worth_left v x t m o ready known owned = go (is_some (heir_of v.state m)) inheri
     less : first_prio left ≤ first_prio (queue_at v m)
     less = first_prio-without x (queue_at v m) queue.ordered
 
-    by_lent : first_prio (queue_at v m) ≤ max (first_prio left) (stored_at v x)
-    by_lent = first_prio-le-without (wait_of v.state) (stored_at v) m x (queue_at v m) queue.sound
+    by_donated : first_prio (queue_at v m) ≤ max (first_prio left) (stored_at v x)
+    by_donated = first_prio-le-without (wait_of v.state) (stored_at v) m x (queue_at v m) queue.sound
 
     go :
         (b : Bool)
@@ -300,8 +300,8 @@ worth_left v x t m o ready known owned = go (is_some (heir_of v.state m)) inheri
     go true is =
         subst (λ b. WorthLeft (max (ceiling_of v.state m) (first_prio (queue_at v m)))
         (max (ceiling_of v.state m) (first_prio (queue_in (put_queue v.queues m left) m))) (cond b (stored_at v x) 0)) is
-        (record { less = omega (arith, less, now); by_lent = omega (arith, by_lent, now) })
-    go false is = record { less = omega arith; by_lent = omega arith }
+        (record { less = omega (arith, less, now); by_donated = omega (arith, by_donated, now) })
+    go false is = record { less = omega arith; by_donated = omega arith }
 
 -- one waiter less, which donated a lower priority than the owner has
 pub left_settled :
@@ -313,7 +313,7 @@ pub left_settled :
     → owner_of v.state m ≡ Some t
     → SettledBut v.state (stored_at v) None
     → SettledBut w.state (stored_at w) (Some t)
-    → lent_by v x m < stored_at w t
+    → donated_by v x m < stored_at w t
     → SettledBut w.state (stored_at w) None
 left_settled v w x t m o ready after is known owned before but low =
     (visited_same w t but (had ∙ right ∙ le_antisymm lower
@@ -328,14 +328,14 @@ left_settled v w x t m o ready after is known owned before but low =
     right : stored_at v t ≡ local_priority v.state (stored_at v) t
     right = before t (ready.waits.owners m t owned) (λ e. none-some t e)
 
-    worths : WorthLeft (worth v m) (worth w m) (lent_by v x m)
-    worths = subst (λ (z : View). WorthLeft (worth v m) (worth z m) (lent_by v x m)) (sym is) (worth_left v x t m o ready known owned)
+    worths : WorthLeft (worth v m) (worth w m) (donated_by v x m)
+    worths = subst (λ (z : View). WorthLeft (worth v m) (worth z m) (donated_by v x m)) (sym is) (worth_left v x t m o ready known owned)
 
     lower : local_priority v.state (stored_at v) t ≤ local_priority w.state (stored_at w) t
     lower =
         let mine : worth w m ≤ local_priority w.state (stored_at w) t =
         worth_under w t m after (ap (λ (z : View). owner_of z.state m) is ∙ owned) in
-        let under : local_priority v.state (stored_at v) t ≤ max (local_priority w.state (stored_at w) t) (lent_by v x m) =
-        local_under v w t m _ ready after same (λ _. omega (arith, worths.by_lent, mine)) (le-max_left _ _) in
-        let less : lent_by v x m < local_priority v.state (stored_at v) t = subst (λ n. lent_by v x m < n) (had ∙ right) low in
+        let under : local_priority v.state (stored_at v) t ≤ max (local_priority w.state (stored_at w) t) (donated_by v x m) =
+        local_under v w t m _ ready after same (λ _. omega (arith, worths.by_donated, mine)) (le-max_left _ _) in
+        let less : donated_by v x m < local_priority v.state (stored_at v) t = subst (λ n. donated_by v x m < n) (had ∙ right) low in
         omega (arith, under, less)
