@@ -69,7 +69,7 @@ def rows(panel, sizes, curves):
 
 
 def main():
-    options = words()
+    options = arguments()
     unit = "nanoseconds" if options.time else "instructions"
     lines, panels = [], []
     with tempfile.TemporaryDirectory() as folder:
@@ -93,7 +93,7 @@ def main():
         pathlib.Path(options.plot).write_text(drawn)
 
 
-def words():
+def arguments():
     """Returns the options of the command line."""
     parser = runs.parser(__doc__, [panel.kind for panel in PANELS], "the repository's own")
     sizes = {"nargs": "+", "default": SIZES, "metavar": "N", "help": "2 to 256"}

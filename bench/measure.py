@@ -51,7 +51,7 @@ def row(name, commands, trace, options):
 
 
 def main():
-    options = words()
+    options = arguments()
     with tempfile.TemporaryDirectory() as folder:
         ours = runs.program(options.program) if options.program else runs.own_program()
         theirs = runs.program(options.beside) if options.beside else runs.judge(folder)
@@ -71,7 +71,7 @@ def main():
         runs.publish("bench/measure.py", told, lines)
 
 
-def words():
+def arguments():
     """Returns the options of the command line."""
     parser = runs.parser(__doc__, list(TEXTS), "the repository's own")
     beside = "the program to compare with, in place of the judge in C++"
