@@ -1,5 +1,6 @@
 /* pim-launch LIBRARY PROGRAM [ARGUMENT..]: runs the program with the library preloaded, or says in
- * one line why it can't be recorded, and runs nothing. pim-record calls it. */
+ * one line why it can't be recorded, and runs nothing. pim-record calls it. With PIM_KERNEL, the name
+ * of a file, it stays, and records the kernel's events there until the program ends. */
 #define _GNU_SOURCE
 #include <dlfcn.h>
 #include <elf.h>
@@ -15,6 +16,8 @@
 #include <sys/stat.h>
 #include <sys/xattr.h>
 #include <unistd.h>
+
+#include "kernel/record.h"
 
 enum { FAULT = 2, NOT_RUNNABLE = 126, NOT_FOUND = 127, MOST_SCRIPTS = 5, LINE_BYTES = 256 };
 
@@ -165,9 +168,19 @@ static void preload(const char *library, const char *log) {
     free(value);
 }
 
+/* Returns a copy of a variable that the program isn't to see, or NULL where it isn't set. */
+static char *take_variable(const char *name) {
+    const char *value = getenv(name);
+    char *copy = value ? strdup(value) : NULL;
+    unsetenv(name);
+    return copy;
+}
+
 int main(int count, char **arguments) {
     char path[PATH_MAX];
     const char *log = getenv("PIM_RECORD");
+    const char *kernel = take_variable("PIM_KERNEL");
+    const char *kilobytes = take_variable("PIM_KERNEL_KB");
     if (count < 3 || !log) {
         fprintf(stderr, "pim-launch: pim-record calls it\n");
         return FAULT;
@@ -178,7 +191,9 @@ int main(int count, char **arguments) {
     look_up(arguments[2], path);
     refuse_unrecordable(arguments[2], path);
     preload(arguments[1], name);
+    if (kernel && kilobytes) record_kernel(kernel, kilobytes);
     execvp(arguments[2], arguments + 2);
-    int status = errno == ENOENT ? NOT_FOUND : NOT_RUNNABLE;
-    refuse(status, arguments[2], strerror(errno));
+    int error = errno;
+    if (kernel && kilobytes) withdraw_recording();
+    refuse(error == ENOENT ? NOT_FOUND : NOT_RUNNABLE, arguments[2], strerror(error));
 }

@@ -1,0 +1,135 @@
+#define _GNU_SOURCE
+#include "text.h"
+
+#include <errno.h>
+#include <inttypes.h>
+#include <string.h>
+#include <sys/mman.h>
+#include <sys/utsname.h>
+
+/* Above each number of a task: the kernel's PID_MAX_LIMIT. Room that isn't used takes no memory. */
+enum { TASKS = 4 << 20 };
+
+enum { LOCK_PI = 6, UNLOCK_PI = 7, TRYLOCK_PI = 8, LOCK_PI2 = 13, OPERATION = 127, PRIVATE = 128 };
+
+bool open_text(struct text *text, const char *path) {
+    *text = (struct text){ .file = fopen(path, "wxe") };
+    if (!text->file) return false;
+    text->tasks = mmap(NULL, TASKS * sizeof *text->tasks, PROT_READ | PROT_WRITE,
+                       MAP_PRIVATE | MAP_ANONYMOUS | MAP_NORESERVE, -1, 0);
+    return text->tasks != MAP_FAILED;
+}
+
+void put_head(struct text *text, pid_t process, int cpus) {
+    struct utsname system;
+    uname(&system);
+    fprintf(text->file, "pim-kernel 1\nkernel %s %s\nclock mono\n", system.release, system.machine);
+    fprintf(text->file, "process %d\nbegan %" PRIu64 "\ncpus %d\n", (int)process, text->began,
+            cpus);
+}
+
+/* ---- lines ---- */
+
+static void put_start(struct text *text, const struct event *event) {
+    fprintf(text->file, "%" PRIu64 " %d %d ", event->time, event->cpu, event->task);
+}
+
+/* Tells a task's name if it is another than before. The idle tasks have no number of their own. */
+static void put_name(struct text *text, const struct event *event, int64_t number,
+                     const char name[NAME_BYTES]) {
+    if (number <= 0 || number >= TASKS) return;
+    struct task *task = &text->tasks[number];
+    if (memcmp(task->name, name, NAME_BYTES) == 0) return;
+    memcpy(task->name, name, NAME_BYTES);
+    put_start(text, event);
+    fprintf(text->file, "name %" PRId64 " ", number);
+    for (int i = 0; i < NAME_BYTES && name[i]; i++) {
+        bool is_plain = name[i] > ' ' && name[i] <= '~' && name[i] != '\\';
+        fprintf(text->file, is_plain ? "%c" : "\\x%02x", (unsigned char)name[i]);
+    }
+    fputc('\n', text->file);
+}
+
+/* What a task was as it stopped: sched_switch has a bit for each, and one more for preempted. */
+static void put_state(struct text *text, int64_t state) {
+    static const char letters[] = "SDTtXZPI";
+    const char *plus = state & 0x100 ? "+" : "";
+    int64_t bits = state & 0xff;
+    if (state & ~INT64_C(0x1ff) || bits & (bits - 1)) /* of another kernel */
+        fprintf(text->file, "0x%" PRIx64, (uint64_t)state);
+    else
+        fprintf(text->file, "%c%s", bits ? letters[__builtin_ctzll((uint64_t)bits)] : 'R', plus);
+}
+
+static void put_switch(struct text *text, const struct event *event) {
+    const int64_t *values = event->values;
+    put_name(text, event, event->task, event->names[0]);
+    put_name(text, event, values[2], event->names[1]);
+    put_start(text, event);
+    fprintf(text->file, "switch %" PRId64 " ", values[0]);
+    put_state(text, values[1]);
+    fprintf(text->file, " %" PRId64 " %" PRId64 "\n", values[2], values[3]);
+}
+
+/* The kernel tells the operation of a call, and not that of its return. So each task's last call is
+ * kept, and returns of other operations are left out; those before a loss, too. */
+static bool put_call(struct text *text, const struct event *event, struct task *task) {
+    static const char *const names[] = {
+        [LOCK_PI] = "lock", [UNLOCK_PI] = "unlock", [TRYLOCK_PI] = "trylock", [LOCK_PI2] = "lock2",
+    };
+    uint32_t word = (uint32_t)event->values[0], operation = word & OPERATION;
+    const char *name = operation <= LOCK_PI2 ? names[operation] : NULL;
+    task->calling = name ? text->losses + 1 : 0;
+    if (!name) return false;
+    put_start(text, event);
+    fprintf(text->file, "%s 0x%" PRIx64 " %s\n", name, (uint64_t)event->values[1],
+            word & PRIVATE ? "private" : "shared");
+    return true;
+}
+
+static bool put_return(struct text *text, const struct event *event, struct task *task) {
+    bool is_known = task->calling == text->losses + 1;
+    task->calling = 0;
+    if (!is_known) return false;
+    put_start(text, event);
+    fprintf(text->file, "return %" PRId64 "\n", event->values[0]);
+    return true;
+}
+
+static void put_lost(struct text *text, const struct event *event) {
+    uint64_t from = (uint64_t)event->values[1];
+    put_start(text, event);
+    fprintf(text->file, "lost %" PRId64 " %" PRIu64 "\n", event->values[0], from);
+    text->lost += (uint64_t)event->values[0];
+    if (text->losses == 0 || from < text->lost_from) text->lost_from = from;
+    if (event->time > text->lost_to) text->lost_to = event->time;
+    text->losses++;
+}
+
+void put_event(struct text *text, const struct event *event) {
+    struct task *task = &text->tasks[event->task >= 0 && event->task < TASKS ? event->task : 0];
+    bool is_put = event->kind != LOST;
+    switch (event->kind) {
+    case SET_PRIORITY:
+        put_start(text, event);
+        fprintf(text->file, "setprio %" PRId64 " %" PRId64 " %" PRId64 "\n", event->values[0],
+                event->values[1], event->values[2]);
+        break;
+    case SWITCH: put_switch(text, event); break;
+    case CALL: is_put = put_call(text, event, task); break;
+    case RETURN: is_put = put_return(text, event, task); break;
+    default: put_lost(text, event); break;
+    }
+    text->events += is_put;
+}
+
+void put_end(struct text *text, uint64_t time) {
+    fprintf(text->file, "end %" PRIu64 " %" PRIu64 " %" PRIu64 "\n", time, text->events,
+            text->lost);
+}
+
+bool close_text(struct text *text) {
+    bool is_whole = !ferror(text->file);
+    munmap(text->tasks, TASKS * sizeof *text->tasks);
+    return fclose(text->file) == 0 && is_whole;
+}

@@ -1,0 +1,36 @@
+/* The file of a recording of the kernel's events: lines of text. ../KERNEL.md specifies it. */
+#ifndef TEXT_H
+#define TEXT_H
+
+#include <stdbool.h>
+#include <stdint.h>
+#include <stdio.h>
+#include <sys/types.h>
+
+#include "events.h"
+
+struct task {
+    char name[NAME_BYTES];
+    uint32_t calling; /* the text's `losses` + 1 at its call of a PI mutex that hasn't returned */
+};
+
+struct text {
+    FILE *file;
+    struct task *tasks; /* by the kernel's number */
+    uint64_t began;
+    uint64_t events, lost;       /* how many */
+    uint32_t losses;             /* stretches in which events were lost */
+    uint64_t lost_from, lost_to; /* the first and the last time of those */
+};
+
+/* Makes the file. Returns false with errno set; a file that is there stays as it is. */
+bool open_text(struct text *text, const char *path);
+
+void put_head(struct text *text, pid_t process, int cpus);
+void put_event(struct text *text, const struct event *event);
+void put_end(struct text *text, uint64_t time);
+
+/* Returns false with errno set where a part couldn't be written. */
+bool close_text(struct text *text);
+
+#endif
