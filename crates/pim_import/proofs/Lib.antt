@@ -1,0 +1,2 @@
+pub mod SharingLemmas
+pub mod CrowdedLemmas

@@ -1,0 +1,28 @@
+//! Why spans don't get numbers.
+ghost use Rattle.std.specs.Prelude.{◌≡◌};
+ghost use Rattle.pim_import.specs.declared.fault.SharingFault.TheVariants.{Memory};
+
+use std::alloc::AllocError;
+use thiserror::Error;
+
+/// Why spans don't get numbers.
+#[derive(Clone, Copy, Debug, PartialEq, Eq, Error)]
+pub enum SharingFault {
+    /// The span at this index begins before the one in front of it.
+    #[error("index {0}: it begins before the one in front of it")]
+    OutOfOrder(usize),
+    /// When the span at this index begins, as many earlier ones last as there are numbers.
+    #[error("index {0}: too many last at one time")]
+    Crowded(usize),
+    /// Out of memory.
+    #[error("out of memory")]
+    Memory,
+}
+
+impl From<AllocError> for SharingFault {
+    ghost from_gives = { λ _ fault. fault ≡ Memory };
+
+    fn from(_error: AllocError) -> SharingFault {
+        SharingFault::Memory
+    }
+}
