@@ -1,8 +1,8 @@
-"""Checks of the C around libpim: the files of c/heap, c/threads/pi_mutex.c, and blocks of memory that are refused."""
+"""Checks of the C around libpim: the files of c/heap, c/threads and c/pthreads, and blocks of memory that are refused."""
 import re
 
-from c_common import C, HERE, said
-from checks import ROOT, check, skip
+from c_common import C, HERE, OUT, expect, run, said
+from checks import ROOT, check, difference, skip
 
 TESTS = ROOT / "tests"
 STATIC_BYTES = (1, 16, 100, 128, 160)
@@ -61,24 +61,69 @@ def mutexes(folder, machine=HERE):
     made = machine.compiled(folder, "pi_mutex", *files, flags=(*machine.sanitized, "-pthread", *wrapped(source)))
     if not made:
         return
-    status, out = machine.run(made)
+    told("pi_mutex.c over stubs", machine.run(made))
+
+
+def told(name, done):
+    """Prints the checks that a program has told, one a line, and one more if it failed and told none."""
+    status, out = done
     lines = out.decode(errors="replace").splitlines()
     for line in lines:
         if found := re.match(r"(ok|FAIL) ([^:]*: [^:]*)(?:: )?(.*)", line):
             check(found[2], (found[3] or "it failed") if found[1] == "FAIL" else None)
     if status and not any(line.startswith("FAIL") for line in lines):
-        check("pi_mutex.c over stubs", said(out) or f"status {status}")
+        check(name, said(out) or f"status {status}")
 
 
 def inversion(folder):
     """The inversion by the system's scheduler: skipped where the process may not set priorities."""
     name = "medium priority can't delay a high one, on one CPU under SCHED_FIFO"
-    files = (TESTS / "inversion.c", C / "threads/pi_mutex.c", C / "heap/malloc.c")
-    made = HERE.compiled(folder, "inversion", *files, flags=("-O2", "-pthread"))
+    inverts(name, folder, C / "threads/pi_mutex.c", ("env",))
+
+
+def inverts(name, folder, mutexes, runs):
+    files = (TESTS / "inversion.c", mutexes, C / "heap/malloc.c")
+    made = HERE.compiled(folder, f"inversion_{mutexes.stem}", *files, flags=("-O2", "-pthread"))
     if not made:
         return
-    status, out = HERE.run(made)
+    status, out = run(*runs, made)
     if status == SKIPPED:
         skip(name, said(out))
     else:
         check(name if status else f"{name}: {said(out)}", (said(out) or f"status {status}") if status else None)
+
+
+# ---- pthreads
+
+# What a program finds in c/pthreads in place of the C library's.
+SHIM = """
+pthread_cond_broadcast pthread_cond_clockwait pthread_cond_signal pthread_cond_timedwait pthread_cond_wait
+pthread_getschedparam pthread_mutex_clocklock pthread_mutex_destroy pthread_mutex_getprioceiling pthread_mutex_init
+pthread_mutex_lock pthread_mutex_setprioceiling pthread_mutex_timedlock pthread_mutex_trylock pthread_mutex_unlock
+pthread_setschedparam pthread_setschedprio
+""".split()
+
+
+def pthreads(folder):
+    """c/pthreads, linked into a program with stubs for priorities; and preloaded, where priorities can be set."""
+    source, library = TESTS / "pthreads.c", OUT / "libpim-pthreads.so"
+    files = (source, *sorted(C.glob("pthreads/*.c")))
+    made = HERE.compiled(folder, "pthreads", *files, flags=(*HERE.sanitized, "-pthread", "-fexceptions", *wrapped(source)))
+    if made:
+        told("c/pthreads with stubs", run(made))
+    status, out = run("nm", "-D", "--defined-only", "--format=just-symbols", library)
+    check("what libpim-pthreads.so exports", difference((out.decode().split(),), (SHIM,)))
+    preloaded = ("env", f"LD_PRELOAD={library}")
+    expect("threads over libpim-pthreads.so", run(*preloaded, OUT / "threads"), (C / "threads/expected").read_bytes())
+    name = "the same of pthread_mutex_lock over libpim-pthreads.so"
+    inverts(name, folder, TESTS / "pthread_inversion.c", preloaded)
+    benchmark("a benchmark of mutexes over libpim-pthreads.so", preloaded)
+
+
+def benchmark(name, runs):
+    """c/bench/mutexes.c prints five times."""
+    status, out = run(*runs, OUT / "mutexes")
+    if status == SKIPPED:
+        return skip(name, "the process may not use SCHED_FIFO")
+    times = re.findall(r"^\S.* +\d+\.\d ns$", out.decode(errors="replace"), re.M)
+    check(name, None if status == 0 and len(times) == 5 else said(out) or f"status {status}")
