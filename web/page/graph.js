@@ -38,7 +38,7 @@ class Layout {
     return owner ? 1 + this.depth(owner) : 0
   }
 
-  /** Returns why the owner of a mutex is boosted, if it is by this mutex, or by this waiter for it. */
+  /** Returns why the owner of a mutex is boosted, if it is by it, or by this waiter for it. */
   boostBy(m, waiter) {
     const owner = this.state.mutexes[m - 1].owner, it = owner && this.state.tasks[owner - 1]
     if (!it || it.by !== m) return ''
@@ -66,7 +66,8 @@ class Layout {
     const v = this.middle(places)
     this.put({ t }, u, v, this.task)
     this.owned[t - 1].forEach((m, i) => this.edges.push({
-      from: this.point(end + this.gap, places[i]), to: this.point(end, v), why: this.boostBy(m, 0) }))
+      from: this.point(end + this.gap, places[i]), to: this.point(end, v),
+      why: this.boostBy(m, 0) }))
     return v
   }
 
@@ -92,7 +93,8 @@ class Layout {
   /** Places tasks that own nothing and don't wait, and free mutexes, in rows. */
   placeOthers() {
     const { tasks, mutexes } = this.state, { w, h } = this.task
-    const idle = tasks.flatMap((task, i) => task.waits || this.owned[i].length ? [] : [{ t: i + 1 }])
+    const isIdle = (task, i) => !task.waits && !this.owned[i].length
+    const idle = tasks.flatMap((task, i) => isIdle(task, i) ? [{ t: i + 1 }] : [])
     const free = mutexes.flatMap((mutex, i) => mutex.owner ? [] : [{ m: i + 1 }])
     const used = Math.max(0, ...this.nodes.map(it => it.x + w))
     const deep = Math.max(0, ...this.nodes.map(it => it.y + h))
@@ -114,16 +116,20 @@ function drawEdge({ from: a, to: b, why, waits, nth }, narrow) {
     : `${(a.x + b.x) / 2} ${a.y} ${(a.x + b.x) / 2} ${b.y} ${b.x + 6} ${b.y}`
   const dashes = waits ? ';stroke-dasharray:4 3' : ''
   const style = `fill:none;stroke:${inkOf(why)};stroke-width:${why ? 2 : 1.4}${dashes}`
-  const path = `<path d="M${a.x} ${a.y}C${bend}" marker-end="url(#${why || 'plain'})" style="${style}"/>`
-  return path + (nth ? words(a.x - 5, a.y - 5, 10.5, 'fill:var(--mute)', nth, 'text-anchor="end"') : '')
+  const end = `marker-end="url(#${why || 'plain'})"`
+  const path = `<path d="M${a.x} ${a.y}C${bend}" ${end} style="${style}"/>`
+  const place = () => words(a.x - 5, a.y - 5, 10.5, 'fill:var(--mute)', nth, 'text-anchor="end"')
+  return path + (nth ? place() : '')
 }
 
 function drawTask({ t, x, y }, task, layout) {
-  const { w, h } = layout.task, up = task.prio > task.base, ink = up ? inkOf(task.why) : 'var(--ink)'
+  const { w, h } = layout.task, up = task.prio > task.base
+  const ink = up ? inkOf(task.why) : 'var(--ink)'
   const box = `fill:var(--panel);stroke:${up ? ink : 'var(--base)'};stroke-width:${up ? 1.75 : 1.2}`
   const base = task.waits && !layout.narrow ? `waits, base ${task.base}` : `base ${task.base}`
   const end = 'text-anchor="end"', mark = up ? MARKS[task.why] : ''
-  return `<g data-tip="${reason(t, task)}">` + rect(x + .75, y + .75, w - 1.5, h - 1.5, box, 'rx="7"')
+  return `<g data-tip="${reason(t, task)}">`
+    + rect(x + .75, y + .75, w - 1.5, h - 1.5, box, 'rx="7"')
     + words(x + 11, y + 20, 13, 'fill:var(--ink);font-weight:600', `task ${t}`)
     + words(x + 11, y + 36, 11, 'fill:var(--soft)', base)
     + words(x + w - 9, y + 20, 16, `fill:${ink};font-weight:650`, task.prio, end)
@@ -143,10 +149,11 @@ function drawMutex({ m, x, y }, mutex, { mutex: { w, h } }) {
   const kind = short[mutex.kind] ?? mutex.kind
   const box = `fill:${mutex.owner ? hue(m) : 'var(--bg)'};stroke:${hue(m)};stroke-width:1.3`
   const ink = mutex.owner ? 'var(--on-m)' : hue(m), middle = 'text-anchor="middle"'
+  const soft = mutex.owner ? ink : 'var(--soft)'
   return `<g data-tip="${ownership(m, mutex)}">`
     + rect(x + .75, y + .75, w - 1.5, h - 1.5, box, `rx="${h / 2}"`)
     + words(x + w / 2, y + 18, 12.5, `font-weight:600;fill:${ink}`, `mutex ${m}`, middle)
-    + words(x + w / 2, y + 31, 10.5, `fill:${mutex.owner ? ink : 'var(--soft)'}`, kind, middle) + '</g>'
+    + words(x + w / 2, y + 31, 10.5, `fill:${soft}`, kind, middle) + '</g>'
 }
 
 /** Returns a picture of who owns and who waits. */
@@ -158,6 +165,7 @@ function drawGraph(state, room) {
   const arrows = ['plain', 'waiter', 'ceiling'].map(why => arrow(why, inkOf(why)))
   const boxes = layout.nodes.map(it => it.t
     ? drawTask(it, state.tasks[it.t - 1], layout) : drawMutex(it, state.mutexes[it.m - 1], layout))
-  return `<svg width="${width}" height="${height}" aria-hidden="true"><defs>${arrows.join('')}</defs>`
-    + edges.map(it => drawEdge(it, room.narrow)).join('') + boxes.join('') + '</svg>'
+  return `<svg width="${width}" height="${height}" aria-hidden="true">`
+    + `<defs>${arrows.join('')}</defs>` + edges.map(it => drawEdge(it, room.narrow)).join('')
+    + boxes.join('') + '</svg>'
 }
