@@ -6,7 +6,10 @@ import { join } from 'node:path'
 
 const FLAGS = ['--headless=new', '--no-sandbox', '--disable-gpu', '--hide-scrollbars', '--no-first-run',
   '--disable-background-networking', '--disable-component-update', '--remote-debugging-pipe']
-const CODES = { ArrowLeft: 37, ArrowRight: 39, End: 35, Home: 36, Tab: 9, Escape: 27, Enter: 13 }
+const CODES = {
+  ArrowLeft: 37, ArrowRight: 39, End: 35, Home: 36, Tab: 9, Escape: 27, Enter: 13, Backspace: 8, Delete: 46, a: 65, q: 81,
+  y: 89, z: 90,
+}
 
 export const pause = ms => new Promise(done => setTimeout(done, ms))
 
@@ -81,7 +84,7 @@ export class Page {
   }
 
   async key(key, modifiers = 0) {
-    const text = key === 'Enter' ? '\r' : undefined
+    const text = key === 'Enter' ? '\r' : key.length === 1 && !modifiers ? key : undefined
     for (const type of ['keyDown', 'keyUp']) {
       const more = type === 'keyDown' ? { text } : {}
       await this.call('Input.dispatchKeyEvent',

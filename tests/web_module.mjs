@@ -1,12 +1,14 @@
-// web_module.mjs ENGINE WASM FOLDER: judges the texts 0, 1, .. of a folder in the page's module.
+// web_module.mjs PAGE WASM FOLDER: judges the texts 0, 1, .. of a folder in the page's module.
 //
-// Prints a line of JSON for each: kind, number, the report's SHA-256, and how many states that the
-// getters give differ from the report. Then one line for a module whose memory is 6 MiB at most.
+// PAGE is the folder of the page's scripts. Prints a line of JSON for each text: kind, number, the
+// report's SHA-256, how many states that the getters give differ from the report, and how many bars
+// differ from the states. Then one line for a module whose memory is 6 MiB at most.
 import { createHash } from 'node:crypto'
 import { existsSync, readFileSync } from 'node:fs'
 
-const [engineFile, wasmFile, folder] = process.argv.slice(2)
-const Engine = new Function(`'use strict'\n${readFileSync(engineFile, 'utf8')}\nreturn Engine`)()
+const [scripts, wasmFile, folder] = process.argv.slice(2)
+const script = ['states', 'engine'].map(name => readFileSync(`${scripts}/${name}.js`, 'utf8')).join('\n')
+const { Engine, States } = new Function(`'use strict'\n${script}\nreturn { Engine, States }`)()
 const wasm = readFileSync(wasmFile)
 const MOST_STATES = 300
 
@@ -49,31 +51,56 @@ function told(t, { prio, why, of, by }) {
 }
 
 /** Counts the steps after which the getters' answers aren't those of the report. */
-function wrongStates(engine, text, report, made) {
-  const read = engine.open(text)
-  let wrong = 0, before = engine.state(read).tasks
-  linesOfSteps(report).slice(0, made).forEach((lines, i) => {
-    engine.step(i + 1)
-    const tasks = engine.state(read).tasks
-    const changed = tasks.flatMap((it, t) => it.prio === before[t].prio ? [] : [told(t + 1, it)])
-    if (changed.join('\n') !== lines.join('\n')) wrong++
-    before = tasks
-  })
-  return wrong
+function wrongStates(states, report, made) {
+  const tasks = k => states.at(k).tasks
+  return linesOfSteps(report).slice(0, made).filter((lines, i) => {
+    const before = tasks(i)
+    const changed = tasks(i + 1).flatMap((it, t) => it.prio === before[t].prio ? [] : [told(t + 1, it)])
+    return changed.join('\n') !== lines.join('\n')
+  }).length
 }
 
-const engine = new Engine(wasm, 1 << 27)
+/** Counts the owners and waits of the states that aren't those of the bars, and the bars of no state. */
+function wrongBars(engine, states, made) {
+  const bars = engine.bars(made), said = new Set()
+  for (let i = 0; i < bars.length; i += 5) {
+    const [owns, t, m, from, to] = bars.subarray(i, i + 5)
+    for (let k = from; k < to; k++) said.add([owns, t, m, k].join(' '))
+  }
+  let wrong = 0
+  for (let k = 0; k <= made; k++) {
+    const { tasks, mutexes } = states.at(k)
+    const held = mutexes.flatMap((it, m) => it.owner ? [[1, it.owner, m + 1, k].join(' ')] : [])
+    const waits = tasks.flatMap((it, t) => it.waits ? [[0, t + 1, it.waits, k].join(' ')] : [])
+    for (const it of [...held, ...waits]) if (!said.delete(it)) wrong++
+  }
+  return wrong + said.size
+}
+
+/** Counts what the page draws otherwise than the report and the getters say: states, and bars. */
+function wrongPictures(engine, text, report, made) {
+  engine.open(text)
+  const whole = new States(engine.states(0, made + 1))
+  // The states of some steps are the same as among all, after the steps were made before.
+  const from = made >> 1, part = engine.states(from, made + 1)
+  const same = Buffer.from(part.numbers.buffer).equals(
+    Buffer.from(whole.numbers.buffer, 2 * from * whole.size))
+  return [wrongStates(whole, report, made) + (same ? 0 : 1), wrongBars(engine, whole, made)]
+}
+
+const engine = new Engine(new WebAssembly.Module(wasm), 1 << 27)
 for (let n = 0; existsSync(`${folder}/${n}`); n++) {
   const bytes = readFileSync(`${folder}/${n}`)
   const { kind, number, length, report } = engine.judgeBytes(bytes)
   const hash = createHash('sha256').update(report).digest('hex')
   // The step that is rejected has no lines of its tasks.
   const made = Math.min(MOST_STATES, kind === 0 ? number : number - 1)
-  const wrong = kind < 2 && length < 1 << 20 ? wrongStates(engine, bytes.toString(), report, made) : 0
-  console.log(JSON.stringify([kind, number, hash, wrong]))
+  const isDrawn = kind < 2 && length < 1 << 20
+  const wrong = isDrawn ? wrongPictures(engine, bytes.toString(), report, made) : [0, 0]
+  console.log(JSON.stringify([kind, number, hash, ...wrong]))
 }
 
-const small = new Engine(limited(wasm, 96), 1 << 12)
+const small = new Engine(new WebAssembly.Module(limited(wasm, 96)), 1 << 12)
 const huge = `pim 1\ntask 1 1\n${'1 lock 1\n'.repeat(65536)}`
 const kinds = ['pim 1\n', huge, 'pim 1\ntask 1 10\n1 lock 1\n', huge, 'pim 1\n'].map(text => {
   try { return small.judge(text).kind } catch (error) { return error.message }

@@ -3,8 +3,9 @@
 // FOLDER has input.json: the examples' names, texts to type, and files to open. Saved pictures go there
 // too. A line of JSON is printed for each thing that is shown: its name and the value. With SHOTS, a
 // folder, screenshots of three sizes go there.
-import { readFileSync } from 'node:fs'
+import { copyFileSync, existsSync, readFileSync, renameSync } from 'node:fs'
 import { Page, pause } from './web_browser.mjs'
+import { edited } from './web_edits.mjs'
 
 const [program, address, folder, shots] = process.argv.slice(2)
 const input = JSON.parse(readFileSync(`${folder}/input.json`, 'utf8'))
@@ -15,13 +16,22 @@ const report = () => page.evaluate(
   `[...document.querySelectorAll('#report span')].map(it => it.textContent + '\\n').join('')`)
 const all = (query, of) => page.evaluate(`[...document.querySelectorAll('${query}')].map(it => ${of})`)
 
+/** Waits until the page has drawn what the worker answered. */
+const settled = () => page.evaluate(`(async () => {
+  const isBusy = () => document.getElementById('main').getAttribute('aria-busy') === 'true'
+    || !document.getElementById('start').hidden && !document.querySelector('#start mark')
+  for (let n = 0; n < 6000 && isBusy(); n++) await new Promise(done => setTimeout(done, 5))
+})()`)
+
 async function choose(name) {
   await page.evaluate(`{ const it = document.getElementById('examples'); it.value = '${name}'; it.onchange() }`)
+  await settled()
 }
 
 async function typed(whole) {
   await page.evaluate(`{ const it = document.getElementById('text'); it.focus(); it.select() }`)
   await page.type(whole)
+  await settled()
 }
 
 /** What the lanes show: each priority with its lane, its steps and its number; each bar. */
@@ -37,10 +47,12 @@ async function firstVisit() {
   await page.call('Performance.enable', { timeDomain: 'threadTicks' })
   await page.size(1280, 800, false)
   await page.load(address)
+  await settled()
   show('start: marked lines', await all('#start mark', 'it.textContent'))
   show('start: after step 2', await all('#start .step', 'it.textContent'))
   show('start: lanes of task 1', await all('#start .prio[data-lane="1"]', 'it.textContent'))
   await page.evaluate(`document.querySelector('#inversion_avoided button').click()`)
+  await settled()
   show('start: opened', [await text('verdict'), await report()])
 }
 
@@ -54,6 +66,7 @@ async function examples() {
 async function typing() {
   await typed('')
   for (const line of input.lines) await page.type(line)
+  await settled()
   show('typed line by line', [await text('verdict'), await report()])
   for (const [name, whole] of Object.entries(input.texts)) {
     await typed(whole)
@@ -103,19 +116,34 @@ async function files() {
   const { root } = await page.call('DOM.getDocument')
   const { nodeId } = await page.call('DOM.querySelector', { nodeId: root.nodeId, selector: '#file' })
   await page.call('DOM.setFileInputFiles', { nodeId, files: [`${folder}/opened.pim`] })
-  await pause(300)
+  await verdict(/accepted 1$/)
+  await settled()
   show('a file opened', [await text('verdict'), await report()])
   await page.evaluate(`{ const data = new DataTransfer()
     data.items.add(new File([${JSON.stringify(input.dropped)}], 'dropped.pim'))
     document.body.dispatchEvent(new DragEvent('drop', { dataTransfer: data, bubbles: true, cancelable: true })) }`)
+  await verdict(/rejected at step 1$/)
+  await settled()
+  // The address follows a quarter of a second later.
   await pause(600)
   show('a file dropped', [await text('verdict'), await report()])
   const hash = await page.evaluate('location.hash')
   await page.load(address + hash)
+  await settled()
   show('the address', [hash, await text('verdict'), await page.evaluate(`document.getElementById('text').value`)])
   await page.call('Browser.setDownloadBehavior', { behavior: 'allow', downloadPath: folder })
-  for (const kind of ['svg', 'png']) await page.evaluate(`document.getElementById('${kind}').click()`)
-  await pause(1500)
+  await saved('svg')
+  await saved('png')
+  await choose('inversion_avoided')
+  renameSync(`${folder}/trace.svg`, `${folder}/first.svg`)
+  await saved('svg')
+  if (shots) copyFileSync(`${folder}/trace.svg`, `${shots}/inversion.svg`)
+}
+
+/** Saves the picture. A file that is there has all its bytes: the browser renames it at its end. */
+async function saved(kind) {
+  await page.evaluate(`document.getElementById('${kind}').click()`)
+  for (let n = 0; n < 400 && !existsSync(`${folder}/trace.${kind}`); n++) await pause(50)
 }
 
 /** Returns the milliseconds of CPU time that the page's own thread has taken. */
@@ -124,31 +152,173 @@ async function spent() {
   return 1000 * metrics.find(it => it.name === 'TaskDuration').value
 }
 
-/** Opens a trace of full size, and says how long the page took, and what it says of its limits. */
+const drop = `async text => {
+  const data = new DataTransfer()
+  data.items.add(new File([text], 'dropped.pim'))
+  document.body.dispatchEvent(new DragEvent('drop', { dataTransfer: data, bubbles: true, cancelable: true }))
+}`
+/** Waits until the page says so, two minutes at most: then what it shows is compared, and wrong. */
+const verdict = wanted => page.evaluate(`new Promise(done => { const begin = Date.now(), wait = () =>
+  ${wanted}.test(document.getElementById('verdict').textContent) || Date.now() - begin > 120_000
+    ? done() : setTimeout(wait, 5); wait() })`)
+
+/** Drops a text, and returns the milliseconds that the page's own thread took until all is drawn. */
+async function dropped(name, wanted) {
+  await page.evaluate(`window.given = ${JSON.stringify(input[name])}.join('')`)
+  const begin = await spent()
+  await page.evaluate(`(${drop})(given)`)
+  await verdict(wanted)
+  await settled()
+  await page.evaluate('document.body.offsetHeight')
+  return await spent() - begin
+}
+
+/** Opens traces of full size, and says how long the page took, and what it shows at the end. */
 async function full() {
-  await page.evaluate(`window.given = ${JSON.stringify(input.full)}.join('')`)
-  let begin = await spent()
-  await page.evaluate(`(async () => {
-    const data = new DataTransfer()
-    data.items.add(new File([given], 'full.pim'))
-    document.body.dispatchEvent(new DragEvent('drop', { dataTransfer: data, bubbles: true, cancelable: true }))
-    await new Promise(done => { const wait = () =>
-      document.getElementById('verdict').textContent === 'accepted 65536' ? done() : setTimeout(wait, 5); wait() })
-    document.body.offsetHeight })()`)
-  show('full size: milliseconds', await spent() - begin)
+  show('full size: milliseconds', await dropped('full', /accepted 65536/))
   show('full size', [await text('verdict'), await text('limits')])
+  await page.evaluate('document.activeElement.blur()')
+  const begin = await spent()
   await page.key('End')
-  show('full size: the last drawn step', (await text('said')).split(':')[0])
+  await settled()
+  show('the last step: milliseconds', await spent() - begin)
+  show('a scroll in full size: milliseconds', await scrolls(20) / 20)
+  await page.key('End')
+  await settled()
+  const line = await page.evaluate(`document.querySelector('#lines .now').dataset.line`)
+  const last = await all('#report span', 'it.textContent')
+  show('full size: the end', [(await text('said')).split(':')[0], +line, last[last.length - 1]])
+  show('full size: lanes', await lanes())
+  show('full size: numbers that overlap', await page.evaluate(`(() => {
+    const boxes = [...document.querySelectorAll('#lanes text[y="12"]')].map(it => it.getBoundingClientRect())
+    return boxes.filter((it, i) => i && it.left < boxes[i - 1].right).length })()`))
+  if (shots) await page.shot(`${shots}/full-size.png`)
+}
+
+/** Scrolls the trace, the report and the lanes, and returns the milliseconds that it took. */
+async function scrolls(count) {
+  const begin = await spent()
+  await page.evaluate(`(async () => {
+    for (let i = 1; i <= ${count}; i++) {
+      for (const id of ['editor', 'report', 'time']) {
+        const it = document.getElementById(id), side = id === 'time' ? 'Left' : 'Top'
+        const size = side === 'Left' ? it.scrollWidth : it.scrollHeight
+        it['scroll' + side] = size * (i * 7 % ${count}) / ${count}
+      }
+      await new Promise(done => requestAnimationFrame(() => requestAnimationFrame(done)))
+    } })()`)
+  await settled()
+  return await spent() - begin
+}
+
+/** Puts the caret at the end of a line that the text area holds, and types. */
+const typedAt = async (n, more) => {
+  await page.evaluate(`{ const it = document.getElementById('text'), lines = document.getElementById('lines')
+    const first = Math.round(parseFloat(it.style.top) / parseFloat(getComputedStyle(it).lineHeight))
+    const place = it.value.split('\\n').slice(0, ${n} - first).join('\\n').length
+    it.dispatchEvent(new PointerEvent('pointerdown'))
+    it.focus(); it.setSelectionRange(place, place) }`)
+  await page.type(more)
+}
+
+/** Edits a trace of full size at its end, its beginning and in the middle, copies it and pastes it. */
+async function longEditor() {
+  const key = async (...words) => { await page.key(...words); await settled() }
+  const begun = await spent()
+  await page.evaluate(`document.getElementById('text').focus()`)
+  await key('End', 2)
+  await page.type('1 lock 1')
+  await verdict(/invalid/)
+  await settled()
+  show('full size, typed at the end', await text('verdict'))
+  for (let i = 0; i < 8; i++) await page.key('Backspace')
+  await verdict(/accepted/)
+  show('keys in full size: milliseconds', (await spent() - begun) / 10)
+  await key('Home', 2)
+  await page.type('x')
+  await verdict(/invalid/)
+  show('full size, typed at the beginning', [await text('verdict'), await all('#lines .bad', '+it.dataset.line')])
+  await page.key('Backspace')
+  await verdict(/accepted/)
+  await page.evaluate(`{ const it = document.getElementById('slider'); it.value = 40000; it.oninput() }`)
+  await settled()
+  await typedAt(40_017, ' = queued 7')
+  await verdict(/invalid/)
+  await settled()
+  show('full size, typed in the middle', [await text('verdict'), await all('#lines .bad', '+it.dataset.line')])
+  for (let i = 0; i < 11; i++) await page.key('Backspace')
+  await verdict(/accepted/)
+  await settled()
+  await key('a', 2)
+  const copied = await page.evaluate(`(() => { let text
+    addEventListener('copy', event => { text = event.clipboardData.getData('text/plain') }, { once: true })
+    document.execCommand('copy')
+    return text === given })()`)
+  show('full size, copied', copied)
+  await page.evaluate(`{ const data = new DataTransfer(); data.setData('text/plain', given + '1 lock 1 1\\n')
+    document.getElementById('text').dispatchEvent(
+      new ClipboardEvent('paste', { clipboardData: data, bubbles: true, cancelable: true })) }`)
+  await verdict(/invalid/)
+  await settled()
+  show('full size, pasted over all', [await text('verdict'), await all('#lines .bad', '+it.dataset.line')])
+  await key('a', 2)
+  await page.type('pim 1')
+  await verdict(/accepted/)
+  await settled()
+  show('full size, typed over all', [await text('verdict'), await page.evaluate(`document.getElementById('text').value`)])
+}
+
+/** Edits texts that are a little shorter and longer than what the text area holds whole. */
+async function edits() {
+  for (const [steps, whole] of Object.entries(input.edited)) {
+    await page.evaluate(`(${drop})(${JSON.stringify(whole)})`)
+    await verdict(new RegExp(`accepted ${steps}$`))
+    await settled()
+    show(`edits of ${steps} steps`, await edited(page, whole, +steps))
+  }
+}
+
+/** A newer text takes the place of one of full size, however long that one would be judged. */
+async function lastWins() {
+  show('256 tasks: milliseconds', await dropped('large', /accepted 65536/))
+  await page.evaluate(`(async () => { await (${drop})(given)
+    const isTaken = () => document.getElementById('main').getAttribute('aria-busy') === 'true'
+    while (!isTaken()) await new Promise(done => setTimeout(done, 1)) })()`)
   await choose('ceilings')
-  await page.evaluate(`document.getElementById('text').value = ${JSON.stringify(input.long)}`)
+  await pause(300)
+  show('the last text', [await text('verdict'), await report()])
+}
+
+/** Of many tasks, those that no step names are folded. */
+async function folds() {
+  await typed(input.folded)
+  const shown = () => all('#names text[font-size="13"]', 'it.textContent')
+  show('folded', [await shown(), await text('unfold')])
+  if (shots) await page.shot(`${shots}/folded.png`)
+  await page.evaluate(`document.getElementById('unfold').click()`)
+  await settled()
+  // Only the lanes near those in view are drawn.
+  const first = await shown()
+  await page.evaluate(`{ const it = document.getElementById('time'); it.scrollTop = it.scrollHeight }`)
+  await page.evaluate('new Promise(done => requestAnimationFrame(() => requestAnimationFrame(done)))')
+  await settled()
+  show('unfolded', [first.slice(0, 3), (await shown()).pop(), await text('unfold')])
+  await page.evaluate(`document.getElementById('unfold').click()`)
+}
+
+/** Types into a text of 200 lines, and says how long the page's own thread took for a key. */
+async function keys() {
+  await choose('ceilings')
+  await typed(input.long)
   const times = []
   for (let i = 0; i < 10; i++) {
-    begin = await spent()
-    await page.evaluate(`document.getElementById('text').oninput(); document.body.offsetHeight`)
-    await pause(50)
+    const begin = await spent()
+    await page.type(i % 2 ? '\n' : '1 lock 1')
+    await settled()
+    await page.evaluate('new Promise(requestAnimationFrame)')
     times.push(await spent() - begin)
   }
-  show('a key: milliseconds', Math.min(...times))
+  show('a key: milliseconds', times.sort((a, b) => a - b)[times.length >> 1])
 }
 
 /** Returns the texts whose contrast with what is behind them is below that of AA. */
@@ -225,7 +395,7 @@ async function spoken() {
 
 const FAILURES = ['Runtime.exceptionThrown', 'Log.entryAdded']
 try {
-  for (const part of [firstVisit, examples, typing, stepping, files, full, byKeyboard, spoken, looks]) await part()
+  for (const part of [firstVisit, examples, typing, stepping, files, full, longEditor, edits, lastWins, folds, keys, byKeyboard, spoken, looks]) await part()
   const asked = page.heard.filter(it => it.method === 'Network.requestWillBeSent').map(it => it.params.request.url)
   show('requests', asked.filter(url => !/^(data|blob):/.test(url) && url.split('#')[0] !== address))
   const errors = page.heard.filter(it => FAILURES.includes(it.method)).map(it => JSON.stringify(it.params))

@@ -1,16 +1,13 @@
 // ---- the proved code -------------------------------------------------------------------
 // The module's functions, and the layout of their structs (crates/pim_web/src, c/pim.h). It
 // passes bytes and numbers on, and decides nothing.
-const ACCEPTED = 0, REJECTED = 1, INVALID = 2
-const PROTOCOLS = ['none', 'inherit', 'protect', 'inherit recursive']
-const REASONS = ['', 'base', 'ceiling', 'waiter']
 const CALLS = {
   1: 'pim_lock', 2: 'pim_try', 3: 'pim_unlock', 4: 'pim_release_all', 5: 'pim_cancel',
   6: 'pim_set_base', 7: 'pim_set_ceiling',
 }
+const CANCEL = 5, SET_BASE = 6
 const REFUSED = 8n // the kind of an answer to a step
 const MAX_TASKS = 256, MAX_MUTEXES = 256, MAX_STEPS = 65536
-const REPORT_ROOM = 1 << 22 // bytes of a report that are shown
 
 /** The module's memory, and buffers in it. */
 class Memory {
@@ -38,9 +35,9 @@ class Memory {
 
 /** The judge of texts, and a manager that makes the steps of the text that was opened last. */
 class Engine {
-  constructor(wasm, reportRoom = REPORT_ROOM) {
+  constructor(module, reportRoom = REPORT_ROOM) {
     this.reportRoom = reportRoom
-    this.pim = new WebAssembly.Instance(new WebAssembly.Module(wasm), {}).exports
+    this.pim = new WebAssembly.Instance(module, {}).exports
     this.memory = new Memory(this.pim)
     const room = n => this.memory.room(n)
     this.out = room(32)
@@ -73,54 +70,146 @@ class Engine {
     return { kind, number, length, report: new TextDecoder().decode(shown.slice()) }
   }
 
-  /** pim_read and pim_make: the numbers of tasks, mutexes and steps of a valid text, else null. */
+  /** pim_read: the numbers of tasks, mutexes and steps of a valid text, else null. */
   open(text) {
     const rooms = [[this.bases, MAX_TASKS], [this.protocols, MAX_MUTEXES], [this.steps, MAX_STEPS]]
     this.withBytes(new TextEncoder().encode(text), (at, n) =>
       this.pim.pim_read(this.out, at, n, ...rooms.flatMap(([to, most]) => [to, BigInt(most)])))
     if (this.memory.u32(this.out, 0) !== ACCEPTED) return null
     const [tasks, mutexes, steps] = [1, 2, 3].map(place => this.memory.u64(this.out, place))
-    this.pim.pim_drop(this.handle)
-    const made = this.pim.pim_make(
-      this.handle, this.bases, BigInt(tasks), this.protocols, BigInt(mutexes))
-    return made === 0 ? { tasks, mutexes, steps } : null
+    this.read = { tasks, mutexes, steps }
+    return this.begin() ? this.read : null
   }
 
-  /** Makes step k of the text, k from 1 on. Returns who made it, and whether it was refused. */
+  /** pim_make: goes back to the start of the text. Returns whether there was memory for it. */
+  begin() {
+    const { tasks, mutexes } = this.read
+    this.made = 0
+    this.pim.pim_drop(this.handle)
+    return !this.pim.pim_make(
+      this.handle, this.bases, BigInt(tasks), this.protocols, BigInt(mutexes))
+  }
+
+  /** Goes to where k steps are made. */
+  to(k) {
+    if (k < this.made && !this.begin()) throw Error('out of memory')
+    while (this.made < k) this.step(this.made + 1)
+  }
+
+  /** Returns the numbers of step k, from 1 on: the task, the operation, and what it names. */
+  numbers(k) { return [0, 1, 2, 3].map(i => this.memory.u16(this.steps, 4 * (k - 1) + i)) }
+
+  /** Makes step k of the text, the next one. Returns who made it, and whether it was refused. */
   step(k) {
-    const [actor, op, ...named] = [0, 1, 2, 3].map(i => this.memory.u16(this.steps, 4 * (k - 1) + i))
+    const [actor, op, ...named] = this.numbers(k)
     const call = this.pim[CALLS[op]]
     const answer = call(this.handle, actor, ...named.slice(0, call.length - 2))
+    this.made = k
     return { actor, refused: (answer & 255n) === REFUSED }
   }
 
-  /** Returns what the getters say of each task and each mutex. */
-  state({ tasks, mutexes }) {
-    const each = (n, of) => Array.from({ length: n }, (_, i) => of(i + 1))
-    return { tasks: each(tasks, t => this.task(t)), mutexes: each(mutexes, m => this.mutex(m)) }
+  /** Writes what the getters say now into the numbers from this place on, as States reads them. */
+  write(numbers, place) {
+    const { tasks, mutexes } = this.read
+    for (let t = 1; t <= tasks; t++) place = this.writeTask(numbers, place, t)
+    let waiting = place + MUTEX_PARTS * mutexes
+    for (let m = 1; m <= mutexes; m++) {
+      place = this.writeMutex(numbers, place, m)
+      const count = numbers[place - 1]
+      for (let i = 0; i < count; i++) numbers[waiting++] = this.memory.u16(this.waiters, 8 * i)
+    }
   }
 
-  task(t) {
+  writeTask(numbers, place, t) {
+    numbers[place++] = this.pim.pim_effective_prio(this.handle, t)
+    numbers[place++] = this.pim.pim_base_prio(this.handle, t)
+    numbers[place++] = this.pim.pim_waits_for(this.handle, t)
     // 16 bits each: the kind, the task and the mutex
-    const reason = Number(this.pim.pim_task_reason(this.handle, t) & 0xffffffffffffn)
-    const part = place => Math.floor(reason / 65536 ** place) % 65536
-    return {
-      prio: this.pim.pim_effective_prio(this.handle, t),
-      base: this.pim.pim_base_prio(this.handle, t),
-      waits: this.pim.pim_waits_for(this.handle, t),
-      why: REASONS[part(0)], of: part(1), by: part(2),
+    const reason = Number(BigInt.asUintN(48, this.pim.pim_task_reason(this.handle, t)))
+    for (let part = 0; part < 3; part++) {
+      numbers[place++] = Math.floor(reason / 65536 ** part) % 65536
     }
+    return place
   }
 
-  mutex(m) {
+  writeMutex(numbers, place, m) {
     const protocol = this.pim.pim_mutex_protocol(this.handle, m) >>> 0
-    const most = BigInt(MAX_TASKS)
-    const count = Number(this.pim.pim_waiters(this.handle, m, this.waiters, most))
-    return {
-      owner: this.pim.pim_owner(this.handle, m),
-      count: this.pim.pim_count(this.handle, m),
-      kind: PROTOCOLS[protocol & 0xffff], ceiling: protocol >>> 16,
-      queue: Array.from({ length: count }, (_, i) => this.memory.u16(this.waiters, 8 * i)),
+    numbers[place++] = this.pim.pim_owner(this.handle, m)
+    numbers[place++] = this.pim.pim_count(this.handle, m)
+    numbers[place++] = protocol & 0xffff
+    numbers[place++] = protocol >>> 16
+    numbers[place++] = Number(
+      this.pim.pim_waiters(this.handle, m, this.waiters, BigInt(MAX_TASKS)))
+    return place
+  }
+
+  /** Returns the states after the steps from one to before another, as States reads them. */
+  states(from, past) {
+    const { tasks, mutexes } = this.read, size = sizeOf(this.read)
+    const numbers = new Uint16Array(size * (past - from)), made = new Uint16Array(2 * (past - from))
+    this.to(Math.max(0, from - 1))
+    for (let k = from; k < past; k++) {
+      const { actor, refused } = k ? this.step(k) : { actor: 0, refused: false }
+      made.set([actor, refused], 2 * (k - from))
+      this.write(numbers, size * (k - from))
     }
+    return { from, past, tasks, mutexes, numbers, made }
+  }
+
+  /** Lists from which step to which a task owns a mutex or waits for one, up to the last step. */
+  bars(last) {
+    const { tasks, mutexes } = this.read, { pim_owner, pim_waits_for } = this.pim, found = []
+    const owners = new Uint16Array(mutexes + 1), waits = new Uint16Array(tasks + 1)
+    const since = { owners: new Uint32Array(mutexes + 1), waits: new Uint32Array(tasks + 1) }
+    const own = (m, k, next) => {
+      if (owners[m]) found.push(1, owners[m], m, since.owners[m], k)
+      owners[m] = next
+      since.owners[m] = k
+    }
+    const wait = (t, k, next) => {
+      if (waits[t]) found.push(0, t, waits[t], since.waits[t], k)
+      waits[t] = next
+      since.waits[t] = k
+    }
+    for (let k = 0; k <= last; k++) {
+      this.to(k)
+      for (let m = 1; m <= mutexes; m++) {
+        const owner = pim_owner(this.handle, m)
+        if (owner !== owners[m]) own(m, k, owner)
+      }
+      for (let t = 1; t <= tasks; t++) {
+        const mutex = pim_waits_for(this.handle, t)
+        if (mutex !== waits[t]) wait(t, k, mutex)
+      }
+    }
+    for (let m = 1; m <= mutexes; m++) own(m, last + 1, 0)
+    for (let t = 1; t <= tasks; t++) wait(t, last + 1, 0)
+    return Uint32Array.from(found)
+  }
+
+  /** Returns for each task whether a step names it. */
+  named() {
+    const { tasks, steps } = this.read, found = new Uint8Array(tasks + 1)
+    for (let k = 1; k <= steps; k++) {
+      const [actor, op, first] = this.numbers(k)
+      found[actor] = 1
+      if (op === CANCEL || op === SET_BASE) found[first] = 1
+    }
+    return found
+  }
+
+  /** Returns the first step up to the last after which most tasks are boosted, or the last. */
+  mostBoosted(last) {
+    const { tasks } = this.read, { pim_effective_prio, pim_base_prio } = this.pim
+    let most = 0, best = last
+    for (let k = 0; k <= last; k++) {
+      this.to(k)
+      let count = 0
+      for (let t = 1; t <= tasks; t++) {
+        if (pim_effective_prio(this.handle, t) > pim_base_prio(this.handle, t)) count++
+      }
+      if (count > most) [most, best] = [count, k]
+    }
+    return best
   }
 }

@@ -2,21 +2,25 @@
 const $ = id => document.getElementById(id)
 const MOST_IN_ADDRESS = 8000 // characters
 
-let pim, view = null, now = 0, folded = null, drawnAt = 0
+let judge, editor, view = null, now = 0, unfolded = false
+let drawnAt = { left: 0, top: 0 }    // where the lanes were scrolled to
+let fetching = null, missed = null   // the view whose states are fetched; what was asked meanwhile
 
 const isNarrow = () => innerWidth <= 820
 const hasFocusIn = what => document.activeElement?.matches(what)
 
 /** Fills the page with what holds after the chosen step. */
 function draw() {
-  drawText(view, now, $('lines'))
-  drawReport(view, now, $('report'))
+  drawLines()
   drawVerdict()
-  drawTime()
   drawBar()
-  drawState()
-  $('limits').textContent = limits(view)
-  $('text').style.height = `${Math.max($('lines').offsetHeight, $('editor').clientHeight)}px`
+  drawPicture()
+  $('limits').textContent = limits(view, editor)
+}
+
+function drawLines() {
+  drawText(view, now, editor, $('lines'))
+  drawReport(view, now, $('report'))
 }
 
 function drawVerdict() {
@@ -27,56 +31,128 @@ function drawVerdict() {
   $('verdict').textContent = said[view.kind] ?? 'out of memory'
 }
 
-/** Returns where the lanes are to be scrolled to, so that the chosen step is seen. */
-function placeOf(plan) {
-  const here = plan.x(now), { scrollLeft } = $('time'), seen = $('time').clientWidth - plan.side
-  const isSeen = here >= scrollLeft && here + plan.col <= scrollLeft + seen
-  return isSeen ? scrollLeft : Math.max(0, here - seen / 2)
+// ---- the picture: of the steps in view, which the worker makes
+
+/** Returns how wide a picture can be, and whether the page is narrow. */
+function roomOf(id) {
+  const narrow = isNarrow()
+  return { narrow, width: $(id).parentElement.clientWidth - (narrow ? 28 : 36) }
 }
 
-/** Draws the lanes near the chosen step, or near what is scrolled to. */
-function drawTime(toStep = true) {
-  const drawn = view.states.length > 0, narrow = isNarrow()
-  for (const id of ['svg', 'png']) $(id).disabled = !drawn
-  if (!drawn) { $('time').innerHTML = ''; return }
-  const width = $('time').parentElement.clientWidth - (narrow ? 28 : 36)
-  const room = { width, height: innerHeight * .46, narrow, all: false }
-  const plan = new Plan(view.states, room), { scrollTop } = $('time')
-  const left = toStep ? placeOf(plan) : $('time').scrollLeft
-  const { names, lanes } = drawLanes(view, now, { ...room, left })
-  $('time').innerHTML = `<div id="names">${names}</div><div id="lanes">${lanes}</div>`
-  $('time').scrollLeft = drawnAt = left
-  $('time').scrollTop = scrollTop
+/** Returns the plan of the lanes, and where they are scrolled to, where alone they are drawn. */
+function planAt(toStep) {
+  const { narrow, width } = roomOf('time')
+  const plan = new Plan(view, { width, height: innerHeight * .46, narrow, unfolded })
+  const { scrollLeft, scrollTop: top } = $('time'), wide = width - plan.side
+  const left = toStep ? placeOf(plan, scrollLeft, wide) : scrollLeft
+  // On a narrow page few lanes are as high as they are.
+  plan.see({ left, top, wide, deep: narrow && !plan.isTall ? Infinity : innerHeight * .8 })
+  return { plan, at: { left, top, moves: left !== scrollLeft } }
+}
+
+/** Returns where the lanes are to be scrolled to, so that the chosen step is seen. */
+function placeOf(plan, left, wide) {
+  const here = plan.x(now), isSeen = here >= left && here + plan.col <= left + wide
+  return isSeen ? left : Math.max(0, here - wide / 2)
+}
+
+const hasStates = (it, { first, past }) =>
+  it.states?.has(first) && it.states.has(past - 1) && it.statesAt(now)
+
+/** Asks for the states of these steps and of the chosen one. Returns whether they are wanted. */
+async function fetchStates(it, { first, past }) {
+  const fetched = async (from, to) => {
+    const found = await judge.ask(it, 'states', from, to)
+    return found && new States(found)
+  }
+  const k = now, states = await fetched(first, past)
+  const here = states?.has(k) ? states : await fetched(k, k + 1)
+  if (states && here) Object.assign(it, { states, here })
+  return !!(states && here) && it === view
+}
+
+/** Draws the lanes near the chosen step, or near what is scrolled to, and the graph. */
+async function drawPicture(toStep = true) {
+  const it = view, isDrawn = !!(it.read && it.bars)
+  for (const id of ['svg', 'png']) $(id).disabled = !isDrawn
+  if (!it.read) drawNothing()
+  if (!isDrawn) return
+  if (fetching === it) { missed = { toStep: toStep || missed?.toStep }; return }
+  const { plan, at } = planAt(toStep)
+  if (!hasStates(it, plan.seen) && !await waitFor(it, plan)) return
+  // Asked for before the lanes are drawn: afterwards the browser would have to place them twice.
+  const room = roomOf('graph')
+  drawTime(plan, at)
+  if (it.statesAt(now)) drawState(it.statesAt(now).at(now), room)
+  if (!missed) return
+  const again = missed.toStep
+  missed = null
+  await drawPicture(again)
+}
+
+/** Waits for the states that a picture needs. Returns whether they have come and are wanted. */
+async function waitFor(it, plan) {
+  fetching = it
+  busy(true)
+  try {
+    const came = await fetchStates(it, plan.seen)
+    if (came) busy(false)
+    return came
+  } catch (error) {
+    failed(error)
+    return false
+  } finally {
+    if (fetching === it) fetching = null
+  }
+}
+
+function drawNothing() {
+  for (const id of ['names', 'lanes', 'graph', 'why']) $(id).innerHTML = ''
+  $('when').textContent = ''
+  $('unfold').hidden = true
+}
+
+/** Draws the lanes, and scrolls to where they are drawn. */
+function drawTime(plan, at) {
+  const { names, lanes, left } = drawLanes(plan, view.states, now)
+  $('names').innerHTML = names
+  $('lanes').innerHTML = `<div style="margin-left:${left}px">${lanes}</div>`
+  $('lanes').style.width = `${plan.width}px`
+  $('time').classList.toggle('tall', plan.isTall)
+  if (at.moves) $('time').scrollLeft = at.left
+  drawnAt = at
+  $('unfold').hidden = !plan.folded && !unfolded
+  $('unfold').textContent = unfolded
+    ? 'Fold the tasks that no step names' : `Show ${plan.folded} tasks that no step names`
 }
 
 /** Draws the lanes anew where they were scrolled to the end of what was drawn. */
 function scrolled() {
-  if (Math.abs($('time').scrollLeft - drawnAt) > $('time').clientWidth / 2) drawTime(false)
+  const { scrollLeft, scrollTop, clientWidth, clientHeight } = $('time')
+  const isNear = Math.abs(scrollLeft - drawnAt.left) < clientWidth / 4
+    && Math.abs(scrollTop - drawnAt.top) < clientHeight / 4
+  if (!isNear && view) drawPicture(false)
 }
 
 function drawBar() {
-  const last = Math.max(0, view.states.length - 1)
+  const { last } = view
   $('slider').max = last
   $('slider').value = now
   $('slider').disabled = !last
   $('back').disabled = now <= 0
   $('on').disabled = now >= last
-  const reply = () => escape(view.replies[now] ?? '')
+  const reply = () => escape(view.reply(now))
   const step = () => `Step ${now}: <code>${escape(asked(view, now))}</code> <em>→ ${reply()}</em>`
   $('said').innerHTML = now ? step() : last ? 'Before the first step' : 'No step yet'
   $('slider').setAttribute('aria-valuetext', $('said').textContent)
 }
 
-function drawState() {
-  const state = view.states[now]
+function drawState(state, room) {
   $('when').textContent = now ? `after step ${now}` : 'at the start'
-  $('graph').innerHTML = ''
-  $('why').innerHTML = ''
-  if (!state) return
-  const narrow = isNarrow(), width = $('graph').clientWidth - (narrow ? 28 : 36)
-  $('graph').innerHTML = drawGraph(state, { width, narrow })
-  $('why').innerHTML = boosts(state).map(({ why, said }) =>
-    `<li><span class="${why}" aria-hidden="true">${MARKS[why]}</span> ${escape(said)}</li>`).join('')
+  $('graph').innerHTML = drawGraph(state, room)
+  const mark = why => `<span class="${why}" aria-hidden="true">${MARKS[why]}</span>`
+  const items = boosts(state).map(({ why, said }) => `<li>${mark(why)} ${escape(said)}</li>`)
+  $('why').innerHTML = items.join('')
   const owners = state.mutexes.map((mutex, i) => ownership(i + 1, mutex))
   const waits = state.tasks.flatMap((task, i) =>
     task.waits ? [`task ${i + 1} waits for mutex ${task.waits}`] : [])
@@ -87,60 +163,76 @@ function drawState() {
 
 /** Goes to step k, and shows its lines. */
 function go(k) {
-  now = Math.max(0, Math.min(k, view.states.length - 1))
-  draw()
-  for (const it of document.querySelectorAll('#report .now, #lines .now')) scrollTo(it)
+  now = Math.max(0, Math.min(k, view.last))
+  showLines()
+  drawLines()
+  drawBar()
+  drawPicture()
 }
 
-function scrollTo(it) {
-  const box = it.closest('#report, #editor')
-  const [a, b] = [it, box].map(each => each.getBoundingClientRect())
-  if (a.top < b.top) box.scrollTop += a.top - b.top - 6
-  if (a.bottom > b.bottom) box.scrollTop += a.bottom - b.bottom + 6
+/** Scrolls the trace and the report to the chosen step. */
+function showLines() {
+  if (now && view.read) editor.show(view.first + now)
+  $('report').scrollTop = placeInReport(view, now, $('report'))
 }
 
 /** Returns the step of the line at the caret, or null. */
 function atCaret() {
-  const line = $('text').value.slice(0, $('text').selectionStart).split('\n').length
-  const k = line - view.first
-  return view.read && k >= 1 && k < view.states.length ? k : null
+  const k = editor.caret - view.first
+  return view.read && k >= 1 && k <= view.last ? k : null
 }
 
-/** Judges the text, and chooses the step at the caret, or else the last one. */
-function typed() {
+const busy = is => $('main').setAttribute('aria-busy', is)
+
+/** Says that there is too little memory for the page's own buffers, or that the worker failed. */
+function failed(error) {
+  $('verdict').dataset.kind = 'memory'
+  $('verdict').textContent = error.message
+  busy(false)
+}
+
+/** Judges the text. Chooses the caret's step or the last; of an opened one the most boosted. */
+async function judgeText(isOpened = false) {
+  busy(true)
   try {
-    view = look(pim, folded ?? $('text').value)
+    const it = await judge.look(editor.text, editor.lines)
+    const best = isOpened && it?.read ? await judge.ask(it, 'mostBoosted', it.last) : 0
+    if (!it || best === null) return
+    view = it
+    now = isOpened ? best : atCaret() ?? it.last
+    draw()
+    if (isOpened) showLines()
+    keepInAddress()
+    if (it.read && !await addBars(it)) return
+    busy(false)
   } catch (error) {
-    // There is too little memory for the page's own buffers.
-    $('verdict').dataset.kind = 'memory'
-    $('verdict').textContent = String(error.message)
-    return
+    failed(error)
   }
-  now = Math.max(0, atCaret() ?? view.states.length - 1)
-  draw()
-  keepInAddress()
 }
 
-/** Shows this text. The editor holds the front of a long one, and can't change it. */
+/** Asks what each task owns and waits for, and draws it. Returns whether it is still wanted. */
+async function addBars(it) {
+  it.bars = await judge.ask(it, 'bars', it.last)
+  if (!it.bars) return false
+  await drawPicture()
+  return it === view
+}
+
+/** Shows this text. */
 function take(text) {
-  const lines = text.split('\n')
-  folded = lines.length > MOST_EDITED ? text : null
   showStart(false)
-  $('text').value = folded ? lines.slice(0, MOST_EDITED).join('\n') : text
-  $('text').readOnly = folded !== null
-  $('text').setSelectionRange($('text').value.length, $('text').value.length)
-  $('editor').scrollTop = $('time').scrollLeft = 0
-  typed()
-  go(mostBoosted(view))
+  editor.set(text)
+  $('time').scrollLeft = $('time').scrollTop = $('report').scrollTop = 0
+  return judgeText(true)
 }
 
-/** Judges what was pasted where it would make the text too long for the editor. */
-function pasted(event) {
-  const more = event.clipboardData.getData('text'), { value, selectionStart, selectionEnd } = $('text')
-  const text = value.slice(0, selectionStart) + more.replace(/\r\n/g, '\n') + value.slice(selectionEnd)
-  if (folded !== null || text.split('\n').length <= MOST_EDITED) return
-  event.preventDefault()
-  take(text)
+/** Judges what was typed, and shows it before the answer comes. */
+function typed() {
+  $('examples').value = ''
+  $('about-example').textContent = ''
+  editor.changed()
+  if (view) drawText(view, now, editor, $('lines'))
+  judgeText()
 }
 
 // ---- the address, files, examples
@@ -149,8 +241,9 @@ let keeping = 0
 function keepInAddress() {
   clearTimeout(keeping)
   keeping = setTimeout(() => {
-    const hash = `#trace=${encodeURIComponent(view.text)}`
-    const fits = hash.length <= MOST_IN_ADDRESS
+    const isShort = view.text.length <= MOST_IN_ADDRESS
+    const hash = isShort ? `#trace=${encodeURIComponent(view.text)}` : '#'
+    const fits = isShort && hash.length <= MOST_IN_ADDRESS
     history.replaceState(null, '', fits ? hash : '#')
     $('link').textContent = fits ? '' : 'This trace is too long for a link.'
   }, 250)
@@ -175,6 +268,8 @@ function takeExample(name) {
 }
 
 // ---- the first visit: two traces that differ in one line
+const STARTERS = ['inversion_suffered', 'inversion_avoided']
+let started = null
 
 function showStart(shown) {
   $('start').hidden = !shown
@@ -183,20 +278,33 @@ function showStart(shown) {
   if (shown) { $('verdict').textContent = ''; $('examples').value = 'start'; drawStart() }
 }
 
-function drawStart() {
-  const names = ['inversion_suffered', 'inversion_avoided']
-  const texts = names.map(name => PIM_EXAMPLES[name].text.split('\n'))
-  names.forEach((name, i) => {
-    const it = look(pim, PIM_EXAMPLES[name].text), narrow = innerWidth < 500
-    const width = $(name).clientWidth - 40
-    const { names: left, lanes } = drawLanes(it, 2, { width, height: 0, narrow })
-    const lines = texts[i].slice(0, -1).map((line, n) =>
-      line === texts[1 - i][n] ? `<span>${coloured(line)}</span>` : `<mark>${coloured(line)}</mark>`)
-    $(name).querySelector('pre').innerHTML = lines.join('')
-    $(name).querySelector('.picture').innerHTML = left + lanes
-    const said = boosts(it.states[2])
-    const base = `Task 1 executes at its base, ${it.states[2].tasks[0].prio}.`
-    $(name).querySelector('.step').textContent = `After step 2: ${said[0]?.said ?? base}`
+/** Returns the views of both traces, with all their states, or null if another text was opened. */
+async function viewsOfStart() {
+  const found = []
+  for (const name of STARTERS) {
+    const { text } = PIM_EXAMPLES[name], it = await judge.look(text, text.split('\n'))
+    const bars = it && await judge.ask(it, 'bars', it.last)
+    const states = bars && await judge.ask(it, 'states', 0, it.last + 1)
+    if (!states) return null
+    found.push(Object.assign(it, { bars, states: new States(states) }))
+  }
+  return found
+}
+
+async function drawStart() {
+  started ??= await viewsOfStart().catch(failed)
+  if (!started || $('start').hidden) return
+  started.forEach((it, i) => {
+    const narrow = innerWidth < 500, width = $(STARTERS[i]).clientWidth - 40
+    const plan = new Plan(it, { width, height: 0, narrow })
+    const { names, lanes } = drawLanes(plan, it.states, 2), other = started[1 - i].lines
+    const lines = it.lines.slice(0, -1).map((line, n) =>
+      line === other[n] ? `<span>${coloured(line)}</span>` : `<mark>${coloured(line)}</mark>`)
+    const section = $(STARTERS[i]), state = it.states.at(2)
+    section.querySelector('pre').innerHTML = lines.join('')
+    section.querySelector('.picture').innerHTML = names + lanes
+    const said = boosts(state)[0]?.said ?? `Task 1 executes at its base, ${state.tasks[0].prio}.`
+    section.querySelector('.step').textContent = `After step 2: ${said}`
   })
 }
 
@@ -224,8 +332,14 @@ function keyPressed(event) {
 
 /** Goes to the step at a point of the lanes or of the report. */
 function stepClicked(event) {
-  const under = document.elementsFromPoint(event.clientX, event.clientY).find(it => it.dataset?.step)
+  const all = document.elementsFromPoint(event.clientX, event.clientY)
+  const under = all.find(it => it.dataset?.step)
   if (under) go(+under.dataset.step)
+}
+
+async function save(as) {
+  const it = view, states = await judge.ask(it, 'states', ...savedOf(it, now))
+  if (states) as(pictureOf(it, new States(states), now, unfolded))
 }
 
 function listenToControls() {
@@ -239,44 +353,83 @@ function listenToControls() {
   $('on').onclick = () => go(now + 1)
   $('open').onclick = () => $('file').click()
   $('file').onchange = () => openFile($('file').files[0])
-  $('svg').onclick = () => saveSvg(view, now)
-  $('png').onclick = () => savePng(view, now)
+  $('svg').onclick = () => save(saveSvg)
+  $('png').onclick = () => save(savePng)
+  $('unfold').onclick = () => { unfolded = !unfolded; drawPicture() }
   $('more').onclick = () => $('about').showModal()
   for (const button of document.querySelectorAll('[data-example]')) {
     button.onclick = () => takeExample(button.dataset.example)
   }
 }
 
+function listenToEditor() {
+  const text = $('text')
+  text.oninput = typed
+  text.onbeforeinput = event => editor.typing(event)
+  text.onpaste = event => editor.pasted(event)
+  text.oncopy = text.oncut = event => editor.copied(event)
+  text.onkeydown = event => editor.keyDown(event)
+  text.onpointerdown = () => editor.pointed()
+  text.addEventListener('compositionstart', () => editor.composes(true))
+  text.addEventListener('compositionend', () => editor.composes(false))
+  text.onkeyup = text.onclick = () => {
+    const k = view && atCaret()
+    if (k && k !== now) go(k)
+  }
+  $('editor').onscroll = () => {
+    editor.scrolled()
+    if (view) drawText(view, now, editor, $('lines'))
+  }
+}
+
 function listen() {
   listenToControls()
-  $('text').oninput = () => { $('examples').value = ''; $('about-example').textContent = ''; typed() }
-  $('text').onpaste = pasted
-  $('text').onkeyup = $('text').onclick = () => { const k = atCaret(); if (k !== null && k !== now) go(k) }
+  listenToEditor()
   $('report').onclick = $('time').onclick = stepClicked
+  $('report').onscroll = () => { if (view) drawReport(view, now, $('report')) }
   $('time').onscroll = scrolled
   addEventListener('keydown', keyPressed)
-  addEventListener('resize', () => $('start').hidden ? draw() : drawStart())
+  addEventListener('resize', resized)
   addEventListener('pointermove', showTip)
   addEventListener('hashchange', () => {
     const text = inAddress()
     if (text !== null && text !== view?.text) take(text)
   })
   addEventListener('dragover', event => event.preventDefault())
-  addEventListener('drop', event => { event.preventDefault(); openFile(event.dataTransfer.files[0]) })
+  addEventListener('drop', event => {
+    event.preventDefault()
+    openFile(event.dataTransfer.files[0])
+  })
+}
+
+function resized() {
+  if (!$('start').hidden) { drawStart(); return }
+  editor.measure()
+  editor.fit()
+  if (view) draw()
+}
+
+/** Says that the browser can't run the module. */
+function unsupported(error) {
+  $('verdict').textContent = 'not supported'
+  $('start').hidden = true
+  $('main').hidden = true
+  $('unsupported').hidden = false
+  $('unsupported').append(` ${error}`)
 }
 
 function start() {
   try {
-    pim = new Engine(Uint8Array.from(atob(PIM_WASM), c => c.charCodeAt(0)))
+    judge = new Judge(new WebAssembly.Module(Uint8Array.from(atob(PIM_WASM), c => c.charCodeAt(0))))
   } catch (error) {
-    $('verdict').textContent = 'not supported'
-    $('start').hidden = true
-    $('main').hidden = true
-    $('unsupported').hidden = false
-    $('unsupported').append(` ${error}`)
+    unsupported(error)
     return
   }
-  for (const [name, { title }] of Object.entries(PIM_EXAMPLES)) $('examples').add(new Option(title, name))
+  editor = new Editor($('text'), $('sheet'), $('editor'))
+  editor.measure()
+  for (const [name, { title }] of Object.entries(PIM_EXAMPLES)) {
+    $('examples').add(new Option(title, name))
+  }
   listen()
   const text = inAddress()
   if (text === null) showStart(true)

@@ -1,18 +1,33 @@
 // ---- pictures as files ----------------------------------------------------------------
+const MOST_SAVED = 1200       // steps of a saved picture
+const MOST_STATES = 400_000   // tasks and mutexes, over all steps of a saved picture
+
 /** Replaces each variable of the style by its value on this page. */
 function resolved(svg) {
   const style = getComputedStyle(document.documentElement)
   return svg.replace(/var\((--[\w-]+)\)/g, (_, name) => style.getPropertyValue(name).trim())
 }
 
+/** Returns from which step to before which is saved: those near the chosen one, or all. */
+function savedOf(view, now) {
+  const { tasks, mutexes } = view.read
+  const room = Math.floor(MOST_STATES / Math.max(1, tasks + mutexes))
+  const most = Math.min(view.last, MOST_SAVED, room) + 1
+  const from = Math.max(0, Math.min(now - Math.floor(most / 2), view.last + 1 - most))
+  return [from, from + most]
+}
+
 /** Returns the names and the lanes in one picture, with nothing that only the page needs. */
-function pictureOf(view, now) {
-  const { plan, names, lanes } = drawLanes(view, now, { width: 1000, height: 0, narrow: false })
-  const width = plan.side + plan.width + 24, height = plan.height + 24
+function pictureOf(view, states, now, unfolded) {
+  const plan = new Plan(view, { width: 1000, height: 0, narrow: false, unfolded })
+  plan.seen = { ...plan.whole, first: states.from, past: states.past }
+  const { names, lanes, width: wide } = drawLanes(plan, states, now)
+  const width = plan.side + wide + 24, height = plan.height + 24
   const part = (svg, x) => svg.replace('<svg ', `<svg x="${x}" y="12" `)
   const font = `font-family="${getComputedStyle(document.body).fontFamily.replace(/"/g, "'")}"`
-  const whole = `<svg xmlns="http://www.w3.org/2000/svg" width="${width}" height="${height}" ${font}>`
-    + `<rect width="${width}" height="${height}" style="fill:var(--bg)"/>`
+  const size = `width="${width}" height="${height}"`
+  const whole = `<svg xmlns="http://www.w3.org/2000/svg" ${size} ${font}>`
+    + `<rect ${size} style="fill:var(--bg)"/>`
     + part(names, 12) + part(lanes, 12 + plan.side) + '</svg>\n'
   const plain = whole.replace(/ ?(data-[\w-]+|class|aria-hidden|pointer-events)="[^"]*"/g, '')
   return { svg: resolved(plain.replace(/<rect [^>]*fill:transparent[^>]*>/g, '')), width, height }
@@ -26,13 +41,13 @@ function download(name, blob) {
   setTimeout(() => URL.revokeObjectURL(link.href), 10_000)
 }
 
-function saveSvg(view, now) {
-  download('trace.svg', new Blob([pictureOf(view, now).svg], { type: 'image/svg+xml' }))
+function saveSvg({ svg }) {
+  download('trace.svg', new Blob([svg], { type: 'image/svg+xml' }))
 }
 
 /** Draws the picture at twice its size. A canvas has no more than 16,384 pixels a side. */
-function savePng(view, now) {
-  const { svg, width, height } = pictureOf(view, now), image = new Image()
+function savePng({ svg, width, height }) {
+  const image = new Image()
   const scale = Math.min(2, 16_000 / Math.max(width, height))
   image.onload = () => {
     const canvas = document.createElement('canvas')

@@ -1,5 +1,7 @@
-// ---- the editor, a text area over a coloured copy of its lines; and the report ----------
-const MOST_EDITED = 2000 // lines in the editor, and of the report at a time
+// ---- the lines of the editor, coloured, and the report ----------------------------------
+const MOST_SPOKEN = 2000 // lines of a report that are on the page as a whole
+const REPORT_LINE = 20    // pixels, as in the style
+const AROUND = 40        // lines more than those in view, on each side
 
 const KEYWORDS = /^(pim|task|mutex)\b|\b(lock|try|unlock|release|cancel|base|ceil)\b/g
 
@@ -9,17 +11,17 @@ function coloured(line) {
     .replace(/ = .*$/, recorded => `<i>${recorded}</i>`)
 }
 
-/** Returns what the editor says behind line n: the reply to its step, or that it is invalid. */
-function remark(view, n) {
+/** Returns what is said behind line n: its reply, or that it is invalid, if it was judged so. */
+function remark(view, n, line) {
+  if (line !== view.lines[n - 1]) return ''
   if (n === view.invalid) return 'invalid line'
-  if (!view.read || n <= view.first) return ''
-  return (view.replies[n - view.first] ?? '').replace(/ but recorded .*/, '')
+  return n > view.first ? view.reply(n - view.first).replace(/ but recorded .*/, '') : ''
 }
 
 function drawLine(view, now, line, n) {
   const bad = badLine(view), isNow = view.read && n > view.first && n - view.first === now
   const classes = [n === bad && 'bad', bad && n > bad && 'after', isNow && 'now'].filter(Boolean)
-  const said = remark(view, n)
+  const said = remark(view, n, line)
   return `<div data-line="${n}" class="${classes.join(' ')}">${coloured(line)}`
     + (said && `<span class="said">${escape(said)}</span>`) + '</div>'
 }
@@ -28,7 +30,10 @@ function drawLine(view, now, line, n) {
 function fill(to, lines) {
   const old = to.drawn ?? []
   to.drawn = lines
-  if (lines.filter((line, i) => line !== old[i]).length > 50) { to.innerHTML = lines.join(''); return }
+  if (lines.filter((line, i) => line !== old[i]).length > 50) {
+    to.innerHTML = lines.join('')
+    return
+  }
   while (to.children.length > lines.length) to.lastElementChild.remove()
   lines.forEach((line, i) => {
     if (i >= old.length) to.insertAdjacentHTML('beforeend', line)
@@ -36,63 +41,81 @@ function fill(to, lines) {
   })
 }
 
-/** Draws the copy of the lines below the text area. */
-function drawText(view, now, to) {
-  const lines = view.lines.slice(0, MOST_EDITED)
-  const widths = lines.map((line, i) => line.length + remark(view, i + 1).length + 2)
-  const widest = Math.max(...widths)
-  to.style.minWidth = `calc(${widest}ch + 76px)`
-  fill(to, lines.map((line, i) => drawLine(view, now, line, i + 1)))
+/** Returns how many characters wide the held lines are, with what is said behind them. */
+function widest(view, editor) {
+  let most = 0
+  for (let i = editor.first; i < editor.past; i++) {
+    const line = editor.lines[i]
+    most = Math.max(most, line.length + remark(view, i + 1, line).length)
+  }
+  return most + 2
 }
 
-/** Returns the first line of the report that is drawn, so that the chosen step is among them. */
-function firstShown(view, now) {
-  const last = Math.max(0, view.report.length - MOST_EDITED)
-  return Math.max(0, Math.min(last, (view.places[now] ?? 0) - MOST_EDITED / 2))
+/** Draws the copy of the lines in view below the text area. */
+function drawText(view, now, editor, to) {
+  const { first, past } = editor.near(AROUND), lines = editor.lines.slice(first, past)
+  fill(to, lines.map((line, i) => drawLine(view, now, line, first + i + 1)))
+  to.style.top = `${first * editor.line}px`
+  editor.sheet.style.minWidth = `max(100%, ${widest(view, editor)}ch + 76px)`
 }
 
 /** Returns the class of a line of the report. */
 function classOf(view, line, k, now) {
   const last = /^(accepted|rejected|line) /.exec(line)
   if (last) return last[1] === 'accepted' ? 'last' : 'last bad'
-  const classes = [/^\d/.test(line) && 'step', k === now && 'now', k === view.rejected && k && 'bad']
+  const isBad = k > 0 && k === view.rejected
+  const classes = [/^\d/.test(line) && 'step', k === now && 'now', isBad && 'bad']
   return classes.filter(Boolean).join(' ')
 }
 
-/** Returns the step that a line of the report is about. */
-function stepAt(view, place) {
-  let at = place
-  while (at > 0 && !/^\d/.test(view.report[at])) at--
-  return parseInt(view.report[at], 10) || 0
+/** Returns which lines of a report are drawn: all, or of a long one those near the ones in view. */
+function drawnOf(view, box, high) {
+  if (view.reportLines <= MOST_SPOKEN) return { first: 0, past: view.reportLines }
+  const first = Math.floor(box.scrollTop / high)
+  const past = first + Math.ceil(box.clientHeight / high)
+  return { first: Math.max(0, first - AROUND), past: Math.min(view.reportLines, past + AROUND) }
 }
 
-/** Draws the report, or of a long one the lines around the chosen step. */
-function drawReport(view, now, to) {
-  const from = firstShown(view, now), shown = view.report.slice(from, from + MOST_EDITED)
-  let k = stepAt(view, from)
-  fill(to, shown.map(line => {
-    k = +(/^(\d+) /.exec(line)?.[1] ?? k)
-    return `<span class="${classOf(view, line, k, now)}" data-step="${k}">${escape(line)}</span>`
-  }))
-}
-
-/** Returns what isn't shown of a long trace, or an empty text. */
-function limits(view) {
-  const number = n => n.toLocaleString('en'), said = []
-  const drawn = view.states.length - 1, all = view.rejected || view.read?.steps || 0
-  if (view.lines.length > MOST_EDITED) {
-    const all = number(view.lines.length)
-    said.push(`The editor shows the first ${number(MOST_EDITED)} of ${all} lines, and can't change them.`)
+/** Draws the report into the box's first element. */
+function drawReport(view, now, box) {
+  const { first, past } = drawnOf(view, box, REPORT_LINE)
+  const inside = box.firstElementChild, lines = []
+  for (let i = first; i < past; i++) {
+    const line = view.reportLine(i), k = view.stepOf(i)
+    const name = classOf(view, line, k, now)
+    lines.push(`<span class="${name}" data-step="${k}">${escape(line)}</span>`)
   }
-  if (view.states.length && drawn < all) {
-    said.push(`The picture shows the first ${number(drawn)} of ${number(all)} steps.`)
+  fill(inside, lines)
+  inside.style.paddingTop = `${first * REPORT_LINE}px`
+  inside.style.paddingBottom = `${(view.reportLines - past) * REPORT_LINE}px`
+}
+
+/** Returns where the report is to be scrolled to, so that the lines of a step are in view. */
+function placeInReport(view, now, { scrollTop, clientHeight }) {
+  if (!now || view.invalid || view.steps[view.places[now]] !== now) return scrollTop
+  const top = view.places[now] * REPORT_LINE
+  let past = view.places[now] + 1
+  while (past < view.reportLines - 1 && view.steps[past] === now) past++
+  if (top < scrollTop) return top - 6
+  const bottom = Math.min(past * REPORT_LINE, top + clientHeight)
+  return bottom > scrollTop + clientHeight ? bottom - clientHeight + 6 : scrollTop
+}
+
+/** Returns what the page doesn't do with a text of this length, or an empty text. */
+function limits(view, editor) {
+  const number = n => n.toLocaleString('en'), said = []
+  if (editor.isLong) {
+    const all = number(editor.lines.length)
+    said.push(`Of ${all} lines, the text area holds those near the ones in view:`
+      + ` the browser's search, a screen reader and a selection reach no further.`
+      + ' Undo, select all, copy and paste do.')
   }
   if (view.length > REPORT_ROOM) {
-    const most = number(REPORT_ROOM)
-    said.push(`The report has ${number(view.length)} bytes; the page shows the first ${most}.`)
-  } else if (view.report.length > MOST_EDITED) {
-    const [all, most] = [view.report.length, MOST_EDITED].map(number)
-    said.push(`The report has ${all} lines; the page shows ${most} near the chosen step.`)
+    const [most, all] = [REPORT_ROOM, view.length].map(number)
+    said.push(`The report has ${all} bytes; the page shows the first ${most}.`)
+  }
+  if (view.last > MOST_SAVED) {
+    said.push(`A saved picture has up to ${number(MOST_SAVED)} steps near the chosen one.`)
   }
   return said.join(' ')
 }

@@ -1,45 +1,29 @@
 // ---- a trace, as it is shown -----------------------------------------------------------
-const MOST_DRAWN = 1200     // steps of a picture
-const MOST_KEPT = 400_000   // tasks and mutexes, over all steps of a picture
-
-/** Returns the replies in a report by their steps, and the place of each step's line. */
-function repliesOf(report) {
-  const replies = [], places = [0]
-  report.forEach((line, place) => {
-    const step = /^(\d+) (.*)$/.exec(line)
-    if (step) { replies[+step[1]] = step[2]; places[+step[1]] = place }
-  })
-  return { replies, places }
-}
-
-/** Returns what holds at the start and after each step that is drawn, and who made it. */
-function statesOf(pim, read, last) {
-  const most = Math.min(last, MOST_DRAWN, Math.floor(MOST_KEPT / Math.max(1, read.tasks + read.mutexes)))
-  const states = [pim.state(read)], makers = [null]
-  for (let k = 1; k <= most; k++) {
-    makers.push(pim.step(k))
-    states.push(pim.state(read))
+/** A text with what the worker found of it. */
+class View {
+  constructor(turn, text, lines, answer) {
+    Object.assign(this, answer, { turn, text, lines })
+    this.first = this.read ? 1 + this.read.tasks + this.read.mutexes : 0
+    this.reportLines = this.invalid ? 1 : this.starts.length - 1
   }
-  return { states, makers }
-}
 
-/** Judges a text. Of an invalid one, what is above the invalid line is judged too, and drawn. */
-function look(pim, text) {
-  const judged = pim.judge(text), lines = text.split('\n')
-  const invalid = judged.kind === INVALID ? judged.number : 0
-  const front = invalid ? lines.slice(0, invalid - 1).map(line => line + '\n').join('') : text
-  const drawn = invalid ? pim.judge(front) : judged
-  const read = drawn.kind <= REJECTED ? pim.open(front) : null
-  const rejected = drawn.kind === REJECTED ? drawn.number : 0
-  const report = invalid ? [`line ${invalid}`] : drawn.report.split('\n').slice(0, -1)
-  const { replies } = repliesOf(drawn.report.split('\n'))
-  const none = { states: [], makers: [] }
-  return {
-    text, lines, kind: judged.kind, number: judged.number, length: judged.length, invalid, rejected,
-    judged, report, places: repliesOf(report).places, replies, read,
-    first: read ? 1 + read.tasks + read.mutexes : 0,
-    ...(read ? statesOf(pim, read, rejected || read.steps) : none),
+  /** Returns a line of the report of what was judged. */
+  judgedLine(i) { return this.report.slice(this.starts[i], this.starts[i + 1] - 1) }
+
+  /** Returns a line of the report that is shown, from 0 on. An invalid text has one line. */
+  reportLine(i) { return this.invalid ? `line ${this.invalid}` : this.judgedLine(i) }
+
+  /** Returns the step that a line of the report is about, or 0. */
+  stepOf(i) { return this.invalid ? 0 : this.steps[i] }
+
+  /** Returns the reply to step k, or an empty text if the report is cut before. */
+  reply(k) {
+    const place = k && k <= this.last ? this.places[k] : -1
+    return place >= 0 && this.steps[place] === k ? this.judgedLine(place).replace(/^\d+ /, '') : ''
   }
+
+  /** Returns the states that have step k, or null. */
+  statesAt(k) { return [this.states, this.here].find(it => it?.has(k)) ?? null }
 }
 
 /** Returns what step k asks for, as its line says it. */
@@ -48,17 +32,11 @@ const asked = (view, k) => view.lines[view.first + k - 1].replace(/ = .*$/, '')
 /** Returns the line that is invalid or rejected, or 0. */
 const badLine = view => view.invalid || (view.rejected ? view.first + view.rejected : 0)
 
-/** Returns the first step after which most tasks are boosted, or the last step if none is. */
-function mostBoosted(view) {
-  const counts = view.states.map(state => state.tasks.filter(task => task.prio > task.base).length)
-  const most = Math.max(0, ...counts)
-  return most ? counts.indexOf(most) : Math.max(0, counts.length - 1)
-}
-
 /** Says in words why a task executes at its priority. */
 function reason(t, task) {
-  if (task.why === 'waiter') return `task ${t} at ${task.prio}: task ${task.of} waits for mutex ${task.by}`
-  if (task.why === 'ceiling') return `task ${t} at ${task.prio}: the ceiling of mutex ${task.by}`
+  const at = `task ${t} at ${task.prio}`
+  if (task.why === 'waiter') return `${at}: task ${task.of} waits for mutex ${task.by}`
+  if (task.why === 'ceiling') return `${at}: the ceiling of mutex ${task.by}`
   return `task ${t} at its base, ${task.prio}`
 }
 
@@ -73,10 +51,10 @@ function boosts(state) {
   })
 }
 
-/** Lists the stretches of steps over which a key stays the same. A null key has none. */
-function stretches(count, key) {
+/** Lists the stretches of some steps over which a key stays the same. A null key has none. */
+function stretches(from, past, key) {
   const found = []
-  for (let k = 0; k < count; k++) {
+  for (let k = from; k < past; k++) {
     const it = key(k), last = found[found.length - 1]
     if (it === null) continue
     if (last && last.key === it && last.to === k) last.to = k + 1
