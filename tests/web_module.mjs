@@ -2,7 +2,7 @@
 //
 // PAGE is the folder of the page's scripts. Prints a line of JSON for each text: kind, number, the
 // report's SHA-256, how many states that the getters give differ from the report, and how many bars
-// differ from the states. Then one line for a module whose memory is 6 MiB at most.
+// differ from the states. Then one line for a module whose memory is 6 MiB at most, and one for its heap.
 import { createHash } from 'node:crypto'
 import { existsSync, readFileSync } from 'node:fs'
 
@@ -106,3 +106,37 @@ const kinds = ['pim 1\n', huge, 'pim 1\ntask 1 10\n1 lock 1\n', huge, 'pim 1\n']
   try { return small.judge(text).kind } catch (error) { return error.message }
 })
 console.log(JSON.stringify(kinds))
+
+/** Takes and gives back blocks at random, each full of its own mark. Returns what is wrong first, or null. */
+function wrongHeap(pim) {
+  const bytes = () => new Uint8Array(pim.memory.buffer), blocks = []
+  let seed = 7
+  const draw = n => (seed = seed * 48271 % 2147483647) % n
+  const isIntact = ({ at, size, mark }) => bytes().subarray(at, at + size).every(byte => byte === mark)
+  const take = mark => {
+    const size = draw(8) ? draw(300) : draw(100_000), at = Number(pim.pim_room(BigInt(size)))
+    bytes().fill(mark, at, at + size)
+    blocks.push({ at, size, mark })
+    return at > 0 && at % 16 === 0
+  }
+  for (let i = 0; i < 20_000; i++) {
+    if (blocks.length < 100 && (!blocks.length || draw(2))) {
+      if (!take(i % 255 + 1)) return `a block isn't aligned, or there is none`
+    } else {
+      const [it] = blocks.splice(draw(blocks.length), 1)
+      if (!isIntact(it)) return `a block of ${it.size} bytes was changed`
+      pim.pim_room_back(BigInt(it.at))
+    }
+  }
+  for (const it of blocks) {
+    if (!isIntact(it)) return `a block of ${it.size} bytes was changed`
+    pim.pim_room_back(BigInt(it.at))
+  }
+  // All is one block again, but for what is below the heap: the stack and the data.
+  const all = bytes().length
+  if (!pim.pim_room(BigInt(all - (1 << 19))) || bytes().length > all) return 'neighbours are apart'
+  // -1n is the largest number of bytes, which nothing may be added to.
+  return pim.pim_room(1n << 50n) || pim.pim_room(-1n) ? 'a block larger than any memory' : null
+}
+
+console.log(JSON.stringify(wrongHeap(new WebAssembly.Instance(new WebAssembly.Module(wasm), {}).exports)))
