@@ -44,13 +44,13 @@ def read_head(lines):
 
 def event_of(number, line):
     """Returns the event of a line, or None where the line has no such form."""
-    words = line.split(b" ")
-    what = words[3].decode("latin-1") if len(words) > 3 else ""
+    parts = line.split(b" ")
+    what = parts[3].decode("latin-1") if len(parts) > 3 else ""
     if what not in PATTERNS or not PATTERNS[what].fullmatch(line):
         return None
-    time, cpu, task = map(int, words[:3])
+    time, cpu, task = map(int, parts[:3])
     numbers = (NUMBER, SIGNED, PRIORITY)
-    fields = zip(FIELDS[what], words[4:])
+    fields = zip(FIELDS[what], parts[4:])
     values = [int(word) if form in numbers else word.decode() for form, word in fields]
     return Event(number, time, cpu, task, what, values)
 
@@ -72,7 +72,7 @@ class KernelText:
     def read_line(self, number, line):
         event, end = event_of(number, line), END.fullmatch(line)
         if self.end is not None:
-            self.faults.append(f"line {number}: it stands behind the end")
+            self.faults.append(f"line {number}: it follows the end")
         elif end:
             self.end = tuple(map(int, end.groups()))
         elif event:
@@ -203,7 +203,7 @@ def seconds(head, time):
 
 
 def priority_word(priority):
-    """Returns the POSIX priority of a kernel's priority, or the class where there is none."""
+    """Returns the POSIX priority of a kernel's priority, or the class if it has none."""
     if priority < 0:
         return "deadline"
     return str(99 - priority) if priority < 99 else "other"

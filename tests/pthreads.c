@@ -1,6 +1,6 @@
 /* c/pthreads, linked into this program in place of the C library's mutexes and condition variables.
  *
- * The kernel isn't told any priority, so no rights are needed: stubs log what it is to be told,
+ * No priority is set in the kernel, so no rights are needed: stubs log what would be set,
  * "NAME P" for a thread that runs at priority P from then on, and "wake" for a futex that wakes. They
  * also note which thread is blocked. */
 #define _GNU_SOURCE
@@ -48,7 +48,7 @@ struct player {
 
 static _Thread_local struct player *playing;
 
-/* ---- the stub: what the kernel is told ---- */
+/* ---- the stub: which priorities are set ---- */
 
 static char events[512];
 static struct { const char *name; _Atomic pid_t id; } names[NAMES];
@@ -1036,7 +1036,7 @@ static void ended_with_waiter(void) {
     IS(of_thread(unlock_of_another, &m), EPERM);
     events[0] = 0;
     IS(answer(&low), ETIMEDOUT);
-    LOG(""); /* the kernel isn't told that the boost of the ended thread is over */
+    LOG(""); /* no priority of the ended thread is set */
     forget_name(atomic_load(&guest.id));
     IS(pthread_mutex_trylock(&m), EBUSY);
 }
@@ -1133,7 +1133,7 @@ static int child(pthread_mutex_t *own, pthread_mutex_t *others) {
     return strcmp(events, "child 30") != 0 ? 8 : 0;
 }
 
-/* A child owns what the thread that forked owned, nobody waits there, and it tells the kernel of itself alone: its boost is over. */
+/* A child owns what the thread that forked owned, nobody waits there, and it sets its own priority alone: its boost is over. */
 static void forked(void) {
     pthread_mutex_t own = made(INHERIT, NORMAL), others = made(INHERIT, NORMAL);
     int status = -1;

@@ -247,7 +247,7 @@ def others(reader, folder, tracefs):
 
 
 def lost(reader, folder):
-    """A recorder that is held up loses events, and tells when and how many."""
+    """A recorder that is held up loses events, and reports when and how many."""
     child = started(folder, PROGRAMS / "random", "1", "4000", options=["--buffer", "8"])
     until(lambda: pathlib.Path(folder, "run.kernel").exists())
     child.send_signal(signal.SIGSTOP)
@@ -260,10 +260,10 @@ def lost(reader, folder):
     fault = next(iter(kernel_text.Checker(text).run()), None) or (None if count else "nothing is lost")
     check("a recording with lost events keeps the laws", fault)
     wanted = f"pim-record: {count} of the kernel's events were lost, in {len(told)} stretches from "
-    check("lost events are told on standard error", None if said.startswith(wanted) and said.count("\n") == 1 else said)
+    check("lost events are reported on standard error", None if said.startswith(wanted) and said.count("\n") == 1 else said)
     done = run(RECORD / "pim-log", "--check", f"{folder}/run.kernel")
     lines = [line for line in done.stdout.splitlines() if "events were lost, from" in line]
-    check("lost events are told by --check", difference((done.returncode, len(lines)), (0, len(told))))
+    check("lost events are reported by --check", difference((done.returncode, len(lines)), (0, len(told))))
 
 
 def ends(reader, folder, tracefs):
@@ -351,11 +351,11 @@ LAWS = {
     "an end that counts less": ("end 4000 9 0", "end 4000 8 0", "counts 8 events, and there are 9"),
     "an end that counts lost events": ("end 4000 9 0", "end 4000 9 1", "counts 1 lost events, and the lines 0"),
     "no end": ("end 4000 9 0\n", "", "the end is missing"),
-    "a line behind the end": ("end 4000 9 0\n", "end 4000 9 0\n4000 0 101 return 0\n", "line 19: it stands behind"),
+    "a line behind the end": ("end 4000 9 0\n", "end 4000 9 0\n4000 0 101 return 0\n", "line 19: it follows the end"),
     "a part of a line behind the end": ("end 4000 9 0\n", "end 4000 9 0\n40", "the last line isn't whole"),
     "lost events that the end doesn't count": ("2600 1 102 setprio 101 89 69", "2600 1 0 lost 4 2500",
                                                "counts 0 lost events, and the lines 4"),
-    "a second end": ("end 4000 9 0\n", "end 4000 9 0\n" * 2, "line 19: it stands behind"),
+    "a second end": ("end 4000 9 0\n", "end 4000 9 0\n" * 2, "line 19: it follows the end"),
     "a CPU too many": ("2000 0 100 switch", "2000 2 100 switch", "there is no CPU 2"),
     "a return from no call": ("3000 0 101 return 0", "3000 0 101 return 0\n" * 2, "returns from no call"),
     "a call within a call": ("2600 1 102 setprio 101 89 69", "2600 1 102 trylock 0x5000 shared", "hasn't returned"),
@@ -443,7 +443,7 @@ def by_hand(folder):
     done = run(RECORD / "pim-log", "--check", path)
     told = ["CPU 1: 4 events were lost, from 0.000001500 to 0.000001600",
             "0 faults in 7 events of 4 tasks: 3 switches, 1 set priorities, 3 of futex; 4 lost; clock mono"]
-    check("a lost stretch is told", difference((done.returncode, done.stdout.splitlines()), (0, told)))
+    check("a lost stretch is reported", difference((done.returncode, done.stdout.splitlines()), (0, told)))
     words = {-1: "deadline", 0: "99", 98: "1", 99: "other", 100: "other", 139: "other"}
     got = {priority: kernel_text.priority_word(priority) for priority in words}
     check("priorities of POSIX", difference((got,), (words,)))

@@ -63,7 +63,7 @@ static int compare(const void *a, const void *b) {
     return (difference > 0) - (difference < 0);
 }
 
-static void tell(const char *name, int protocol, int count, int threads, int cpus) {
+static void report(const char *name, int protocol, int count, int threads, int cpus) {
     pthread_mutexattr_t attributes;
     double rounds[ROUNDS];
     pthread_mutexattr_init(&attributes);
@@ -81,10 +81,10 @@ static void tell(const char *name, int protocol, int count, int threads, int cpu
 int main(void) {
     struct sched_param fifo = { .sched_priority = 1 };
     if (pthread_setschedparam(pthread_self(), SCHED_FIFO, &fifo) != 0) return SKIPPED;
-    tell("alone, NONE", PTHREAD_PRIO_NONE, 200000, 1, 1);
-    tell("alone, INHERIT", PTHREAD_PRIO_INHERIT, 200000, 1, 1);
-    tell("alone, PROTECT", PTHREAD_PRIO_PROTECT, 20000, 1, 1);
-    tell("two threads on one CPU, INHERIT", PTHREAD_PRIO_INHERIT, 5000, 2, 1);
-    tell("two threads on two CPUs, INHERIT", PTHREAD_PRIO_INHERIT, 20000, 2, 2);
+    report("alone, NONE", PTHREAD_PRIO_NONE, 200000, 1, 1);
+    report("alone, INHERIT", PTHREAD_PRIO_INHERIT, 200000, 1, 1);
+    report("alone, PROTECT", PTHREAD_PRIO_PROTECT, 20000, 1, 1);
+    report("two threads on one CPU, INHERIT", PTHREAD_PRIO_INHERIT, 5000, 2, 1);
+    report("two threads on two CPUs, INHERIT", PTHREAD_PRIO_INHERIT, 20000, 2, 2);
     return 0;
 }

@@ -42,7 +42,7 @@ struct thread {
     uint16_t number;
     pid_t id; /* of the kernel; 0 if the thread has ended */
     pthread_t self;
-    struct level own, told;     /* told: what the kernel was told */
+    struct level own, set;      /* set: what was last set in the kernel */
     _Atomic uint32_t is_woken;  /* a futex: 0 while the thread is blocked */
     int result;                 /* with what it was woken */
     struct mutex *fast[FAST];   /* what it locked without libpim, and has not unlocked since */

@@ -26,9 +26,9 @@ static int run_at(struct thread *thread, uint16_t prio) {
     struct level level = thread->own;
     if (prio != base_of(level.prio)) level = (struct level){ level.policy == SCHED_RR ? SCHED_RR : SCHED_FIFO, prio };
     struct sched_param param = { .sched_priority = level.prio };
-    if (thread->id == 0 || (level.policy == thread->told.policy && level.prio == thread->told.prio)) return 0;
+    if (thread->id == 0 || (level.policy == thread->set.policy && level.prio == thread->set.prio)) return 0;
     if (sched_setscheduler(thread->id, level.policy, &param) != 0) return errno;
-    thread->told = level;
+    thread->set = level;
     return 0;
 }
 
@@ -48,7 +48,7 @@ static void set_own(struct thread *thread, struct level level) {
     pim_set_base(&locks, me->number, thread->number, base_of(level.prio));
 }
 
-/* Sets a thread's own priority. If it is boosted, the kernel is told when the boost ends or grows. */
+/* Sets a thread's own priority. If it is boosted, the kernel gets it when the boost ends. */
 static int set_base(struct thread *thread, int policy, int prio) {
     struct level old = thread->own;
     if (caller() == NULL) return EAGAIN;
@@ -143,8 +143,8 @@ struct thread *caller(void) {
     me = &threads[number];
     sched_getparam(0, &param);
     *me = (struct thread){ .number = number, .id = own_id(), .self = pthread_self() };
-    me->told = (struct level){ sched_getscheduler(0) & ~SCHED_RESET_ON_FORK, param.sched_priority };
-    set_own(me, me->told);
+    me->set = (struct level){ sched_getscheduler(0) & ~SCHED_RESET_ON_FORK, param.sched_priority };
+    set_own(me, me->set);
     pthread_setspecific(key, me);
     return me;
 }

@@ -78,7 +78,7 @@ const char *turn_on_events(const struct instance *of, struct layouts *layouts) {
 
 /* ---- the queue ---- */
 
-/* Puts an event at the end. Returns NULL where there is no memory. */
+/* Puts an event at the end. Returns NULL if out of memory. */
 static struct event *queue_event(struct queue *queue) {
     if (queue->count == queue->room && queue->next > queue->room / 2) {
         queue->count -= queue->next;
@@ -101,7 +101,7 @@ static struct event *queue_event(struct queue *queue) {
 /* ---- a page of the kernel's buffer: events/header_page and events/header_event ---- */
 
 /* Behind the time of a page: the length of its data, and whether events are missing before it. Their
- * count stands behind the data if there was room. */
+ * count follows the data if there was room. */
 static const unsigned long LENGTH = (1UL << 27) - 1, MISSED_STORED = 1UL << 30, MISSED = 1UL << 31;
 
 struct head {

@@ -9,7 +9,7 @@
 
 #include "instance.h"
 
-/* What the values of an event are is said beside it. */
+/* The comment at each kind says what the values of its events are. */
 enum kind {
     SET_PRIORITY, /* task, its priority before, and from now on */
     SWITCH,       /* priority and state of the task that stops; the next task, its priority */

@@ -7,7 +7,7 @@
 #include <sys/mman.h>
 #include <sys/utsname.h>
 
-/* Above each number of a task: the kernel's PID_MAX_LIMIT. Room that isn't used takes no memory. */
+/* The kernel's PID_MAX_LIMIT, above every task's number. Untouched pages aren't allocated. */
 enum { TASKS = 4 << 20 };
 
 enum { LOCK_PI = 6, UNLOCK_PI = 7, TRYLOCK_PI = 8, LOCK_PI2 = 13, OPERATION = 127, PRIVATE = 128 };
@@ -71,7 +71,7 @@ static void put_switch(struct text *text, const struct event *event) {
     fprintf(text->file, " %" PRId64 " %" PRId64 "\n", values[2], values[3]);
 }
 
-/* The kernel tells the operation of a call, and not that of its return. So each task's last call is
+/* sys_exit_futex doesn't report the operation that returns. So each task's last call is
  * kept, and returns of other operations are left out; those before a loss, too. */
 static bool put_call(struct text *text, const struct event *event, struct task *task) {
     static const char *const names[] = {

@@ -167,13 +167,13 @@ class Editor {
     this.scrolled()
   }
 
-  /** Puts other lines in the place of some, with the caret behind them, and tells the page. */
+  /** Puts other lines in the place of some, with the caret behind them, and fires `input`. */
   put(at, count, added, column = added[added.length - 1]?.length ?? 0) {
     this.replace(at, count, added)
-    this.tell(at + added.length - 1, column)
+    this.announce(at + added.length - 1, column)
   }
 
-  tell(line, column) {
+  announce(line, column) {
     this.whole = false
     this.reach(line, column)
     this.area.dispatchEvent(new Event('input'))
@@ -187,7 +187,7 @@ class Editor {
     this.splice(it.at, count, lines)
     ;(isBack ? on : back).push(it)
     const last = Math.min(it.at + Math.max(0, lines.length - 1), this.lines.length - 1)
-    this.tell(last, this.lines[last].length)
+    this.announce(last, this.lines[last].length)
   }
 
   // ---- keys, and what reaches further than the lines that are held

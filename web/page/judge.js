@@ -29,9 +29,9 @@ class Judge {
     if (!this.waiting.size) this.whenFree?.()
   }
 
-  send(call, words) {
+  send(call, given) {
     const id = ++this.asked
-    this.worker.postMessage({ id, call, words, module: this.module })
+    this.worker.postMessage({ id, call, given, module: this.module })
     return new Promise((done, failed) => this.waiting.set(id, { done, failed }))
   }
 
@@ -58,9 +58,9 @@ class Judge {
   }
 
   /** Asks about the text of a view. Returns null if a newer one has come. */
-  async ask(view, call, ...words) {
+  async ask(view, call, ...given) {
     if (view.turn !== this.texts) return null
-    const answer = await this.send(call, words)
+    const answer = await this.send(call, given)
     return view.turn === this.texts ? answer : null
   }
 }

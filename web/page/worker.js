@@ -72,10 +72,10 @@ function placeBars(bars) {
 const CALLED = { look, mostBoosted, bars, states: (from, past) => engine.states(from, past) }
 
 let engine
-onmessage = ({ data: { id, call, words, module } }) => {
+onmessage = ({ data: { id, call, given, module } }) => {
   try {
     engine ??= new Engine(module)
-    postMessage({ id, result: CALLED[call](...words) })
+    postMessage({ id, result: CALLED[call](...given) })
   } catch (error) {
     postMessage({ id, failed: String(error.message) })
   }

@@ -1,4 +1,4 @@
-//! Ceilings: from the grant to the release, and beside what waiters donate.
+//! Ceilings: from the grant to the release, and together with what waiters donate.
 
 use crate::Verdict::Accepted;
 use crate::tests::expected::expect_report;
