@@ -113,9 +113,9 @@ bool release_gone(struct thread *thread) {
         } else {
             pim_unlock(&locks, thread->number, n);
             take_back(lent_to[n], GONE);
-            apply_changes();
         }
     }
+    apply_changes();
     return owns_nothing;
 }
 
@@ -124,8 +124,8 @@ bool release_gone(struct thread *thread) {
 /* Returns the caller's answer to a mutex that it owns already. */
 static int lock_again(struct mutex *mutex, bool may_wait) {
     int type = mutex->kind & TYPE;
-    if (type != PTHREAD_MUTEX_RECURSIVE && !may_wait) return EBUSY;
-    if (type != PTHREAD_MUTEX_RECURSIVE) return type == PTHREAD_MUTEX_ERRORCHECK ? EDEADLK : EINPROGRESS;
+    if (type != PTHREAD_MUTEX_RECURSIVE)
+        return !may_wait ? EBUSY : type == PTHREAD_MUTEX_ERRORCHECK ? EDEADLK : EINPROGRESS;
     if (mutex->relocks == UINT32_MAX) return EAGAIN;
     mutex->relocks++;
     return 0;

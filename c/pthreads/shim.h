@@ -6,6 +6,7 @@
 #define PIM_PTHREADS_SHIM_H
 
 #define _GNU_SOURCE
+#include <dlfcn.h>
 #include <errno.h>
 #include <pim.h>
 #include <pthread.h>
@@ -63,9 +64,8 @@ extern OWN struct thread *me; /* NULL until the caller is lent a number */
 /* glibc's own function: for robust and process-shared mutexes, and threads without a number. */
 #define GLIBC(name) __extension__({ \
     static _Atomic(__typeof__(&name)) found; \
-    if (found == NULL) found = (__typeof__(&name))glibc(#name); \
+    if (found == NULL) found = (__typeof__(&name))(uintptr_t)dlsym(RTLD_NEXT, #name); \
     found; })
-uintptr_t glibc(const char *name);
 
 /* guard.c: the lock around each call of libpim and all that its answer asks for, and blocking. */
 void enter(void);

@@ -1,7 +1,6 @@
 /* Threads: the numbers that they are lent, their priorities, and fork. */
 #include "shim.h"
 
-#include <dlfcn.h>
 #include <stdlib.h>
 
 /* The memory of the manager: malloc may be the program's own, and lock a mutex. */
@@ -113,9 +112,9 @@ static void in_child(void) {
     for (uint16_t n = 1; n <= TASKS; n++) {
         threads[n].id = &threads[n] == me ? own_id() : 0;
         threads[n].condition = NULL;
+        pim_cancel(&locks, n, n);
     }
-    for (uint16_t n = 1; n <= TASKS; n++)
-        if (pim_cancel(&locks, n, n).kind == PIM_WITHDRAWN) apply_changes();
+    apply_changes();
 }
 
 /* Other libraries may lock mutexes before a constructor of this one would be called. */
@@ -147,8 +146,4 @@ struct thread *caller(void) {
     set_own(me, me->set);
     pthread_setspecific(key, me);
     return me;
-}
-
-uintptr_t glibc(const char *name) {
-    return (uintptr_t)dlsym(RTLD_NEXT, name);
 }
