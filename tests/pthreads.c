@@ -1098,10 +1098,12 @@ static void too_many_threads(void) {
 /* ---- processes ---- */
 
 static struct meeting common;
+static atomic_int is_in_child;
 
 static void *wait_in_child(void *mutex) {
     struct timespec late = in_milliseconds(3000, CLOCK_REALTIME);
     pthread_mutex_lock(mutex);
+    atomic_store(&is_in_child, 1);
     return (void *)(intptr_t)pthread_cond_timedwait(&common.condition, mutex, &late);
 }
 
@@ -1111,7 +1113,9 @@ static int signal_in_child(void) {
     pthread_t thread;
     void *result;
     pthread_create(&thread, NULL, wait_in_child, &m);
-    usleep(50000);
+    while (!atomic_load(&is_in_child)) pause_shortly();
+    pthread_mutex_lock(&m); /* the thread waits at the condition variable by now */
+    pthread_mutex_unlock(&m);
     pthread_cond_signal(&common.condition);
     pthread_join(thread, &result);
     return (int)(intptr_t)result;
