@@ -78,6 +78,7 @@ static void *map_file(int file, uint64_t bytes) {
         memory = mmap(NULL, bytes, PROT_READ | PROT_WRITE, MAP_SHARED, file, 0);
     if (memory != MAP_FAILED && madvise(memory, HEADER_BYTES, MADV_POPULATE_WRITE) != 0)
         if (errno != EINVAL) memory = MAP_FAILED;
+    if (errno == EFAULT) errno = ENOSPC; /* madvise says so if the file gets no room */
     if (memory == MAP_FAILED) {
         int error = errno;
         unlink(log_path);
