@@ -1,6 +1,8 @@
 """What tests/record does with the kernel's events: recordings where the rights are, and stored and hand-made files."""
 import os
 import pathlib
+import resource
+import shutil
 import signal
 import subprocess
 import sys
@@ -12,7 +14,7 @@ from checks import ROOT, check, difference, ended, skip
 RECORD = ROOT / "record"
 PROGRAMS = RECORD / "out/programs"
 STORED = RECORD / "recorded"
-SECONDS = 60
+SECONDS = 300  # a build may take long on a busy machine
 
 sys.path.insert(0, str(RECORD))
 import kernel_text
@@ -153,12 +155,11 @@ def random_program(reader, folder):
     check("the file's process is the log's", difference((text.head.process,), (log.head.process,)))
 
 
-def started(folder, *command, options=()):
+def started(folder, *command, options=(), **how):
     """Starts a recording, and returns it once its instance is there."""
     words = [RECORD / "pim-record", "--kernel", "-o", pathlib.Path(folder, "run"), *options, *command]
     pipes = {"stdout": subprocess.PIPE, "stderr": subprocess.PIPE, "text": True}
-    child = subprocess.Popen([str(word) for word in words], **pipes)
-    return child
+    return subprocess.Popen([str(word) for word in words], **pipes, **how)
 
 
 def first_line(child):
@@ -246,6 +247,93 @@ def others(reader, folder, tracefs):
                 (tracefs.instances / name).rmdir()
 
 
+def removers(folder, tracefs):
+    """The remover isn't of the group that a shell kills; and without a remover, the recorder removes its instance."""
+    child = started(folder, PROGRAMS / "keys", start_new_session=True)
+    first_line(child)
+    os.killpg(child.pid, signal.SIGKILL)
+    ended(child)
+    gone = until(lambda: not tracefs.own())
+    check("a group that is killed leaves no instance", None if gone else f"{tracefs.own()}")
+    child = started(folder, PROGRAMS / "keys")
+    program = int(first_line(child).split()[1][:-1])
+    children = pathlib.Path(f"/proc/{child.pid}/task/{child.pid}/children").read_text().split()
+    for process in {int(word) for word in children} - {program}:
+        os.kill(process, signal.SIGKILL)
+    child.send_signal(signal.SIGTERM)
+    got = (len(children), ended(child), tracefs.own())
+    check("a killed remover leaves no instance", difference(got, (2, -signal.SIGTERM, [])))
+
+
+def settings(folder, tracefs):
+    """The instance has the settings of the recording, and the recorder runs at no real-time priority."""
+    fifo = lambda: os.sched_setscheduler(0, os.SCHED_FIFO, os.sched_param(5))
+    child = started(folder, PROGRAMS / "keys", preexec_fn=fifo)
+    program = first_line(child).split()[1][:-1]
+    instance, = tracefs.own()
+    names = ("buffer_size_kb", "set_event_pid", "tracing_on", "options/overwrite", "options/event-fork", "trace_clock")
+    got = [(tracefs.instances / instance / name).read_text().strip() for name in names]
+    kilobytes, *got, clock = got
+    wanted = [program, "1", "1", "1"]
+    why = None if "[mono]" in clock and 8192 <= int(kilobytes) < 8400 else f"{kilobytes} KB, clock {clock}"
+    check("the settings of an instance", difference(got, wanted) or why)
+    policies = [os.sched_getscheduler(int(process)) for process in (child.pid, program)]
+    check("the recorder leaves its real-time priority", difference(policies, (os.SCHED_OTHER, os.SCHED_FIFO)))
+    head = pathlib.Path(folder, "run.kernel").read_bytes()
+    check("the head is written as the program begins", None if head.startswith(b"pim-kernel 1\n") else f"{head[:80]}")
+    written = until(lambda: b" switch " in pathlib.Path(folder, "run.kernel").read_bytes())
+    check("events are written while the program runs", None if written else "none is")
+    child.terminate()
+    ended(child)
+
+
+def inherited(reader, folder):
+    """The program has the signals of the caller; the recorder sees its end even if the caller ignores SIGCHLD."""
+    ignore = lambda: signal.signal(signal.SIGCHLD, signal.SIG_IGN)
+    text = "grep -E 'Sig(Blk|Ign)' /proc/self/status; exit 3"
+    plain = run("sh", "-c", text, preexec_fn=ignore)
+    recording = Recording(reader, folder, "sh", "-c", text, preexec_fn=ignore)
+    got = (recording.status, recording.done.stdout, recording.fault(3))
+    check("the program's signals are the caller's", difference(got, (plain.returncode, plain.stdout, None)))
+
+
+def no_room(reader, folder):
+    """A file that may not grow isn't whole: standard error says so, the program runs on, and no line is cut twice."""
+    limit = lambda: resource.setrlimit(resource.RLIMIT_FSIZE, (1 << 20, 1 << 20))
+    words = (PROGRAMS / "random", "1", "4000")
+    recording = Recording(reader, folder, *words, options=["--size", "1"], preexec_fn=limit)
+    wanted = f"pim-record: {recording.file} isn't whole: File too large\n"
+    got = (recording.status, recording.done.stderr, len(recording.data or b""))
+    check("a file beyond the limit of a file", difference(got, (0, wanted, 1 << 20)))
+    faults = faults_of(recording.data)
+    check("it is the beginning of a recording", difference((faults,), (["the last line isn't whole", END_MISSING],)))
+    path = pathlib.Path(folder, "n" * 250)
+    done = run(RECORD / "pim-record", "--kernel", "-o", path, "echo", "it ran")
+    wanted = f"pim-record: {path}.kernel: File name too long; nothing was run\n"
+    check("a file that can't be made", difference((done.returncode, done.stdout, done.stderr), (2, "", wanted)))
+
+
+def containers(reader, folder):
+    """In a namespace of processes nothing is run."""
+    space = ["unshare", "--pid", "--fork", "--mount-proc"]
+    if not shutil.which("unshare") or run(*space, "true").returncode:
+        return skip("--kernel in a container", "no namespace can be made")
+    done = run(*space, RECORD / "pim-record", "--kernel", "-o", f"{folder}/run", "echo", "it ran")
+    got = (done.returncode, done.stdout, "container" in done.stderr)
+    return check("--kernel in a container", difference(got, (77, "", True)))
+
+
+def mounted(folder):
+    """Where tracefs is mounted at its place, that mount is used."""
+    place, path = "/sys/kernel/tracing", f"{folder}/run"
+    text = f"mount -t tracefs none {place} && exec {RECORD}/pim-record --kernel -o {path} ls {place}/instances"
+    if not shutil.which("unshare") or run("unshare", "--mount", "mount", "-t", "tracefs", "none", place).returncode:
+        return skip("a tracefs that is mounted", "it can't be mounted aside")
+    done = run("unshare", "--mount", "sh", "-c", text)
+    got = (done.returncode, "pim-record-" in done.stdout, done.stderr)
+    return check("a tracefs that is mounted", difference(got, (0, True, "")))
+
+
 def lost(reader, folder):
     """A recorder that is held up loses events, and reports when and how many."""
     child = started(folder, PROGRAMS / "random", "1", "4000", options=["--buffer", "8"])
@@ -259,8 +347,11 @@ def lost(reader, folder):
     count = sum(event.values[0] for event in told)
     fault = next(iter(kernel_text.Checker(text).run()), None) or (None if count else "nothing is lost")
     check("a recording with lost events keeps the laws", fault)
-    wanted = f"pim-record: {count} of the kernel's events were lost, in {len(told)} stretches from "
-    check("lost events are reported on standard error", None if said.startswith(wanted) and said.count("\n") == 1 else said)
+    first, last = min(event.values[1] for event in told), max(event.time for event in told)
+    times = [f"{(time - text.head.began) / 1e9:.6f}" for time in (first, last)]
+    wanted = f"pim-record: {count} of the kernel's events were lost, in {len(told)} stretches from {times[0]} s to" \
+             f" {times[1]} s; {folder}/run.kernel has each\n"
+    check("lost events are reported on standard error", difference((said,), (wanted,)))
     done = run(RECORD / "pim-log", "--check", f"{folder}/run.kernel")
     lines = [line for line in done.stdout.splitlines() if "events were lost, from" in line]
     check("lost events are reported by --check", difference((done.returncode, len(lines)), (0, len(told))))
@@ -530,12 +621,112 @@ def pages(folder):
     return check("pages of the kernel's buffer", why or done.stderr[:300])
 
 
+# ---- the lines of events
+
+# By KERNEL.md: calls and returns, priorities and states as they are given to put_event in kernel_lines.c.
+WRITTEN = """\
+pim-kernel 1
+kernel {release} {machine}
+clock mono
+process 4242
+began 1000
+cpus 4
+2000 3 21 name 21 lo\\x20w
+2000 3 21 name 22 back\\x5cslash
+2000 3 21 switch 49 S 22 89
+2001 3 22 switch 49 S 21 89
+2002 3 21 name 21 0123456789abcdef
+2002 3 21 name 22 \\x7f~!\\xff\\x0a
+2002 3 21 switch 49 S 22 89
+2003 3 0 name 4194303 last
+2003 3 0 switch 49 R 4194303 89
+2004 3 4194304 switch 49 R 0 89
+2005 3 22 switch 49 R -1 89
+2006 3 21 name 21 a
+2006 3 21 name 22 b
+2006 3 21 switch 49 S 22 89
+2007 3 21 switch 49 D 22 89
+2008 3 21 switch 49 T 22 89
+2009 3 21 switch 49 t 22 89
+2010 3 21 switch 49 X 22 89
+2011 3 21 switch 49 Z 22 89
+2012 3 21 switch 49 P 22 89
+2013 3 21 switch 49 I 22 89
+2014 3 21 switch 49 R+ 22 89
+2015 3 21 switch 49 0x200 22 89
+2016 3 21 switch 49 R 22 89
+2017 3 21 switch 49 D+ 22 89
+2018 3 21 switch 49 0x3 22 89
+2019 3 21 switch 49 0x181 22 89
+2020 3 21 switch 49 0x8000000000000000 22 89
+2021 1 21 lock 0x5000 shared
+2022 1 21 return 0
+2023 1 21 lock 0x5000 private
+2024 1 21 return -1
+2025 1 21 unlock 0x5000 shared
+2026 1 21 return -2
+2027 1 21 unlock 0x5000 private
+2028 1 21 return -3
+2029 1 21 trylock 0x5000 shared
+2030 1 21 return -4
+2031 1 21 trylock 0x5000 private
+2032 1 21 return -5
+2033 1 21 lock2 0x5000 shared
+2034 1 21 return -6
+2035 1 21 lock2 0x5000 private
+2036 1 21 return -7
+2037 1 21 lock 0x5000 private
+2038 1 21 return -8
+2039 1 21 lock 0x5000 shared
+2040 1 21 return -9
+2289 1 21 lock 0xfffffffffffff000 private
+2290 1 22 lock 0x5000 private
+2291 1 22 return -35
+2293 1 21 return -110
+2294 1 21 lock 0x5000 private
+2297 1 4194304 lock 0x5000 private
+2298 1 -1 lock 0x5000 private
+2299 1 21 lock 0x5000 private
+2300 1 0 lost 5 2150
+2302 1 22 lock 0x5000 private
+2303 1 22 return 0
+2314 1 0 lost 7 2149
+2305 1 0 lost 1 2160
+2306 1 21 setprio 22 89 -1
+end 9000 52 13
+"""
+COUNTS_OF_LINES = """\
+52 events, 13 lost in 3 stretches, 2149 to 2314
+whole
+a file that is there: File exists
+a file of 5000 bytes, 5000 later: whole
+a file of 20 bytes, 20 later: File too large
+a file of 20 bytes, 5000 later: File too large
+"""
+
+
+def lines(folder):
+    """Events that are made by hand, as lines."""
+    sources = [ROOT / "tests/kernel_lines.c", RECORD / "kernel/text.c"]
+    made, file = pathlib.Path(folder, "lines"), pathlib.Path(folder, "lines.kernel")
+    built = run("cc", "-std=c11", "-Wall", "-Wextra", "-Werror", "-fsanitize=address,undefined", *sources, "-o", made)
+    if built.returncode:
+        return check("the lines of events", built.stderr[:300])
+    done = run(made, file)
+    wanted = WRITTEN.format(release=os.uname().release, machine=os.uname().machine).splitlines()
+    got = file.read_text().splitlines()
+    check("the lines of events", difference((*got, len(got)), (*wanted, len(wanted))) or done.stderr[:300])
+    counts, wanted = done.stdout.splitlines(), COUNTS_OF_LINES.splitlines()
+    return check("the counts of events", difference((*counts, len(counts)), (*wanted, len(wanted))))
+
+
 # ---- all
 
 def kernel_files(folder):
     by_hand(folder)
     stored()
     pages(folder)
+    lines(folder)
 
 
 def kernel(reader, folder):
@@ -546,7 +737,9 @@ def kernel(reader, folder):
         if tracefs.missing:
             return skip("--kernel", tracefs.missing)
         parts = ((boosts, reader, folder), (random_program, reader, folder), (ends, reader, folder, tracefs),
-                 (signals, folder, tracefs), (killed, reader, folder, tracefs), (lost, reader, folder))
+                 (signals, folder, tracefs), (killed, reader, folder, tracefs), (removers, folder, tracefs),
+                 (settings, folder, tracefs), (inherited, reader, folder), (no_room, reader, folder),
+                 (containers, reader, folder), (mounted, folder), (lost, reader, folder))
         for part, *arguments in parts:
             part(*arguments)
         return check("no instance of a recording is left", difference((tracefs.own(),), ([],)))

@@ -170,7 +170,7 @@ static void put_events(uint64_t limit) {
     struct queue *queue;
     while ((queue = earliest_queue()) && queue->events[queue->next].time < limit)
         put_event(&recording.text, &queue->events[queue->next++]);
-    fflush(recording.text.file);
+    flush_text(&recording.text);
 }
 
 /* Reads and writes what is left, once the kernel records no more. */
@@ -212,12 +212,25 @@ static void be_ordinary(void) {
     if (is_real_time) sched_setscheduler(0, SCHED_OTHER, &none);
 }
 
+/* Returns whether the program goes on, and puts its status if not. If a terminal stops the program,
+ * this process stops too, so that a shell sees it. To continue it continues the program. */
+static bool goes_on(pid_t program, int *status) {
+    pid_t changed = waitpid(program, status, WNOHANG | WUNTRACED);
+    if (changed == 0) return true;
+    if (changed < 0 || !WIFSTOPPED(*status)) return false;
+    int number = WSTOPSIG(*status);
+    if (number != SIGTSTP && number != SIGTTIN && number != SIGTTOU) return true;
+    raise(SIGSTOP);
+    kill(program, SIGCONT);
+    return true;
+}
+
 /* Records until the program ends, and returns its status. A signal that a process sent is passed
  * on; a terminal has sent it to the program, too. */
 static int record_until_end(pid_t program, const sigset_t *awaited) {
     const struct timespec period = { 0, PERIOD };
     int status = 0;
-    while (waitpid(program, &status, WNOHANG) == 0) {
+    while (goes_on(program, &status)) {
         siginfo_t info;
         int number = sigtimedwait(awaited, &info, &period);
         if (number > 0 && number != SIGCHLD && info.si_code <= 0) kill(program, number);
@@ -257,7 +270,9 @@ static _Noreturn void give_up(const char *failed) {
     end_instance();
     if (recording.text.file) unlink(recording.path);
     errno = error;
-    refuse(failed);
+    if (failed != recording.path) refuse(failed);
+    fprintf(stderr, "pim-record: %s: %s; nothing was run\n", failed, strerror(error));
+    exit(FAULT);
 }
 
 /* Returns the name of what is missing, or NULL. */
@@ -269,7 +284,7 @@ static const char *turn_on(pid_t program) {
     for (int cpu = 0; cpu < recording.cpus; cpu++)
         recording.queues[cpu].last_time = recording.text.began;
     put_head(&recording.text, program, recording.cpus);
-    fflush(recording.text.file);
+    flush_text(&recording.text);
     return put_setting(&recording.instance, "tracing_on", "1") ? NULL : "tracing_on";
 }
 
@@ -277,6 +292,7 @@ static const char *turn_on(pid_t program) {
 static _Noreturn void record_program(pid_t program, const sigset_t *awaited, int channel) {
     char none;
     be_ordinary();
+    signal(SIGXFSZ, SIG_IGN); /* a file that may not grow isn't whole; the program runs on */
     const char *failed = turn_on(program);
     if (failed) give_up(failed); /* the program's process sees the end of its channel */
     send(channel, "x", 1, MSG_NOSIGNAL);
@@ -312,7 +328,8 @@ static void begin(const char *path, const char *kilobytes) {
 }
 
 void record_kernel(const char *path, const char *kilobytes) {
-    static const int passed_on[] = { SIGHUP, SIGINT, SIGQUIT, SIGTERM, SIGUSR1, SIGUSR2, SIGALRM };
+    static const int passed_on[] = { SIGHUP,  SIGINT,  SIGQUIT, SIGTERM, SIGUSR1,
+                                     SIGUSR2, SIGALRM, SIGTSTP, SIGTTIN, SIGTTOU };
     struct sigaction of_children, usual = { .sa_handler = SIG_DFL };
     sigset_t awaited, before;
     int channel[2];

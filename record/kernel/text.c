@@ -107,6 +107,7 @@ static void put_lost(struct text *text, const struct event *event) {
 }
 
 void put_event(struct text *text, const struct event *event) {
+    if (text->error) return;
     struct task *task = &text->tasks[event->task >= 0 && event->task < TASKS ? event->task : 0];
     bool is_put = event->kind != LOST;
     switch (event->kind) {
@@ -124,12 +125,20 @@ void put_event(struct text *text, const struct event *event) {
 }
 
 void put_end(struct text *text, uint64_t time) {
+    if (text->error) return;
     fprintf(text->file, "end %" PRIu64 " %" PRIu64 " %" PRIu64 "\n", time, text->events,
             text->lost);
 }
 
+void flush_text(struct text *text) {
+    bool is_written = fflush(text->file) == 0 && !ferror(text->file);
+    if (!is_written && !text->error) text->error = errno;
+}
+
 bool close_text(struct text *text) {
-    bool is_whole = !ferror(text->file);
+    flush_text(text);
     munmap(text->tasks, TASKS * sizeof *text->tasks);
-    return fclose(text->file) == 0 && is_whole;
+    if (fclose(text->file) != 0 && !text->error) text->error = errno;
+    errno = text->error;
+    return errno == 0;
 }

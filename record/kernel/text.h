@@ -21,6 +21,7 @@ struct text {
     uint64_t events, lost;       /* how many */
     uint32_t losses;             /* stretches in which events were lost */
     uint64_t lost_from, lost_to; /* the first and the last time of those */
+    int error; /* the errno of the first write that failed, or 0; nothing is put after it */
 };
 
 /* Makes the file. Returns false with errno set; a file that is there stays as it is. */
@@ -30,7 +31,10 @@ void put_head(struct text *text, pid_t process, int cpus);
 void put_event(struct text *text, const struct event *event);
 void put_end(struct text *text, uint64_t time);
 
-/* Returns false with errno set where a part couldn't be written. */
+/* Writes what was put to the file. */
+void flush_text(struct text *text);
+
+/* Closes the file. Returns false with errno set if a part couldn't be written. */
 bool close_text(struct text *text);
 
 #endif
