@@ -287,14 +287,20 @@ def settings(folder, tracefs):
     ended(child)
 
 
-def inherited(reader, folder):
+def inherited(folder):
     """The program has the signals of the caller; the recorder sees its end even if the caller ignores SIGCHLD."""
-    ignore = lambda: signal.signal(signal.SIGCHLD, signal.SIG_IGN)
-    text = "grep -E 'Sig(Blk|Ign)' /proc/self/status; exit 3"
-    plain = run("sh", "-c", text, preexec_fn=ignore)
-    recording = Recording(reader, folder, "sh", "-c", text, preexec_fn=ignore)
-    got = (recording.status, recording.done.stdout, recording.fault(3))
-    check("the program's signals are the caller's", difference(got, (plain.returncode, plain.stdout, None)))
+    def change():
+        signal.signal(signal.SIGCHLD, signal.SIG_IGN)
+        signal.pthread_sigmask(signal.SIG_BLOCK, {signal.SIGUSR1})
+    # without pim-record and sh, for some shells reset both
+    paths = {"PIM_RECORD": f"{folder}/run", "PIM_KERNEL": f"{folder}/run.kernel"}
+    sizes = {"PIM_RECORD_BYTES": str(1 << 20), "PIM_KERNEL_KB": "1024"}
+    launch = [RECORD / "out/pim-launch", RECORD / "out/libpim_record.so"]
+    words = ["grep", "-sE", "Sig(Blk|Ign)", "/proc/self/status", "/nowhere"]
+    plain = run(*words, preexec_fn=change)
+    done = run(*launch, *words, preexec_fn=change, env={**os.environ, **paths, **sizes})
+    got = (done.returncode, done.stdout, done.stderr)
+    check("the program's signals are the caller's", difference(got, (2, plain.stdout, "")))
 
 
 def no_room(reader, folder):
@@ -738,7 +744,7 @@ def kernel(reader, folder):
             return skip("--kernel", tracefs.missing)
         parts = ((boosts, reader, folder), (random_program, reader, folder), (ends, reader, folder, tracefs),
                  (signals, folder, tracefs), (killed, reader, folder, tracefs), (removers, folder, tracefs),
-                 (settings, folder, tracefs), (inherited, reader, folder), (no_room, reader, folder),
+                 (settings, folder, tracefs), (inherited, folder), (no_room, reader, folder),
                  (containers, reader, folder), (mounted, folder), (lost, reader, folder))
         for part, *arguments in parts:
             part(*arguments)
