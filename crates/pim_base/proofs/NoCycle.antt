@@ -3,7 +3,7 @@ use Rattle.std.proofs.lemmas.Grind.{common_steps}
 use Rattle.std.proofs.Common.{◌≡◌, ℕ, zero, suc, false, ◌⊎◌, inl, inr, List, [], ◌∷◌, length, Option, Some, None, refl, sym, ◌∙◌, ap, arith, option_and_then, unwrap_or, set, slice_get, true≢false, rules}
 use Rattle.std.proofs.lemmas.Bool.Decides.{eqb_tells}
 use Rattle.pim_base.specs.Lists.{nth, put}
-use Rattle.pim_base.specs.State.{State, IsTask, owner_of, wait_of, first_count, with_owner, with_count, with_wait, with_base, with_ceiling, queued}
+use Rattle.pim_base.specs.State.{State, IsTask, owner_of, wait_of, first_count, with_owner, with_count, with_wait, with_base, with_protocol, queued}
 use Rattle.pim_base.specs.Chains.{blocker, HasCycle, leads_back}
 use Rattle.pim_base.specs.Queues.{first_of}
 use Rattle.pim_base.specs.Steps.{hand_over, hand_over_to}
@@ -129,10 +129,10 @@ idle_sound S t ok = record {
 pub base_sound : (S : State) (t p : ℕ) → IsSound S → IsSound (with_base S t p)
 base_sound S t p ok = search rules
 
-pub ceiling_sound : (S : State) (m p : ℕ) → IsSound S → IsSound (with_ceiling S m p)
-ceiling_sound S m p ok = record {
+pub protocol_sound : (S : State) (m : ℕ) (p : Protocol) → IsSound S → IsSound (with_protocol S m p)
+protocol_sound S m p ok = record {
   lists =
-      let protocols = sym (length-put S.protocol m (Protocol.Protect p)) in
+      let protocols = sym (length-put S.protocol m p) in
       record { waits = ok.lists.waits; owners = ok.lists.owners ∙ protocols; counts = ok.lists.counts ∙ protocols };
   no_cycle = ok.no_cycle;
 }
@@ -171,7 +171,7 @@ hand_sound S m ok = go (first_of S m)
         (idle_sound S w.task ok)
 
 pub sound_kept : IsKeptBySteps IsSound
-sound_kept = grind (arith, common_steps, owner_sound, count_sound, queued_sound, hand_sound, idle_sound, ceiling_sound)
+sound_kept = grind (arith, common_steps, owner_sound, count_sound, queued_sound, hand_sound, idle_sound, protocol_sound)
 
 pub no_cycle_law : NoCycleLaw
 no_cycle_law S step ok = kept_by_step IsSound sound_kept S step ok

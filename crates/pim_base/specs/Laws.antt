@@ -2,7 +2,7 @@
 use Rattle.std.specs.Prelude.{◌≡◌, ◌≤◌, ℕ, false, [], ◌↔◌, IsTrue, Some, None, All, AllPairs, Contains}
 use Rattle.pim_base.specs.Lists.{contains}
 use Rattle.std.specs.Option.{option_map}
-use Rattle.pim_base.specs.State.{State, IsState, IsTask, base_of, protocol_of, owner_of, wait_of, owned, relocks, with_wait}
+use Rattle.pim_base.specs.State.{State, IsState, IsTask, base_of, protocol_of, owner_of, wait_of, owned, relocks, with_wait, with_protocol}
 use Rattle.pim_base.specs.Chains.{HasCycle, closes_cycle, heir, inherit_chain}
 use Rattle.pim_base.specs.Priorities.{ceiling, own_priority, local_priority, effective_priority}
 use Rattle.pim_base.specs.Queues.{Precedes, waiter_of, queue_of}
@@ -96,6 +96,13 @@ IsNoneOnly S = (m : ℕ) → protocol_of S m ≡ Protocol.None
 -- task has its base priority, whatever is owned and waited for.
 abbrev pub NoneLaw : Type 0
 NoneLaw = (S : State) (t : ℕ) → IsNoneOnly S → effective_priority S t ≡ base_of S t
+
+-- Another protocol of a mutex that nobody owns changes no priority, whatever is owned and waited for.
+abbrev pub ProtocolLaw : Type 0
+ProtocolLaw =
+    (S : State) (m t : ℕ) (p : Protocol)
+    → owner_of S m ≡ None
+    → effective_priority (with_protocol S m p) t ≡ effective_priority S t
 
 -- What a reason says of t's priority: it is t's base; or the ceiling of m, which t owns; or that of u, which waits
 -- for the INHERIT mutex m of t.

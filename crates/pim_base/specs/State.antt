@@ -108,9 +108,13 @@ with_wait S t w = record S { wait = put S.wait t w }
 abbrev pub with_base : State → ℕ → ℕ → State
 with_base S t p = record S { base = put S.base t p }
 
+-- m has this protocol (POSIX.1-2017, pthread_mutex_destroy: a destroyed mutex can be initialized anew)
+abbrev pub with_protocol : State → ℕ → Protocol → State
+with_protocol S m p = record S { protocol = put S.protocol m p }
+
 -- m is a PROTECT mutex with this ceiling (POSIX.1-2017, pthread_mutex_setprioceiling)
 abbrev pub with_ceiling : State → ℕ → ℕ → State
-with_ceiling S m c = record S { protocol = put S.protocol m (Protocol.Protect c) }
+with_ceiling S m c = with_protocol S m (Protocol.Protect c)
 
 -- t waits for m with the next ticket, and the next ticket is one more
 abbrev pub queued : State → ℕ → ℕ → State

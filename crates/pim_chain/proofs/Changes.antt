@@ -12,7 +12,7 @@ use Rattle.pim_base.specs.State.{with_owner, with_count, with_wait, with_base}
 use Rattle.pim_base.specs.declared.limits.TheConstants.{MAX_TASKS}
 use Rattle.pim_base.specs.declared.steps.Wait.{Wait}
 use Rattle.pim_base.specs.declared.steps.Waiter.{Waiter}
-use Rattle.pim_base.proofs.Greatest.{greatest_of, greatest-cons}
+use Rattle.pim_base.proofs.Greatest.{greatest_of, greatest-cons, greatest_of-below}
 use Rattle.pim_base.proofs.Places.{nth-put_same, nth-put_other, length-put}
 use Rattle.pim_base.proofs.Closing.{leads_back-cycle}
 use Rattle.pim_base.proofs.NoCycle.{owner_sound, count_sound, idle_sound, base_sound, unwrap_or-put_same}
@@ -24,7 +24,7 @@ use Rattle.pim_queue.specs.QueueView.{QueueView, with_waiters}
 use Rattle.pim_queue.specs.Waiters.{without}
 use Rattle.pim_chain.specs.Views.{View, stored_in, stored_at, queue_at, queue_in, view_in, put_queue, with_state, waits_for, IsQueue, WaitsFit, Ready}
 use Rattle.pim_chain.specs.Settled.{SettledBut, left, joined}
-use Rattle.pim_chain.proofs.Local.{through, greatest_of-below}
+use Rattle.pim_chain.proofs.Local.{through}
 use Rattle.pim_chain.proofs.Waiting.{queue_kept, queue_left, queue_joined, waiting_known}
 
 -- two states with the same tasks, that differ in nothing that the priority of another task than x comes from

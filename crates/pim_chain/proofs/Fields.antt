@@ -6,7 +6,7 @@ use Rattle.std.specs.List.{list_any, find, AllByRecursion}
 use Rattle.std.proofs.lemmas.Bool.{false_from_ne_true, eqb-true, eq-eqb, or_cases, or_left, or_right}
 use Rattle.std.proofs.lemmas.Option.{none-some, same_Some}
 use Rattle.pim_base.specs.Lists.{nth, put}
-use Rattle.pim_base.specs.State.{IsTask, IsMutex, wait_of, first_count, with_owner, with_count, with_base, with_ceiling}
+use Rattle.pim_base.specs.State.{IsTask, IsMutex, wait_of, first_count, with_owner, with_count, with_base, with_protocol}
 use Rattle.pim_base.specs.declared.steps.Protocol.{Protocol}
 use Rattle.pim_base.specs.declared.steps.Wait.{Wait}
 use Rattle.pim_base.specs.declared.steps.Waiter.{Waiter}
@@ -46,13 +46,13 @@ pub base_written :
     → with_state v (record v.state { base = bases }) ≡ with_state u (with_base u.state t p)
 base_written p same is at = cc
 
-pub ceiling_written :
-    {v u : View} {m k : ℕ} {protocols : List Protocol} (c : ℕ)
+pub protocol_written :
+    {v u : View} {m k : ℕ} {protocols : List Protocol} (p : Protocol)
     → v ≡ u
-    → protocols ≡ put v.state.protocol k (Protocol.Protect c)
+    → protocols ≡ put v.state.protocol k p
     → k ≡ m
-    → with_state v (record v.state { protocol = protocols }) ≡ with_state u (with_ceiling u.state m c)
-ceiling_written c same is at = cc
+    → with_state v (record v.state { protocol = protocols }) ≡ with_state u (with_protocol u.state m p)
+protocol_written p same is at = cc
 
 -- ---- what held of the tables before, of what they are then
 pub ready_after : {v u w x : View} → v ≡ u → w ≡ x → (Ready u → Ready x) → Ready v → Ready w

@@ -22,15 +22,6 @@ greatest_of-more f p n m e = go (p n) refl
     go true h = greatest_of-pass f p n m e h
     go false h = let same : greatest_of f p n ≡ greatest_of f p m = greatest_of-fail f p n m e h in omega arith
 
-pub greatest_of-below :
-    (f g : ℕ → ℕ) (p q : ℕ → Bool) (n : ℕ)
-    → ((k : ℕ) → 1 ≤ k → k ≤ n → p k ≡ true → (q k ≡ true) × (f k ≡ g k))
-    → greatest_of f p n ≤ greatest_of g q n
-greatest_of-below f g p q n h =
-    greatest_of-le f p n (greatest_of g q n) (λ k low high passes.
-    let both : (q k ≡ true) × (f k ≡ g k) = h k low high passes in
-    subst (λ x. x ≤ greatest_of g q n) (sym both.1) (le-greatest_of g q n k low high both.0))
-
 pub local_priority-same :
     (S : State) (f g : ℕ → ℕ) (t : ℕ)
     → ((u : ℕ) → IsTask S u → heir S u ≡ Some t → f u ≡ g u)

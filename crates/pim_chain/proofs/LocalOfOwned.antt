@@ -6,12 +6,12 @@ use Rattle.pim_base.specs.State.{State, IsState, IsMutex, base_of, owner_of, own
 use Rattle.pim_base.specs.Chains.{heir_in, heir_of}
 use Rattle.pim_base.specs.Priorities.{own_priority, local_priority, ceiling_of}
 use Rattle.pim_base.specs.declared.steps.Protocol.{Protocol}
-use Rattle.pim_base.proofs.Greatest.{greatest_of, greatest-cons}
+use Rattle.pim_base.proofs.Greatest.{greatest_of, greatest-cons, greatest_of-below}
 use Rattle.pim_base.proofs.Places.{nth_within}
 use Rattle.pim_base.proofs.Stored.{heir_in-owner, holds_from, from_holds}
 use Rattle.pim_chain.specs.Views.{View, Ready, queue_at, stored_at, first_prio}
 use Rattle.pim_chain.specs.Owned.{worth}
-use Rattle.pim_chain.proofs.Local.{top, greatest_of-more, greatest_of-below}
+use Rattle.pim_chain.proofs.Local.{top, greatest_of-more}
 use Rattle.pim_chain.proofs.Waiting.{local_by_mutexes, top_front}
 
 -- an owned mutex is known

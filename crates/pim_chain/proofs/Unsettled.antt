@@ -1,14 +1,15 @@
 -- Whose local priority alone a single change may change.
 use Rattle.std.proofs.Common.{◌≡◌, ℕ, sym, ◌∙◌, ap, arith, Option, Some, None, false, option_and_then}
 use Rattle.std.proofs.lemmas.Option.{none-some, same_Some}
-use Rattle.pim_base.specs.State.{State, IsState, IsTask, owner_of, wait_of, protocol_of, with_owner, with_wait, with_base, with_ceiling}
+use Rattle.pim_base.specs.State.{State, IsState, IsTask, owner_of, wait_of, protocol_of, with_owner, with_wait, with_base, with_protocol, with_ceiling}
 use Rattle.pim_base.specs.Chains.{blocker, heir_of}
 use Rattle.pim_base.specs.Checks.{not_protect}
+use Rattle.pim_base.specs.declared.steps.Protocol.{Protocol}
 use Rattle.pim_base.specs.declared.steps.Wait.{Wait}
 use Rattle.pim_base.proofs.Stored.{heir_in-owner, heir-blocker}
 use Rattle.pim_chain.specs.Settled.{SettledBut}
 use Rattle.pim_chain.proofs.Changes.{AtMost, DiffersAt, differs_settled, differs_owner, differs_wait, differs_base}
-use Rattle.pim_chain.proofs.Ceilings.{differs_ceiling}
+use Rattle.pim_chain.proofs.Protocols.{differs_ceiling, differs_protocol}
 
 -- no task is number 0
 settled_all : (S : State) (stored : ℕ → ℕ) → SettledBut S stored (Some 0) → SettledBut S stored None
@@ -70,3 +71,11 @@ pub ceiling_unsettles :
     → SettledBut (with_ceiling S m c) stored (owner_of S m)
 ceiling_unsettles S stored m c protect settled =
     but S (with_ceiling S m c) stored settled (owner_of S m) (λ x owner. differs_ceiling S m c x protect owner)
+
+pub protocol_unsettles :
+    (S : State) (stored : ℕ → ℕ) (m : ℕ) (p : Protocol)
+    → owner_of S m ≡ None
+    → SettledBut S stored None
+    → SettledBut (with_protocol S m p) stored None
+protocol_unsettles S stored m p free settled =
+    but S (with_protocol S m p) stored settled None (λ x _. differs_protocol S m x p free)

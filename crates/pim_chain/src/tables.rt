@@ -5,7 +5,7 @@ ghost use Rattle.std.specs.List.{filter};
 ghost use Rattle.std.specs.Option.{option_copied};
 ghost use Rattle.pim_base.specs.declared.limits.TheConstants.{MAX_TASKS, MAX_MUTEXES, MAX_COUNT};
 ghost use Rattle.pim_base.specs.Lists.{nth, first_item, put};
-ghost use Rattle.pim_base.specs.State.{IsTask, IsMutex, task_numbers, base_of, protocol_of, owner_of, count_of, first_count, owned, wait_of, is_recursive, with_owner, with_count, with_base, with_ceiling};
+ghost use Rattle.pim_base.specs.State.{IsTask, IsMutex, task_numbers, base_of, protocol_of, owner_of, count_of, first_count, owned, wait_of, is_recursive, with_owner, with_count, with_base, with_protocol, with_ceiling};
 ghost use Rattle.pim_base.specs.Chains.{blocker, heir_of, leads_back};
 ghost use Rattle.pim_base.specs.Checks.{not_protect};
 ghost use Rattle.pim_base.specs.Priorities.{ceiling};
@@ -410,6 +410,17 @@ impl Tables {
         ensures ready { Ready self.new }
     {
         put(&mut self.protocol, mutex.get(), Protocol::Protect(ceiling));
+    }
+
+    /// Gives the mutex, which must be free, this protocol.
+    pub fn put_protocol(&mut self, mutex: MutexNo, protocol: Protocol)
+        requires known { IsMutex self.old.state mutex }
+        requires free { owner_of self.old.state mutex ≡ None }
+        ensures state { self.new ≡ with_state self.old (with_protocol self.old.state mutex protocol) }
+        ensures unsettles { Unsettles self.old self.new None }
+        ensures ready { Ready self.new }
+    {
+        put(&mut self.protocol, mutex.get(), protocol);
     }
 
     /// Lets the task, which must wait for nothing, wait for the mutex with this ticket, which no other waiter there

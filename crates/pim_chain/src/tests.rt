@@ -674,3 +674,16 @@ fn notes_begin_anew(rt: HostRuntime) -> Result<(), Fail> {
     assert_eq!(rt; changed.as_slice(), [TaskNo(4)].as_slice());
     Ok(())
 }
+
+#[test]
+fn free_mutex_has_another_protocol(rt: HostRuntime) -> Result<(), Fail> {
+    let mut tables = tables(&rt, rt.alloc(), &[10, 20], &[INHERIT; 2])?;
+    play(&rt, &mut tables, &[Row(Event::Lock(1, 1), 1, &[10, 20])]);
+    let second = MutexNo(2);
+    assert!(rt; !tables.is_unknown_mutex(second) && !tables.is_owned(second));
+    tables.put_protocol(second, Protocol::Protect(prio(&rt, 50)));
+    assert_eq!(rt; tables.protocol(MutexNo(1)), Some(INHERIT));
+    assert_eq!(rt; tables.ceiling(second), Prio::new(50));
+    play(&rt, &mut tables, &[Row(Event::Lock(1, 2), 1, &[50, 20])]);
+    Ok(())
+}

@@ -1,9 +1,9 @@
 //! The manager of mutexes: how it is made, what it shows, and its step.
 
-ghost use Rattle.std.specs.Prelude.{◌≡◌, ◌≤◌, ◌<◌, ◌+◌, ◌*◌, ◌↔◌, length, map, AllPairs, IfOk, IfSome, IsErrOf, IsTrue};
+ghost use Rattle.std.specs.Prelude.{◌≡◌, ◌≤◌, ◌<◌, ◌+◌, ◌*◌, ◌↔◌, length, map, AllPairs, IfOk, IfErr, IfSome, IsErrOf, IsTrue, Some, None, ℕ};
 ghost use Rattle.std.specs.Vec.{vec_capacity};
 ghost use Rattle.std.specs.Option.{option_map, option_copied};
-ghost use Rattle.pim_base.specs.State.{start, base_of, protocol_of, owner_of, count_of, wait_of};
+ghost use Rattle.pim_base.specs.State.{start, base_of, protocol_of, owner_of, count_of, wait_of, with_protocol};
 ghost use Rattle.pim_base.specs.Chains.{HasCycle};
 ghost use Rattle.pim_base.specs.Queues.{Precedes, queue_of};
 ghost use Rattle.pim_base.specs.Priorities.{effective_priority};
@@ -16,11 +16,14 @@ ghost use Rattle.pim_base.specs.declared.limits.TheConstants.{MAX_TASKS, MAX_MUT
 ghost use Rattle.pim_base.specs.declared.steps.Wait.{Wait};
 ghost use Rattle.pim_manager.specs.Changed.{changed_task, noted_changes};
 ghost use Rattle.pim_manager.specs.Known.{of_task, of_mutex};
+ghost use Rattle.pim_manager.specs.Protocols.{protocol_refusal};
 
 use crate::changed_tasks::{ChangedTask, ChangedTasks};
 use crate::done::Done;
 use crate::make_fault::MakeFault;
-use pim_base::{MAX_MUTEXES, MAX_TASKS, MutexNo, Prio, Protocol, Reason, Step, TaskNo, Waiter};
+use pim_base::{
+    MAX_MUTEXES, MAX_TASKS, MutexNo, Prio, Protocol, Reason, Refusal, Step, TaskNo, Waiter,
+};
 use pim_chain::{Tables, Visits};
 use std::alloc::{AllocError, Global};
 use std::marker::Model;
@@ -249,6 +252,30 @@ impl Manager {
         let done = self.step_with_notes(step, &mut changed.visits);
         self.list_changed(&changed.visits, &mut changed.tasks);
         done
+    }
+
+    /// Gives a free mutex this protocol, as where a mutex is destroyed and another one is initialized in its place.
+    /// Nothing else changes, and no effective priority does. It is no step: a trace has no line for it.
+    ///
+    /// It takes constant time, and never allocates.
+    ///
+    /// # Errors
+    ///
+    /// Returns `NoMutex` if the mutex is unknown, and `Busy` if a task owns it. Nothing changes then. (POSIX.1-2017,
+    /// `pthread_mutex_destroy`: EINVAL and EBUSY)
+    pub fn set_protocol(&mut self, mutex: MutexNo, protocol: Protocol) -> Result<(), Refusal>
+        ensures set { IfOk result (λ _. (protocol_refusal self.old mutex ≡ None) × (self.new ≡ with_protocol self.old mutex protocol)) }
+        ensures refused { IfErr result (λ refusal. (protocol_refusal self.old mutex ≡ Some refusal) × (self.new ≡ self.old)) }
+        ensures priorities { (task : ℕ) → effective_priority self.new task ≡ effective_priority self.old task }
+    {
+        if self.tables.is_unknown_mutex(mutex) {
+            return Err(Refusal::NoMutex);
+        }
+        if self.tables.known_owner(mutex).is_some() {
+            return Err(Refusal::Busy);
+        }
+        self.tables.put_protocol(mutex, protocol);
+        Ok(())
     }
 
     /// Lists the tasks whose effective priority differs from the noted one, in ascending order.

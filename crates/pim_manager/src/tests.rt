@@ -516,3 +516,34 @@ fn refused_step_lists_nothing(rt: HostRuntime) -> Result<(), Fail> {
     assert!(rt; changed.as_slice().is_empty());
     Ok(())
 }
+
+#[test]
+fn free_mutex_gets_another_protocol(rt: HostRuntime) -> Result<(), Fail> {
+    let protocols = [Inherit, Protocol::None];
+    let mut manager = made(rt.alloc(), &[10, 20, 90], &protocols)?;
+    manager.run(&[by(1, Lock(FIRST)), by(3, Lock(FIRST))]);
+    let answer = manager.set_protocol(SECOND, Protocol::Protect(prio(&rt, 50)));
+    assert_eq!(rt; answer, Ok(()));
+    assert_eq!(rt; manager.protocol(FIRST), Some(Inherit));
+    let shown = manager
+        .protocol(SECOND)
+        .and_then(|protocol| protocol.ceiling());
+    assert_eq!(rt; shown, Prio::new(50));
+    let levels = [1, 2, 3].map(|task| manager.effective(TaskNo(task)));
+    assert_eq!(rt; levels, [Prio::new(90), Prio::new(20), Prio::new(90)]);
+    manager.step(by(2, Lock(SECOND)));
+    assert_eq!(rt; manager.effective(TaskNo(2)), Prio::new(50));
+    Ok(())
+}
+
+#[test]
+fn owned_or_unknown_mutex_keeps_its_protocol(rt: HostRuntime) -> Result<(), Fail> {
+    let mut manager = contended(rt.alloc())?;
+    let answers = [0, 1, 3].map(|mutex| manager.set_protocol(MutexNo(mutex), Protocol::None));
+    let first = manager.protocol(FIRST);
+    drop(manager);
+    let refused = [Refusal::NoMutex, Refusal::Busy, Refusal::NoMutex];
+    assert_eq!(rt; answers, refused.map(Err));
+    assert_eq!(rt; first, Some(Inherit));
+    Ok(())
+}

@@ -1,28 +1,21 @@
--- What another ceiling of a PROTECT mutex leaves in order.
+-- What another ceiling of a PROTECT mutex and another protocol of a free one leave in order.
 use Rattle.std.proofs.Common.{◌≡◌, ℕ, ◌≤◌, max, Bool, true, false, is_none, ◌⊎◌, inl, inr, refl, sym, ◌∙◌, ap, subst, le_antisymm, Option, Some, None, length, map, unwrap_or, option_and_then}
 use Rattle.std.proofs.lemmas.Bool.{both_ways, cases_eq}
 use Rattle.pim_base.specs.Lists.{nth, holds}
-use Rattle.pim_base.specs.State.{State, IsMutex, base_of, owner_of, wait_of, protocol_of, owned, with_ceiling}
+use Rattle.pim_base.specs.State.{State, IsMutex, base_of, owner_of, wait_of, protocol_of, owned, with_protocol, with_ceiling}
 use Rattle.pim_base.specs.Chains.{heir, heir_in, heir_of}
 use Rattle.pim_base.specs.Checks.{not_protect}
 use Rattle.pim_base.specs.Priorities.{own_priority, ceiling, ceiling_of}
 use Rattle.pim_base.specs.declared.limits.TheConstants.{MAX_MUTEXES}
 use Rattle.pim_base.specs.declared.steps.Protocol.{Protocol}
 use Rattle.pim_base.specs.declared.steps.Wait.{Wait}
-use Rattle.pim_base.proofs.Greatest.{greatest_of, greatest-cons}
-use Rattle.pim_base.proofs.NoCycle.{ceiling_sound}
-use Rattle.pim_base.proofs.Places.{nth-put_same, nth-put_other, nth_within, length-put}
+use Rattle.pim_base.proofs.Greatest.{greatest_of, greatest-cons, greatest_of-below}
+use Rattle.pim_base.proofs.NoCycle.{protocol_sound}
+use Rattle.pim_base.proofs.OtherProtocol.{protocol_beside, heir-same, own_priority-same}
+use Rattle.pim_base.proofs.Places.{nth-put_same, nth_within, length-put}
 use Rattle.pim_base.proofs.Stored.{from_holds}
 use Rattle.pim_chain.specs.Views.{View, Ready, with_state}
 use Rattle.pim_chain.proofs.Changes.{AtMost, DiffersAt}
-use Rattle.pim_chain.proofs.Local.{greatest_of-below}
-
-mutexes-with_ceiling : (S : State) (m c : ℕ) → length (with_ceiling S m c).protocol ≡ length S.protocol
-mutexes-with_ceiling S m c = length-put S.protocol m (Protocol.Protect c)
-
-protocol_other : (S : State) (m c k : ℕ) → (k ≡ m → ⊥) → protocol_of (with_ceiling S m c) k ≡ protocol_of S k
-protocol_other S m c k ne =
-    ap (λ o. unwrap_or o Protocol.None) (nth-put_other S.protocol m k (Protocol.Protect c) (λ e. ne (sym e)))
 
 -- a PROTECT mutex has no heir
 heir_in-protect : (p : Protocol) (o : Option ℕ) → is_none (ceiling p) ≡ false → heir_in p o ≡ None
@@ -46,7 +39,7 @@ heir_of-with_ceiling S m c k protect = go (cases_eq k m)
         (nth-put_same S.protocol m (Protocol.Protect c) within.0 within.1)
 
     go : (k ≡ m) ⊎ (k ≡ m → ⊥) → heir_of T k ≡ heir_of S k
-    go (inr other) = ap (λ p. heir_in p (owner_of S k)) (protocol_other S m c k other)
+    go (inr other) = ap (λ p. heir_in p (owner_of S k)) (protocol_beside S m k (Protocol.Protect c) other)
     go (inl same) =
         ap (heir_of T) same ∙ none_now (nth S.protocol m) refl
         ∙ sym (ap (heir_of S) same ∙ heir_in-protect (protocol_of S m) (owner_of S m) protect)
@@ -77,7 +70,7 @@ differs_ceiling S m c x protect owner = record {
     ceiling_same : (k t : ℕ) → (t ≡ x → ⊥) → holds (owner_of S k) t ≡ true → ceiling_of T k ≡ ceiling_of S k
     ceiling_same k t ne h =
         ap (λ p. unwrap_or (ceiling p) 0)
-        (protocol_other S m c k (λ same. ne (owner t (ap (owner_of S) (sym same) ∙ from_holds _ t h))))
+        (protocol_beside S m k (Protocol.Protect c) (λ same. ne (owner t (ap (owner_of S) (sym same) ∙ from_holds _ t h))))
 
     own : (t : ℕ) → (t ≡ x → ⊥) → own_priority S t ≡ own_priority T t
     own t ne =
@@ -85,7 +78,7 @@ differs_ceiling S m c x protect owner = record {
         ∙ ap (max (base_of S t)) (le_antisymm
         (greatest_of-below (ceiling_of S) (ceiling_of T) owns owns n (λ k _ _ h. (h, sym (ceiling_same k t ne h))))
         (greatest_of-below (ceiling_of T) (ceiling_of S) owns owns n (λ k _ _ h. (h, ceiling_same k t ne h)))
-        ∙ ap (greatest_of (ceiling_of T) owns) (sym (mutexes-with_ceiling S m c)))
+        ∙ ap (greatest_of (ceiling_of T) owns) (sym (length-put S.protocol m (Protocol.Protect c))))
         ∙ sym (greatest-cons (base_of S t) (map (ceiling_of T) (owned T t)))
       where
         n : ℕ
@@ -94,9 +87,17 @@ differs_ceiling S m c x protect owner = record {
         owns : ℕ → Bool
         owns k = holds (owner_of S k) t
 
-pub ready_ceiling : (v : View) (m c : ℕ) → Ready v → Ready (with_state v (with_ceiling v.state m c))
-ready_ceiling v m c ready = record {
-  sound = ceiling_sound v.state m c ready.sound;
+pub differs_protocol : (S : State) (m x : ℕ) (p : Protocol) → owner_of S m ≡ None → DiffersAt S (with_protocol S m p) x
+differs_protocol S m x p free = record {
+  tasks = refl;
+  own = λ t _. sym (own_priority-same S m p free t);
+  kept = λ u t _ e. heir-same S m p free u ∙ e;
+  added = λ u t _ e. sym (heir-same S m p free u) ∙ e;
+}
+
+pub ready_protocol : (v : View) (m : ℕ) (p : Protocol) → Ready v → Ready (with_state v (with_protocol v.state m p))
+ready_protocol v m p ready = record {
+  sound = protocol_sound v.state m p ready.sound;
   few_tasks = ready.few_tasks;
   few_mutexes = subst (λ n. n ≤ MAX_MUTEXES) (sym same) ready.few_mutexes;
   stored_len = ready.stored_len;
@@ -110,8 +111,8 @@ ready_ceiling v m c ready = record {
   room = λ k known. ready.room k (was k known);
 }
   where
-    same : length (with_ceiling v.state m c).protocol ≡ length v.state.protocol
-    same = mutexes-with_ceiling v.state m c
+    same : length (with_protocol v.state m p).protocol ≡ length v.state.protocol
+    same = length-put v.state.protocol m p
 
-    was : (k : ℕ) → IsMutex (with_ceiling v.state m c) k → IsMutex v.state k
+    was : (k : ℕ) → IsMutex (with_protocol v.state m p) k → IsMutex v.state k
     was k known = (known.0, subst (λ n. k ≤ n) same known.1)
