@@ -98,6 +98,7 @@
  *   pim_cancel           512   a queue, and the walk
  *   pim_set_base         512   the walk
  *   pim_set_ceiling      512   the walk
+ *   pim_set_protocol      64   a few stores
  *   pim_changed          384   the mutexes of each task that is listed
  *   pim_waiters          256   what it copies
  *   pim_task_reason      256   the mutexes that the task owns
@@ -202,7 +203,7 @@ enum {
     PIM_HANDED = 4,     /* task `number` was the first waiter, and owns the mutex: it is to run on */
     PIM_RELEASED = 5,   /* `number` mutexes were unlocked; pim_owner says who owns one that had waiters */
     PIM_WITHDRAWN = 6,  /* the target waits no more: it is to run on, without the mutex */
-    PIM_SET = 7,        /* the target has the new base priority, or the mutex the new ceiling */
+    PIM_SET = 7,        /* the target has the new base priority, or the mutex the new ceiling or protocol */
     PIM_REFUSED = 8,    /* nothing changed at all; `refusal` says why */
     PIM_KEPT = 9        /* the task locked the mutex more often, and owns it still */
 };
@@ -223,7 +224,9 @@ enum {
     PIM_PRIORITY = 9,     /* the new base priority or the new ceiling isn't 1 to 99 (EINVAL) */
     PIM_TICKETS = 10,     /* 2^64 - 2 waits were queued (EAGAIN) */
     PIM_NOT_PROTECT = 11, /* a new ceiling of a mutex that isn't a PROTECT one (EINVAL) */
-    PIM_AGAIN = 12        /* the task has locked the recursive mutex PIM_MAX_COUNT times (EAGAIN) */
+    PIM_AGAIN = 12,       /* the task has locked the recursive mutex PIM_MAX_COUNT times (EAGAIN) */
+    PIM_NO_PROTOCOL = 13  /* pim_set_protocol: the kind is unknown, or the ceiling of a PROTECT mutex
+                           * isn't 1 to 99 (EINVAL) */
 };
 
 /* Why a task has its effective priority: the first of these that gives it. */
@@ -244,7 +247,7 @@ struct pim_protocol {
 
 struct pim_answer {
     uint8_t kind;    /* PIM_NO_MANAGER .. PIM_KEPT */
-    uint8_t refusal; /* PIM_NO_TASK .. PIM_AGAIN, or 0 */
+    uint8_t refusal; /* PIM_NO_TASK .. PIM_NO_PROTOCOL, or 0 */
     uint16_t number; /* the task that was handed the mutex, or how many mutexes were released, or 0 */
     uint32_t visits; /* computed priorities, and comparisons that show that one stays */
 };
@@ -317,12 +320,20 @@ struct pim_answer pim_set_base(struct pim_handle *h, uint16_t task, uint16_t tar
  * Refused: PIM_NO_TASK, PIM_WAITING, PIM_NO_MUTEX, PIM_NOT_PROTECT, PIM_PRIORITY, PIM_BUSY. */
 struct pim_answer pim_set_ceiling(struct pim_handle *h, uint16_t task, uint16_t mutex, uint16_t ceiling);
 
+/* ---- a change that is no step ---------------------------------------------------------------- */
+
+/* pthread_mutex_destroy and pthread_mutex_init: gives a free mutex another protocol (PIM_SET), so that
+ * its number can be lent to another mutex. The ceiling is read where the kind is PIM_PROTECT. No
+ * priority changes, and pim_changed lists no task then. A trace has no line for it. Refused:
+ * PIM_NO_PROTOCOL, PIM_NO_MUTEX, PIM_BUSY. */
+struct pim_answer pim_set_protocol(struct pim_handle *h, uint16_t mutex, uint16_t kind, uint16_t ceiling);
+
 /* ---- what the last step changed -------------------------------------------------------------- */
 
 /* Copies the tasks whose effective priority the last step changed, in ascending order, at most
  * `room` of them, and returns how many there are. They are the tasks that a scheduler has to queue
- * anew: all of them, and no others. None where no step was made yet, or the last one was refused.
- */
+ * anew: all of them, and no others. None where no step was made yet, where the last one was refused,
+ * and where pim_set_protocol was answered PIM_SET since. */
 size_t pim_changed(struct pim_handle *h, struct pim_changed_task *to, size_t room);
 
 /* ---- what stands ----------------------------------------------------------------------------- */

@@ -37,6 +37,7 @@ static inline const char *pim_refusal_name(unsigned refusal) {
     case PIM_TICKETS: return "tickets";
     case PIM_NOT_PROTECT: return "not-protect";
     case PIM_AGAIN: return "again";
+    case PIM_NO_PROTOCOL: return "no-protocol";
     default: return "?";
     }
 }

@@ -55,6 +55,7 @@ pub enum Refusal {
     Tickets,
     NotProtect,
     Again,
+    NoProtocol,
     /// One of a later version of libpim.
     Other(u8),
 }
@@ -169,6 +170,18 @@ impl Manager {
                 Op::SetCeiling(mutex, ceiling) => c::pim_set_ceiling(h, task, mutex, ceiling),
             }
         })
+    }
+
+    /// Gives a free mutex this protocol. No priority changes. It is no step.
+    pub fn set_protocol(&mut self, mutex: u16, protocol: Protocol) -> Result<(), Refusal> {
+        let protocol = protocol.to_c();
+        let answer = unsafe {
+            c::pim_set_protocol(&mut self.handle, mutex, protocol.kind, protocol.ceiling)
+        };
+        match Reply::of(answer) {
+            Reply::Refused(refusal) => Err(refusal),
+            _ => Ok(()),
+        }
     }
 
     /// Returns the tasks whose effective priority the last step changed, in ascending order.
@@ -298,6 +311,7 @@ impl Refusal {
             10 => Refusal::Tickets,
             11 => Refusal::NotProtect,
             12 => Refusal::Again,
+            13 => Refusal::NoProtocol,
             other => Refusal::Other(other),
         }
     }

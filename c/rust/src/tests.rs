@@ -116,7 +116,7 @@ fn each_variant_has_its_number() {
     use Refusal::*;
     let refusals = [
         NoTask, Waiting, NoMutex, Deadlock, Ceiling, Busy, NotOwner, NotWaiting, Priority, Tickets,
-        NotProtect, Again,
+        NotProtect, Again, NoProtocol,
     ];
     assert_eq!(names_from("NO_TASK"), refusals.len());
     for refusal in refusals {
@@ -346,6 +346,33 @@ fn ceilings_are_reasons_and_are_set() {
     assert_eq!(
         (locks.tasks(), locks.effective(0), locks.effective(5)),
         (4, None, None)
+    );
+}
+
+#[test]
+fn free_mutex_gets_another_protocol() {
+    let mut locks = four();
+    assert_eq!(locks.step(1, Op::Lock(3)), Reply::Granted);
+    assert_eq!(
+        locks.set_protocol(3, Protocol::Inherit),
+        Err(Refusal::Busy)
+    );
+    assert_eq!(
+        locks.set_protocol(6, Protocol::Inherit),
+        Err(Refusal::NoMutex)
+    );
+    assert_eq!(
+        locks.set_protocol(1, Protocol::Protect(100)),
+        Err(Refusal::NoProtocol)
+    );
+    assert_eq!(listed(&mut locks).len(), 1);
+    assert_eq!(locks.set_protocol(1, Protocol::Protect(70)), Ok(()));
+    assert!(listed(&mut locks).is_empty());
+    assert_eq!(locks.effective(1), Some(60));
+    assert_eq!(locks.step(2, Op::Lock(1)), Reply::Granted);
+    assert_eq!(
+        listed(&mut locks),
+        [changed(2, 70, Reason::Ceiling { mutex: 1 })]
     );
 }
 

@@ -1,4 +1,5 @@
 pub mod Answers
+pub mod Changing
 pub mod Getters
 pub mod Held
 pub mod Lists

@@ -2,9 +2,10 @@
 
 ghost use Rattle.std.specs.Prelude.{◌≡◌};
 ghost use Rattle.pim_c.specs.Answers.{no_answer};
+ghost use Rattle.pim_c.specs.declared.numbers.TheConstants.{REFUSED};
 ghost use Rattle.pim_c.specs.Numbers.{reply_number, reply_refusal, reply_detail};
 
-use crate::numbers::{NO_MANAGER, number_of_refusal, number_of_reply};
+use crate::numbers::{NO_MANAGER, REFUSED, number_of_refusal, number_of_reply};
 use pim_base::Reply;
 
 /// The answer to a step, in C.
@@ -29,6 +30,18 @@ impl CAnswer {
         CAnswer {
             kind: NO_MANAGER,
             refusal: 0,
+            number: 0,
+            visits: 0,
+        }
+    }
+
+    /// Returns the answer of a call that is refused with this number.
+    pub fn refused(refusal: u8) -> CAnswer
+        ensures { result ≡ record { kind = REFUSED; refusal = refusal; number = 0; visits = 0 } }
+    {
+        CAnswer {
+            kind: REFUSED,
+            refusal,
             number: 0,
             visits: 0,
         }

@@ -5,12 +5,15 @@ ghost use Rattle.pim_base.specs.State.{start};
 ghost use Rattle.pim_base.specs.declared.limits.TheConstants.{MAX_MUTEXES, MAX_TASKS};
 ghost use Rattle.pim_manager.specs.Changed.{changed_task, noted_changes};
 ghost use Rattle.pim_c.specs.Answers.{IsAnswer};
+ghost use Rattle.pim_c.specs.Changing.{c_protocol_refusal, set_or_refused, reprotocoled};
 ghost use Rattle.pim_c.specs.Held.{stepped};
 ghost use Rattle.pim_c.specs.Shapes.{c_changed_task, copied};
 
 use crate::answer::CAnswer;
 use crate::changed_task::CChangedTask;
-use pim_base::{Prio, Protocol, Step};
+use crate::numbers::NO_PROTOCOL;
+use crate::protocol::CProtocol;
+use pim_base::{MutexNo, Prio, Protocol, Reply, Step};
 use pim_chain::Visits;
 use pim_manager::{MakeFault, Manager};
 use std::alloc::Global;
@@ -76,6 +79,23 @@ impl Held {
     {
         let done = self.manager.step_with_notes(step, &mut self.visits);
         CAnswer::of(done.reply, done.visits)
+    }
+
+    /// Gives a free mutex this protocol. No task is listed as changed then. Changes nothing if that is refused.
+    pub fn set_protocol(&mut self, mutex: MutexNo, protocol: CProtocol) -> CAnswer
+        ensures answer { result ≡ set_or_refused (c_protocol_refusal self.old.manager mutex protocol) }
+        ensures state { self.new ≡ reprotocoled self.old mutex protocol }
+    {
+        let Some(protocol) = protocol.read() else {
+            return CAnswer::refused(NO_PROTOCOL);
+        };
+        match self.manager.set_protocol(mutex, protocol) {
+            Ok(()) => {
+                self.visits.restart();
+                CAnswer::of(Reply::Set, 0)
+            }
+            Err(refusal) => CAnswer::of(Reply::Refused(refusal), 0),
+        }
     }
 
     /// Copies the tasks that the last step changed, as many as there is room for. Returns how many there are.

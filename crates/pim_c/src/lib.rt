@@ -17,6 +17,7 @@
 
 mod answer;
 mod changed_task;
+mod changing;
 mod getters;
 mod handle;
 mod held;

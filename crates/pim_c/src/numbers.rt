@@ -65,6 +65,9 @@ pub const NOT_PROTECT: u8 = 11;
 
 pub const AGAIN: u8 = 12;
 
+/// Of `pim_set_protocol` alone.
+pub const NO_PROTOCOL: u8 = 13;
+
 // ---- why a task has its effective priority
 
 pub const OF_NOTHING: u16 = 0;

@@ -2,6 +2,7 @@
 
 use crate::answer::CAnswer;
 use crate::changed_task::CChangedTask;
+use crate::changing::pim_set_protocol;
 use crate::getters::{
     pim_base_prio, pim_count, pim_effective_prio, pim_mutex_count, pim_mutex_protocol,
     pim_next_ticket, pim_owner, pim_task_count, pim_task_reason, pim_waits_for,
@@ -11,9 +12,9 @@ use crate::lists::{pim_changed, pim_waiters};
 use crate::making::{pim_drop, pim_make};
 use crate::numbers::{
     AGAIN, BAD_BASE, BAD_PROTOCOL, BUSY, CEILING, FREED, GRANTED, HANDED, INHERIT,
-    INHERIT_RECURSIVE, KEPT, MADE, NO_MANAGER, NO_MEMORY, NONE, NOT_OWNER, NOT_PROTECT, OCCUPIED,
-    OF_BASE, OF_CEILING, OF_NOTHING, OF_WAITER, PROTECT, QUEUED, REFUSED, RELEASED, SET,
-    TOO_MANY_MUTEXES, TOO_MANY_TASKS, UNKNOWN, WITHDRAWN,
+    INHERIT_RECURSIVE, KEPT, MADE, NO_MANAGER, NO_MEMORY, NO_MUTEX, NO_PROTOCOL, NONE, NOT_OWNER,
+    NOT_PROTECT, OCCUPIED, OF_BASE, OF_CEILING, OF_NOTHING, OF_WAITER, PROTECT, QUEUED, REFUSED,
+    RELEASED, SET, TOO_MANY_MUTEXES, TOO_MANY_TASKS, UNKNOWN, WITHDRAWN,
 };
 use crate::protocol::CProtocol;
 use crate::reason::CReason;
@@ -341,5 +342,53 @@ fn handle_that_goes_out_of_scope_gives_its_memory_back(rt: HostRuntime) -> Resul
     let alloc = rt.alloc();
     let mut handle = Handle::empty(alloc);
     assert!(rt; make(alloc, &mut handle) != NO_MEMORY);
+    Ok(())
+}
+
+#[test]
+fn free_mutex_gets_another_protocol(rt: HostRuntime) -> Result<(), Fail> {
+    let alloc = rt.alloc();
+    let mut handle = Handle::empty(alloc);
+    let h = &mut handle;
+    assert!(rt; says(pim_set_protocol(alloc, h, 1, PROTECT, 60), NO_MANAGER, 0, 0));
+    assert_eq!(rt; make(alloc, h), MADE);
+    assert!(rt; says(pim_lock(alloc, h, 1, 2), GRANTED, 0, 0));
+    assert!(rt; says(pim_set_protocol(alloc, h, 2, INHERIT, 0), REFUSED, BUSY, 0));
+    assert!(rt;
+        says(
+            pim_set_protocol(alloc, h, 3, INHERIT, 0),
+            REFUSED,
+            NO_MUTEX,
+            0
+        )
+    );
+    assert_eq!(rt; pim_changed(alloc, h, &mut [NO_CHANGED_TASK]), 1);
+    assert!(rt;
+        says(
+            pim_set_protocol(alloc, h, 1, INHERIT_RECURSIVE, 7),
+            SET,
+            0,
+            0
+        )
+    );
+    assert_eq!(rt; pim_mutex_protocol(alloc, h, 1), A_RECURSIVE_MUTEX);
+    assert_eq!(rt; pim_changed(alloc, h, &mut [NO_CHANGED_TASK]), 0);
+    assert_eq!(rt; pim_effective_prio(alloc, h, 1), 60);
+    pim_drop(alloc, h);
+    Ok(())
+}
+
+#[test]
+fn protocol_that_C_does_not_mean_is_refused(rt: HostRuntime) -> Result<(), Fail> {
+    let alloc = rt.alloc();
+    let mut handle = Handle::empty(alloc);
+    let h = &mut handle;
+    assert_eq!(rt; make(alloc, h), MADE);
+    for (kind, ceiling) in [(4, 10), (PROTECT, 0), (PROTECT, 100)] {
+        let answer = pim_set_protocol(alloc, h, 1, kind, ceiling);
+        assert!(rt; says(answer, REFUSED, NO_PROTOCOL, 0));
+    }
+    assert_eq!(rt; pim_mutex_protocol(alloc, h, 1), AN_INHERIT_MUTEX);
+    pim_drop(alloc, h);
     Ok(())
 }
