@@ -30,7 +30,7 @@ static int boost(struct pim_handle *locks) {
     if (changed[0].task != 1 || changed[0].prio != 90 || changed[0].reason.kind != PIM_OF_WAITER) return 7;
     if (pim_unlock(locks, 1, 1).number != 3) return 8;
     if (pim_effective_prio(locks, 1) != 10) return 9;
-    return pim_lock(locks, 3, 2).refusal == PIM_CEILING ? 0 : 10;
+    return pim_lock(locks, 3, 2).refusal == PIM_REFUSED_CEILING ? 0 : 10;
 }
 
 static int run(void) {
@@ -39,7 +39,7 @@ static int run(void) {
     struct pim_handle locks = PIM_HANDLE_INIT;
     if (pim_lock(&locks, 1, 1).kind != PIM_NO_MANAGER) return 1;
     if (pim_make(&locks, bases, 3, protocols, 2) != PIM_MADE) return 2;
-    if (pim_make(&locks, bases, 3, protocols, 2) != PIM_OCCUPIED) return 3;
+    if (pim_make(&locks, bases, 3, protocols, 2) != PIM_FAULT_OCCUPIED) return 3;
     int wrong = boost(&locks);
     pim_drop(&locks);
     return wrong == 0 && locks.at != 0 ? 11 : wrong;

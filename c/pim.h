@@ -31,7 +31,7 @@
  *
  * A mutex of the kind PIM_INHERIT_RECURSIVE is an INHERIT mutex of the type
  * PTHREAD_MUTEX_RECURSIVE: its owner may lock it again, by pim_lock or pim_try, up to PIM_MAX_COUNT
- * times in all, and has it until it has unlocked it as often. pim_count tells how often that is.
+ * times in all, and has it until it has unlocked it as often. pim_lock_count tells how often that is.
  * Each further lock is PIM_GRANTED at once, whoever waits. Each unlock but the last is PIM_KEPT: the
  * task goes on and owns the mutex still, nobody is to run on, and no priority changed, so a
  * scheduler has nothing to queue anew. The last one is PIM_HANDED or PIM_FREED, as of any mutex. A
@@ -106,11 +106,12 @@
  *   pim_base_prio         64   a few loads
  *   pim_waits_for         64   a few loads
  *   pim_owner             64   a few loads
- *   pim_count             64   a few loads
+ *   pim_lock_count        64   a few loads
  *   pim_mutex_protocol    64   a few loads
  *   pim_task_count        64   a few loads
  *   pim_mutex_count       64   a few loads
  *   pim_next_ticket       64   a few loads
+ *   pim_version           64   a constant
  *
  * The walk goes from the task whose cause changed along the chain of tasks that wait for one
  * another, as far as priorities change: the answer says by `visits` how many it computed. They are
@@ -145,6 +146,9 @@ extern "C" {
 #define PIM_VERSION_PATCH 0
 #define PIM_VERSION "0.1.0"
 
+/* The version as one number, to compare. */
+#define PIM_VERSION_NUMBER (PIM_VERSION_MAJOR * 10000 + PIM_VERSION_MINOR * 100 + PIM_VERSION_PATCH)
+
 #define PIM_MAX_TASKS 256u
 #define PIM_MAX_MUTEXES 256u
 
@@ -175,8 +179,11 @@ struct pim_handle {
 
 /* ---- numbers --------------------------------------------------------------------------------- */
 
+/* Each set is an enumeration of its own, so that compilers warn if names of two sets are compared.
+ * Faults begin with PIM_FAULT_, refusals with PIM_REFUSED_, reasons with PIM_OF_. */
+
 /* How owning a mutex affects its owner's priority. */
-enum {
+enum pim_protocol_kind {
     PIM_NONE = 0,             /* not at all */
     PIM_INHERIT = 1,          /* the owner executes at least at the priority of each waiter */
     PIM_PROTECT = 2,          /* the owner executes at least at the mutex's ceiling */
@@ -184,18 +191,18 @@ enum {
 };
 
 /* What pim_make returns: the first of these that holds. */
-enum {
+enum pim_fault {
     PIM_MADE = 0,
-    PIM_OCCUPIED = 1,         /* the handle has a manager already */
-    PIM_TOO_MANY_TASKS = 2,   /* more than PIM_MAX_TASKS */
-    PIM_TOO_MANY_MUTEXES = 3, /* more than PIM_MAX_MUTEXES */
-    PIM_BAD_BASE = 4,         /* a base priority isn't 1 to 99 */
-    PIM_BAD_PROTOCOL = 5,     /* a kind is unknown, or the ceiling of a PROTECT mutex isn't 1 to 99 */
-    PIM_NO_MEMORY = 6         /* out of memory: nothing was made, and nothing is kept */
+    PIM_FAULT_OCCUPIED = 1,         /* the handle has a manager already */
+    PIM_FAULT_TOO_MANY_TASKS = 2,   /* more than PIM_MAX_TASKS */
+    PIM_FAULT_TOO_MANY_MUTEXES = 3, /* more than PIM_MAX_MUTEXES */
+    PIM_FAULT_BAD_BASE = 4,         /* a base priority isn't 1 to 99 */
+    PIM_FAULT_BAD_PROTOCOL = 5,     /* a kind is unknown, or the ceiling of a PROTECT mutex isn't 1 to 99 */
+    PIM_FAULT_NO_MEMORY = 6         /* out of memory: nothing was made, and nothing is kept */
 };
 
 /* What a step is answered. */
-enum {
+enum pim_reply {
     PIM_NO_MANAGER = 0, /* the handle has none */
     PIM_GRANTED = 1,    /* the task owns the mutex */
     PIM_QUEUED = 2,     /* the task waits for the mutex: it is to block */
@@ -210,27 +217,29 @@ enum {
 
 /* Why a step is refused: the first of its tests that fails. In brackets the error that POSIX has
  * for the call: pim_errno of pim_errno.h returns it, and pim_names.h has names as text. */
-enum {
-    PIM_NO_TASK = 1,      /* the task or the target is unknown (ESRCH) */
-    PIM_WAITING = 2,      /* the task waits, and the step isn't the withdrawal of itself */
-    PIM_NO_MUTEX = 3,     /* the mutex is unknown (EINVAL) */
-    PIM_DEADLOCK = 4,     /* the request would close a cycle of waits, its own mutex included, unless
-                           * that is recursive (EDEADLK) */
-    PIM_CEILING = 5,      /* the task's base priority is above the ceiling of a PROTECT mutex (EINVAL) */
-    PIM_BUSY = 6,         /* a try on an owned mutex, its own recursive one excepted (EBUSY); a new
-                           * ceiling of one that another owns */
-    PIM_NOT_OWNER = 7,    /* the task doesn't own the mutex (EPERM) */
-    PIM_NOT_WAITING = 8,  /* the target of a cancel doesn't wait */
-    PIM_PRIORITY = 9,     /* the new base priority or the new ceiling isn't 1 to 99 (EINVAL) */
-    PIM_TICKETS = 10,     /* 2^64 - 2 waits were queued (EAGAIN) */
-    PIM_NOT_PROTECT = 11, /* a new ceiling of a mutex that isn't a PROTECT one (EINVAL) */
-    PIM_AGAIN = 12,       /* the task has locked the recursive mutex PIM_MAX_COUNT times (EAGAIN) */
-    PIM_NO_PROTOCOL = 13  /* pim_set_protocol: the kind is unknown, or the ceiling of a PROTECT mutex
-                           * isn't 1 to 99 (EINVAL) */
+enum pim_refusal {
+    PIM_REFUSED_NO_TASK = 1,      /* the task or the target is unknown (ESRCH) */
+    PIM_REFUSED_WAITING = 2,      /* the task waits, and the step isn't the withdrawal of itself */
+    PIM_REFUSED_NO_MUTEX = 3,     /* the mutex is unknown (EINVAL) */
+    PIM_REFUSED_DEADLOCK = 4,     /* the request would close a cycle of waits, its own mutex included,
+                                   * unless that is recursive (EDEADLK) */
+    PIM_REFUSED_CEILING = 5,      /* the task's base priority is above the ceiling of a PROTECT mutex
+                                   * (EINVAL) */
+    PIM_REFUSED_BUSY = 6,         /* a try on an owned mutex, its own recursive one excepted (EBUSY); a
+                                   * new ceiling of one that another owns; a new protocol of an owned one */
+    PIM_REFUSED_NOT_OWNER = 7,    /* the task doesn't own the mutex (EPERM) */
+    PIM_REFUSED_NOT_WAITING = 8,  /* the target of a cancel doesn't wait */
+    PIM_REFUSED_PRIORITY = 9,     /* the new base priority or the new ceiling isn't 1 to 99 (EINVAL) */
+    PIM_REFUSED_TICKETS = 10,     /* 2^64 - 2 waits were queued (EAGAIN) */
+    PIM_REFUSED_NOT_PROTECT = 11, /* a new ceiling of a mutex that isn't a PROTECT one (EINVAL) */
+    PIM_REFUSED_AGAIN = 12,       /* the task has locked the recursive mutex PIM_MAX_COUNT times
+                                   * (EAGAIN) */
+    PIM_REFUSED_NO_PROTOCOL = 13  /* the kind of a new protocol is unknown, or its ceiling isn't 1 to 99
+                                   * (EINVAL) */
 };
 
 /* Why a task has its effective priority: the first of these that gives it. */
-enum {
+enum pim_reason_kind {
     PIM_OF_NOTHING = 0, /* the task is unknown */
     PIM_OF_BASE = 1,    /* it is its base priority */
     PIM_OF_CEILING = 2, /* it is the ceiling of `mutex`, the least such PROTECT mutex that it owns */
@@ -247,7 +256,7 @@ struct pim_protocol {
 
 struct pim_answer {
     uint8_t kind;    /* PIM_NO_MANAGER .. PIM_KEPT */
-    uint8_t refusal; /* PIM_NO_TASK .. PIM_NO_PROTOCOL, or 0 */
+    uint8_t refusal; /* PIM_REFUSED_NO_TASK .. PIM_REFUSED_NO_PROTOCOL, or 0 */
     uint16_t number; /* the task that was handed the mutex, or how many mutexes were released, or 0 */
     uint32_t visits; /* computed priorities, and comparisons that show that one stays */
 };
@@ -272,6 +281,9 @@ struct pim_changed_task {
     struct pim_reason reason;
 };
 
+/* Returns the PIM_VERSION_NUMBER of the library: libpim.so may be another version than this file. */
+uint32_t pim_version(void);
+
 /* ---- making and dropping --------------------------------------------------------------------- */
 
 /* Makes a manager of tasks with these base priorities, which are known as 1, 2, .., and of mutexes
@@ -286,38 +298,39 @@ void pim_drop(struct pim_handle *h);
 
 /* ---- steps ----------------------------------------------------------------------------------- */
 
+/* What refuses a step is listed in the order of its tests, without PIM_REFUSED_. */
+
 /* pthread_mutex_lock: the task owns the mutex if it is free, or recursive and its own already
- * (PIM_GRANTED), else waits for it (PIM_QUEUED). Refused: PIM_NO_TASK, PIM_WAITING, PIM_NO_MUTEX,
- * PIM_AGAIN, PIM_DEADLOCK, PIM_CEILING, PIM_TICKETS. */
+ * (PIM_GRANTED), else waits for it (PIM_QUEUED). Refused: NO_TASK, WAITING, NO_MUTEX, AGAIN,
+ * DEADLOCK, CEILING, TICKETS. */
 struct pim_answer pim_lock(struct pim_handle *h, uint16_t task, uint16_t mutex);
 
 /* pthread_mutex_trylock: the task owns the mutex if it is free, or recursive and its own already
- * (PIM_GRANTED). Refused: PIM_NO_TASK, PIM_WAITING, PIM_NO_MUTEX, PIM_AGAIN, PIM_CEILING, PIM_BUSY.
- */
+ * (PIM_GRANTED). Refused: NO_TASK, WAITING, NO_MUTEX, AGAIN, CEILING, BUSY. */
 struct pim_answer pim_try(struct pim_handle *h, uint16_t task, uint16_t mutex);
 
 /* pthread_mutex_unlock: the mutex goes to the first of its queue (PIM_HANDED), or is free
- * (PIM_FREED); or it was locked more often, and is the task's still (PIM_KEPT). Refused:
- * PIM_NO_TASK, PIM_WAITING, PIM_NO_MUTEX, PIM_NOT_OWNER. */
+ * (PIM_FREED); or it was locked more often, and is the task's still (PIM_KEPT). Refused: NO_TASK,
+ * WAITING, NO_MUTEX, NOT_OWNER. */
 struct pim_answer pim_unlock(struct pim_handle *h, uint16_t task, uint16_t mutex);
 
 /* Unlocks all mutexes of the task in ascending order (PIM_RELEASED), as where a thread ends, each
- * wholly, however often it was locked. Refused: PIM_NO_TASK, PIM_WAITING. */
+ * wholly, however often it was locked. Refused: NO_TASK, WAITING. */
 struct pim_answer pim_release_all(struct pim_handle *h, uint16_t task);
 
 /* Withdraws the target, which waits, from its queue (PIM_WITHDRAWN), as where a time is out or a
- * thread is cancelled. Any task may ask that does not wait, and the target itself. Refused:
- * PIM_NO_TASK, PIM_WAITING, PIM_NOT_WAITING. */
+ * thread is cancelled. Any task may ask that does not wait, and the target itself. Refused: NO_TASK,
+ * WAITING, NOT_WAITING. */
 struct pim_answer pim_cancel(struct pim_handle *h, uint16_t task, uint16_t target);
 
-/* pthread_setschedprio: sets the base priority of the target (PIM_SET). Refused: PIM_NO_TASK,
- * PIM_WAITING, PIM_PRIORITY. */
+/* pthread_setschedprio: sets the base priority of the target (PIM_SET). Refused: NO_TASK, WAITING,
+ * PRIORITY. */
 struct pim_answer pim_set_base(struct pim_handle *h, uint16_t task, uint16_t target, uint16_t prio);
 
 /* pthread_mutex_setprioceiling: sets the ceiling of the PROTECT mutex (PIM_SET). Unlike that call it
  * locks nothing: the mutex is free, or the task that asks owns it, and then executes at the new
  * ceiling at once. No base priority is compared, the owner's neither, so a ceiling may be below it.
- * Refused: PIM_NO_TASK, PIM_WAITING, PIM_NO_MUTEX, PIM_NOT_PROTECT, PIM_PRIORITY, PIM_BUSY. */
+ * Refused: NO_TASK, WAITING, NO_MUTEX, NOT_PROTECT, PRIORITY, BUSY. */
 struct pim_answer pim_set_ceiling(struct pim_handle *h, uint16_t task, uint16_t mutex, uint16_t ceiling);
 
 /* ---- a change that is no step ---------------------------------------------------------------- */
@@ -325,7 +338,7 @@ struct pim_answer pim_set_ceiling(struct pim_handle *h, uint16_t task, uint16_t 
 /* pthread_mutex_destroy and pthread_mutex_init: gives a free mutex another protocol (PIM_SET), so that
  * its number can be lent to another mutex. The ceiling is read where the kind is PIM_PROTECT. No
  * priority changes, and pim_changed lists no task then. A trace has no line for it. Refused:
- * PIM_NO_PROTOCOL, PIM_NO_MUTEX, PIM_BUSY. */
+ * NO_PROTOCOL, NO_MUTEX, BUSY. */
 struct pim_answer pim_set_protocol(struct pim_handle *h, uint16_t mutex, uint16_t kind, uint16_t ceiling);
 
 /* ---- what the last step changed -------------------------------------------------------------- */
@@ -369,7 +382,7 @@ uint16_t pim_owner(struct pim_handle *h, uint16_t mutex);
 
 /* Returns how often the owner of the mutex has locked it, 0 where it is free, PIM_UNKNOWN for an
  * unknown mutex. It is above 1 of a recursive mutex alone. */
-uint16_t pim_count(struct pim_handle *h, uint16_t mutex);
+uint16_t pim_lock_count(struct pim_handle *h, uint16_t mutex);
 
 /* Returns the protocol of the mutex; its kind is PIM_UNKNOWN for an unknown mutex. The ceiling is 0
  * unless the mutex is a PROTECT one. */

@@ -13,12 +13,12 @@
 static inline int pim_errno(unsigned refusal) {
     switch (refusal) {
     case 0: return 0;
-    case PIM_NO_TASK: return ESRCH;
-    case PIM_DEADLOCK: return EDEADLK;
-    case PIM_BUSY: return EBUSY;
-    case PIM_NOT_OWNER: return EPERM;
-    case PIM_TICKETS:
-    case PIM_AGAIN: return EAGAIN;
+    case PIM_REFUSED_NO_TASK: return ESRCH;
+    case PIM_REFUSED_DEADLOCK: return EDEADLK;
+    case PIM_REFUSED_BUSY: return EBUSY;
+    case PIM_REFUSED_NOT_OWNER: return EPERM;
+    case PIM_REFUSED_TICKETS:
+    case PIM_REFUSED_AGAIN: return EAGAIN;
     default: return EINVAL;
     }
 }

@@ -25,19 +25,19 @@ static inline const char *pim_answer_name(unsigned kind) {
 /* Returns the name of a refusal, "?" for one of a later version and for 0. */
 static inline const char *pim_refusal_name(unsigned refusal) {
     switch (refusal) {
-    case PIM_NO_TASK: return "no-task";
-    case PIM_WAITING: return "waiting";
-    case PIM_NO_MUTEX: return "no-mutex";
-    case PIM_DEADLOCK: return "deadlock";
-    case PIM_CEILING: return "ceiling";
-    case PIM_BUSY: return "busy";
-    case PIM_NOT_OWNER: return "not-owner";
-    case PIM_NOT_WAITING: return "not-waiting";
-    case PIM_PRIORITY: return "priority";
-    case PIM_TICKETS: return "tickets";
-    case PIM_NOT_PROTECT: return "not-protect";
-    case PIM_AGAIN: return "again";
-    case PIM_NO_PROTOCOL: return "no-protocol";
+    case PIM_REFUSED_NO_TASK: return "no-task";
+    case PIM_REFUSED_WAITING: return "waiting";
+    case PIM_REFUSED_NO_MUTEX: return "no-mutex";
+    case PIM_REFUSED_DEADLOCK: return "deadlock";
+    case PIM_REFUSED_CEILING: return "ceiling";
+    case PIM_REFUSED_BUSY: return "busy";
+    case PIM_REFUSED_NOT_OWNER: return "not-owner";
+    case PIM_REFUSED_NOT_WAITING: return "not-waiting";
+    case PIM_REFUSED_PRIORITY: return "priority";
+    case PIM_REFUSED_TICKETS: return "tickets";
+    case PIM_REFUSED_NOT_PROTECT: return "not-protect";
+    case PIM_REFUSED_AGAIN: return "again";
+    case PIM_REFUSED_NO_PROTOCOL: return "no-protocol";
     default: return "?";
     }
 }

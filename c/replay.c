@@ -72,7 +72,7 @@ static void check_mutex(uint16_t mutex) {
     struct pim_protocol protocol = pim_mutex_protocol(&locks, mutex);
     must(protocol.kind == protocols[mutex - 1].kind, "protocol");
     must(protocol.ceiling == (protocol.kind == PIM_PROTECT ? protocols[mutex - 1].ceiling : 0), "ceiling");
-    must(pim_count(&locks, mutex) == counts[mutex], "count");
+    must(pim_lock_count(&locks, mutex) == counts[mutex], "count");
     must((counts[mutex] == 0) == (pim_owner(&locks, mutex) == 0), "count of a free mutex");
     must(counts[mutex] <= (protocol.kind == PIM_INHERIT_RECURSIVE ? PIM_MAX_COUNT : 1), "count above the most");
 }
@@ -83,7 +83,7 @@ static void check_all(void) {
     check_unknown_task(0);
     check_unknown_task((uint16_t)(tasks + 1));
     must(pim_owner(&locks, 0) == PIM_UNKNOWN && pim_owner(&locks, (uint16_t)(mutexes + 1)) == PIM_UNKNOWN, "owner of an unknown mutex");
-    must(pim_count(&locks, 0) == PIM_UNKNOWN && pim_count(&locks, (uint16_t)(mutexes + 1)) == PIM_UNKNOWN, "count of an unknown mutex");
+    must(pim_lock_count(&locks, 0) == PIM_UNKNOWN && pim_lock_count(&locks, (uint16_t)(mutexes + 1)) == PIM_UNKNOWN, "count of an unknown mutex");
     must(pim_mutex_protocol(&locks, 0).kind == PIM_UNKNOWN, "protocol of an unknown mutex");
     for (uint16_t task = 1; task <= tasks; task++) {
         check_task(task);

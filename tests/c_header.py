@@ -1,5 +1,6 @@
 """Checks that the headers of c/ say the numbers, layouts and functions of the Rattle types."""
 import errno
+import itertools
 import re
 import shutil
 
@@ -31,22 +32,22 @@ def fields(texts, name):
 
 
 def version(folder):
-    """The version is its three numbers."""
+    """The version is its three numbers, as text, as one number and in the library."""
     body = """#include "pim.h"
         #include <stdio.h>
         #include <string.h>
         int main(void) {
             char text[32];
             snprintf(text, sizeof text, "%d.%d.%d", PIM_VERSION_MAJOR, PIM_VERSION_MINOR, PIM_VERSION_PATCH);
-            return strcmp(text, PIM_VERSION) != 0;
+            return strcmp(text, PIM_VERSION) != 0 || pim_version() != PIM_VERSION_NUMBER;
         }
     """
     source = f"{folder}/version.c"
     with open(source, "w") as file:
         file.write(body)
-    made = HERE.compiled(folder, "version", source)
+    made = HERE.compiled(folder, "version", source, C / "heap/malloc.c")
     if made:
-        HERE.passes("PIM_VERSION", made)
+        HERE.passes("PIM_VERSION and pim_version", made)
 
 
 def numbers(folder):
@@ -59,6 +60,19 @@ def numbers(folder):
     check("the limits", difference((limits,), ({k: constants(limits_file)[k] for k in limits},)))
     tests = [f'_Static_assert(PIM_{name} == {number}, "{name}");' for name, number in {**wanted, **limits}.items()]
     compiles("the header's numbers", folder, tests)
+
+
+def sets(folder):
+    """The compiler warns where numbers of two sets are compared."""
+    found = re.findall(r"^enum (\w+) \{\s+(PIM_\w+)", HEADER, re.M)
+    check("the sets of numbers", None if len(found) == 5 else f"{len(found)} enumerations")
+    for (left, one), (right, other) in itertools.combinations(found, 2):
+        source = f"{folder}/sets.c"
+        with open(source, "w") as file:
+            file.write(f'#include "pim.h"\nint same(void);\nint same(void) {{ return {one} == {other}; }}\n')
+        words = ["cc", f"-I{C}", "-std=c11", "-Wall", "-Werror=enum-compare", "-fsyntax-only", source]
+        status, out = run(*words)
+        check(f"{left} isn't compared with {right}", None if status and b"enum-compare" in out else f"status {status}")
 
 
 def layouts(folder, machine=HERE):
@@ -114,8 +128,8 @@ def languages(folder):
 
 def tables():
     """Returns the numbers of the header's tables of answers and of refusals, with what is said of each."""
-    for first in ("PIM_NO_MANAGER", "PIM_NO_TASK"):
-        body = re.search(r"enum \{\s+" + first + r" = (.*?)\n\};", HEADER, re.S)[0]
+    for first in ("PIM_NO_MANAGER", "PIM_REFUSED_NO_TASK"):
+        body = re.search(r"enum \w+ \{\s+" + first + r" = (.*?)\n\};", HEADER, re.S)[0]
         yield re.findall(r"(PIM_[A-Z_]+) = \d+(.*?)(?=PIM_[A-Z_]+ = |\Z)", body, re.S)
 
 
@@ -140,7 +154,7 @@ def names(folder):
 
 
 def spelled(name):
-    return name[len("PIM_"):].lower().replace("_", "-")
+    return re.sub("^PIM_(REFUSED_(?=.))?", "", name).lower().replace("_", "-")
 
 
 def signatures():
@@ -152,7 +166,8 @@ def signatures():
         exports[name] = [TYPES.get(result, "void")] + [c for kind in types if kind != "Global" for c in c_types(kind)]
     prototypes = {}
     for result, name, params in re.findall(r"^((?:struct )?\w+) (pim_\w+)\(([^()]*)\);", HEADER, re.M):
-        prototypes[name] = [result] + [re.sub(r"\w+$", "", param).strip() for param in re.split(r",\s+", params)]
+        named = [] if params == "void" else re.split(r",\s+", params)
+        prototypes[name] = [result] + [re.sub(r"\w+$", "", param).strip() for param in named]
     check("the header's functions", difference((sorted(prototypes),), (sorted(exports),)))
     for name in exports:
         check(f"the prototype of {name}", difference((prototypes.get(name),), (exports[name],)))

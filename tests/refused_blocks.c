@@ -73,7 +73,7 @@ static void step_at_random(struct pim_handle *h) {
 }
 
 static void see_nothing_was_made(struct pim_handle *h, uint32_t made) {
-    must(made == PIM_NO_MEMORY, "another fault than PIM_NO_MEMORY");
+    must(made == PIM_FAULT_NO_MEMORY, "another fault than PIM_FAULT_NO_MEMORY");
     must(h->at == NULL, "the handle leads somewhere");
     must(outstanding == 0, "memory is kept");
     must(pim_lock(h, 1, 1).kind == PIM_NO_MANAGER, "there is a manager");
@@ -86,7 +86,7 @@ static void see_steps_take_no_memory(struct pim_handle *h) {
     unsigned long before = calls;
     step_at_random(h);
     must(calls == before, "a step took memory");
-    must(make(h) == PIM_OCCUPIED && calls == before, "a second manager");
+    must(make(h) == PIM_FAULT_OCCUPIED && calls == before, "a second manager");
 }
 
 int main(void) {

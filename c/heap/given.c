@@ -3,7 +3,7 @@
  *     static _Alignas(16) unsigned char memory[PIM_MEMORY(16, 8)];
  *
  *     pim_heap_give(memory, sizeof memory);
- *     pim_make(&locks, bases, 16, protocols, 8); // PIM_NO_MEMORY if it was too little
+ *     pim_make(&locks, bases, 16, protocols, 8); // PIM_FAULT_NO_MEMORY if it was too little
  *     ..
  *     pim_drop(&locks);                          // from here on the memory is the program's again
  *

@@ -82,7 +82,7 @@ static int error_of(struct pim_answer answer) {
 
 int pi_start(const uint16_t *bases, size_t count, const struct pim_protocol *protocols, size_t mutexes) {
     uint32_t fault = pim_make(&locks, bases, count, protocols, mutexes);
-    if (fault != PIM_MADE) return fault == PIM_NO_MEMORY ? ENOMEM : EINVAL;
+    if (fault != PIM_MADE) return fault == PIM_FAULT_NO_MEMORY ? ENOMEM : EINVAL;
     int error = make_guard();
     if (error != 0) {
         pim_drop(&locks);

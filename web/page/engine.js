@@ -135,7 +135,7 @@ class Engine {
   writeMutex(numbers, place, m) {
     const protocol = this.pim.pim_mutex_protocol(this.handle, m) >>> 0
     numbers[place++] = this.pim.pim_owner(this.handle, m)
-    numbers[place++] = this.pim.pim_count(this.handle, m)
+    numbers[place++] = this.pim.pim_lock_count(this.handle, m)
     numbers[place++] = protocol & 0xffff
     numbers[place++] = protocol >>> 16
     numbers[place++] = Number(

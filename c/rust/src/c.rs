@@ -65,6 +65,6 @@ extern "C" {
     pub fn pim_task_count(h: &mut Handle) -> u16;
     pub fn pim_effective_prio(h: &mut Handle, task: u16) -> u16;
     pub fn pim_owner(h: &mut Handle, mutex: u16) -> u16;
-    pub fn pim_count(h: &mut Handle, mutex: u16) -> u16;
+    pub fn pim_lock_count(h: &mut Handle, mutex: u16) -> u16;
     pub fn pim_waits_for(h: &mut Handle, task: u16) -> u16;
 }

@@ -213,7 +213,7 @@ impl Manager {
 
     /// Returns how often the owner of the mutex has locked it, 0 where it is free, None for an unknown one.
     pub fn count(&mut self, mutex: u16) -> Option<u16> {
-        let count = unsafe { c::pim_count(&mut self.handle, mutex) };
+        let count = unsafe { c::pim_lock_count(&mut self.handle, mutex) };
         (count != u16::MAX).then_some(count)
     }
 

@@ -118,9 +118,9 @@ fn each_variant_has_its_number() {
         NoTask, Waiting, NoMutex, Deadlock, Ceiling, Busy, NotOwner, NotWaiting, Priority, Tickets,
         NotProtect, Again, NoProtocol,
     ];
-    assert_eq!(names_from("NO_TASK"), refusals.len());
+    assert_eq!(names_from("REFUSED_NO_TASK"), refusals.len());
     for refusal in refusals {
-        let number = number(&spelled(refusal)) as u8;
+        let number = number(&format!("REFUSED_{}", spelled(refusal))) as u8;
         assert_eq!(Refusal::of(number), refusal);
         let answer = c::Answer {
             kind: 8,
@@ -130,7 +130,7 @@ fn each_variant_has_its_number() {
         };
         assert_eq!(Reply::of(answer), Reply::Refused(refusal));
     }
-    assert_eq!(Refusal::of(13), Other(13));
+    assert_eq!(Refusal::of(14), Other(14));
 }
 
 #[test]
@@ -176,9 +176,9 @@ fn each_fault_has_its_number_and_text() {
         (BadProtocol, "a ceiling isn't 1 to 99"),
         (NoMemory, "out of memory"),
     ];
-    assert_eq!(names_from("MADE"), faults.len() + 2); // and PIM_OCCUPIED
+    assert_eq!(names_from("MADE"), faults.len() + 2); // and PIM_FAULT_OCCUPIED
     for (fault, text) in faults {
-        let number = number(&spelled(fault));
+        let number = number(&format!("FAULT_{}", spelled(fault)));
         assert_eq!(MakeFault::of(u32::from(number)), Some(fault));
         assert_eq!(fault.to_string(), text);
     }

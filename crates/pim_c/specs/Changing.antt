@@ -8,14 +8,14 @@ use Rattle.pim_c.specs.Answers.{no_answer}
 use Rattle.pim_c.specs.Held.{HeldView}
 use Rattle.pim_c.specs.Shapes.{protocol_meant}
 use Rattle.pim_c.specs.declared.answer.CAnswer.{CAnswer}
-use Rattle.pim_c.specs.declared.numbers.TheConstants.{SET, REFUSED, NO_PROTOCOL}
+use Rattle.pim_c.specs.declared.numbers.TheConstants.{SET, REFUSED, REFUSED_NO_PROTOCOL}
 use Rattle.pim_c.specs.declared.protocol.CProtocol.{CProtocol}
 
 -- why m can't have this protocol, or 0: the struct means none (POSIX.1-2017, pthread_mutexattr_setprotocol: EINVAL), or
 -- m can't have another one
 abbrev pub c_protocol_refusal : State → ℕ → CProtocol → ℕ
 c_protocol_refusal S m p =
-    if is_none (protocol_meant p) then NO_PROTOCOL
+    if is_none (protocol_meant p) then REFUSED_NO_PROTOCOL
     else option_map_or refusal_number (protocol_refusal S m) 0
 
 -- the answer with this refusal, or 0

@@ -7,7 +7,7 @@ use Rattle.pim_base.specs.declared.steps.Protocol.{Protocol}
 use Rattle.pim_c.specs.Numbers.{is_priority, priority_meant}
 use Rattle.pim_c.specs.Shapes.{protocol_meant}
 use Rattle.pim_c.specs.Held.{HeldView}
-use Rattle.pim_c.specs.declared.numbers.TheConstants.{MADE, OCCUPIED, TOO_MANY_TASKS, TOO_MANY_MUTEXES, BAD_BASE, BAD_PROTOCOL}
+use Rattle.pim_c.specs.declared.numbers.TheConstants.{MADE, FAULT_OCCUPIED, FAULT_TOO_MANY_TASKS, FAULT_TOO_MANY_MUTEXES, FAULT_BAD_BASE, FAULT_BAD_PROTOCOL}
 use Rattle.pim_c.specs.declared.protocol.CProtocol.{CProtocol}
 
 -- the numbers that are priorities
@@ -25,11 +25,11 @@ protocols_meant ps = filter_map protocol_meant ps
 -- the first fault of what C asks for, or MADE if it has no fault
 abbrev pub first_fault : Option HeldView → List ℕ → List CProtocol → ℕ
 first_fault held bases protocols =
-    if is_some held then OCCUPIED
-    else if nat_lt MAX_TASKS (length bases) then TOO_MANY_TASKS
-    else if nat_lt MAX_MUTEXES (length protocols) then TOO_MANY_MUTEXES
-    else if not (list_all is_priority bases) then BAD_BASE
-    else if not (list_all is_protocol protocols) then BAD_PROTOCOL
+    if is_some held then FAULT_OCCUPIED
+    else if nat_lt MAX_TASKS (length bases) then FAULT_TOO_MANY_TASKS
+    else if nat_lt MAX_MUTEXES (length protocols) then FAULT_TOO_MANY_MUTEXES
+    else if not (list_all is_priority bases) then FAULT_BAD_BASE
+    else if not (list_all is_protocol protocols) then FAULT_BAD_PROTOCOL
     else MADE
 
 -- a manager of these tasks and mutexes, before any step: all mutexes are free

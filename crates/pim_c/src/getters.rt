@@ -151,7 +151,7 @@ pub extern "C" fn pim_owner(alloc: Global, handle: &mut Handle, mutex: u16) -> u
 
 /// Returns how many unlocks free the mutex, 0 if it is free, or `UNKNOWN` for an unknown mutex.
 #[unsafe(no_mangle)]
-pub extern "C" fn pim_count(alloc: Global, handle: &mut Handle, mutex: u16) -> u16
+pub extern "C" fn pim_lock_count(alloc: Global, handle: &mut Handle, mutex: u16) -> u16
     ensures count { result ≡ count_in handle.old.held mutex }
     ensures same { handle.new.held ≡ handle.old.held }
 {

@@ -11,7 +11,7 @@ ghost use Rattle.pim_c.specs.Shapes.{c_changed_task, copied};
 
 use crate::answer::CAnswer;
 use crate::changed_task::CChangedTask;
-use crate::numbers::NO_PROTOCOL;
+use crate::numbers::REFUSED_NO_PROTOCOL;
 use crate::protocol::CProtocol;
 use pim_base::{MutexNo, Prio, Protocol, Reply, Step};
 use pim_chain::Visits;
@@ -87,7 +87,7 @@ impl Held {
         ensures state { self.new ≡ reprotocoled self.old mutex protocol }
     {
         let Some(protocol) = protocol.read() else {
-            return CAnswer::refused(NO_PROTOCOL);
+            return CAnswer::refused(REFUSED_NO_PROTOCOL);
         };
         match self.manager.set_protocol(mutex, protocol) {
             Ok(()) => {

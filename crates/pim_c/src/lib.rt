@@ -30,4 +30,5 @@ mod reason;
 mod steps;
 #[cfg(test)]
 mod tests;
+mod version;
 mod waiter;

@@ -8,7 +8,8 @@ ghost use Rattle.pim_c.specs.Making.{first_fault, is_protocol, made, priorities_
 use crate::handle::Handle;
 use crate::held::Held;
 use crate::numbers::{
-    BAD_BASE, BAD_PROTOCOL, MADE, NO_MEMORY, OCCUPIED, TOO_MANY_MUTEXES, TOO_MANY_TASKS,
+    FAULT_BAD_BASE, FAULT_BAD_PROTOCOL, FAULT_NO_MEMORY, FAULT_OCCUPIED, FAULT_TOO_MANY_MUTEXES,
+    FAULT_TOO_MANY_TASKS, MADE,
 };
 use crate::protocol::CProtocol;
 use pim_base::{MAX_MUTEXES, MAX_TASKS, Prio, Protocol};
@@ -17,9 +18,10 @@ use std::alloc::{AllocError, Global};
 /// Makes a manager of tasks with these base priorities and of mutexes with these protocols. All mutexes are free, no
 /// task waits, and the next ticket is 1.
 ///
-/// Returns `MADE`, or the first of these faults that applies, and then the handle stays as it was: `OCCUPIED` if it has
-/// a manager already, `TOO_MANY_TASKS` or `TOO_MANY_MUTEXES` if there are more than 256, `BAD_BASE` if a base isn't 1
-/// to 99, `BAD_PROTOCOL` if the kind of a protocol is unknown or its ceiling isn't 1 to 99, `NO_MEMORY` if out of
+/// Returns `MADE`, or the first of these faults that applies, and then the handle stays as it was: `FAULT_OCCUPIED` if it
+/// has a manager already, `FAULT_TOO_MANY_TASKS` or `FAULT_TOO_MANY_MUTEXES` if there are more than 256, `FAULT_BAD_BASE`
+/// if a base isn't 1 to 99, `FAULT_BAD_PROTOCOL` if the kind of a protocol is unknown or its ceiling isn't 1 to 99,
+/// `FAULT_NO_MEMORY` if out of
 /// memory.
 #[unsafe(no_mangle)]
 pub extern "C" fn pim_make(
@@ -29,32 +31,32 @@ pub extern "C" fn pim_make(
     protocols: &[CProtocol],
 ) -> u32
     ensures fault { first_fault handle.old.held bases.now protocols.now ≢ MADE → result ≡ first_fault handle.old.held bases.now protocols.now }
-    ensures no_fault { first_fault handle.old.held bases.now protocols.now ≡ MADE → result ≢ MADE → result ≡ NO_MEMORY }
+    ensures no_fault { first_fault handle.old.held bases.now protocols.now ≡ MADE → result ≢ MADE → result ≡ FAULT_NO_MEMORY }
     ensures made { result ≡ MADE → handle.new.held ≡ Some (made bases.now protocols.now) }
     ensures unmade { result ≢ MADE → handle.new.held ≡ handle.old.held }
 {
     if let Some(held) = handle.take(alloc) {
         handle.put(held);
-        return OCCUPIED;
+        return FAULT_OCCUPIED;
     }
     if MAX_TASKS < bases.len() {
-        return TOO_MANY_TASKS;
+        return FAULT_TOO_MANY_TASKS;
     }
     if MAX_MUTEXES < protocols.len() {
-        return TOO_MANY_MUTEXES;
+        return FAULT_TOO_MANY_MUTEXES;
     }
     if !are_priorities(bases) {
-        return BAD_BASE;
+        return FAULT_BAD_BASE;
     }
     if !are_protocols(protocols) {
-        return BAD_PROTOCOL;
+        return FAULT_BAD_PROTOCOL;
     }
     match hold(alloc, bases, protocols) {
         Ok(held) => {
             handle.put(held);
             MADE
         }
-        Err(_) => NO_MEMORY,
+        Err(_) => FAULT_NO_MEMORY,
     }
 }
 

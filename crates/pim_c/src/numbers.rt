@@ -41,32 +41,32 @@ pub const KEPT: u8 = 9;
 
 // ---- why a step is refused; 0 if it isn't
 
-pub const NO_TASK: u8 = 1;
+pub const REFUSED_NO_TASK: u8 = 1;
 
-pub const WAITING: u8 = 2;
+pub const REFUSED_WAITING: u8 = 2;
 
-pub const NO_MUTEX: u8 = 3;
+pub const REFUSED_NO_MUTEX: u8 = 3;
 
-pub const DEADLOCK: u8 = 4;
+pub const REFUSED_DEADLOCK: u8 = 4;
 
-pub const CEILING: u8 = 5;
+pub const REFUSED_CEILING: u8 = 5;
 
-pub const BUSY: u8 = 6;
+pub const REFUSED_BUSY: u8 = 6;
 
-pub const NOT_OWNER: u8 = 7;
+pub const REFUSED_NOT_OWNER: u8 = 7;
 
-pub const NOT_WAITING: u8 = 8;
+pub const REFUSED_NOT_WAITING: u8 = 8;
 
-pub const PRIORITY: u8 = 9;
+pub const REFUSED_PRIORITY: u8 = 9;
 
-pub const TICKETS: u8 = 10;
+pub const REFUSED_TICKETS: u8 = 10;
 
-pub const NOT_PROTECT: u8 = 11;
+pub const REFUSED_NOT_PROTECT: u8 = 11;
 
-pub const AGAIN: u8 = 12;
+pub const REFUSED_AGAIN: u8 = 12;
 
 /// Of `pim_set_protocol` alone.
-pub const NO_PROTOCOL: u8 = 13;
+pub const REFUSED_NO_PROTOCOL: u8 = 13;
 
 // ---- why a task has its effective priority
 
@@ -82,17 +82,17 @@ pub const OF_WAITER: u16 = 3;
 
 pub const MADE: u32 = 0;
 
-pub const OCCUPIED: u32 = 1;
+pub const FAULT_OCCUPIED: u32 = 1;
 
-pub const TOO_MANY_TASKS: u32 = 2;
+pub const FAULT_TOO_MANY_TASKS: u32 = 2;
 
-pub const TOO_MANY_MUTEXES: u32 = 3;
+pub const FAULT_TOO_MANY_MUTEXES: u32 = 3;
 
-pub const BAD_BASE: u32 = 4;
+pub const FAULT_BAD_BASE: u32 = 4;
 
-pub const BAD_PROTOCOL: u32 = 5;
+pub const FAULT_BAD_PROTOCOL: u32 = 5;
 
-pub const NO_MEMORY: u32 = 6;
+pub const FAULT_NO_MEMORY: u32 = 6;
 
 /// Returned as the owner and the kind of protocol of an unknown mutex, and as the mutex that an unknown task waits for.
 pub const UNKNOWN: u16 = 65535;
@@ -119,17 +119,17 @@ pub fn number_of_refusal(refusal: Refusal) -> u8
     ensures { result ≡ refusal_number refusal }
 {
     match refusal {
-        Refusal::NoTask => NO_TASK,
-        Refusal::Waiting => WAITING,
-        Refusal::NoMutex => NO_MUTEX,
-        Refusal::Deadlock => DEADLOCK,
-        Refusal::Ceiling => CEILING,
-        Refusal::Busy => BUSY,
-        Refusal::NotOwner => NOT_OWNER,
-        Refusal::NotWaiting => NOT_WAITING,
-        Refusal::Priority => PRIORITY,
-        Refusal::Tickets => TICKETS,
-        Refusal::NotProtect => NOT_PROTECT,
-        Refusal::Again => AGAIN,
+        Refusal::NoTask => REFUSED_NO_TASK,
+        Refusal::Waiting => REFUSED_WAITING,
+        Refusal::NoMutex => REFUSED_NO_MUTEX,
+        Refusal::Deadlock => REFUSED_DEADLOCK,
+        Refusal::Ceiling => REFUSED_CEILING,
+        Refusal::Busy => REFUSED_BUSY,
+        Refusal::NotOwner => REFUSED_NOT_OWNER,
+        Refusal::NotWaiting => REFUSED_NOT_WAITING,
+        Refusal::Priority => REFUSED_PRIORITY,
+        Refusal::Tickets => REFUSED_TICKETS,
+        Refusal::NotProtect => REFUSED_NOT_PROTECT,
+        Refusal::Again => REFUSED_AGAIN,
     }
 }

@@ -4,23 +4,25 @@ use crate::answer::CAnswer;
 use crate::changed_task::CChangedTask;
 use crate::changing::pim_set_protocol;
 use crate::getters::{
-    pim_base_prio, pim_count, pim_effective_prio, pim_mutex_count, pim_mutex_protocol,
+    pim_base_prio, pim_effective_prio, pim_lock_count, pim_mutex_count, pim_mutex_protocol,
     pim_next_ticket, pim_owner, pim_task_count, pim_task_reason, pim_waits_for,
 };
 use crate::handle::Handle;
 use crate::lists::{pim_changed, pim_waiters};
 use crate::making::{pim_drop, pim_make};
 use crate::numbers::{
-    AGAIN, BAD_BASE, BAD_PROTOCOL, BUSY, CEILING, FREED, GRANTED, HANDED, INHERIT,
-    INHERIT_RECURSIVE, KEPT, MADE, NO_MANAGER, NO_MEMORY, NO_MUTEX, NO_PROTOCOL, NONE, NOT_OWNER,
-    NOT_PROTECT, OCCUPIED, OF_BASE, OF_CEILING, OF_NOTHING, OF_WAITER, PROTECT, QUEUED, REFUSED,
-    RELEASED, SET, TOO_MANY_MUTEXES, TOO_MANY_TASKS, UNKNOWN, WITHDRAWN,
+    FAULT_BAD_BASE, FAULT_BAD_PROTOCOL, FAULT_NO_MEMORY, FAULT_OCCUPIED, FAULT_TOO_MANY_MUTEXES,
+    FAULT_TOO_MANY_TASKS, FREED, GRANTED, HANDED, INHERIT, INHERIT_RECURSIVE, KEPT, MADE,
+    NO_MANAGER, NONE, OF_BASE, OF_CEILING, OF_NOTHING, OF_WAITER, PROTECT, QUEUED, REFUSED,
+    REFUSED_AGAIN, REFUSED_BUSY, REFUSED_CEILING, REFUSED_NO_MUTEX, REFUSED_NO_PROTOCOL,
+    REFUSED_NOT_OWNER, REFUSED_NOT_PROTECT, RELEASED, SET, UNKNOWN, WITHDRAWN,
 };
 use crate::protocol::CProtocol;
 use crate::reason::CReason;
 use crate::steps::{
     pim_cancel, pim_lock, pim_release_all, pim_set_base, pim_set_ceiling, pim_try, pim_unlock,
 };
+use crate::version::pim_version;
 use crate::waiter::CWaiter;
 use std::alloc::Global;
 use std::test::Fail;
@@ -58,7 +60,7 @@ const NO_WAITER: CWaiter = CWaiter {
     ticket: 0,
 };
 
-// low 10, medium 50 and high 90, an INHERIT mutex and one with ceiling 60; MADE or NO_MEMORY
+// low 10, medium 50 and high 90, an INHERIT mutex and one with ceiling 60; MADE or FAULT_NO_MEMORY
 fn make(alloc: Global, handle: &mut Handle) -> u32 {
     pim_make(
         alloc,
@@ -161,8 +163,8 @@ fn owner_of_a_protect_mutex_has_its_ceiling(rt: HostRuntime) -> Result<(), Fail>
     let why = pim_task_reason(alloc, h, 2);
     assert_eq!(rt; (why.kind, why.task, why.mutex), (OF_CEILING, 0, 2));
     assert_eq!(rt; pim_task_reason(alloc, h, 1).kind, OF_BASE);
-    assert!(rt; says(pim_try(alloc, h, 3, 2), REFUSED, CEILING, 0));
-    assert!(rt; says(pim_unlock(alloc, h, 3, 2), REFUSED, NOT_OWNER, 0));
+    assert!(rt; says(pim_try(alloc, h, 3, 2), REFUSED, REFUSED_CEILING, 0));
+    assert!(rt; says(pim_unlock(alloc, h, 3, 2), REFUSED, REFUSED_NOT_OWNER, 0));
     pim_drop(alloc, h);
     Ok(())
 }
@@ -204,8 +206,22 @@ fn ceiling_is_set_while_the_mutex_is_owned(rt: HostRuntime) -> Result<(), Fail> 
     assert_eq!(rt; (changed[0].task, changed[0].prio), (1, 40));
     assert_eq!(rt; changed[0].reason, why);
     assert_eq!(rt; pim_mutex_protocol(alloc, h, 2).ceiling, 40);
-    assert!(rt; says(pim_set_ceiling(alloc, h, 2, 2, 70), REFUSED, BUSY, 0));
-    assert!(rt; says(pim_set_ceiling(alloc, h, 1, 1, 70), REFUSED, NOT_PROTECT, 0));
+    assert!(rt;
+        says(
+            pim_set_ceiling(alloc, h, 2, 2, 70),
+            REFUSED,
+            REFUSED_BUSY,
+            0
+        )
+    );
+    assert!(rt;
+        says(
+            pim_set_ceiling(alloc, h, 1, 1, 70),
+            REFUSED,
+            REFUSED_NOT_PROTECT,
+            0
+        )
+    );
     assert_eq!(rt; pim_effective_prio(alloc, h, 1), 40);
     pim_drop(alloc, h);
     Ok(())
@@ -220,11 +236,14 @@ fn owner_of_a_recursive_mutex_locks_it_again(rt: HostRuntime) -> Result<(), Fail
     assert_eq!(rt; pim_mutex_protocol(alloc, h, 1), A_RECURSIVE_MUTEX);
     assert!(rt; says(pim_lock(alloc, h, 1, 1), GRANTED, 0, 0));
     assert!(rt; says(pim_lock(alloc, h, 1, 1), GRANTED, 0, 0));
-    assert_eq!(rt; pim_count(alloc, h, 1), 2);
+    assert_eq!(rt; pim_lock_count(alloc, h, 1), 2);
     assert!(rt; says(pim_unlock(alloc, h, 1, 1), KEPT, 0, 0));
-    assert_eq!(rt; (pim_owner(alloc, h, 1), pim_count(alloc, h, 1)), (1, 1));
+    assert_eq!(rt;
+        (pim_owner(alloc, h, 1), pim_lock_count(alloc, h, 1)),
+        (1, 1)
+    );
     assert!(rt; says(pim_unlock(alloc, h, 1, 1), FREED, 0, 0));
-    assert_eq!(rt; pim_count(alloc, h, 1), 0);
+    assert_eq!(rt; pim_lock_count(alloc, h, 1), 0);
     pim_drop(alloc, h);
     Ok(())
 }
@@ -238,9 +257,9 @@ fn mutex_that_was_locked_255_times_is_not_locked_again(rt: HostRuntime) -> Resul
     for _lock in 0..255 {
         assert!(rt; says(pim_lock(alloc, h, 1, 1), GRANTED, 0, 0));
     }
-    assert!(rt; says(pim_lock(alloc, h, 1, 1), REFUSED, AGAIN, 0));
-    assert!(rt; says(pim_try(alloc, h, 1, 1), REFUSED, AGAIN, 0));
-    assert_eq!(rt; pim_count(alloc, h, 1), 255);
+    assert!(rt; says(pim_lock(alloc, h, 1, 1), REFUSED, REFUSED_AGAIN, 0));
+    assert!(rt; says(pim_try(alloc, h, 1, 1), REFUSED, REFUSED_AGAIN, 0));
+    assert_eq!(rt; pim_lock_count(alloc, h, 1), 255);
     pim_drop(alloc, h);
     Ok(())
 }
@@ -266,7 +285,7 @@ fn getters_tell_what_is_unknown(rt: HostRuntime) -> Result<(), Fail> {
     assert_eq!(rt; pim_mutex_protocol(alloc, h, 2), CEILING_60);
     assert_eq!(rt; pim_mutex_protocol(alloc, h, 3).kind, UNKNOWN);
     assert_eq!(rt;
-        (pim_count(alloc, h, 1), pim_count(alloc, h, 3)),
+        (pim_lock_count(alloc, h, 1), pim_lock_count(alloc, h, 3)),
         (1, UNKNOWN)
     );
     pim_drop(alloc, h);
@@ -288,14 +307,20 @@ fn faults_are_told_in_their_order(rt: HostRuntime) -> Result<(), Fail> {
         kind: PROTECT,
         ceiling: 100,
     };
-    assert_eq!(rt; pim_make(alloc, h, &tasks, &mutexes), TOO_MANY_TASKS);
-    assert_eq!(rt; pim_make(alloc, h, &[0], &mutexes), TOO_MANY_MUTEXES);
-    assert_eq!(rt; pim_make(alloc, h, &[1, 0], &[unknown]), BAD_BASE);
-    assert_eq!(rt; pim_make(alloc, h, &[1, 100], &[]), BAD_BASE);
-    assert_eq!(rt; pim_make(alloc, h, &[1, 99], &[unknown]), BAD_PROTOCOL);
-    assert_eq!(rt; pim_make(alloc, h, &[1, 99], &[too_high]), BAD_PROTOCOL);
+    assert_eq!(rt; pim_make(alloc, h, &tasks, &mutexes), FAULT_TOO_MANY_TASKS);
+    assert_eq!(rt; pim_make(alloc, h, &[0], &mutexes), FAULT_TOO_MANY_MUTEXES);
+    assert_eq!(rt; pim_make(alloc, h, &[1, 0], &[unknown]), FAULT_BAD_BASE);
+    assert_eq!(rt; pim_make(alloc, h, &[1, 100], &[]), FAULT_BAD_BASE);
+    assert_eq!(rt;
+        pim_make(alloc, h, &[1, 99], &[unknown]),
+        FAULT_BAD_PROTOCOL
+    );
+    assert_eq!(rt;
+        pim_make(alloc, h, &[1, 99], &[too_high]),
+        FAULT_BAD_PROTOCOL
+    );
     assert_eq!(rt; pim_make(alloc, h, &tasks[..256], &mutexes[..256]), MADE);
-    assert_eq!(rt; pim_make(alloc, h, &[0], &[]), OCCUPIED);
+    assert_eq!(rt; pim_make(alloc, h, &[0], &[]), FAULT_OCCUPIED);
     assert_eq!(rt; pim_task_count(alloc, h), 256);
     pim_drop(alloc, h);
     Ok(())
@@ -341,7 +366,7 @@ fn handle_without_a_manager_answers_so(rt: HostRuntime) -> Result<(), Fail> {
 fn handle_that_goes_out_of_scope_gives_its_memory_back(rt: HostRuntime) -> Result<(), Fail> {
     let alloc = rt.alloc();
     let mut handle = Handle::empty(alloc);
-    assert!(rt; make(alloc, &mut handle) != NO_MEMORY);
+    assert!(rt; make(alloc, &mut handle) != FAULT_NO_MEMORY);
     Ok(())
 }
 
@@ -353,12 +378,19 @@ fn free_mutex_gets_another_protocol(rt: HostRuntime) -> Result<(), Fail> {
     assert!(rt; says(pim_set_protocol(alloc, h, 1, PROTECT, 60), NO_MANAGER, 0, 0));
     assert_eq!(rt; make(alloc, h), MADE);
     assert!(rt; says(pim_lock(alloc, h, 1, 2), GRANTED, 0, 0));
-    assert!(rt; says(pim_set_protocol(alloc, h, 2, INHERIT, 0), REFUSED, BUSY, 0));
+    assert!(rt;
+        says(
+            pim_set_protocol(alloc, h, 2, INHERIT, 0),
+            REFUSED,
+            REFUSED_BUSY,
+            0
+        )
+    );
     assert!(rt;
         says(
             pim_set_protocol(alloc, h, 3, INHERIT, 0),
             REFUSED,
-            NO_MUTEX,
+            REFUSED_NO_MUTEX,
             0
         )
     );
@@ -386,9 +418,15 @@ fn protocol_that_C_does_not_mean_is_refused(rt: HostRuntime) -> Result<(), Fail>
     assert_eq!(rt; make(alloc, h), MADE);
     for (kind, ceiling) in [(4, 10), (PROTECT, 0), (PROTECT, 100)] {
         let answer = pim_set_protocol(alloc, h, 1, kind, ceiling);
-        assert!(rt; says(answer, REFUSED, NO_PROTOCOL, 0));
+        assert!(rt; says(answer, REFUSED, REFUSED_NO_PROTOCOL, 0));
     }
     assert_eq!(rt; pim_mutex_protocol(alloc, h, 1), AN_INHERIT_MUTEX);
     pim_drop(alloc, h);
+    Ok(())
+}
+
+#[test]
+fn version_is_one_number(rt: HostRuntime) -> Result<(), Fail> {
+    assert_eq!(rt; pim_version(), 100);
     Ok(())
 }
