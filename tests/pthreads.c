@@ -622,7 +622,7 @@ static void unlocked_in_another_order(void) {
 
 /* A thread has `count` mutexes: those that libpim needn't know, and as many as there are numbers. */
 static void run_out(int protocol, int count, const char *waited, const char *unlocked) {
-    static pthread_mutex_t all[16 + 128 + 1];
+    static pthread_mutex_t all[16 + 256 + 1];
     set_priorities();
     events[0] = 0;
     for (int i = 0; i <= count; i++) all[i] = made_with(protocol, NORMAL, i == count - 1 ? 90 : 80);
@@ -641,9 +641,9 @@ static void run_out(int protocol, int count, const char *waited, const char *unl
 }
 
 static void too_many_mutexes(void) {
-    run_out(NONE, 16 + 64, "", "wake");
-    run_out(INHERIT, 16 + 128, "low 70", "wake low 10");
-    run_out(PROTECT, 64, "", "wake high 90 low 80");
+    run_out(NONE, 16 + 256, "", "wake");
+    run_out(INHERIT, 16 + 256, "low 70", "wake low 10");
+    run_out(PROTECT, 256, "", "wake high 90 low 80");
 }
 
 /* A thread without a number is glibc's. */

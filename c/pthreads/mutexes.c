@@ -20,12 +20,16 @@ _Static_assert(offsetof(struct mutex, kind) == offsetof(pthread_mutex_t, __data.
 
 static struct mutex *lent_to[MUTEXES + 1];
 
-/* Returns a number of the protocol that isn't lent, or 0. */
-static uint16_t unlent_number(int kind) {
-    uint16_t n = kind & INHERIT ? 1 : kind & PROTECT ? LAST_NONE + 1 : LAST_INHERIT + 1;
-    uint16_t last = kind & INHERIT ? LAST_INHERIT : kind & PROTECT ? MUTEXES : LAST_NONE;
-    while (n <= last && lent_to[n] != NULL) n++;
-    return n <= last ? n : 0;
+/* Lends the mutex a number, for its protocol. Returns whether one was left. */
+static bool lend_number(struct mutex *mutex) {
+    uint16_t kind = mutex->kind & INHERIT ? PIM_INHERIT : mutex->kind & PROTECT ? PIM_PROTECT : PIM_NONE;
+    uint16_t n = 1;
+    while (n <= MUTEXES && lent_to[n] != NULL) n++;
+    if (n > MUTEXES) return false;
+    lent_to[n] = mutex;
+    mutex->number = n;
+    pim_set_protocol(&locks, n, kind, mutex->ceiling);
+    return true;
 }
 
 /* Takes the number back, and says who owns the mutex then. Another thread may free its memory as
@@ -55,13 +59,10 @@ static void forget(struct mutex *mutex, struct thread *thread) {
 
 /* Makes libpim know who owns the mutex. Afterwards nobody locks or unlocks it without libpim. The
  * thread doesn't wait. Returns whether a number was left. */
-static bool make_known(struct mutex *mutex, const struct thread *thread) {
+static bool make_known(struct mutex *mutex) {
     uint32_t owner = atomic_load(&mutex->owner);
     if (owner & KNOWN) return true;
-    mutex->number = unlent_number(mutex->kind);
-    if (mutex->number == 0) return false;
-    lent_to[mutex->number] = mutex;
-    if (mutex->kind & PROTECT) pim_set_ceiling(&locks, thread->number, mutex->number, mutex->ceiling);
+    if (!lend_number(mutex)) return false;
     while (!atomic_compare_exchange_weak(&mutex->owner, &owner, owner | KNOWN)) continue;
     if (owner != 0) pim_lock(&locks, (uint16_t)owner, mutex->number);
     return true;
@@ -69,7 +70,7 @@ static bool make_known(struct mutex *mutex, const struct thread *thread) {
 
 bool register_owned(struct thread *thread) {
     for (; thread->fast_count > 0; thread->fast_count--)
-        if (!make_known(thread->fast[thread->fast_count - 1], thread)) return false;
+        if (!make_known(thread->fast[thread->fast_count - 1])) return false;
     return true;
 }
 
@@ -81,7 +82,7 @@ int request(struct mutex *mutex, struct thread *thread, bool may_wait) {
     uint32_t owner = atomic_load(&mutex->owner) & ~KNOWN;
     if (!may_wait && owner != 0) return EBUSY;
     if (owner == GONE || owner == thread->number) return EINPROGRESS; /* for ever */
-    if (!make_known(mutex, thread)) return EAGAIN;
+    if (!make_known(mutex)) return EAGAIN;
     bool is_free = pim_owner(&locks, mutex->number) == 0;
     if (!is_free && may_wait && !register_owned(thread)) return EAGAIN;
     struct pim_answer answer = (may_wait ? pim_lock : pim_try)(&locks, thread->number, mutex->number);

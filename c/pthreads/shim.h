@@ -15,10 +15,6 @@
 
 enum { TASKS = 256, MUTEXES = 256, FAST = 16 };
 
-/* The numbers of mutexes: up to the first of these INHERIT ones, up to the second NONE ones, and
- * then PROTECT ones. */
-enum { LAST_INHERIT = 128, LAST_NONE = 192 };
-
 /* glibc's bits of a mutex's kind: its type in the lower ones, and then what it is. A robust mutex is
  * SHARED, too. */
 enum { TYPE = 3, INHERIT = 32, PROTECT = 64, SHARED = 128 };

@@ -120,14 +120,10 @@ static void in_child(void) {
 /* Other libraries may lock mutexes before a constructor of this one would be called. */
 static void start(void) {
     static uint16_t bases[TASKS];
-    static struct pim_protocol protocols[MUTEXES];
+    static const struct pim_protocol protocols[MUTEXES]; /* NONE ones: each gets its own when lent */
     for (uint16_t n = TASKS; n >= 1; n--) {
         bases[n - 1] = 1;
         unlent[unlent_count++] = n;
-    }
-    for (uint16_t n = 1; n <= MUTEXES; n++) {
-        protocols[n - 1].kind = n <= LAST_INHERIT ? PIM_INHERIT : n <= LAST_NONE ? PIM_NONE : PIM_PROTECT;
-        protocols[n - 1].ceiling = 99;
     }
     if (pim_make(&locks, bases, TASKS, protocols, MUTEXES) != PIM_MADE) abort();
     if (pthread_key_create(&key, end_thread) != 0) abort();
