@@ -1,23 +1,26 @@
 -- The machine value of a `Handle`, which is its pointer and the C library's allocator. Assumes `Logic`.
-use Rattle.std.proofs.Common.{◌≡◌, ℕ, List, [], ◌∷◌, ◌++◌, ◌∙◌, refl, subst, lit<}
+use Rattle.std.proofs.Common.{◌≡◌, ℕ, List, [], ◌∷◌, ◌++◌, ◌∙◌, refl, sym, ap, subst, lit<}
 use seplogic.Ra.Ura.{Ura}
 use mir.Raw.{raw as bare}
-use mir.Val.{Val, vstruct, of_list, has_ty}
-use base.Logic.{ent, guard, guard_i, via, snd∗}
-use base.Fml.{Fml}
+use mir.Syntax.{ptr_eq, ty_ptr}
+use mir.Val.{Val, vbool, vnull, vstruct, of_list, has_ty, op2_val}
+use base.Fraction.{full_share}
+use base.Logic.{ent, sep, guard, guard_i, via, snd∗}
+use base.Fml.{Lft, GName, Share, Fml, fsep, flft, fobs, fauth, fbor, fobor}
 use contract.Monad.{fact_use}
 use types.Logic.{Logic, sem}
-use types.Kit.{Item, Goal, Seq, Step, step, ‵, ◌$◌, move, drop, fsplit, fjoin, fpick, fpack, feq_i, feq_l, use1, learn, given}
+use types.Kit.{Item, Goal, Soaks, Seq, Step, step, ‵, ◌$◌, ◌∵◌, !, qed, move, drop, fsplit, fsplit3, fjoin, fpick, fpack, feq_i, feq_l, use1, learn, given, rewrite, done}
+use types.SemTy.{Body}
 use denote.RattleType.{RattleType, Valss}
 use denote.Builtin.{RawPtr}
-use denote.Memory.{lone}
+use denote.Memory.{lone, mem, cell_at, part_at, part_of}
 use denote.RawPtr.{Ptr, block_ptr, null_ptr, ptr_val, lies_at, Testable}
-use denote.Steps.{nothing}
+use denote.Steps.{nothing, opens}
 use denote.Param.{layout}
 use denote.Param.Laws.{Laws}
 use denote.Struct.Struct.{within}
 use denote.Struct.Owning.{shape}
-use Rattle.std.specs.Prelude.{Option, None, Some}
+use Rattle.std.specs.Prelude.{Option, None, Some, is_none}
 use Rattle.std.specs.contracts.alloc.Global as heap
 use Rattle.std.specs.contracts.impls.GlobalAllocator.TheImpl.{ghosts}
 use Rattle.std.proofs.GlobalToken.{dealloc_token-Testable}
@@ -25,6 +28,7 @@ use Rattle.std.proofs.ResultValues.{and_tt}
 use Rattle.std.proofs.alloc.Calls.{handle_tells}
 use Rattle.std.proofs.alloc.Global.TheLaws as heap_laws
 use Rattle.std.proofs.cell.Inside.{Good}
+use Rattle.pim_c.specs.Lending.{with_held}
 use Rattle.pim_c.specs.Ownership.{owns_held}
 use Rattle.pim_c.specs.contracts.handle.Handle as handle
 use Rattle.pim_c.specs.contracts.held.Held as held
@@ -55,6 +59,10 @@ pub handle_good : (p : Ptr) (h : Val) → Good (layout Z) h → Good (layout Han
 handle_good null_ptr h fits = (and_tt (has_ty (layout Z) h) fits.0, (record { fits = lit< tt }, (fits.1, tt)))
 handle_good (block_ptr b o) h fits = (and_tt (has_ty (layout Z) h) fits.0, (tt, (fits.1, tt)))
 
+pub pointer_good : (p : Ptr) → Good ty_ptr (ptr_val p)
+pointer_good (block_ptr b o) = (tt, tt)
+pointer_good null_ptr = (tt, record { fits = lit< tt })
+
 module _ {M : Type 1} {𝓤 : Ura M} (𝓛 : Logic 𝓤) where
   -- a pointer with memory can be compared with null
   pub tested : (a : Z.Denot) (x : R.Denot) (p : Ptr)
@@ -62,7 +70,7 @@ module _ {M : Type 1} {𝓤 : Ura M} (𝓛 : Logic 𝓤) where
   tested a x p =
       let token = ghosts.dealloc_token a (bare (lone R.mir)) p in
       fact_use 𝓤 (Testable p)
-      (via 𝓤 _ (snd∗ 𝓤 (sem 𝓛 (lies_at R base.Fraction.full_share p x)) (sem 𝓛 token)) (dealloc_token-Testable 𝓛 a (bare (lone R.mir)) p))
+      (via 𝓤 _ (snd∗ 𝓤 (sem 𝓛 (lies_at R full_share p x)) (sem 𝓛 token)) (dealloc_token-Testable 𝓛 a (bare (lone R.mir)) p))
       (guard_i 𝓤 (Testable p) (sem 𝓛 (boxed a x p)))
 
 module _ {M : Type 1} {𝓤 : Ura M} {𝓛 : Logic 𝓤} {K : Type 0} {Γ : List (Item 𝓤)} {G : Goal 𝓤 𝓛.H} where
@@ -95,3 +103,48 @@ module _ {M : Type 1} {𝓤 : Ura M} {𝓛 : Logic 𝓤} {K : Type 0} {Γ : List
   held_cases t a (Some v) p none some =
       use1 𝓛 (given (Testable p) (‵ (boxed a v p))) (tested 𝓛 a v p) $ learn t (λ testable.
       memory_in_a_block R Z LZ ghosts t a v p (λ b o e. some b o v refl e (subst Testable e testable)))
+
+  -- whether its pointer is null shows whether a handle has a manager
+  pub null_shows : K → (a : Z.Denot) (x : Option R.Denot) (p : Ptr)
+      → (Testable p → op2_val ptr_eq (ptr_val p) vnull ≡ vbool (is_none x) → Seq K 𝓛 (‵ (owns_held a x p) ∷ Γ) G)
+      → Seq K 𝓛 (‵ (owns_held a x p) ∷ Γ) G
+  null_shows t a None p k =
+      feq_l t (λ e. feq_i t Ptr p null_ptr e $
+      k (subst Testable (sym e) (lit< tt)) (ap (λ (r : Ptr). op2_val ptr_eq (ptr_val r) vnull) e))
+  null_shows t a (Some v) p k =
+      use1 𝓛 (given (Testable p) (‵ (boxed a v p))) (tested 𝓛 a v p) $ learn t (λ testable.
+      memory_in_a_block R Z LZ ghosts t a v p (λ b o e. rewrite t 0 (λ (r : Ptr). ‵ (boxed a v r)) (sym e) refl $
+      k testable (ap (λ (r : Ptr). op2_val ptr_eq (ptr_val r) vnull) e)))
+
+-- the machine value of a handle in memory
+abbrev pub handle_lies : Ptr → Val → ℕ → ℕ → Fml
+handle_lies p h b o = cell_at full_share Handle.mir (handle_val p h ∷ []) b o
+
+module _ {M : Type 1} {𝓤 : Ura M} {𝓛 : Logic 𝓤} {K : Type 0} {Γ : List (Item 𝓤)} {G : Goal 𝓤 𝓛.H} where
+  -- a handle behind a `&mut` is opened
+  pub handle_opens : K → Soaks G → {κ : Lft} {q : Share} {γ : GName} (d : Handle.Denot) (b o : ℕ)
+      → ((h : Val) → Good (layout Z) h
+      → Seq K 𝓛 (‵ (owns_held d.alloc d.held d.at) ∷ ‵ (Z.own_val d.alloc (h ∷ [])) ∷ ‵ (handle_lies d.at h b o)
+      ∷ ‵ (fobor κ q (Body (mem Handle) b o γ)) ∷ ‵ (fobs γ (Handle.coded.code d)) ∷ ‵ (fauth γ (Handle.coded.code d)) ∷ Γ) G)
+      → Seq K 𝓛 (‵ (fobs γ (Handle.coded.code d)) ∷ ‵ (fbor κ (Body (mem Handle) b o γ)) ∷ ‵ (flft κ q) ∷ Γ) G
+  handle_opens t z d b o k =
+      opens t z Handle {h = d} b o (λ vs. move t (1 ∷ []) $ opens_handle t d vs (λ h ws fits.
+      rewrite t 2 (λ (us : List Val). ‵ (cell_at full_share Handle.mir us b o)) ws refl $ k h fits))
+
+module _ {M : Type 1} {𝓤 : Ura M} (𝓛 : Logic 𝓤) (d : Handle.Denot) (rb ro b o : ℕ) (h : Val) where
+  -- all of a handle but its manager
+  abbrev pub Besides : Fml
+  Besides =
+      fsep (ghosts.dealloc_token d.alloc (bare (lone R.mir)) (block_ptr b o))
+      (fsep (Z.own_val d.alloc (h ∷ [])) (handle_lies (block_ptr b o) h rb ro))
+
+  -- with a manager it is a handle again
+  pub handle_back : d.at ≡ block_ptr b o → (w : R.Denot)
+      → ent 𝓤 (sep 𝓤 (sem 𝓛 ((mem R).own_at w b o)) (sem 𝓛 Besides)) (sem 𝓛 ((mem Handle).own_at (with_held d w) rb ro))
+  unfolding part_of
+  handle_back at w =
+      qed 𝓛 (‵ (part_at R full_share w b o) ∷ ‵ Besides ∷ []) ∵ move ! (1 ∷ []) $ fsplit3 ! $ move ! (3 ∷ 0 ∷ []) $ fjoin ! $
+      rewrite ! 0 (λ (p : Ptr). ‵ (boxed d.alloc w p)) (sym at) refl $ closes_handle ! d.at h d.alloc (Some w) $
+      rewrite ! 1 (λ (p : Ptr). ‵ (handle_lies p h rb ro)) (sym at) refl $ move ! (1 ∷ 0 ∷ []) $ fjoin ! $
+      fpack ! (List Val) (λ us. fsep (cell_at full_share Handle.mir us rb ro) (Handle.own_val (with_held d w) us))
+      (handle_val d.at h ∷ []) $ done !

@@ -2,6 +2,7 @@ pub mod Answers
 pub mod Changing
 pub mod Getters
 pub mod Held
+pub mod Lending
 pub mod Lists
 pub mod Making
 pub mod Numbers

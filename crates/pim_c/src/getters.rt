@@ -8,179 +8,138 @@ use crate::numbers::UNKNOWN;
 use crate::protocol::CProtocol;
 use crate::reason::CReason;
 use pim_base::{MutexNo, Prio, TaskNo};
-use std::alloc::Global;
 
 /// Returns how many tasks there are, or 0 if there is no manager.
 #[unsafe(no_mangle)]
-pub extern "C" fn pim_task_count(alloc: Global, handle: &mut Handle) -> u16
+pub extern "C" fn pim_task_count(handle: &mut Handle) -> u16
     ensures count { result ≡ task_count handle.old.held }
     ensures same { handle.new.held ≡ handle.old.held }
 {
-    match handle.take(alloc) {
+    match handle.get_mut() {
         None => 0,
-        Some(held) => {
-            let count = held.manager().tasks();
-            handle.put(held);
-            count
-        }
+        Some(held) => held.manager().tasks(),
     }
 }
 
 /// Returns how many mutexes there are, or 0 if there is no manager.
 #[unsafe(no_mangle)]
-pub extern "C" fn pim_mutex_count(alloc: Global, handle: &mut Handle) -> u16
+pub extern "C" fn pim_mutex_count(handle: &mut Handle) -> u16
     ensures count { result ≡ mutex_count handle.old.held }
     ensures same { handle.new.held ≡ handle.old.held }
 {
-    match handle.take(alloc) {
+    match handle.get_mut() {
         None => 0,
-        Some(held) => {
-            let count = held.manager().mutexes();
-            handle.put(held);
-            count
-        }
+        Some(held) => held.manager().mutexes(),
     }
 }
 
 /// Returns the ticket that the next waiter gets, or 0 if there is no manager.
 #[unsafe(no_mangle)]
-pub extern "C" fn pim_next_ticket(alloc: Global, handle: &mut Handle) -> u64
+pub extern "C" fn pim_next_ticket(handle: &mut Handle) -> u64
     ensures ticket { result ≡ ticket_in handle.old.held }
     ensures same { handle.new.held ≡ handle.old.held }
 {
-    match handle.take(alloc) {
+    match handle.get_mut() {
         None => 0,
-        Some(held) => {
-            let ticket = held.manager().next_ticket();
-            handle.put(held);
-            ticket
-        }
+        Some(held) => held.manager().next_ticket(),
     }
 }
 
 /// Returns the effective priority of the task, or 0 for an unknown task.
 #[unsafe(no_mangle)]
-pub extern "C" fn pim_effective_prio(alloc: Global, handle: &mut Handle, task: u16) -> u16
+pub extern "C" fn pim_effective_prio(handle: &mut Handle, task: u16) -> u16
     ensures level { result ≡ effective_in handle.old.held task }
     ensures same { handle.new.held ≡ handle.old.held }
 {
-    match handle.take(alloc) {
+    match handle.get_mut() {
         None => 0,
-        Some(held) => {
-            let prio = held.manager().effective(TaskNo(task));
-            handle.put(held);
-            level_of(prio)
-        }
+        Some(held) => level_of(held.manager().effective(TaskNo(task))),
     }
 }
 
 /// Returns the base priority of the task, or 0 for an unknown task.
 #[unsafe(no_mangle)]
-pub extern "C" fn pim_base_prio(alloc: Global, handle: &mut Handle, task: u16) -> u16
+pub extern "C" fn pim_base_prio(handle: &mut Handle, task: u16) -> u16
     ensures level { result ≡ base_in handle.old.held task }
     ensures same { handle.new.held ≡ handle.old.held }
 {
-    match handle.take(alloc) {
+    match handle.get_mut() {
         None => 0,
-        Some(held) => {
-            let prio = held.manager().base(TaskNo(task));
-            handle.put(held);
-            level_of(prio)
-        }
+        Some(held) => level_of(held.manager().base(TaskNo(task))),
     }
 }
 
 /// Returns why the task has its effective priority. It reads each mutex that the task owns at most twice.
 #[unsafe(no_mangle)]
-pub extern "C" fn pim_task_reason(alloc: Global, handle: &mut Handle, task: u16) -> CReason
+pub extern "C" fn pim_task_reason(handle: &mut Handle, task: u16) -> CReason
     ensures reason { result ≡ reason_in handle.old.held task }
     ensures same { handle.new.held ≡ handle.old.held }
 {
-    match handle.take(alloc) {
+    match handle.get_mut() {
         None => CReason::none(),
-        Some(held) => {
-            let reason = held.manager().reason(TaskNo(task));
-            handle.put(held);
-            match reason {
-                Some(reason) => CReason::of(reason),
-                None => CReason::none(),
-            }
-        }
+        Some(held) => match held.manager().reason(TaskNo(task)) {
+            Some(reason) => CReason::of(reason),
+            None => CReason::none(),
+        },
     }
 }
 
 /// Returns the mutex that the task waits for, 0 if it waits for none, or `UNKNOWN` for an unknown task.
 #[unsafe(no_mangle)]
-pub extern "C" fn pim_waits_for(alloc: Global, handle: &mut Handle, task: u16) -> u16
+pub extern "C" fn pim_waits_for(handle: &mut Handle, task: u16) -> u16
     ensures mutex { result ≡ waits_for_in handle.old.held task }
     ensures same { handle.new.held ≡ handle.old.held }
 {
-    match handle.take(alloc) {
+    match handle.get_mut() {
         None => UNKNOWN,
-        Some(held) => {
-            let mutex = held.manager().waits_for(TaskNo(task));
-            handle.put(held);
-            match mutex {
-                None => UNKNOWN,
-                Some(None) => 0,
-                Some(Some(mutex)) => mutex.get(),
-            }
-        }
+        Some(held) => match held.manager().waits_for(TaskNo(task)) {
+            None => UNKNOWN,
+            Some(None) => 0,
+            Some(Some(mutex)) => mutex.get(),
+        },
     }
 }
 
 /// Returns the owner of the mutex, 0 if it is free, or `UNKNOWN` for an unknown mutex.
 #[unsafe(no_mangle)]
-pub extern "C" fn pim_owner(alloc: Global, handle: &mut Handle, mutex: u16) -> u16
+pub extern "C" fn pim_owner(handle: &mut Handle, mutex: u16) -> u16
     ensures owner { result ≡ owner_in handle.old.held mutex }
     ensures same { handle.new.held ≡ handle.old.held }
 {
-    match handle.take(alloc) {
+    match handle.get_mut() {
         None => UNKNOWN,
-        Some(held) => {
-            let owner = held.manager().owner(MutexNo(mutex));
-            handle.put(held);
-            match owner {
-                None => UNKNOWN,
-                Some(None) => 0,
-                Some(Some(task)) => task.get(),
-            }
-        }
+        Some(held) => match held.manager().owner(MutexNo(mutex)) {
+            None => UNKNOWN,
+            Some(None) => 0,
+            Some(Some(task)) => task.get(),
+        },
     }
 }
 
 /// Returns how many unlocks free the mutex, 0 if it is free, or `UNKNOWN` for an unknown mutex.
 #[unsafe(no_mangle)]
-pub extern "C" fn pim_lock_count(alloc: Global, handle: &mut Handle, mutex: u16) -> u16
+pub extern "C" fn pim_lock_count(handle: &mut Handle, mutex: u16) -> u16
     ensures count { result ≡ count_in handle.old.held mutex }
     ensures same { handle.new.held ≡ handle.old.held }
 {
-    match handle.take(alloc) {
+    match handle.get_mut() {
         None => UNKNOWN,
-        Some(held) => {
-            let count = held.manager().count(MutexNo(mutex));
-            handle.put(held);
-            count.unwrap_or(UNKNOWN)
-        }
+        Some(held) => held.manager().count(MutexNo(mutex)).unwrap_or(UNKNOWN),
     }
 }
 
 /// Returns the protocol of the mutex, of the kind `UNKNOWN` for an unknown mutex.
 #[unsafe(no_mangle)]
-pub extern "C" fn pim_mutex_protocol(alloc: Global, handle: &mut Handle, mutex: u16) -> CProtocol
+pub extern "C" fn pim_mutex_protocol(handle: &mut Handle, mutex: u16) -> CProtocol
     ensures protocol { result ≡ protocol_in handle.old.held mutex }
     ensures same { handle.new.held ≡ handle.old.held }
 {
-    match handle.take(alloc) {
+    match handle.get_mut() {
         None => CProtocol::none(),
-        Some(held) => {
-            let protocol = held.manager().protocol(MutexNo(mutex));
-            handle.put(held);
-            match protocol {
-                Some(protocol) => CProtocol::of(protocol),
-                None => CProtocol::none(),
-            }
-        }
+        Some(held) => match held.manager().protocol(MutexNo(mutex)) {
+            Some(protocol) => CProtocol::of(protocol),
+            None => CProtocol::none(),
+        },
     }
 }
 

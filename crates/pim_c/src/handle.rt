@@ -1,7 +1,8 @@
 //! A manager as C holds it.
 
-ghost use Rattle.std.specs.Prelude.{◌≡◌, Option};
-ghost use Rattle.std.specs.Option.{option_map};
+ghost use Rattle.std.specs.Prelude.{◌≡◌, ◌≢◌, None, Option, Some, is_none};
+ghost use Rattle.std.specs.Borrow.{sem};
+ghost use Rattle.std.specs.Option.{option_copied_mut, option_map};
 ghost use Rattle.std.specs.Box.{box_value};
 ghost use Rattle.pim_c.specs.Ownership.{raw_value};
 ghost use Rattle.pim_c.specs.Held.{HeldView};
@@ -40,6 +41,8 @@ impl Drop for Handle {
 }
 
 impl Handle {
+    ghost use Rattle.pim_c.specs.Lending.{lends_get, lends_held};
+
     /// Returns a handle without a manager.
     pub fn empty(alloc: Global) -> Handle
         ensures { result.held ≡ None }
@@ -69,6 +72,37 @@ impl Handle {
             Some(raw) => Some(raw.into_box()),
             None => None,
         }
+    }
+
+    /// Returns the manager, if there is one. It stays in the handle.
+    pub fn get_mut(&mut self) -> Option<&mut Held>
+        ensures* writes_back { sem 𝓛 (lends_get self.entry result) }
+        ensures value { option_copied_mut result ≡ self.old.held }
+    {
+        if self.is_empty() {
+            return None;
+        }
+        Some(self.held_mut())
+    }
+
+    /// Returns whether there is no manager.
+    // A `&Handle` would show nothing of the handle: C may only be given a struct whose `Model` has no `also_shares`.
+    fn is_empty(&mut self) -> bool
+        ensures empty { result ≡ is_none self.old.held }
+        ensures same { self.new ≡ self.old }
+    {
+        let at = self.at;
+        at.is_null()
+    }
+
+    /// Returns the manager. It stays in the handle.
+    fn held_mut(&mut self) -> &mut Held
+        requires { self.old.held ≢ None }
+        ensures* writes_back { sem 𝓛 (lends_held self.entry result) }
+        ensures value { Some result.now ≡ self.old.held }
+    {
+        let at = self.at as *mut Held;
+        unsafe { &mut *at }
     }
 
     /// Returns the handle of this manager.

@@ -8,49 +8,35 @@ use crate::changed_task::CChangedTask;
 use crate::handle::Handle;
 use crate::waiter::CWaiter;
 use pim_base::{MutexNo, Waiter};
-use std::alloc::Global;
 
 /// Copies the waiters for the mutex, the next owner first, as many as there is room for. Returns how many wait, or 0
 /// for an unknown mutex.
 #[unsafe(no_mangle)]
-pub extern "C" fn pim_waiters(
-    alloc: Global,
-    handle: &mut Handle,
-    mutex: u16,
-    to: &mut [CWaiter],
-) -> usize
+pub extern "C" fn pim_waiters(handle: &mut Handle, mutex: u16, to: &mut [CWaiter]) -> usize
     ensures count { result ≡ length (waiters_in handle.old.held mutex) }
     ensures copied { to.new ≡ copied (map c_waiter (waiters_in handle.old.held mutex)) to.old }
     ensures same { handle.new.held ≡ handle.old.held }
 {
-    match handle.take(alloc) {
+    match handle.get_mut() {
         None => 0,
-        Some(held) => {
-            let count = match held.manager().waiters(MutexNo(mutex)) {
-                Some(waiters) => copy_waiters(waiters, to),
-                None => 0,
-            };
-            handle.put(held);
-            count
-        }
+        Some(held) => match held.manager().waiters(MutexNo(mutex)) {
+            Some(waiters) => copy_waiters(waiters, to),
+            None => 0,
+        },
     }
 }
 
 /// Copies the tasks whose effective priority the last step changed, in ascending order, as many as there is room for.
 /// Returns how many there are.
 #[unsafe(no_mangle)]
-pub extern "C" fn pim_changed(alloc: Global, handle: &mut Handle, to: &mut [CChangedTask]) -> usize
+pub extern "C" fn pim_changed(handle: &mut Handle, to: &mut [CChangedTask]) -> usize
     ensures count { result ≡ length (changed_in handle.old.held) }
     ensures copied { to.new ≡ copied (map c_changed_task (changed_in handle.old.held)) to.old }
     ensures same { handle.new.held ≡ handle.old.held }
 {
-    match handle.take(alloc) {
+    match handle.get_mut() {
         None => 0,
-        Some(held) => {
-            let count = held.copy_changed(to);
-            handle.put(held);
-            count
-        }
+        Some(held) => held.copy_changed(to),
     }
 }
 

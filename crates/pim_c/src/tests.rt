@@ -80,21 +80,15 @@ fn owner_is_boosted_until_it_unlocks(rt: HostRuntime) -> Result<(), Fail> {
     let mut handle = Handle::empty(alloc);
     let h = &mut handle;
     assert_eq!(rt; make(alloc, h), MADE);
-    assert_eq!(rt;
-        (pim_task_count(alloc, h), pim_mutex_count(alloc, h)),
-        (3, 2)
-    );
-    assert_eq!(rt; pim_next_ticket(alloc, h), 1);
+    assert_eq!(rt; (pim_task_count(h), pim_mutex_count(h)), (3, 2));
+    assert_eq!(rt; pim_next_ticket(h), 1);
     assert!(rt; says(pim_lock(alloc, h, 1, 1), GRANTED, 0, 0));
-    assert_eq!(rt; pim_changed(alloc, h, &mut []), 0);
+    assert_eq!(rt; pim_changed(h, &mut []), 0);
     assert!(rt; says(pim_lock(alloc, h, 3, 1), QUEUED, 0, 0));
-    assert_eq!(rt; pim_next_ticket(alloc, h), 2);
-    assert_eq!(rt;
-        (pim_effective_prio(alloc, h, 1), pim_base_prio(alloc, h, 1)),
-        (90, 10)
-    );
+    assert_eq!(rt; pim_next_ticket(h), 2);
+    assert_eq!(rt; (pim_effective_prio(h, 1), pim_base_prio(h, 1)), (90, 10));
     assert!(rt; says(pim_unlock(alloc, h, 1, 1), HANDED, 0, 3));
-    assert_eq!(rt; pim_effective_prio(alloc, h, 1), 10);
+    assert_eq!(rt; pim_effective_prio(h, 1), 10);
     assert!(rt; says(pim_unlock(alloc, h, 3, 1), FREED, 0, 0));
     pim_drop(alloc, h);
     Ok(())
@@ -112,15 +106,15 @@ fn boosted_owner_is_listed_with_its_reason(rt: HostRuntime) -> Result<(), Fail> 
     };
     let mut changed = [NO_CHANGED_TASK; 2];
     assert_eq!(rt; make(alloc, h), MADE);
-    assert_eq!(rt; pim_changed(alloc, h, &mut changed), 0);
+    assert_eq!(rt; pim_changed(h, &mut changed), 0);
     pim_lock(alloc, h, 1, 1);
     pim_lock(alloc, h, 3, 1);
-    assert_eq!(rt; pim_changed(alloc, h, &mut []), 1);
-    assert_eq!(rt; pim_changed(alloc, h, &mut changed), 1);
+    assert_eq!(rt; pim_changed(h, &mut []), 1);
+    assert_eq!(rt; pim_changed(h, &mut changed), 1);
     assert_eq!(rt; (changed[0].task, changed[0].prio), (1, 90));
     assert_eq!(rt; changed[0].reason, why);
     assert_eq!(rt; changed[1], NO_CHANGED_TASK);
-    assert_eq!(rt; pim_task_reason(alloc, h, 1), why);
+    assert_eq!(rt; pim_task_reason(h, 1), why);
     pim_drop(alloc, h);
     Ok(())
 }
@@ -135,19 +129,19 @@ fn waiters_are_copied_as_far_as_there_is_room(rt: HostRuntime) -> Result<(), Fai
     pim_lock(alloc, h, 1, 1);
     pim_lock(alloc, h, 2, 1);
     pim_lock(alloc, h, 3, 1);
-    assert_eq!(rt; pim_waiters(alloc, h, 1, &mut waiters[..1]), 2);
+    assert_eq!(rt; pim_waiters(h, 1, &mut waiters[..1]), 2);
     assert_eq!(rt;
         (waiters[0].task, waiters[0].prio, waiters[0].ticket),
         (3, 90, 2)
     );
     assert_eq!(rt; waiters[1], NO_WAITER);
-    assert_eq!(rt; pim_waiters(alloc, h, 1, &mut waiters), 2);
+    assert_eq!(rt; pim_waiters(h, 1, &mut waiters), 2);
     assert_eq!(rt;
         (waiters[1].task, waiters[1].prio, waiters[1].ticket),
         (2, 50, 1)
     );
     assert_eq!(rt; waiters[2], NO_WAITER);
-    assert_eq!(rt; pim_waiters(alloc, h, 3, &mut waiters), 0);
+    assert_eq!(rt; pim_waiters(h, 3, &mut waiters), 0);
     pim_drop(alloc, h);
     Ok(())
 }
@@ -159,10 +153,10 @@ fn owner_of_a_protect_mutex_has_its_ceiling(rt: HostRuntime) -> Result<(), Fail>
     let h = &mut handle;
     assert_eq!(rt; make(alloc, h), MADE);
     assert!(rt; says(pim_try(alloc, h, 2, 2), GRANTED, 0, 0));
-    assert_eq!(rt; pim_effective_prio(alloc, h, 2), 60);
-    let why = pim_task_reason(alloc, h, 2);
+    assert_eq!(rt; pim_effective_prio(h, 2), 60);
+    let why = pim_task_reason(h, 2);
     assert_eq!(rt; (why.kind, why.task, why.mutex), (OF_CEILING, 0, 2));
-    assert_eq!(rt; pim_task_reason(alloc, h, 1).kind, OF_BASE);
+    assert_eq!(rt; pim_task_reason(h, 1).kind, OF_BASE);
     assert!(rt; says(pim_try(alloc, h, 3, 2), REFUSED, REFUSED_CEILING, 0));
     assert!(rt; says(pim_unlock(alloc, h, 3, 2), REFUSED, REFUSED_NOT_OWNER, 0));
     pim_drop(alloc, h);
@@ -178,11 +172,11 @@ fn wait_is_withdrawn_and_base_is_set(rt: HostRuntime) -> Result<(), Fail> {
     pim_lock(alloc, h, 2, 1);
     pim_lock(alloc, h, 2, 2);
     pim_lock(alloc, h, 1, 1);
-    assert_eq!(rt; pim_waits_for(alloc, h, 1), 1);
+    assert_eq!(rt; pim_waits_for(h, 1), 1);
     assert!(rt; says(pim_cancel(alloc, h, 3, 1), WITHDRAWN, 0, 0));
-    assert_eq!(rt; pim_waits_for(alloc, h, 1), 0);
+    assert_eq!(rt; pim_waits_for(h, 1), 0);
     assert!(rt; says(pim_set_base(alloc, h, 3, 1, 99), SET, 0, 0));
-    assert_eq!(rt; pim_base_prio(alloc, h, 1), 99);
+    assert_eq!(rt; pim_base_prio(h, 1), 99);
     assert!(rt; says(pim_release_all(alloc, h, 2), RELEASED, 0, 2));
     pim_drop(alloc, h);
     Ok(())
@@ -202,10 +196,10 @@ fn ceiling_is_set_while_the_mutex_is_owned(rt: HostRuntime) -> Result<(), Fail> 
     assert_eq!(rt; make(alloc, h), MADE);
     pim_lock(alloc, h, 1, 2);
     assert!(rt; says(pim_set_ceiling(alloc, h, 1, 2, 40), SET, 0, 0));
-    assert_eq!(rt; pim_changed(alloc, h, &mut changed), 1);
+    assert_eq!(rt; pim_changed(h, &mut changed), 1);
     assert_eq!(rt; (changed[0].task, changed[0].prio), (1, 40));
     assert_eq!(rt; changed[0].reason, why);
-    assert_eq!(rt; pim_mutex_protocol(alloc, h, 2).ceiling, 40);
+    assert_eq!(rt; pim_mutex_protocol(h, 2).ceiling, 40);
     assert!(rt;
         says(
             pim_set_ceiling(alloc, h, 2, 2, 70),
@@ -222,7 +216,7 @@ fn ceiling_is_set_while_the_mutex_is_owned(rt: HostRuntime) -> Result<(), Fail> 
             0
         )
     );
-    assert_eq!(rt; pim_effective_prio(alloc, h, 1), 40);
+    assert_eq!(rt; pim_effective_prio(h, 1), 40);
     pim_drop(alloc, h);
     Ok(())
 }
@@ -233,17 +227,14 @@ fn owner_of_a_recursive_mutex_locks_it_again(rt: HostRuntime) -> Result<(), Fail
     let mut handle = Handle::empty(alloc);
     let h = &mut handle;
     assert_eq!(rt; pim_make(alloc, h, &[10, 90], &[A_RECURSIVE_MUTEX]), MADE);
-    assert_eq!(rt; pim_mutex_protocol(alloc, h, 1), A_RECURSIVE_MUTEX);
+    assert_eq!(rt; pim_mutex_protocol(h, 1), A_RECURSIVE_MUTEX);
     assert!(rt; says(pim_lock(alloc, h, 1, 1), GRANTED, 0, 0));
     assert!(rt; says(pim_lock(alloc, h, 1, 1), GRANTED, 0, 0));
-    assert_eq!(rt; pim_lock_count(alloc, h, 1), 2);
+    assert_eq!(rt; pim_lock_count(h, 1), 2);
     assert!(rt; says(pim_unlock(alloc, h, 1, 1), KEPT, 0, 0));
-    assert_eq!(rt;
-        (pim_owner(alloc, h, 1), pim_lock_count(alloc, h, 1)),
-        (1, 1)
-    );
+    assert_eq!(rt; (pim_owner(h, 1), pim_lock_count(h, 1)), (1, 1));
     assert!(rt; says(pim_unlock(alloc, h, 1, 1), FREED, 0, 0));
-    assert_eq!(rt; pim_lock_count(alloc, h, 1), 0);
+    assert_eq!(rt; pim_lock_count(h, 1), 0);
     pim_drop(alloc, h);
     Ok(())
 }
@@ -259,7 +250,7 @@ fn mutex_that_was_locked_255_times_is_not_locked_again(rt: HostRuntime) -> Resul
     }
     assert!(rt; says(pim_lock(alloc, h, 1, 1), REFUSED, REFUSED_AGAIN, 0));
     assert!(rt; says(pim_try(alloc, h, 1, 1), REFUSED, REFUSED_AGAIN, 0));
-    assert_eq!(rt; pim_lock_count(alloc, h, 1), 255);
+    assert_eq!(rt; pim_lock_count(h, 1), 255);
     pim_drop(alloc, h);
     Ok(())
 }
@@ -271,23 +262,14 @@ fn getters_tell_what_is_unknown(rt: HostRuntime) -> Result<(), Fail> {
     let h = &mut handle;
     assert_eq!(rt; make(alloc, h), MADE);
     pim_lock(alloc, h, 1, 1);
-    assert_eq!(rt; (pim_owner(alloc, h, 1), pim_owner(alloc, h, 2)), (1, 0));
-    assert_eq!(rt;
-        (pim_owner(alloc, h, 3), pim_waits_for(alloc, h, 4)),
-        (UNKNOWN, UNKNOWN)
-    );
-    assert_eq!(rt;
-        (pim_effective_prio(alloc, h, 0), pim_base_prio(alloc, h, 4)),
-        (0, 0)
-    );
-    assert_eq!(rt; pim_task_reason(alloc, h, 4), NO_REASON);
-    assert_eq!(rt; pim_mutex_protocol(alloc, h, 1), AN_INHERIT_MUTEX);
-    assert_eq!(rt; pim_mutex_protocol(alloc, h, 2), CEILING_60);
-    assert_eq!(rt; pim_mutex_protocol(alloc, h, 3).kind, UNKNOWN);
-    assert_eq!(rt;
-        (pim_lock_count(alloc, h, 1), pim_lock_count(alloc, h, 3)),
-        (1, UNKNOWN)
-    );
+    assert_eq!(rt; (pim_owner(h, 1), pim_owner(h, 2)), (1, 0));
+    assert_eq!(rt; (pim_owner(h, 3), pim_waits_for(h, 4)), (UNKNOWN, UNKNOWN));
+    assert_eq!(rt; (pim_effective_prio(h, 0), pim_base_prio(h, 4)), (0, 0));
+    assert_eq!(rt; pim_task_reason(h, 4), NO_REASON);
+    assert_eq!(rt; pim_mutex_protocol(h, 1), AN_INHERIT_MUTEX);
+    assert_eq!(rt; pim_mutex_protocol(h, 2), CEILING_60);
+    assert_eq!(rt; pim_mutex_protocol(h, 3).kind, UNKNOWN);
+    assert_eq!(rt; (pim_lock_count(h, 1), pim_lock_count(h, 3)), (1, UNKNOWN));
     pim_drop(alloc, h);
     Ok(())
 }
@@ -321,7 +303,7 @@ fn faults_are_told_in_their_order(rt: HostRuntime) -> Result<(), Fail> {
     );
     assert_eq!(rt; pim_make(alloc, h, &tasks[..256], &mutexes[..256]), MADE);
     assert_eq!(rt; pim_make(alloc, h, &[0], &[]), FAULT_OCCUPIED);
-    assert_eq!(rt; pim_task_count(alloc, h), 256);
+    assert_eq!(rt; pim_task_count(h), 256);
     pim_drop(alloc, h);
     Ok(())
 }
@@ -336,9 +318,9 @@ fn protocols_that_C_means_are_the_managers(rt: HostRuntime) -> Result<(), Fail> 
         ceiling: 7,
     };
     assert_eq!(rt; pim_make(alloc, h, &[5], &[a_none_mutex, CEILING_60]), MADE);
-    let shown = pim_mutex_protocol(alloc, h, 1);
+    let shown = pim_mutex_protocol(h, 1);
     assert_eq!(rt; (shown.kind, shown.ceiling), (NONE, 0));
-    assert_eq!(rt; pim_mutex_protocol(alloc, h, 2), CEILING_60);
+    assert_eq!(rt; pim_mutex_protocol(h, 2), CEILING_60);
     pim_drop(alloc, h);
     Ok(())
 }
@@ -349,12 +331,9 @@ fn handle_without_a_manager_answers_so(rt: HostRuntime) -> Result<(), Fail> {
     let mut handle = Handle::empty(alloc);
     let h = &mut handle;
     assert!(rt; says(pim_lock(alloc, h, 1, 1), NO_MANAGER, 0, 0));
-    assert_eq!(rt;
-        (pim_task_count(alloc, h), pim_effective_prio(alloc, h, 1)),
-        (0, 0)
-    );
-    assert_eq!(rt; pim_owner(alloc, h, 1), UNKNOWN);
-    assert_eq!(rt; pim_changed(alloc, h, &mut [NO_CHANGED_TASK]), 0);
+    assert_eq!(rt; (pim_task_count(h), pim_effective_prio(h, 1)), (0, 0));
+    assert_eq!(rt; pim_owner(h, 1), UNKNOWN);
+    assert_eq!(rt; pim_changed(h, &mut [NO_CHANGED_TASK]), 0);
     pim_drop(alloc, h);
     assert_eq!(rt; make(alloc, h), MADE);
     pim_drop(alloc, h);
@@ -394,7 +373,7 @@ fn free_mutex_gets_another_protocol(rt: HostRuntime) -> Result<(), Fail> {
             0
         )
     );
-    assert_eq!(rt; pim_changed(alloc, h, &mut [NO_CHANGED_TASK]), 1);
+    assert_eq!(rt; pim_changed(h, &mut [NO_CHANGED_TASK]), 1);
     assert!(rt;
         says(
             pim_set_protocol(alloc, h, 1, INHERIT_RECURSIVE, 7),
@@ -403,9 +382,9 @@ fn free_mutex_gets_another_protocol(rt: HostRuntime) -> Result<(), Fail> {
             0
         )
     );
-    assert_eq!(rt; pim_mutex_protocol(alloc, h, 1), A_RECURSIVE_MUTEX);
-    assert_eq!(rt; pim_changed(alloc, h, &mut [NO_CHANGED_TASK]), 0);
-    assert_eq!(rt; pim_effective_prio(alloc, h, 1), 60);
+    assert_eq!(rt; pim_mutex_protocol(h, 1), A_RECURSIVE_MUTEX);
+    assert_eq!(rt; pim_changed(h, &mut [NO_CHANGED_TASK]), 0);
+    assert_eq!(rt; pim_effective_prio(h, 1), 60);
     pim_drop(alloc, h);
     Ok(())
 }
@@ -420,7 +399,7 @@ fn protocol_that_C_does_not_mean_is_refused(rt: HostRuntime) -> Result<(), Fail>
         let answer = pim_set_protocol(alloc, h, 1, kind, ceiling);
         assert!(rt; says(answer, REFUSED, REFUSED_NO_PROTOCOL, 0));
     }
-    assert_eq!(rt; pim_mutex_protocol(alloc, h, 1), AN_INHERIT_MUTEX);
+    assert_eq!(rt; pim_mutex_protocol(h, 1), AN_INHERIT_MUTEX);
     pim_drop(alloc, h);
     Ok(())
 }
