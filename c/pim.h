@@ -65,9 +65,10 @@
  *   - h points to a struct pim_handle that was PIM_HANDLE_INIT, and that since then was passed to
  *     functions of this file alone. It is not copied, and what it points to is neither read nor
  *     written.
- *   - One call at a time on one handle, and none from a signal or interrupt handler that may come
- *     in the middle of another. What orders the calls, a lock or disabled interrupts, is the
- *     caller's, and lasts until the answer is done. Two handles share nothing.
+ *   - One call at a time on one handle, also where the handle is const, and none from a signal or
+ *     interrupt handler that may come in the middle of another. What orders the calls, a lock or
+ *     disabled interrupts, is the caller's, and lasts until the answer is done. Two handles share
+ *     nothing.
  *   - The CPU is the one that libpim.a was built for: an x86-64 of level v2 at least, which has
  *     SSE4.2, since pim_make uses its instructions; or a 64-bit ARM, little-endian, of ARMv8.0-A
  *     or later, which has AArch64 with its floating-point and vector registers.
@@ -347,46 +348,47 @@ struct pim_answer pim_set_protocol(struct pim_handle *h, uint16_t mutex, uint16_
  * `room` of them, and returns how many there are. They are the tasks that a scheduler has to queue
  * anew: all of them, and no others. None where no step was made yet, where the last one was refused,
  * and where pim_set_protocol was answered PIM_SET since. */
-size_t pim_changed(struct pim_handle *h, struct pim_changed_task *to, size_t room);
+size_t pim_changed(const struct pim_handle *h, struct pim_changed_task *to, size_t room);
 
 /* ---- what stands ----------------------------------------------------------------------------- */
 
-/* Without a manager no task and no mutex is known. */
+/* Without a manager no task and no mutex is known. A function that takes a const handle writes
+ * neither to the handle nor to its manager. */
 
 /* Copies those who wait for the mutex, the next owner first, at most `room` of them, and returns
  * how many there are. */
-size_t pim_waiters(struct pim_handle *h, uint16_t mutex, struct pim_waiter *to, size_t room);
+size_t pim_waiters(const struct pim_handle *h, uint16_t mutex, struct pim_waiter *to, size_t room);
 
 /* Return how many tasks and mutexes there are, 0 without a manager. */
-uint16_t pim_task_count(struct pim_handle *h);
-uint16_t pim_mutex_count(struct pim_handle *h);
+uint16_t pim_task_count(const struct pim_handle *h);
+uint16_t pim_mutex_count(const struct pim_handle *h);
 
 /* Returns the ticket that the next waiter gets, from 1 on; 0 without a manager. */
-uint64_t pim_next_ticket(struct pim_handle *h);
+uint64_t pim_next_ticket(const struct pim_handle *h);
 
 /* Returns the priority at which the task is to execute, 0 for an unknown one. */
-uint16_t pim_effective_prio(struct pim_handle *h, uint16_t task);
+uint16_t pim_effective_prio(const struct pim_handle *h, uint16_t task);
 
 /* Returns the base priority of the task, 0 for an unknown one. */
-uint16_t pim_base_prio(struct pim_handle *h, uint16_t task);
+uint16_t pim_base_prio(const struct pim_handle *h, uint16_t task);
 
 /* Returns why the task has its effective priority. */
-struct pim_reason pim_task_reason(struct pim_handle *h, uint16_t task);
+struct pim_reason pim_task_reason(const struct pim_handle *h, uint16_t task);
 
 /* Returns the mutex that the task waits for, 0 where it waits for none, PIM_UNKNOWN for an unknown
  * task. */
-uint16_t pim_waits_for(struct pim_handle *h, uint16_t task);
+uint16_t pim_waits_for(const struct pim_handle *h, uint16_t task);
 
 /* Returns the owner of the mutex, 0 where it is free, PIM_UNKNOWN for an unknown mutex. */
-uint16_t pim_owner(struct pim_handle *h, uint16_t mutex);
+uint16_t pim_owner(const struct pim_handle *h, uint16_t mutex);
 
 /* Returns how often the owner of the mutex has locked it, 0 where it is free, PIM_UNKNOWN for an
  * unknown mutex. It is above 1 of a recursive mutex alone. */
-uint16_t pim_lock_count(struct pim_handle *h, uint16_t mutex);
+uint16_t pim_lock_count(const struct pim_handle *h, uint16_t mutex);
 
 /* Returns the protocol of the mutex; its kind is PIM_UNKNOWN for an unknown mutex. The ceiling is 0
  * unless the mutex is a PROTECT one. */
-struct pim_protocol pim_mutex_protocol(struct pim_handle *h, uint16_t mutex);
+struct pim_protocol pim_mutex_protocol(const struct pim_handle *h, uint16_t mutex);
 
 /* ---- that this file fits libpim -------------------------------------------------------------- */
 

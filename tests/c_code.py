@@ -47,6 +47,9 @@ def memory(folder, machine=HERE):
     refused = machine.compiled(folder, "refused", TESTS / "refused_blocks.c", flags=machine.sanitized)
     if refused:
         machine.passes("each block refused", refused)
+    read_only = machine.compiled(folder, "read_only", TESTS / "read_only.c", C / "heap/given.c")
+    if read_only:
+        machine.passes("getters in memory that can only be read", read_only)
     sized = machine.compiled(folder, "sized", TESTS / "manager_memory.c", C / "heap/given.c")
     if sized:
         machine.passes("PIM_MEMORY", sized)

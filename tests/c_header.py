@@ -158,12 +158,17 @@ def spelled(name):
 
 
 def signatures():
-    """Each export has the prototype that C needs for it, and each prototype an export."""
+    """Each export has the prototype that C needs for it, and each prototype an export.
+
+    A handle is const where the contract says that its manager stays the same.
+    """
     texts = "\n".join(sources().values())
     exports = {}
-    for name, params, result in re.findall(r'pub extern "C" fn (\w+)\((.*?)\)(?: -> (\w+))?\s+ensures', texts, re.S):
+    export = r'pub extern "C" fn (\w+)\(([^()]*)\)(?: -> (\w+))?\n((?:    ensures .*\n)+)'
+    for name, params, result, clauses in re.findall(export, texts):
         types = [kind.strip() for kind in re.findall(r"\w+: ([^,]+)", params)]
-        exports[name] = [TYPES.get(result, "void")] + [c for kind in types if kind != "Global" for c in c_types(kind)]
+        handle = f"{'const ' if 'ensures same ' in clauses else ''}struct pim_handle *"
+        exports[name] = [TYPES.get(result, "void")] + [c for kind in types if kind != "Global" for c in c_types(kind, handle)]
     prototypes = {}
     for result, name, params in re.findall(r"^((?:struct )?\w+) (pim_\w+)\(([^()]*)\);", HEADER, re.M):
         named = [] if params == "void" else re.split(r",\s+", params)
@@ -174,9 +179,9 @@ def signatures():
     return set(exports)
 
 
-def c_types(kind):
+def c_types(kind, handle):
     if kind == "&mut Handle":
-        return ["struct pim_handle *"]
+        return [handle]
     if slice_of := re.fullmatch(r"&(mut )?\[(\w+)\]", kind):
         return [f"{'' if slice_of[1] else 'const '}{TYPES[slice_of[2]]} *", "size_t"]
     return [TYPES[kind]]

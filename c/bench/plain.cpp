@@ -57,7 +57,7 @@ private:
     }
 };
 
-Plain* plain(pim_handle* h) { return static_cast<Plain*>(h->at); }
+Plain* plain(const pim_handle* h) { return static_cast<Plain*>(h->at); }
 
 // Makes the step, if there is a manager. Into each function goes the code of its own kind of step.
 [[gnu::always_inline]] inline pim_answer step(pim_handle* h, const Step& step) {
@@ -112,7 +112,7 @@ pim_answer plain_set_ceiling(pim_handle* h, uint16_t task, uint16_t mutex, uint1
     return step(h, {task, mutex, ceiling, Op::Ceil, {}});
 }
 
-size_t plain_changed(pim_handle* h, pim_changed_task* to, size_t room) {
+size_t plain_changed(const pim_handle* h, pim_changed_task* to, size_t room) {
     return h->at ? plain(h)->list(to, room) : 0;
 }
 }

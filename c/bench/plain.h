@@ -20,7 +20,7 @@ pim_answer plain_cancel(pim_handle* h, uint16_t task, uint16_t target);
 pim_answer plain_set_base(pim_handle* h, uint16_t task, uint16_t target, uint16_t prio);
 pim_answer plain_set_ceiling(pim_handle* h, uint16_t task, uint16_t mutex, uint16_t ceiling);
 
-size_t plain_changed(pim_handle* h, pim_changed_task* to, size_t room);
+size_t plain_changed(const pim_handle* h, pim_changed_task* to, size_t room);
 }
 
 #endif
