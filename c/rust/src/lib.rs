@@ -1,7 +1,7 @@
 //! A safe wrapper of libpim: an example of how a language wraps it, not a part of what is proved.
 //!
-//! A [`Manager`] owns its memory and is used by `&mut`, so that the rules that `pim.h` gives to a caller hold by
-//! themselves: one call at a time, no copy of the handle, and a drop at the end.
+//! A [`Manager`] owns its memory and isn't `Sync`, so that the rules that `pim.h` gives to a caller hold by themselves:
+//! one call at a time, no copy of the handle, and a drop at the end.
 //!
 //! ```
 //! use pim::{Manager, Op, Protocol, Reply};
@@ -187,7 +187,7 @@ impl Manager {
     /// Returns the tasks whose effective priority the last step changed, in ascending order.
     pub fn changed(&mut self) -> impl Iterator<Item = ChangedTask> + '_ {
         let room = self.changed.len();
-        let count = unsafe { c::pim_changed(&mut self.handle, self.changed.as_mut_ptr(), room) };
+        let count = unsafe { c::pim_changed(&self.handle, self.changed.as_mut_ptr(), room) };
         self.changed[..count].iter().map(|one| ChangedTask {
             task: one.task,
             prio: one.prio,
@@ -196,30 +196,30 @@ impl Manager {
     }
 
     /// Returns how many tasks there are.
-    pub fn tasks(&mut self) -> u16 {
-        unsafe { c::pim_task_count(&mut self.handle) }
+    pub fn tasks(&self) -> u16 {
+        unsafe { c::pim_task_count(&self.handle) }
     }
 
     /// Returns the priority at which the task is to execute, None for an unknown one.
-    pub fn effective(&mut self, task: u16) -> Option<u16> {
-        let prio = unsafe { c::pim_effective_prio(&mut self.handle, task) };
+    pub fn effective(&self, task: u16) -> Option<u16> {
+        let prio = unsafe { c::pim_effective_prio(&self.handle, task) };
         (prio != 0).then_some(prio)
     }
 
     /// Returns the owner of the mutex, None where it is free or unknown.
-    pub fn owner(&mut self, mutex: u16) -> Option<u16> {
-        known(unsafe { c::pim_owner(&mut self.handle, mutex) })
+    pub fn owner(&self, mutex: u16) -> Option<u16> {
+        known(unsafe { c::pim_owner(&self.handle, mutex) })
     }
 
     /// Returns how often the owner of the mutex has locked it, 0 where it is free, None for an unknown one.
-    pub fn count(&mut self, mutex: u16) -> Option<u16> {
-        let count = unsafe { c::pim_lock_count(&mut self.handle, mutex) };
+    pub fn count(&self, mutex: u16) -> Option<u16> {
+        let count = unsafe { c::pim_lock_count(&self.handle, mutex) };
         (count != u16::MAX).then_some(count)
     }
 
     /// Returns the mutex that the task waits for, if it waits for one.
-    pub fn waits_for(&mut self, task: u16) -> Option<u16> {
-        known(unsafe { c::pim_waits_for(&mut self.handle, task) })
+    pub fn waits_for(&self, task: u16) -> Option<u16> {
+        known(unsafe { c::pim_waits_for(&self.handle, task) })
     }
 }
 
