@@ -293,7 +293,7 @@ def inherited(folder):
         signal.signal(signal.SIGCHLD, signal.SIG_IGN)
         signal.pthread_sigmask(signal.SIG_BLOCK, {signal.SIGUSR1})
     # without pim-record and sh, for some shells reset both
-    paths = {"PIM_RECORD": f"{folder}/run", "PIM_KERNEL": f"{folder}/run.kernel"}
+    paths = {"PIM_RECORD": f"{folder}/inherited", "PIM_KERNEL": f"{folder}/inherited.kernel"}
     sizes = {"PIM_RECORD_BYTES": str(1 << 20), "PIM_KERNEL_KB": "1024"}
     launch = [RECORD / "out/pim-launch", RECORD / "out/libpim_record.so"]
     words = ["grep", "-sE", "Sig(Blk|Ign)", "/proc/self/status", "/nowhere"]
