@@ -108,6 +108,25 @@ def stops(folder, kernel, tracefs):
     return difference((*got, job.end()), (True, 1, True, True, -signal.SIGINT))
 
 
+def stops_again(folder, kernel, _):
+    """What others do to the program while pim-record is stopped holds: pim-record continues no stop that is new."""
+    job = Terminal(folder, kernel)
+    job.presses(SUSPEND)
+    got = [job.is_stopped()]
+    os.kill(job.program, signal.SIGCONT)
+    got.append(job.prints("goes on"))
+    os.kill(job.program, signal.SIGTSTP)
+    until(lambda: job.state() == "T", SECONDS)
+    os.write(job.orders, b"-")
+    if job.job != job.program:
+        os.kill(job.job, signal.SIGCONT)
+    got.append(job.is_stopped())
+    os.write(job.orders, b"f")
+    got.append(job.prints("goes on", 2))
+    job.presses(INTERRUPT)
+    return difference((*got, job.end()), (True, True, True, True, -signal.SIGINT))
+
+
 def handles(folder, kernel, _):
     """A program that handles Ctrl-C and ignores Ctrl-Z goes on. Each key reaches it once, and Ctrl-\\ ends it."""
     job = Terminal(folder, kernel, "handle")
@@ -145,7 +164,8 @@ def leaves(folder, kernel, _):
     return None if until(lambda: not os.path.exists(f"/proc/{job.job}"), SECONDS) else "it runs on"
 
 
-PARTS = {"Ctrl-Z, fg, Ctrl-C": stops, "a program that handles the keys": handles, "Ctrl-\\": quits,
+PARTS = {"Ctrl-Z, fg, Ctrl-C": stops, "stopped again by others": stops_again,
+         "a program that handles the keys": handles, "Ctrl-\\": quits,
          "SIGTSTP to pim-record alone": one_process, "a terminal that is closed": leaves}
 
 

@@ -212,6 +212,14 @@ static void be_ordinary(void) {
     if (is_real_time) sched_setscheduler(0, SCHED_OTHER, &none);
 }
 
+/* Continues the stopped program, unless whoever continued this process has continued it already, as
+ * a shell's 'fg' does: a second SIGCONT might undo a stop that came in between. */
+static void continue_program(pid_t program) {
+    siginfo_t info = { .si_pid = 0 };
+    waitid(P_PID, (id_t)program, &info, WCONTINUED | WSTOPPED | WEXITED | WNOHANG | WNOWAIT);
+    if (info.si_pid == 0) kill(program, SIGCONT);
+}
+
 /* Returns whether the program goes on, and puts its status if not. If a terminal stops the program,
  * this process stops too, so that a shell sees it. To continue it continues the program. */
 static bool goes_on(pid_t program, int *status) {
@@ -221,7 +229,7 @@ static bool goes_on(pid_t program, int *status) {
     int number = WSTOPSIG(*status);
     if (number != SIGTSTP && number != SIGTTIN && number != SIGTTOU) return true;
     raise(SIGSTOP);
-    kill(program, SIGCONT);
+    continue_program(program);
     return true;
 }
 
