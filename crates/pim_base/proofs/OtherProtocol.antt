@@ -1,18 +1,16 @@
 -- What another protocol of a mutex that nobody owns leaves as it was.
-use Rattle.std.proofs.Common.{◌≡◌, ℕ, max, ◌⊎◌, inl, inr, Bool, true, length, map, Option, Some, None, refl, sym, ◌∙◌, ap, subst, unwrap_or, option_and_then}
+use Rattle.std.proofs.Common.{◌≡◌, ℕ, max, ◌⊎◌, inl, inr, Bool, true, length, map, Option, Some, None, refl, sym, ◌∙◌, ap, unwrap_or, option_and_then}
 use Rattle.std.proofs.lemmas.Bool.{cases_eq}
 use Rattle.std.proofs.lemmas.Option.{none-some}
 use Rattle.pim_base.specs.Lists.{nth, contains, holds}
-use Rattle.pim_base.specs.State.{State, base_of, protocol_of, owner_of, count_of, wait_of, owned, with_protocol}
+use Rattle.pim_base.specs.State.{State, base_of, protocol_of, owner_of, wait_of, owned, with_protocol}
 use Rattle.pim_base.specs.Chains.{heir_in, heir_of, heir, inherit_chain}
 use Rattle.pim_base.specs.Priorities.{ceiling, ceiling_of, own_priority, effective_priority}
 use Rattle.pim_base.specs.Laws.{ProtocolLaw}
-use Rattle.pim_base.specs.Steady.{IsCountOf, HasCounts, IsSteady}
 use Rattle.pim_base.specs.declared.steps.Protocol.{Protocol}
 use Rattle.pim_base.specs.declared.steps.Wait.{Wait}
 use Rattle.pim_base.proofs.Greatest.{greatest_of, greatest-cons, greatest_of-same}
 use Rattle.pim_base.proofs.Hops.{chain-same}
-use Rattle.pim_base.proofs.NoCycle.{protocol_sound}
 use Rattle.pim_base.proofs.Places.{nth-put_other, length-put}
 use Rattle.pim_base.proofs.Stored.{from_holds}
 
@@ -26,11 +24,6 @@ heir_in-free Protocol.None = refl
 heir_in-free Protocol.Inherit = refl
 heir_in-free Protocol.InheritRecursive = refl
 heir_in-free (Protocol.Protect c) = refl
-
--- the count of a free mutex is 0 by each protocol
-free_fits : (p q : Protocol) (o : Option ℕ) (k : ℕ) → o ≡ None → IsCountOf p o k → IsCountOf q o k
-free_fits p q None k free fits = fits
-free_fits p q (Some t) k free fits = absurd (none-some t (sym free))
 
 module _ (S : State) (m : ℕ) (p : Protocol) (free : owner_of S m ≡ None) where
   abbrev T : State
@@ -78,23 +71,6 @@ module _ (S : State) (m : ℕ) (p : Protocol) (free : owner_of S m ≡ None) whe
       (length S.base)
       (λ u. ap (λ us. contains us t) (chain-same (heir T) (heir S) heir-same (length S.base) u))
       (λ u _. own_priority-same u)
-
-  counts-same : HasCounts S → HasCounts T
-  counts-same fit k = go (cases_eq k m)
-    where
-      go : (k ≡ m) ⊎ (k ≡ m → ⊥) → IsCountOf (protocol_of T k) (owner_of S k) (count_of S k)
-      go (inl same) =
-          free_fits (protocol_of S k) (protocol_of T k) (owner_of S k) (count_of S k) (ap (owner_of S) same ∙ free) (fit k)
-      go (inr other) =
-          subst (λ q. IsCountOf q (owner_of S k) (count_of S k)) (sym (protocol_beside S m k p other)) (fit k)
-
-  pub steady-same : IsSteady S → IsSteady T
-  steady-same ok = record {
-    sound = protocol_sound S m p ok.sound;
-    tickets = record { given = ok.tickets.given; own = ok.tickets.own };
-    owned = λ t w e. ok.owned t w e;
-    counts = counts-same ok.counts;
-  }
 
 pub protocol_law : ProtocolLaw
 protocol_law S m t p free = effective_priority-same S m p free t
