@@ -80,6 +80,17 @@ async function typing() {
   }
 }
 
+/** Shows which numbers of the first lane are in view at the end of a trace. */
+async function longBoost() {
+  await typed(input.boost)
+  show('a long boost', await page.evaluate(`(() => {
+    const { right, left } = document.getElementById('time').getBoundingClientRect()
+    const begin = Math.max(left, document.getElementById('names').getBoundingClientRect().right)
+    const inView = [...document.querySelectorAll('#time [data-lane="1"]:is(.prio, .again)')]
+      .filter(it => it.getBoundingClientRect().left >= begin && it.getBoundingClientRect().right <= right)
+    return [...new Set(inView.map(it => it.textContent))] })()`))
+}
+
 async function stepping() {
   const said = () => text('said')
   await choose('boost_through_a_chain')
@@ -395,7 +406,7 @@ async function spoken() {
 
 const FAILURES = ['Runtime.exceptionThrown', 'Log.entryAdded']
 try {
-  for (const part of [firstVisit, examples, typing, stepping, files, full, longEditor, edits, lastWins, folds, keys, byKeyboard, spoken, looks]) await part()
+  for (const part of [firstVisit, examples, typing, longBoost, stepping, files, full, longEditor, edits, lastWins, folds, keys, byKeyboard, spoken, looks]) await part()
   const asked = page.heard.filter(it => it.method === 'Network.requestWillBeSent').map(it => it.params.request.url)
   show('requests', asked.filter(url => !/^(data|blob):/.test(url) && url.split('#')[0] !== address))
   const errors = page.heard.filter(it => FAILURES.includes(it.method)).map(it => JSON.stringify(it.params))

@@ -3,6 +3,7 @@ const MARKS = { waiter: '▲', ceiling: '◆' }
 const INKS = { waiter: '--boost', ceiling: '--ceil' }
 const BAR = 13, TOP = 20
 const MOST_UNFOLDED = 16 // lanes, of which none is folded
+const MARKED = 40 // pixels, which a number and its mark take
 const DOT = 'fill:var(--line);stroke:var(--bg);stroke-width:1.5'
 const CROSS = 'stroke:var(--bad);stroke-width:2'
 const SVG = 'xmlns="http://www.w3.org/2000/svg" aria-hidden="true"'
@@ -37,6 +38,7 @@ class Plan {
     const least = narrow ? 22 : 26
     this.col = Math.max(least, Math.min(84, Math.floor((width - this.side - 6) / this.count)))
     this.width = this.count * this.col + 4
+    this.often = Math.max(80, width - this.side - MARKED)
     this.whole = { first: 0, past: this.count, top: 0, bottom: Infinity }
     this.seen = this.whole
     const { rows } = view.bars, tasks = rows.length - 1
@@ -94,6 +96,15 @@ function boostAreas(plan, lane) {
   return out
 }
 
+/** Returns where the number of a boost is: where it begins, and so often that one is always seen. */
+function placesOf(plan, { from, to }) {
+  const begin = plan.x(from), end = plan.x(to) - MARKED, places = [begin]
+  for (let x = Math.ceil((begin + MARKED) / plan.often) * plan.often; x < end; x += plan.often) {
+    places.push(x)
+  }
+  return places
+}
+
 /** Draws the priority as a line, thicker where it is boosted, and each value with its mark. */
 function priorityLine(plan, lane) {
   const kind = it => it.prio > it.base ? it.why : ''
@@ -108,11 +119,13 @@ function priorityLine(plan, lane) {
     if (why) out.push(rule(plan.x(run.from), plan.x(run.to), y, `stroke:${ink};stroke-width:2.5`))
     const isWide = plan.x(run.to) - plan.x(run.from) > 36
     const text = why && isWide ? `${it.prio} ${MARKS[why]}` : it.prio
-    const more = `class="prio" data-lane="${lane.i + 1}"`
-      + ` data-from="${run.from}" data-to="${run.to}"`
+    const more = `data-lane="${lane.i + 1}" data-from="${run.from}" data-to="${run.to}"`
     const style = `fill:${ink};font-weight:${why ? 650 : 400}`
-    const below = y - 4 < lane.y + 9
-    out.push(words(plan.x(run.from) + 4, below ? y + 13 : y - 4, 11, style, text, more))
+    const height = y - 4 < lane.y + 9 ? y + 13 : y - 4
+    const write = (x, kind) => out.push(words(x + 4, height, 11, style, text, `${kind} ${more}`))
+    const [first, ...others] = why ? placesOf(plan, run) : [plan.x(run.from)]
+    write(first, 'class="prio"')
+    for (const x of others) write(x, 'class="again"')
   }
   return out
 }
