@@ -17,7 +17,8 @@ use Rattle.pim_shared.specs.Logs.{History}
 use Rattle.pim_shared.specs.Versions.{IsVersionOf, last_of}
 use Rattle.pim_shared.specs.Rules.{Keeps, IsTrueOf, KnowsStart, enters}
 use Rattle.pim_shared.specs.Lookers.{start_of, history_of, seen_of, Shows, EndsIn, HasSeenMore, EndsWithNew}
-use Rattle.pim_shared.proofs.Prefixes.{prefix_self, prefix_shorter}
+use Rattle.pim_base.proofs.Prefixes.{prefix_self}
+use Rattle.pim_shared.proofs.Prefixes.{prefix_shorter}
 
 known_start : (o : Option State) → IsSome o → o ≡ Some (unwrap_or o (start [] [] 1))
 known_start (Some S) k = refl

@@ -6,4 +6,3 @@ pub mod SameEntries
 pub mod Entering
 pub mod Publishing
 pub mod Beginning
-pub mod Settling

@@ -16,7 +16,8 @@ use Rattle.pim_shared.specs.Versions.{IsVersionOf, entry_of, next_version, last_
 use Rattle.pim_shared.specs.Rules.{Keeps, IsTrueOf, publishes}
 use Rattle.pim_shared.specs.Books.{BookState, IsBook}
 use Rattle.pim_shared.specs.Publishers.{WriterState, Published, IsUpToDate, MayPublish, HasPublished, published_by, with_pending, all_published}
-use Rattle.pim_shared.proofs.Prefixes.{prefix_self, prefix_trans, prefix_whole}
+use Rattle.pim_base.proofs.Prefixes.{prefix_self, prefix_trans}
+use Rattle.pim_shared.proofs.Prefixes.{prefix_whole}
 use Rattle.pim_shared.proofs.Entering.{true_set}
 
 last_of-append : (es : List Entry) (e : Entry) → last_of (es ++ e ∷ []) ≡ Some e

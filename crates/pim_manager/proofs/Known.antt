@@ -1,5 +1,5 @@
 -- What a manager shows of an unknown task or mutex: it waits for nothing, and has no owner.
-use Rattle.std.proofs.Common.{◌≡◌, ◌==◌, ◌||◌, ℕ, List, length, Bool, true, false, Option, Some, None, refl, nat_lt, rules, subst}
+use Rattle.std.proofs.Common.{◌≡◌, ◌∙◌, ap, ◌==◌, ◌||◌, ℕ, List, length, Bool, true, false, Option, Some, None, refl, nat_lt, rules, subst}
 use Rattle.std.specs.Prelude.{unwrap_or, is_some, if◌then◌else◌}
 use Rattle.std.specs.Option.{option_flatten, option_map}
 use Rattle.pim_base.specs.Lists.{nth}
@@ -32,14 +32,20 @@ owner_shown S m lists =
 abbrev mutex_of : Option Wait → Option ℕ
 mutex_of = option_map (λ (w : Wait). w.mutex)
 
-wait_or : (b : Bool) (o : Option (Option Wait)) → (b ≡ true → o ≡ None) → is_some (option_flatten (if b then None else Some (mutex_of (unwrap_or o None)))) ≡ is_some (unwrap_or o None)
-wait_or true o none = rw (none refl) refl
-wait_or false None none = refl
-wait_or false (Some None) none = refl
-wait_or false (Some (Some w)) none = refl
+-- the mutex that is shown of a task's wait
+pub wait_shown : (S : State) (t : ℕ) → IsState S → option_flatten (of_task S t (mutex_of (wait_of S t))) ≡ mutex_of (wait_of S t)
+wait_shown S t lists =
+    let P : ℕ → Type 0 = λ n. option_flatten (if t == 0 || nat_lt n t then None else Some (mutex_of (wait_of S t))) ≡ mutex_of (wait_of S t) in
+    subst P lists.waits (go (is_beyond S.wait t) (nth S.wait t) (λ beyond. nothing_beyond S.wait t (nth S.wait t) refl beyond))
+  where
+    go : (b : Bool) (o : Option (Option Wait)) → (b ≡ true → o ≡ None) → option_flatten (if b then None else Some (mutex_of (unwrap_or o None))) ≡ mutex_of (unwrap_or o None)
+    go true o none = rw (none refl) refl
+    go false o none = refl
 
 -- whether a wait is shown of a task
-pub wait_shown : (S : State) (t : ℕ) → IsState S → is_some (option_flatten (of_task S t (mutex_of (wait_of S t)))) ≡ is_waiting S t
-wait_shown S t lists =
-    let P : ℕ → Type 0 = λ n. is_some (option_flatten (if t == 0 || nat_lt n t then None else Some (mutex_of (wait_of S t)))) ≡ is_waiting S t in
-    subst P lists.waits (wait_or (is_beyond S.wait t) (nth S.wait t) (λ beyond. nothing_beyond S.wait t (nth S.wait t) refl beyond))
+pub is_waiting_shown : (S : State) (t : ℕ) → IsState S → is_some (option_flatten (of_task S t (mutex_of (wait_of S t)))) ≡ is_waiting S t
+is_waiting_shown S t lists = ap is_some (wait_shown S t lists) ∙ go (wait_of S t)
+  where
+    go : (o : Option Wait) → is_some (mutex_of o) ≡ is_some o
+    go None = refl
+    go (Some w) = refl
