@@ -1,2 +1,3 @@
 pub mod SharingLemmas
 pub mod CrowdedLemmas
+pub mod Replaying

@@ -1,6 +1,7 @@
-//! Why spans don't get numbers.
+//! Why spans don't get numbers, and why a program isn't replayed.
 ghost use Rattle.std.specs.Prelude.{◌≡◌};
-ghost use Rattle.pim_import.specs.declared.fault.SharingFault.TheVariants.{Memory};
+ghost use Rattle.pim_import.specs.declared.fault.SharingFault.TheVariants as sharing;
+ghost use Rattle.pim_import.specs.declared.fault.ReplayFault.TheVariants as replay;
 
 use std::alloc::AllocError;
 use thiserror::Error;
@@ -20,9 +21,28 @@ pub enum SharingFault {
 }
 
 impl From<AllocError> for SharingFault {
-    ghost from_gives = { λ _ fault. fault ≡ Memory };
+    ghost from_gives = { λ _ fault. fault ≡ sharing.Memory };
 
     fn from(_error: AllocError) -> SharingFault {
         SharingFault::Memory
+    }
+}
+
+/// Why an observation isn't replayed.
+#[derive(Clone, Copy, Debug, PartialEq, Eq, Error)]
+pub enum ReplayFault {
+    /// The model's reply to the last step isn't how the program was observed to go on.
+    #[error("the record contradicts those before it")]
+    Contradiction,
+    /// Out of memory.
+    #[error("out of memory")]
+    Memory,
+}
+
+impl From<AllocError> for ReplayFault {
+    ghost from_gives = { λ _ fault. fault ≡ replay.Memory };
+
+    fn from(_error: AllocError) -> ReplayFault {
+        ReplayFault::Memory
     }
 }

@@ -1,0 +1,30 @@
+use Rattle.std.proofs.Common.{◌≡◌, Bool, true, false, Some, subst, sym, rules}
+use Rattle.std.specs.Bool.{MatchBool}
+use Rattle.pim_base.specs.Steps.{reply_of}
+use Rattle.pim_base.specs.declared.steps.Reply.{Reply}
+use Rattle.pim_base.specs.declared.steps.Wait.{Wait}
+use Rattle.pim_import.specs.Replays.{ReplayState, IsSame, IsRefused, lock, program_of, with_wait_for}
+use Rattle.pim_import.proofs.Replaying.{queued_same, refused_wait}
+use Rattle.pim_import.proofs.replay.Replay.wait.Goals as goal
+
+pub returns-then-not-branch-clause-observed : goal.returns-then-not-branch-clause-observed
+returns-then-not-branch-clause-observed c =
+    let r : ReplayState = c.args.self.now in
+    let t = c.args.task in
+    let w : Wait = record { mutex = c.args.mutex; ticket = c.next_ticket-ticket.result } in
+    let queued = c.in_ok-queue.ensures.queued in
+    let none : c.in_ok-queue.field-0 ≡ false = search (rules, c.if-not-branch.true) in
+    let M : Bool → Type 0 = λ b. MatchBool b (reply_of r.state (lock t w.mutex) ≡ Reply.Queued) (IsRefused r.state t w.mutex) in
+    refused_wait r c.queue.new.self c.put_outside-then-not-branch.new.self t w (subst M none queued.2) queued.0
+    c.put_outside-then-not-branch.ensures.kept c.put_outside-then-not-branch.ensures.there
+
+pub returns-else-not-branch-clause-observed : goal.returns-else-not-branch-clause-observed
+returns-else-not-branch-clause-observed c =
+    let r : ReplayState = c.args.self.now in
+    let t = c.args.task in
+    let m = c.args.mutex in
+    let P : ReplayState → Type 0 = λ s. IsSame (with_wait_for (program_of r) t (Some m)) (program_of s) in
+    let queued = c.in_ok-queue.ensures.queued in
+    let yes : c.in_ok-queue.field-0 ≡ true = search (rules, c.if-not-branch.false) in
+    let M : Bool → Type 0 = λ b. MatchBool b (reply_of r.state (lock t m) ≡ Reply.Queued) (IsRefused r.state t m) in
+    subst P (sym queued.0) (queued_same r t m queued.1 (subst M yes queued.2))
