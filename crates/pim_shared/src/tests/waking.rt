@@ -18,9 +18,9 @@ struct Waits {
     ended: AtomicU64,
 }
 
-/// Returns whether the count reaches 2, within 1,000,000 turns.
+/// Returns whether the count reaches 2, within 20,000,000 turns, some seconds.
 fn reaches_two(count: &AtomicU64) -> bool {
-    for _turn in 0..1_000_000 {
+    for _turn in 0..20_000_000 {
         if count.load(Ordering::SeqCst) >= 2 {
             return true;
         }
