@@ -151,7 +151,7 @@ taken words index place rest x k len within small is clear others = go (cases_eq
         ∙ sym (ap (λ b. not b && has words k) (ne_eqb k x ne))
 
 -- ---- what is left, word by word
-rest_words_is : (words : List ℕ) (index word : ℕ) → word ≢ 0 → rest_words words index word ≡ set words index word
+pub rest_words_is : (words : List ℕ) (index word : ℕ) → word ≢ 0 → rest_words words index word ≡ set words index word
 rest_words_is words index word some = ap (λ b. if b then words else set words index word) (ne_eqb word 0 some)
 
 set-set : (words : List ℕ) (index v w : ℕ) → set (set words index v) index w ≡ set words index w

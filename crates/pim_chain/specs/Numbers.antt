@@ -1,5 +1,5 @@
 -- Sets of numbers below 320, a bit for each.
-use Rattle.std.specs.Prelude.{◌≡◌, ◌≢◌, ◌<◌, ◌≤◌, ◌==◌, ◌/◌, ◌%◌, ℕ, Bool, true, false, not, if◌then◌else◌, List, Option, Some, None, set, slice_index}
+use Rattle.std.specs.Prelude.{◌≡◌, ◌≢◌, ◌<◌, ◌≤◌, ◌==◌, ◌/◌, ◌%◌, ℕ, Bool, true, false, not, if◌then◌else◌, List, map, Option, Some, None, set, slice_index}
 use Rattle.std.specs.Int.{bit_at}
 use Rattle.std.specs.List.{filter, range_with_len}
 
@@ -28,6 +28,10 @@ IsLeast words (Some n) = (n < 320) × (has words n ≡ true) × ((k : ℕ) → k
 abbrev pub IsFirstWord : List ℕ → Option ℕ → Type 0
 IsFirstWord words None = (k : ℕ) → has words k ≡ false
 IsFirstWord words (Some i) = (i < 5) × (slice_index words i ≢ 0) × ((j : ℕ) → j < i → slice_index words j ≡ 0)
+
+-- the words whose bits of the mask are set, and empty ones in the place of the others
+unfoldable pub words_left : List ℕ → ℕ → List ℕ
+words_left words filled = map (λ i. if bit_at filled i == 1 then slice_index words i else 0) (range_with_len 0 5)
 
 -- the words of the numbers that are left, with the word that the iteration is in at its index
 abbrev pub rest_words : List ℕ → ℕ → ℕ → List ℕ

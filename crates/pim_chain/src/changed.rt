@@ -1,12 +1,13 @@
 //! The tasks whose stored priority changed.
 
-ghost use Rattle.std.specs.Prelude.{◌≡◌};
+ghost use Rattle.std.specs.Prelude.{◌≡◌, []};
 ghost use Rattle.std.specs.Iterator.{YieldsFirst, item_count};
 ghost use Rattle.std.specs.List.{filter};
 ghost use Rattle.pim_chain.specs.Numbers.{members};
 ghost use Rattle.pim_chain.specs.Work.{differs_in};
 
-use crate::number_set::{NumberSet, Numbers};
+use crate::notes::Notes;
+use crate::number_set::Numbers;
 use pim_base::{Prio, TaskNo, nth};
 use std::marker::Model;
 
@@ -15,7 +16,7 @@ use std::marker::Model;
 /// Its value in contracts is the list of those that are left. It reads the noted tasks alone.
 #[derive(Drop)]
 pub struct Changed<'a> {
-    noted: Numbers,
+    noted: Numbers<'a>,
     had: &'a [u16],
     stored: &'a [Prio],
 }
@@ -32,12 +33,23 @@ impl<'a> Model for Changed<'a> {
 
 impl<'a> Changed<'a> {
     /// Returns those of the noted tasks that have another priority now than they had.
-    pub(crate) fn new(noted: NumberSet, had: &'a [u16], stored: &'a [Prio]) -> Changed<'a>
-        ensures { result ≡ filter (differs_in had.now stored.now) (members noted.words) }
+    pub(crate) fn new(notes: &'a Notes, stored: &'a [Prio]) -> Changed<'a>
+        ensures { result ≡ filter (differs_in notes.now.had stored.now) (members notes.now.tasks) }
     {
         Changed {
-            noted: noted.iter(),
-            had,
+            noted: notes.tasks(),
+            had: notes.had(),
+            stored,
+        }
+    }
+
+    /// Returns no tasks.
+    pub(crate) fn none(stored: &'a [Prio]) -> Changed<'a>
+        ensures { result ≡ [] }
+    {
+        Changed {
+            noted: Numbers::none(),
+            had: &[],
             stored,
         }
     }

@@ -9,6 +9,7 @@ ghost use Rattle.pim_chain.specs.Views.{Ready, stored_at};
 ghost use Rattle.pim_chain.specs.Settled.{SettledBut, SetRight, HandedAll};
 ghost use Rattle.pim_chain.specs.Work.{Tells, VisitedOnce};
 
+use crate::owned::Owned;
 use crate::tables::Tables;
 use crate::visits::Visits;
 use pim_base::{MutexNo, TaskNo};
@@ -76,7 +77,8 @@ impl Tables {
         // The contract of this call gives the proof the invariant of the tables.
         let _tasks = self.tasks();
         let mut released = 0;
-        for mutex in self.owned(task) {
+        let owned = self.owned_set(task); // a copy: each of them leaves the set
+        for mutex in Owned::new(&owned) {
             self.hand_over(mutex, task, visits);
             released += 1;
         }

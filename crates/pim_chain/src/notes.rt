@@ -2,9 +2,10 @@
 
 ghost use Rattle.std.specs.Prelude.{◌≡◌, ◌≢◌, ◌≤◌, ◌↔◌, IsTrue, ℕ, Some, None, IfOk, unwrap_or};
 ghost use Rattle.pim_base.specs.declared.limits.TheConstants.{MAX_TASKS};
+ghost use Rattle.pim_chain.specs.Numbers.{members};
 ghost use Rattle.pim_chain.specs.Work.{noted_in};
 
-use crate::number_set::NumberSet;
+use crate::number_set::{NumberSet, Numbers};
 use crate::numbered::{filled, put};
 use pim_base::{MAX_TASKS, Prio, TaskNo};
 use std::alloc::{AllocError, Global};
@@ -71,11 +72,11 @@ impl Notes {
         self.tasks.is_empty()
     }
 
-    /// Returns the noted tasks.
-    pub fn tasks(&self) -> NumberSet
-        ensures { result.words ≡ self.now.tasks }
+    /// Returns the noted tasks, in ascending order.
+    pub fn tasks(&self) -> Numbers<'_>
+        ensures { result ≡ members self.now.tasks }
     {
-        self.tasks
+        self.tasks.iter()
     }
 
     /// Returns the level that each noted task had, in the order of the tasks.

@@ -1,8 +1,8 @@
 //! Sets of the numbers of tasks or mutexes.
 
-ghost use Rattle.std.specs.Prelude.{◌≡◌, ◌≢◌, ◌==◌, ◌<◌, ◌&&◌, ◌||◌, ◌↔◌, IsTrue, ℕ, None, IfSome, not, true, false, set};
+ghost use Rattle.std.specs.Prelude.{◌≡◌, ◌≢◌, ◌==◌, ◌<◌, ◌&&◌, ◌||◌, ◌↔◌, IsTrue, ℕ, None, IfSome, not, true, false, set, []};
 ghost use Rattle.std.specs.Iterator.{YieldsFirst, item_count};
-ghost use Rattle.pim_chain.specs.Numbers.{has, members, rest_words, AreTold, IsBehind, IsFirstWord, IsLeast};
+ghost use Rattle.pim_chain.specs.Numbers.{has, members, words_left, rest_words, AreTold, IsBehind, IsFirstWord, IsLeast};
 
 use crate::bits::{has_bit, lowest_bit, with_bit, without_bit};
 use std::marker::Model;
@@ -78,30 +78,20 @@ impl NumberSet {
         };
     }
 
-    // Returns the index of the first word that isn't empty.
-    fn first_word(&self) -> Option<u32>
-        ensures { IsFirstWord self.now.words result }
-    {
-        if self.filled == 0 {
-            None
-        } else {
-            Some(lowest_bit(self.filled))
-        }
-    }
-
     // Returns the whole set, from which no number is taken out yet.
-    fn rest(&self) -> Rest
-        ensures { rest_words result.others.words result.index result.word ≡ self.now.words }
+    fn rest(&self) -> Rest<'_>
+        ensures { rest_words (words_left result.words.now result.filled) result.index result.word ≡ self.now.words }
     {
         Rest {
-            others: *self,
+            words: &self.words,
+            filled: self.filled,
             index: 0,
             word: 0,
         }
     }
 
     /// Returns the numbers of the set, in ascending order.
-    pub fn iter(&self) -> Numbers
+    pub fn iter(&self) -> Numbers<'_>
         ensures { result ≡ members self.now.words }
     {
         Numbers { left: self.rest() }
@@ -110,32 +100,44 @@ impl NumberSet {
 
 /// What is left of a set whose numbers are taken out in ascending order.
 ///
-/// The current word is kept by itself, so that no number waits for the store of the one before.
+/// The current word is kept by itself. So no number waits for the store of the one before, and the set isn't copied.
 #[derive(Clone, Copy, Debug)]
-struct Rest {
-    // The other words.
-    others: NumberSet,
+struct Rest<'a> {
+    // The words of the set, and the mask of those after the current one that aren't empty.
+    words: &'a [u64],
+    filled: u64,
     // The index of the current word, and what is left of it.
     index: u32,
     word: u64,
-    ghost behind: { IsBehind others.words index word },
+    ghost told: { AreTold (words_left words.now filled) filled },
+    ghost behind: { IsBehind (words_left words.now filled) index word },
 }
 
-impl Rest {
+impl<'a> Rest<'a> {
+    // Returns the index of the first word that is left.
+    fn first_word(&self) -> Option<u32>
+        ensures { IsFirstWord (words_left self.now.words.now self.now.filled) result }
+    {
+        if self.filled == 0 {
+            None
+        } else {
+            Some(lowest_bit(self.filled))
+        }
+    }
+
     // Goes on to the next word if nothing is left of this one. Returns whether a number is left.
     fn find_word(&mut self) -> bool
-        ensures same { rest_words self.new.others.words self.new.index self.new.word ≡ rest_words self.old.others.words self.old.index self.old.word }
+        ensures same { rest_words (words_left self.new.words.now self.new.filled) self.new.index self.new.word ≡ rest_words (words_left self.old.words.now self.old.filled) self.old.index self.old.word }
         ensures some { result ≡ true → self.new.word ≢ 0 }
-        ensures none { result ≡ false → (k : ℕ) → has (rest_words self.old.others.words self.old.index self.old.word) k ≡ false }
+        ensures none { result ≡ false → (k : ℕ) → has (rest_words (words_left self.old.words.now self.old.filled) self.old.index self.old.word) k ≡ false }
     {
         if self.word != 0 {
             return true;
         }
-        match self.others.first_word() {
+        match self.first_word() {
             Some(index) => {
-                let word = self.others.words[index as usize];
-                // Written before the other two fields, so that these stay in registers from here on.
-                self.others.put_word(index as usize, 0);
+                let word = self.words[index as usize];
+                self.filled = without_bit(self.filled, index);
                 self.index = index;
                 self.word = word;
                 true
@@ -146,9 +148,9 @@ impl Rest {
 
     // Takes out the least number, and returns it.
     fn take_least(&mut self) -> Option<u16>
-        ensures least { IsLeast (rest_words self.old.others.words self.old.index self.old.word) result }
-        ensures others { IfSome result (λ n. (k : ℕ) → has (rest_words self.new.others.words self.new.index self.new.word) k ≡ (not (k == n) && has (rest_words self.old.others.words self.old.index self.old.word) k)) }
-        ensures none { result ≡ None → rest_words self.new.others.words self.new.index self.new.word ≡ rest_words self.old.others.words self.old.index self.old.word }
+        ensures least { IsLeast (rest_words (words_left self.old.words.now self.old.filled) self.old.index self.old.word) result }
+        ensures others { IfSome result (λ n. (k : ℕ) → has (rest_words (words_left self.new.words.now self.new.filled) self.new.index self.new.word) k ≡ (not (k == n) && has (rest_words (words_left self.old.words.now self.old.filled) self.old.index self.old.word) k)) }
+        ensures none { result ≡ None → rest_words (words_left self.new.words.now self.new.filled) self.new.index self.new.word ≡ rest_words (words_left self.old.words.now self.old.filled) self.old.index self.old.word }
     {
         if !self.find_word() {
             return None;
@@ -161,23 +163,38 @@ impl Rest {
 
 /// The numbers of a set, in ascending order.
 ///
-/// Its value in contracts is the list of those that are left. It has a copy of the set, so that the set may change
-/// meanwhile, and takes the least number out of that at each call.
+/// Its value in contracts is the list of those that are left.
 #[derive(Drop)]
-pub struct Numbers {
-    left: Rest,
+pub struct Numbers<'a> {
+    left: Rest<'a>,
 }
 
-impl Model for Numbers {
+impl<'a> Numbers<'a> {
+    /// Returns no numbers.
+    pub fn none() -> Numbers<'a>
+        ensures { result ≡ [] }
+    {
+        Numbers {
+            left: Rest {
+                words: &[],
+                filled: 0,
+                index: 0,
+                word: 0,
+            },
+        }
+    }
+}
+
+impl<'a> Model for Numbers<'a> {
     ghost use Rattle.std.specs.Prelude.{List, ℕ};
-    ghost use Rattle.pim_chain.specs.Numbers.{members, rest_words};
+    ghost use Rattle.pim_chain.specs.Numbers.{members, words_left, rest_words};
 
     ghost Value = { List ℕ };
 
-    ghost view = { λ n. members (rest_words n.left.others.words n.left.index n.left.word) };
+    ghost view = { λ n. members (rest_words (words_left n.left.words.now n.left.filled) n.left.index n.left.word) };
 }
 
-impl Iterator for Numbers {
+impl<'a> Iterator for Numbers<'a> {
     type Item = u16;
 
     ghost next_gives = { YieldsFirst (λ rest. rest) };

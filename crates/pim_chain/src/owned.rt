@@ -8,15 +8,15 @@ use crate::number_set::{NumberSet, Numbers};
 use pim_base::MutexNo;
 use std::marker::Model;
 
-/// The mutexes that a task owned when it was asked for them, in ascending order.
+/// The mutexes that a task owns, in ascending order.
 ///
-/// Its value in contracts is the list of those that are left. It borrows nothing: the tables may change meanwhile.
+/// Its value in contracts is the list of those that are left.
 #[derive(Drop)]
-pub struct Owned {
-    left: Numbers,
+pub struct Owned<'a> {
+    left: Numbers<'a>,
 }
 
-impl Model for Owned {
+impl<'a> Model for Owned<'a> {
     ghost use Rattle.std.specs.Prelude.{List, ℕ};
 
     ghost Value = { List ℕ };
@@ -24,16 +24,16 @@ impl Model for Owned {
     ghost view = { λ o. o.left };
 }
 
-impl Owned {
+impl<'a> Owned<'a> {
     /// Returns the mutexes of this set.
-    pub(crate) fn new(set: &NumberSet) -> Owned
+    pub(crate) fn new(set: &'a NumberSet) -> Owned<'a>
         ensures { result ≡ members set.now.words }
     {
         Owned { left: set.iter() }
     }
 }
 
-impl Iterator for Owned {
+impl<'a> Iterator for Owned<'a> {
     type Item = MutexNo;
 
     ghost next_gives = { YieldsFirst (λ rest. rest) };

@@ -1,12 +1,11 @@
 //! The sets of the mutexes that each task owns.
 
 ghost use Rattle.std.specs.Prelude.{◌≡◌, ◌≢◌, ◌≤◌, ◌<◌, ◌==◌, ◌&&◌, ◌||◌, ℕ, not, false, length, IfOk};
-ghost use Rattle.pim_chain.specs.Numbers.{has, members};
+ghost use Rattle.pim_chain.specs.Numbers.{has};
 ghost use Rattle.pim_chain.specs.Sets.{words_in, AreEmpty};
 
 use crate::number_set::NumberSet;
 use crate::numbered::filled;
-use crate::owned::Owned;
 use pim_base::{MutexNo, TaskNo};
 use std::alloc::{AllocError, Global};
 use std::marker::Model;
@@ -51,13 +50,13 @@ impl OwnedSets {
         Ok(OwnedSets { sets })
     }
 
-    /// Returns the mutexes in the task's set, in ascending order.
-    pub fn of(&self, task: TaskNo) -> Owned
+    /// Returns the task's set.
+    pub fn of(&self, task: TaskNo) -> &NumberSet
         requires least { 1 ≤ task }
         requires most { task ≤ length self.now }
-        ensures { result ≡ members (words_in self.now task) }
+        ensures { result.now.words ≡ words_in self.now task }
     {
-        Owned::new(&self.sets[task.get() as usize - 1])
+        &self.sets[task.get() as usize - 1]
     }
 
     /// Puts the mutex in the task's set.

@@ -12,6 +12,7 @@ ghost use Rattle.pim_base.specs.Priorities.{ceiling};
 ghost use Rattle.pim_base.specs.declared.steps.Wait.{Wait};
 ghost use Rattle.pim_chain.specs.Views.{Ready, fresh, with_state, queue_at, stored_at, waiter_at};
 ghost use Rattle.pim_chain.specs.Work.{has_changed};
+ghost use Rattle.pim_chain.specs.Numbers.{members};
 ghost use Rattle.pim_chain.specs.Settled.{Calm, Unsettles, joined, left};
 
 use crate::changed::Changed;
@@ -196,11 +197,19 @@ impl Tables {
     }
 
     /// Returns the mutexes that a known task owns, in ascending order.
-    pub fn owned(&self, task: TaskNo) -> Owned
+    pub fn owned(&self, task: TaskNo) -> Owned<'_>
         requires { IsTask self.now.state task }
         ensures { result ≡ owned self.now.state task }
     {
-        self.owned.of(task)
+        Owned::new(self.owned.of(task))
+    }
+
+    /// Returns the set of the mutexes that a known task owns.
+    pub(crate) fn owned_set(&self, task: TaskNo) -> NumberSet
+        requires { IsTask self.now.state task }
+        ensures { members result.words ≡ owned self.now.state task }
+    {
+        *self.owned.of(task)
     }
 
     /// Returns the next ticket.
@@ -320,8 +329,8 @@ impl Tables {
         ensures { result ≡ filter (has_changed (stored_at self.now) visits.now) (task_numbers self.now.state) }
     {
         match visits.notes() {
-            Some(notes) => Changed::new(notes.tasks(), notes.had(), &self.stored),
-            None => Changed::new(NumberSet::new(), &[], &self.stored),
+            Some(notes) => Changed::new(notes, &self.stored),
+            None => Changed::none(&self.stored),
         }
     }
 

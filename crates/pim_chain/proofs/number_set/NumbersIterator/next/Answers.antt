@@ -1,13 +1,13 @@
 use Rattle.std.proofs.Common.{◌≡◌, ◌==◌, ◌&&◌, not, List, ◌∷◌, ℕ, Option, Some, None, IfSome, length, rules, refl, subst, ◌∙◌, ap, arith}
 use Rattle.std.specs.Iterator.{MakesProgress, YieldsFirst, item_count}
-use Rattle.pim_chain.specs.Numbers.{has, members, rest_words, IsLeast}
+use Rattle.pim_chain.specs.Numbers.{has, members, words_left, rest_words, IsLeast}
 use Rattle.pim_chain.specs.declared.number_set.Rest.{Rest}
 use Rattle.pim_chain.proofs.Members.{least_first, least_none}
 use Rattle.pim_chain.proofs.number_set.NumbersIterator.next.Goals as goal
 
 -- the words of what is left
-abbrev left_words : Rest → List ℕ
-left_words r = rest_words r.others.words r.index r.word
+abbrev words_of : Rest → List ℕ
+words_of r = rest_words (words_left r.words.now r.filled) r.index r.word
 
 module _ (words after : List ℕ) where
   steps :
@@ -31,12 +31,12 @@ module _ (words after : List ℕ) where
 
 pub returns-clause-steps : goal.returns-clause-steps
 returns-clause-steps c =
-    let after = left_words c.take_least.new.self in
+    let after = words_of c.take_least.new.self in
     subst (λ s. YieldsFirst {S = List ℕ} {A = ℕ} (λ rest. rest) s c.take_least.result (members after)) c.self.view_is
-    (steps (left_words c.self.inside.left) after c.take_least.result c.take_least.ensures.least c.take_least.ensures.others c.take_least.ensures.none)
+    (steps (words_of c.self.inside.left) after c.take_least.result c.take_least.ensures.least c.take_least.ensures.others c.take_least.ensures.none)
 
 pub returns-clause-goes : goal.returns-clause-goes
 returns-clause-goes c =
-    let after = left_words c.take_least.new.self in
+    let after = words_of c.take_least.new.self in
     subst (λ s. MakesProgress {S = List ℕ} {A = ℕ} (λ _. Unit {0}) (item_count (λ rest. rest)) s c.take_least.result (members after)) c.self.view_is
-    (goes (left_words c.self.inside.left) after c.take_least.result c.take_least.ensures.least c.take_least.ensures.others)
+    (goes (words_of c.self.inside.left) after c.take_least.result c.take_least.ensures.least c.take_least.ensures.others)

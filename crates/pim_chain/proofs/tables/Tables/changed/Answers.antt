@@ -4,22 +4,22 @@ use Rattle.pim_chain.specs.Numbers.{members}
 use Rattle.pim_chain.specs.Views.{stored_in}
 use Rattle.pim_chain.specs.Work.{Noted, noted_in, differs_in}
 use Rattle.pim_chain.specs.Shown.{shown}
+use Rattle.pim_chain.proofs.Members.{least_none, no_number}
 use Rattle.pim_chain.proofs.Told.{changed_noted}
 use Rattle.pim_chain.proofs.tables.Tables.changed.Goals as goal
 
 pub returns-in-Some : goal.returns-in-Some
 returns-in-Some c =
+    let notes = c.in-Some.notes.now in
     c.new.ensures
-    ∙ ap (λ stored. filter (differs_in c.had.result.now stored) (members c.tasks.result.words)) c.deref.ensures.value
-    ∙ ap (λ had. filter (differs_in had c.self.inside.stored.items) (members c.tasks.result.words)) c.had.ensures
-    ∙ ap (λ words. filter (differs_in c.in-Some.notes.now.had c.self.inside.stored.items) (members words)) c.tasks.ensures
-    ∙ changed_noted (shown c.self.inside) c.args.self.now c.args.visits.now c.in-Some.notes.now.had c.in-Some.notes.now.tasks c.self.view_is c.self.invariant.ready
+    ∙ ap (λ stored. filter (differs_in notes.had stored) (members notes.tasks)) c.deref.ensures.value
+    ∙ changed_noted (shown c.self.inside) c.args.self.now c.args.visits.now notes.had notes.tasks c.self.view_is c.self.invariant.ready
     (λ t. ap (λ (o : Option Noted). option_and_then (λ (n : Noted). noted_in n t) o) (sym c.in-Some.ensures))
 
 pub returns-in-None : goal.returns-in-None
 returns-in-None c =
-    c.new-in-None-2.ensures
-    ∙ ap (λ stored. filter (differs_in [] stored) (members c.new-in-None.result.words)) c.deref-in-None.ensures.value
-    ∙ changed_noted (shown c.self.inside) c.args.self.now c.args.visits.now [] c.new-in-None.result.words c.self.view_is c.self.invariant.ready
+    c.none.ensures
+    ∙ ap (filter (differs_in [] c.self.inside.stored.items)) (sym (least_none [] no_number))
+    ∙ changed_noted (shown c.self.inside) c.args.self.now c.args.visits.now [] [] c.self.view_is c.self.invariant.ready
     (λ t. ap (λ (o : Option Noted). option_and_then (λ (n : Noted). noted_in n t) o) (sym c.in-None.ensures)
-    ∙ sym (ap (λ b. if b then Some (stored_in [] t) else None) (c.new-in-None.ensures t)))
+    ∙ sym (ap (λ b. if b then Some (stored_in [] t) else None) (no_number t)))

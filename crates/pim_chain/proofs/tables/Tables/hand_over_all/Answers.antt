@@ -5,7 +5,7 @@ use Rattle.pim_chain.proofs.tables.Tables.hand_over_all.Goals as goal
 pub loop-mutex-init : goal.loop-mutex-init
 loop-mutex-init c =
     releasing_none c.args.self.now c.args.task c.into_iter-mutex-iterator.result c.args.visits.now
-    (c.into_iter-mutex-iterator.ensures.into_iter_gives ∙ c.owned-mutex-items.ensures)
+    (c.into_iter-mutex-iterator.ensures.into_iter_gives ∙ (c.new-mutex-items.ensures ∙ c.owned_set-owned.ensures))
     c.requires.idle c.tasks-tasks.ensures.ready c.requires.settled
 
 pub hand_over-requires : goal.hand_over-requires
