@@ -18,6 +18,15 @@ owned_mutex S m t lists owns = go (nth S.owner m) refl
         let within = nth_within S.owner m x e in
         (within.0, subst (λ n. m ≤ n) lists.owners within.1)
 
+-- each mutex that the task owns is known
+pub owned_mutexes :
+    (S : State) (t : ℕ) (ms : List ℕ)
+    → IsState S
+    → AllByRecursion (λ m. owner_of S m ≡ Some t) ms
+    → AllByRecursion (IsMutex S) ms
+owned_mutexes S t [] lists all = tt
+owned_mutexes S t (m ∷ ms) lists all = (owned_mutex S m t lists all.0, owned_mutexes S t ms lists all.1)
+
 -- an unknown number has no entry
 pub unwrap_or-nth_unknown :
     {X : Type 0} → (xs : List (Option X)) (n k : ℕ)

@@ -170,7 +170,7 @@ module _ (v : View) (t : ℕ) (calm : Calm v) (known : IsTask v.state t) where
         (λ k. holds (owner_of v.state k) t) (same_donates low) (mutex_numbers v.state)) ∙ is))
 
     -- the reason by the owned mutexes is the reason of the definitions
-    pub reason_owned : 1 ≤ stored_at v t → owned_reason v (stored_at v t) None (owned v.state t) ≡ reason_of v.state t
+    pub reason_owned : 1 ≤ stored_at v t → owned_reason v (stored_at v t) (owned v.state t) ≡ reason_of v.state t
     reason_owned low = go (find (λ k. ceiling_of v.state k == stored_at v t) (owned v.state t)) refl
       where
         source : Option ℕ

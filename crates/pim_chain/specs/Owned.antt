@@ -1,5 +1,5 @@
 -- What a task receives from the mutexes that it owns.
-use Rattle.std.specs.Prelude.{◌==◌, ◌&&◌, ℕ, max, Bool, cond, is_some, List, Option, Some}
+use Rattle.std.specs.Prelude.{◌==◌, ◌&&◌, ℕ, max, Bool, cond, is_some, List}
 use Rattle.std.specs.List.{find}
 use Rattle.std.specs.Option.{option_map_or}
 use Rattle.pim_base.specs.Lists.{first_item}
@@ -27,9 +27,8 @@ donates_now v p m = is_inherit (protocol_of v.state m) && (first_prio (queue_at 
 abbrev pub first_reason : View → ℕ → Reason
 first_reason v m = option_map_or (λ (w : Waiter). Reason.Waiter w.task m) (first_item (queue_at v m)) Reason.Base
 
--- The reason is the least of these mutexes with the ceiling, if there is one. Else it is the first waiter for the mutex
--- that was found before or, if none was, for the least of these mutexes whose waiters donate the priority.
-abbrev pub owned_reason : View → ℕ → Option ℕ → List ℕ → Reason
-owned_reason v p source ms =
+-- the least of these mutexes with the ceiling, else the first waiter for the least whose waiters donate the priority
+abbrev pub owned_reason : View → ℕ → List ℕ → Reason
+owned_reason v p ms =
     option_map_or Reason.Ceiling (find (λ m. ceiling_of v.state m == p) ms)
-    (option_map_or (first_reason v) (option_map_or Some source (find (donates_now v p) ms)) Reason.Base)
+    (option_map_or (first_reason v) (find (donates_now v p) ms) Reason.Base)

@@ -1,6 +1,7 @@
 //! Why a task has its priority.
 
-ghost use Rattle.std.specs.Prelude.{◌≡◌, None};
+ghost use Rattle.std.specs.Prelude.{◌≡◌, ◌==◌, None};
+ghost use Rattle.std.specs.List.{find, AllByRecursion};
 ghost use Rattle.pim_base.specs.State.{IsTask, IsMutex, owned, protocol_of};
 ghost use Rattle.pim_base.specs.Priorities.{ceiling_of};
 ghost use Rattle.pim_base.specs.Reasons.{is_inherit, reason_of};
@@ -8,6 +9,7 @@ ghost use Rattle.pim_chain.specs.Views.{stored_at};
 ghost use Rattle.pim_chain.specs.Settled.{SettledBut};
 ghost use Rattle.pim_chain.specs.Owned.{donates_now, first_reason, owned_reason};
 
+use crate::owned::Owned;
 use crate::tables::Tables;
 use pim_base::{MutexNo, Reason, TaskNo};
 
@@ -37,23 +39,36 @@ impl Tables {
     #[inline(always)]
     fn owned_reason(&self, task: TaskNo, level: u16) -> Reason
         requires { IsTask self.now.state task }
-        ensures { result ≡ owned_reason self.now level None (owned self.now.state task) }
+        ensures { result ≡ owned_reason self.now level (owned self.now.state task) }
     {
         // The contract of this call gives the proof the invariant of the tables.
         let _tasks = self.tasks();
-        let mut source = None;
-        for mutex in self.owned(task) {
+        let mut owned = self.owned(task);
+        while let Some(mutex) = owned.next() {
             if self.ceiling_level(mutex) == level {
                 return Reason::Ceiling(mutex);
             }
-            if source.is_none() && self.donates(mutex, level) {
-                source = Some(mutex);
+            if self.donates(mutex, level) {
+                return match self.first_ceiling(&mut owned, level) {
+                    Some(other) => Reason::Ceiling(other),
+                    None => self.waiter_reason(mutex),
+                };
             }
         }
-        match source {
-            Some(mutex) => self.waiter_reason(mutex),
-            None => Reason::Base,
+        Reason::Base
+    }
+
+    // Returns the first of these mutexes with this ceiling.
+    fn first_ceiling(&self, mutexes: &mut Owned, level: u16) -> Option<MutexNo>
+        requires { AllByRecursion (IsMutex self.now.state) mutexes.old }
+        ensures { result ≡ find (λ m. ceiling_of self.now.state m == level) mutexes.old }
+    {
+        while let Some(mutex) = mutexes.next() {
+            if self.ceiling_level(mutex) == level {
+                return Some(mutex);
+            }
         }
+        None
     }
 
     // Returns the first waiter for the known mutex as the reason.

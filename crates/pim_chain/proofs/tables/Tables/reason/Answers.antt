@@ -16,7 +16,7 @@ returns c =
     let v = c.args.self.now in
     let level : c.get-level.result ≡ stored_at v c.args.task = c.get-level.ensures.value ∙ c.known_stored.ensures in
     c.owned_reason.ensures
-    ∙ ap (λ p. owned_reason v p None (owned v.state c.args.task)) level
+    ∙ ap (λ p. owned_reason v p (owned v.state c.args.task)) level
     ∙ reason_owned v c.args.task (record { ready = c.tasks-tasks.ensures.ready; settled = c.requires.settled }) c.requires.known
     (λ e. c.if-level-get.false (level ∙ e ∙ sym (c.get.ensures.value ∙ c.known_base.ensures)))
     (let least = c.get-level.ensures.least in omega (arith, least, level))
