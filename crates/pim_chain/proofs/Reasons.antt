@@ -188,3 +188,15 @@ module _ (v : View) (t : ℕ) (calm : Calm v) (known : IsTask v.state t) where
             last (Some m) is =
                 waiter_here v m calm (found_known v calm.ready.sound.lists t m (donates_now v (stored_at v t)) is)
                 ∙ reason_waiter (Some m) none is low
+
+-- by the level that is read
+pub reason_at :
+    (v : View) (t level : ℕ)
+    → Calm v
+    → IsTask v.state t
+    → level ≡ stored_at v t
+    → (level ≡ base_of v.state t → ⊥)
+    → 1 ≤ level
+    → owned_reason v level (owned v.state t) ≡ reason_of v.state t
+reason_at v t level calm known is other least =
+    ap (λ p. owned_reason v p (owned v.state t)) is ∙ reason_owned v t calm known (λ e. other (is ∙ e)) (omega (arith, least, is))

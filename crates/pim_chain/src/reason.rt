@@ -34,6 +34,32 @@ impl Tables {
         self.owned_reason(task, level)
     }
 
+    /// Returns the same, for a loop over tasks: the search among the mutexes of a boosted task is a call, so that it
+    /// takes no registers from the loop.
+    #[inline(always)]
+    pub fn listed_reason(&self, task: TaskNo) -> Reason
+        requires settled { SettledBut self.now.state (stored_at self.now) None }
+        requires known { IsTask self.now.state task }
+        ensures { result ≡ reason_of self.now.state task }
+    {
+        // The contract of this call gives the proof the invariant of the tables.
+        let _tasks = self.tasks();
+        let level = self.known_stored(task).get();
+        if level == self.known_base(task).get() {
+            return Reason::Base;
+        }
+        self.called_reason(task, level)
+    }
+
+    // The same as `owned_reason`, as a call.
+    #[inline(never)]
+    fn called_reason(&self, task: TaskNo, level: u16) -> Reason
+        requires { IsTask self.now.state task }
+        ensures { result ≡ owned_reason self.now level (owned self.now.state task) }
+    {
+        self.owned_reason(task, level)
+    }
+
     // Returns the least mutex of the task with this ceiling as the reason, else the first waiter for the least INHERIT
     // mutex whose waiters donate this priority. One pass over the mutexes finds both.
     #[inline(always)]

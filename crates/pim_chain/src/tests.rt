@@ -388,6 +388,18 @@ fn reason(rt: &impl Abort, tables: &Tables, task: u16) -> Reason
     tables.reason(TaskNo(task))
 }
 
+// of tasks 1 and 2
+fn listed_reasons(rt: &impl Abort, tables: &Tables) -> [Reason; 2]
+    requires { SettledBut tables.now.state (stored_at tables.now) None }
+{
+    assert!(rt; !tables.is_unknown_task(TaskNo(1)));
+    assert!(rt; !tables.is_unknown_task(TaskNo(2)));
+    [
+        tables.listed_reason(TaskNo(1)),
+        tables.listed_reason(TaskNo(2)),
+    ]
+}
+
 // task 1 owns mutexes 1 and 2, the second with ceiling 50, and task 2 waits for the first
 fn scene(rt: &impl Abort, alloc: Global) -> Result<Tables, AllocError>
     ensures { IfOk result (λ tables. SettledBut tables.state (stored_at tables) None) }
@@ -418,6 +430,7 @@ fn reasons_name_a_ceiling_or_the_first_waiter(rt: HostRuntime) -> Result<(), Fai
     let first = Reason::Waiter(TaskNo(3), MutexNo(1));
     assert_eq!(rt; reason(&rt, &tables, 1), first);
     assert_eq!(rt; reason(&rt, &tables, 2), Reason::Base);
+    assert_eq!(rt; listed_reasons(&rt, &tables), [first, Reason::Base]);
     Ok(())
 }
 

@@ -291,7 +291,7 @@ impl Manager {
         }
         for task in self.tables.changed(visits) {
             let prio = self.tables.known_stored(task);
-            let reason = self.tables.reason(task);
+            let reason = self.tables.listed_reason(task);
             // There is room, since no task is listed twice.
             tasks.push(ChangedTask { task, prio, reason }).unwrap();
         }

@@ -52,7 +52,7 @@ impl Manager {
             return None;
         }
         let prio = self.tables.known_stored(task);
-        let reason = self.tables.reason(task);
+        let reason = self.tables.listed_reason(task);
         Some(ChangedTask { task, prio, reason })
     }
 }

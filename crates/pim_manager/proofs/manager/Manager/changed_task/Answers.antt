@@ -18,6 +18,6 @@ returns c =
     c.known_stored-prio.ensures
     ∙ settled_effective v.state (stored_at v) c.self.invariant.calm.ready.sound c.self.invariant.calm.settled t (known_from_tests v.state t known)
     ∙ ap (λ (U : State). effective_priority U t) c.self.view_is in
-    let reason : c.reason-reason.result ≡ reason_of S t = c.reason-reason.ensures ∙ ap (λ (U : State). reason_of U t) c.self.view_is in
+    let reason : c.listed_reason-reason.result ≡ reason_of S t = c.listed_reason-reason.ensures ∙ ap (λ (U : State). reason_of U t) c.self.view_is in
     ap₂ (λ (p : ℕ) (r : Reason). Some (record { task = t; prio = p; reason = r })) prio reason
     ∙ ap (λ b. cond b None (Some (changed_task S t))) (sym (ap (λ (U : State). unknown_task U t) (sym c.self.view_is) ∙ known))

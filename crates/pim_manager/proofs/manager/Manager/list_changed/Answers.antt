@@ -35,11 +35,11 @@ loop-task-preserved c =
     ∙ settled_effective v.state (stored_at v) c.self.invariant.calm.ready.sound c.self.invariant.calm.settled c.in-Some.task
     (subst (λ (U : State). IsTask U c.in-Some.task) (sym c.self.view_is) known)
     ∙ ap (λ (U : State). effective_priority U c.in-Some.task) c.self.view_is in
-    let reason : c.reason-reason.result ≡ reason_of S c.in-Some.task =
-    c.reason-reason.ensures ∙ ap (λ (U : State). reason_of U c.in-Some.task) c.self.view_is in
+    let reason : c.listed_reason-reason.result ≡ reason_of S c.in-Some.task =
+    c.listed_reason-reason.ensures ∙ ap (λ (U : State). reason_of U c.in-Some.task) c.self.view_is in
     let pushed : c.push.new.self.items ≡ c.loop-task.tasks.items ++ changed_task S c.in-Some.task ∷ [] =
     c.push.ensures.items
-    ∙ ap (λ r. cond (is_ok r) (c.loop-task.tasks.items ++ record { task = c.in-Some.task; prio = c.known_stored-prio.result; reason = c.reason-reason.result } ∷ []) c.loop-task.tasks.items) c.unwrap.ensures
+    ∙ ap (λ r. cond (is_ok r) (c.loop-task.tasks.items ++ record { task = c.in-Some.task; prio = c.known_stored-prio.result; reason = c.listed_reason-reason.result } ∷ []) c.loop-task.tasks.items) c.unwrap.ensures
     ∙ ap₂ (λ (p : ℕ) (r : Reason). c.loop-task.tasks.items ++ record { task = c.in-Some.task; prio = p; reason = r } ∷ []) prio reason in
     record {
       listing =
