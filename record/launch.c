@@ -191,7 +191,7 @@ int main(int count, char **arguments) {
     look_up(arguments[2], path);
     refuse_unrecordable(arguments[2], path);
     preload(arguments[1], name);
-    if (kernel && kilobytes) record_kernel(kernel, kilobytes);
+    if (kernel && kilobytes) record_kernel(kernel, name, kilobytes);
     execvp(arguments[2], arguments + 2);
     int error = errno;
     if (kernel && kilobytes) withdraw_recording();

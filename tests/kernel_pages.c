@@ -170,7 +170,27 @@ static void many(void) {
     printf("many: %" PRIu64 " in order, %" PRIu64 " lost\n", wanted, queue.lost);
 }
 
+/* The file of a CPU, as a kernel writes it, with the three numbers that count. */
+static void stats(const char *name, const char *overrun, const char *commit, const char *dropped) {
+    char text[512];
+    snprintf(text, sizeof text,
+             "entries: 7\n%s%s%sbytes: 140\noldest event ts:  2.5\nnow ts:  3.5\n%s%s%sread events: 9\n",
+             overrun ? "overrun: " : "", overrun ? overrun : "", overrun ? "\n" : "",
+             commit ? "commit overrun: " : "", commit ? commit : "", commit ? "\n" : "");
+    if (dropped) strcat(strcat(strcat(text, "dropped events: "), dropped), "\n");
+    printf("%s: %" PRIu64 "\n", name, lost_by_stats(text));
+}
+
+static void lost(void) {
+    stats("overwritten", "300", "0", "0");
+    stats("at a full page", "0", "20", "0");
+    stats("dropped", "0", "0", "1");
+    stats("of all kinds", "18446744073709551000", "20", "1");
+    stats("not told", NULL, NULL, NULL);
+}
+
 int main(void) {
+    lost();
     times();
     kinds();
     cut();

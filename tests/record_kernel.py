@@ -33,6 +33,7 @@ class Tracefs:
     """The folder of tracefs's instances, which is mounted for the tests where it isn't."""
 
     def __init__(self):
+        self.others = set()
         self.folder, self.instances = None, pathlib.Path("/sys/kernel/tracing/instances")
         if not os.path.isdir(self.instances):
             self.folder = tempfile.mkdtemp()
@@ -44,7 +45,11 @@ class Tracefs:
         return sorted(path.name for path in self.instances.iterdir())
 
     def own(self):
-        return [name for name in self.names() if name.startswith("pim-record-")]
+        """Returns the instances of recordings, but for those that were seen while another's process had them."""
+        found = [name for name in self.names() if name.startswith("pim-record-")]
+        processes = {name: int(name.split("-")[2]) for name in found}
+        self.others |= {name for name in found if not is_gone(processes[name]) and not is_descendant(processes[name])}
+        return [name for name in found if name not in self.others]
 
     def end(self):
         if self.folder:
@@ -185,6 +190,32 @@ END_MISSING = "the end is missing: the recorder was killed, or goes on"
 SAYS_AND_SLEEPS = "trap 'echo told; exit 5' INT TERM; echo $$; while :; do sleep 0.05; done"
 
 
+def parent_of(process):
+    """Returns the number of a process's parent, or 0 if the process is gone."""
+    try:
+        return int(open(f"/proc/{process}/stat").read().rpartition(")")[2].split()[1])
+    except (FileNotFoundError, ProcessLookupError):
+        return 0
+
+
+def is_descendant(process):
+    """Returns whether this process started the other, or one of its ancestors."""
+    while process not in (0, os.getpid()):
+        process = parent_of(process)
+    return process != 0
+
+
+def program_of(child):
+    """Returns the process in which a recording executed its program, or None if it hasn't yet."""
+    for process in filter(str.isdigit, os.listdir("/proc")):
+        try:
+            if parent_of(process) == child.pid and not os.readlink(f"/proc/{process}/exe").endswith("pim-launch"):
+                return int(process)
+        except FileNotFoundError:
+            continue
+    return None
+
+
 def signals(folder, tracefs):
     """Signals reach the program, and nothing is left."""
     for number, status in ((signal.SIGINT, 5), (signal.SIGTERM, 5), (signal.SIGHUP, -signal.SIGHUP)):
@@ -306,6 +337,7 @@ def inherited(folder):
 def no_room(reader, folder):
     """A file that may not grow isn't whole: standard error says so, and the program runs on."""
     limit = lambda: resource.setrlimit(resource.RLIMIT_FSIZE, (1 << 20, 1 << 20))
+    no_file = lambda: resource.setrlimit(resource.RLIMIT_FSIZE, (0, 0))
     words = (PROGRAMS / "random", "1", "12000")  # several megabytes of events
     recording = Recording(reader, folder, *words, options=["--size", "1"], preexec_fn=limit)
     wanted = f"pim-record: {recording.file} isn't whole: File too large\n"
@@ -313,6 +345,8 @@ def no_room(reader, folder):
     check("a file beyond the limit of a file", difference(got, (0, wanted, 1 << 20)))
     faults = [fault for fault in faults_of(recording.data) if fault != "the last line isn't whole"]
     check("it is the beginning of a recording", difference((faults,), ([END_MISSING],)))
+    nothing(Recording(reader, folder, "echo", "it ran", preexec_fn=no_file), "a log that can't be made", 2,
+            "the program was not run")
     path = pathlib.Path(folder, "n" * 250)
     done = run(RECORD / "pim-record", "--kernel", "-o", path, "echo", "it ran")
     wanted = f"pim-record: {path}.kernel: File name too long; nothing was run\n"
@@ -343,7 +377,7 @@ def mounted(folder):
 def lost(reader, folder):
     """A recorder that is held up loses events, and reports when and how many."""
     child = started(folder, PROGRAMS / "random", "1", "4000", options=["--buffer", "8"])
-    until(lambda: pathlib.Path(folder, "run.kernel").exists())
+    until(lambda: program_of(child))
     child.send_signal(signal.SIGSTOP)
     time.sleep(0.3)
     child.send_signal(signal.SIGCONT)
@@ -353,6 +387,8 @@ def lost(reader, folder):
     count = sum(event.values[0] for event in told)
     fault = next(iter(kernel_text.Checker(text).run()), None) or (None if count else "nothing is lost")
     check("a recording with lost events keeps the laws", fault)
+    if not told:
+        return
     first, last = min(event.values[1] for event in told), max(event.time for event in told)
     times = [f"{(time - text.head.began) / 1e9:.6f}" for time in (first, last)]
     wanted = f"pim-record: {count} of the kernel's events were lost, in {len(told)} stretches from {times[0]} s to" \
@@ -369,6 +405,8 @@ def ends(reader, folder, tracefs):
     recording = Recording(reader, folder, "sh", "-c", text, "a b", "", "c", input="input")
     got = (recording.status, recording.done.stdout, recording.done.stderr)
     check("with --kernel status and streams are the program's", difference(got, (43, "|c|input", "err\n")))
+    recording = Recording(reader, folder, "sh", "-c", "exit 2")
+    check("with --kernel a program may end with status 2", recording.fault(2))
     recording = Recording(reader, folder, "sh", "-c", "echo $PIM_KERNEL$PIM_KERNEL_KB; kill -9 $$")
     got = (recording.status, recording.done.stdout, recording.fault(-signal.SIGKILL))
     check("with --kernel it ends by the program's signal", difference(got, (-signal.SIGKILL, "\n", None)))
@@ -584,6 +622,11 @@ def stored():
 # ---- the kernel's pages
 
 PAGES = """\
+overwritten: 300
+at a full page: 20
+dropped: 1
+of all kinds: 18446744073709551021
+not told: 0
 times: missed 0
 1010 cpu 3 task 21 kind 0: 22 89 -1 0
 268436472 cpu 3 task 31 kind 0: 32 49 48 0

@@ -2,6 +2,7 @@
 #include "events.h"
 
 #include <errno.h>
+#include <inttypes.h>
 #include <stdio.h>
 #include <stdlib.h>
 #include <string.h>
@@ -111,6 +112,24 @@ struct head {
 static const uint64_t TOP_BITS = ~0ULL << 59; /* which a TIME_STAMP doesn't have */
 
 enum { LONG_DATA = 0, PADDING = 29, TIME_EXTEND = 30, TIME_STAMP = 31, TIME_BITS = 27, WORD = 4 };
+
+/* Returns the number behind a name, which begins a line. */
+static uint64_t number_of(const char *text, const char *name) {
+    uint64_t number = 0;
+    size_t length = strlen(name);
+    for (const char *line = text; line; line = strchr(line, '\n')) {
+        line += *line == '\n';
+        if (strncmp(line, name, length) != 0 || line[length] != ':') continue;
+        sscanf(line + length + 1, "%" SCNu64, &number);
+        return number;
+    }
+    return 0;
+}
+
+uint64_t lost_by_stats(const char *stats) {
+    return number_of(stats, "overrun") + number_of(stats, "commit overrun") +
+           number_of(stats, "dropped events");
+}
 
 uint64_t time_of_page(const unsigned char *page) {
     uint64_t time;

@@ -63,6 +63,9 @@ enum { MISSED_UNKNOWN = -1 };
 /* Returns how many events the kernel overwrote before those of a page, or MISSED_UNKNOWN. */
 int64_t missed_before(const struct layouts *layouts, const unsigned char *page);
 
+/* Returns how many events of a CPU were overwritten or dropped, by its file `stats`. */
+uint64_t lost_by_stats(const char *stats);
+
 uint64_t time_of_page(const unsigned char *page);
 
 /* Puts a LOST. */

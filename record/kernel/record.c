@@ -31,7 +31,7 @@ static const uint64_t HELD_BACK = 1000000000;
 static const char INITIAL_PID_NAMESPACE[] = "pid:[4026531836]";
 
 static struct recording {
-    const char *path;
+    const char *path, *log;
     struct instance instance;
     struct layouts layouts;
     struct text text;
@@ -128,15 +128,10 @@ static const char *set_up(const char *kilobytes) {
 
 /* Returns how many of a CPU's events the kernel says that it overwrote or dropped. */
 static uint64_t count_lost(int cpu) {
-    char path[64], text[1024];
-    uint64_t overrun = 0, commit_overrun = 0, dropped = 0;
+    char path[64], stats[1024];
     snprintf(path, sizeof path, "per_cpu/cpu%d/stats", cpu);
-    if (!read_setting(&recording.instance, path, text, sizeof text)) return 0;
-    sscanf(text, "entries: %*u overrun: %" SCNu64 " commit overrun: %" SCNu64, &overrun,
-           &commit_overrun);
-    const char *events = strstr(text, "dropped events: ");
-    if (events) sscanf(events, "dropped events: %" SCNu64, &dropped);
-    return overrun + commit_overrun + dropped;
+    bool is_read = read_setting(&recording.instance, path, stats, sizeof stats);
+    return is_read ? lost_by_stats(stats) : 0;
 }
 
 /* Reads the pages of a CPU that are there, up to a number. Returns whether they were fewer. */
@@ -249,6 +244,14 @@ static int record_until_end(pid_t program, const sigset_t *awaited) {
     return status;
 }
 
+/* Returns whether the program was run: it was executed, and the library could make its log. */
+static bool is_run(int status, int channel) {
+    char none;
+    if (recv(channel, &none, 1, MSG_DONTWAIT) == 1) return false; /* withdraw_recording sent it */
+    bool is_refused = WIFEXITED(status) && WEXITSTATUS(status) == FAULT;
+    return !is_refused || access(recording.log, F_OK) == 0;
+}
+
 static void say_lost(void) {
     const struct text *text = &recording.text;
     double began = (double)text->began;
@@ -298,7 +301,6 @@ static const char *turn_on(pid_t program) {
 
 /* Lets the program begin, records it, and ends this process as it ended. */
 static _Noreturn void record_program(pid_t program, const sigset_t *awaited, int channel) {
-    char none;
     be_ordinary();
     signal(SIGXFSZ, SIG_IGN); /* a file that may not grow isn't whole; the program runs on */
     const char *failed = turn_on(program);
@@ -307,13 +309,14 @@ static _Noreturn void record_program(pid_t program, const sigset_t *awaited, int
     int status = record_until_end(program, awaited);
     put_rest();
     end_instance();
-    bool is_run = recv(channel, &none, 1, MSG_DONTWAIT) != 1;
-    if (!close_text(&recording.text))
-        fprintf(stderr, "pim-record: %s isn't whole: %s\n", recording.path, strerror(errno));
-    if (is_run)
-        say_lost();
-    else
+    bool is_whole = close_text(&recording.text);
+    if (!is_run(status, channel)) {
         unlink(recording.path);
+        end_as(status);
+    }
+    if (!is_whole)
+        fprintf(stderr, "pim-record: %s isn't whole: %s\n", recording.path, strerror(errno));
+    say_lost();
     end_as(status);
 }
 
@@ -335,13 +338,14 @@ static void begin(const char *path, const char *kilobytes) {
     if (failed) give_up(failed);
 }
 
-void record_kernel(const char *path, const char *kilobytes) {
+void record_kernel(const char *path, const char *log, const char *kilobytes) {
     static const int passed_on[] = { SIGHUP,  SIGINT,  SIGQUIT, SIGTERM, SIGUSR1,
                                      SIGUSR2, SIGALRM, SIGTSTP, SIGTTIN, SIGTTOU };
     struct sigaction of_children, usual = { .sa_handler = SIG_DFL };
     sigset_t awaited, before;
     int channel[2];
     pid_t recorder = getpid(), program = -1;
+    recording.log = log;
     begin(path, kilobytes);
     sigemptyset(&awaited);
     sigaddset(&awaited, SIGCHLD);
