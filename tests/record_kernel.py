@@ -259,9 +259,12 @@ def others(reader, folder, tracefs):
     start = open("/proc/self/stat").read().rpartition(")")[2].split()[19]
     gone = subprocess.Popen(["true"])
     gone.wait()
+    ended_unseen = subprocess.Popen(["true"])
+    until(lambda: is_gone(ended_unseen.pid))
+    its = open(f"/proc/{ended_unseen.pid}/stat").read().rpartition(")")[2].split()[19]
     kept = ["somebody", f"pim-record-{os.getpid()}-{start}", f"pim-record-{gone.pid}-1x", f"pim-record-0{gone.pid}-1",
             f"pim-recorder-{gone.pid}-1"]
-    removed = [f"pim-record-{gone.pid}-1", f"pim-record-{os.getpid()}-1"]
+    removed = [f"pim-record-{gone.pid}-1", f"pim-record-{os.getpid()}-1", f"pim-record-{ended_unseen.pid}-{its}"]
     wanted = sorted(set(tracefs.names()) - set(tracefs.own()) | set(kept))
     try:
         for name in kept + removed:
@@ -364,14 +367,19 @@ def containers(reader, folder):
 
 
 def mounted(folder):
-    """Where tracefs is mounted at its place, that mount is used."""
+    """Where tracefs is mounted at its place, that mount is used; where it has no place, one that nobody sees."""
     place, path = "/sys/kernel/tracing", f"{folder}/run"
     text = f"mount -t tracefs none {place} && exec {RECORD}/pim-record --kernel -o {path} ls {place}/instances"
     if not shutil.which("unshare") or run("unshare", "--mount", "mount", "-t", "tracefs", "none", place).returncode:
         return skip("a tracefs that is mounted", "it can't be mounted aside")
     done = run("unshare", "--mount", "sh", "-c", text)
     got = (done.returncode, "pim-record-" in done.stdout, done.stderr)
-    return check("a tracefs that is mounted", difference(got, (0, True, "")))
+    check("a tracefs that is mounted", difference(got, (0, True, "")))
+    text = f"mount -t tmpfs none /sys/kernel && exec {RECORD}/pim-record --kernel -o {path} ls /sys/kernel"
+    done = run("unshare", "--mount", "sh", "-c", text)
+    why = difference((done.returncode, done.stdout, done.stderr), (0, "", ""))
+    faults = [] if why else faults_of(pathlib.Path(f"{path}.kernel").read_bytes())
+    return check("a tracefs that has no place", why or "; ".join(faults))
 
 
 def lost(reader, folder):
@@ -659,18 +667,51 @@ many: 15000 in order, 15000 lost
 """
 
 
+def printed(folder, name, source, parts, *arguments):
+    """Compiles a program with parts of the recorder. Returns the lines that it prints, or None after a failed check."""
+    made = pathlib.Path(folder, source)
+    flags = ["-std=c11", "-Wall", "-Wextra", "-Werror", "-fsanitize=address,undefined"]
+    sources = [ROOT / f"tests/{source}.c", *(RECORD / f"kernel/{part}.c" for part in parts)]
+    done = run("cc", *flags, *sources, "-o", made)
+    if not done.returncode:
+        done = run(made, *arguments, env={"ASAN_OPTIONS": "detect_leaks=0"})
+    if done.returncode or done.stderr:
+        return check(name, done.stderr[:300] or f"status {done.returncode}")
+    return done.stdout.splitlines()
+
+
+def are_lines(name, got, wanted):
+    if got is not None:
+        wanted = wanted.splitlines()
+        check(name, difference((*got, len(got)), (*wanted, len(wanted))))
+
+
 def pages(folder):
     """Pages that are made by hand: times, kinds of events, what is cut, what was missed."""
-    sources = [ROOT / "tests/kernel_pages.c", RECORD / "kernel/events.c", RECORD / "kernel/instance.c"]
-    made = pathlib.Path(folder, "pages")
-    flags = ["-std=c11", "-Wall", "-Wextra", "-Werror", "-fsanitize=address,undefined"]
-    built = run("cc", *flags, *sources, "-o", made)
-    if built.returncode:
-        return check("pages of the kernel's buffer", built.stderr[:300])
-    done = run(made, env={"ASAN_OPTIONS": "detect_leaks=0"})
-    got, wanted = done.stdout.splitlines(), PAGES.splitlines()
-    why = difference((*got, len(got)), (*wanted, len(wanted)))
-    return check("pages of the kernel's buffer", why or done.stderr[:300])
+    name = "pages of the kernel's buffer"
+    are_lines(name, printed(folder, name, "kernel_pages", ["events", "instance"]), PAGES)
+
+
+# By instance.h: the room is of eight bytes.
+INSTANCE = """\
+a file: done
+what it has: done '12345'
+no file: No such file or directory
+no room: No space left on device
+nothing: No such file or directory 'xxxxxxx'
+a longer one: done
+its beginning: done '1234567'
+in two parts: done 'abcde'
+a folder: 1, there: 0
+one that is gone: 1
+"""
+
+
+def instance(folder):
+    """Settings of an instance, in an ordinary folder."""
+    name = "settings of an instance"
+    with tempfile.TemporaryDirectory() as place:
+        are_lines(name, printed(folder, name, "kernel_instance", ["instance"], place), INSTANCE)
 
 
 # ---- the lines of events
@@ -759,17 +800,12 @@ a file of 20 bytes, 5000 later: File too large
 
 def lines(folder):
     """Events that are made by hand, as lines."""
-    sources = [ROOT / "tests/kernel_lines.c", RECORD / "kernel/text.c"]
-    made, file = pathlib.Path(folder, "lines"), pathlib.Path(folder, "lines.kernel")
-    built = run("cc", "-std=c11", "-Wall", "-Wextra", "-Werror", "-fsanitize=address,undefined", *sources, "-o", made)
-    if built.returncode:
-        return check("the lines of events", built.stderr[:300])
-    done = run(made, file)
-    wanted = WRITTEN.format(release=os.uname().release, machine=os.uname().machine).splitlines()
-    got = file.read_text().splitlines()
-    check("the lines of events", difference((*got, len(got)), (*wanted, len(wanted))) or done.stderr[:300])
-    counts, wanted = done.stdout.splitlines(), COUNTS_OF_LINES.splitlines()
-    return check("the counts of events", difference((*counts, len(counts)), (*wanted, len(wanted))))
+    file = pathlib.Path(folder, "lines.kernel")
+    counts = printed(folder, "the lines of events", "kernel_lines", ["text"], file)
+    if counts is not None:
+        wanted = WRITTEN.format(release=os.uname().release, machine=os.uname().machine)
+        are_lines("the lines of events", file.read_text().splitlines(), wanted)
+        are_lines("the counts of events", counts, COUNTS_OF_LINES)
 
 
 # ---- all
@@ -778,6 +814,7 @@ def kernel_files(folder):
     by_hand(folder)
     stored()
     pages(folder)
+    instance(folder)
     lines(folder)
 
 
