@@ -127,7 +127,7 @@ static void read_interpreter(const char *line, char path[PATH_MAX]) {
  * neither a binary nor a script is the shell's. */
 static void refuse_unrecordable(const char *program, char path[PATH_MAX]) {
     char line[LINE_BYTES];
-    for (int depth = 0; depth < MOST_SCRIPTS; depth++) {
+    for (int scripts = 0; scripts <= MOST_SCRIPTS; scripts++) { /* the kernel takes no more */
         int file = open(path, O_RDONLY | O_CLOEXEC);
         if (file < 0)
             refuse(FAULT, program, "it can't be read, so nothing says whether it can be recorded");
