@@ -1,9 +1,11 @@
-"""Checks of libpim.a: the symbols that it has and needs, and the stack that its functions take."""
+"""Checks of libpim.a: the symbols that it has and needs, and the stack that its functions take; and of the installed
+libraries in projects."""
 import os
 import re
+import shutil
 
 from c_common import ARM, C, HEADER, HERE, README, expect, run, said
-from checks import check, difference
+from checks import check, difference, skip
 
 
 def symbols(exports, machine=HERE):
@@ -37,6 +39,25 @@ def shared(folder, prefix, machine):
     path = f"LD_LIBRARY_PATH={prefix}/lib"
     runs = [*machine.runs, "-E", path] if machine.runs else ["env", path]
     expect("the demo with libpim.so", run(*runs, own), (C / "demo.expected").read_bytes())
+
+
+def project(folder, machine):
+    """The README's program in a project of CMake, with the README's lines."""
+    if not shutil.which("cmake"):
+        return skip("a project of CMake", "cmake isn't installed")
+    here = f"{folder}/project"
+    os.mkdir(here)
+    lines = re.search(r"```cmake\n(.*?)```", README, re.S)[1]
+    with open(f"{here}/CMakeLists.txt", "w") as file:
+        file.write(f"cmake_minimum_required(VERSION 3.10)\nproject(own C)\nadd_executable(own own.c)\n{lines}")
+    with open(f"{here}/own.c", "w") as file:
+        file.write(re.search(r"```c\n(.*?)```", README, re.S)[1])
+    cross = [] if machine is HERE else ["-DCMAKE_SYSTEM_NAME=Linux", "-DCMAKE_SYSTEM_PROCESSOR=aarch64"]
+    status, out = run("cmake", "-S", here, "-B", f"{here}/made", f"-DCMAKE_C_COMPILER={machine.compiler}", *cross)
+    if not status:
+        status, out = run("cmake", "--build", f"{here}/made")
+    shown = re.search(r"    \$ \./own\n    (.*\n)", README)[1].encode()
+    return expect("a project of CMake", (status, out) if status else machine.run(f"{here}/made/own"), shown)
 
 
 def dynamic(machine, file, tag):
