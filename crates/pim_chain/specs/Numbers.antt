@@ -37,6 +37,10 @@ words_left words filled = map (λ i. if bit_at filled i == 1 then slice_index wo
 abbrev pub rest_words : List ℕ → ℕ → ℕ → List ℕ
 rest_words words index word = if word == 0 then words else set words index word
 
+-- the same of a set's words, of which a mask says which are left
+abbrev pub left_in : List ℕ → ℕ → ℕ → ℕ → List ℕ
+left_in words filled index word = rest_words (words_left words filled) index word
+
 -- while the iteration is in a word, the words up to its index are empty
 abbrev pub IsBehind : List ℕ → ℕ → ℕ → Type 0
 IsBehind words index word = word ≢ 0 → (index < 5) × ((j : ℕ) → j ≤ index → slice_index words j ≡ 0)

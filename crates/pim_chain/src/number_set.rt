@@ -2,7 +2,7 @@
 
 ghost use Rattle.std.specs.Prelude.{◌≡◌, ◌≢◌, ◌==◌, ◌<◌, ◌&&◌, ◌||◌, ◌↔◌, IsTrue, ℕ, None, IfSome, not, true, false, set, []};
 ghost use Rattle.std.specs.Iterator.{YieldsFirst, item_count};
-ghost use Rattle.pim_chain.specs.Numbers.{has, members, words_left, rest_words, AreTold, IsBehind, IsFirstWord, IsLeast};
+ghost use Rattle.pim_chain.specs.Numbers.{has, members, left_in, words_left, AreTold, IsBehind, IsFirstWord, IsLeast};
 
 use crate::bits::{has_bit, lowest_bit, with_bit, without_bit};
 use std::marker::Model;
@@ -80,7 +80,7 @@ impl NumberSet {
 
     // Returns the whole set, from which no number is taken out yet.
     fn rest(&self) -> Rest<'_>
-        ensures { rest_words (words_left result.words.now result.filled) result.index result.word ≡ self.now.words }
+        ensures { left_in result.words.now result.filled result.index result.word ≡ self.now.words }
     {
         Rest {
             words: &self.words,
@@ -127,9 +127,11 @@ impl<'a> Rest<'a> {
 
     // Goes on to the next word if nothing is left of this one. Returns whether a number is left.
     fn find_word(&mut self) -> bool
-        ensures same { rest_words (words_left self.new.words.now self.new.filled) self.new.index self.new.word ≡ rest_words (words_left self.old.words.now self.old.filled) self.old.index self.old.word }
+        ensures same { left_in self.new.words.now self.new.filled self.new.index self.new.word
+            ≡ left_in self.old.words.now self.old.filled self.old.index self.old.word }
         ensures some { result ≡ true → self.new.word ≢ 0 }
-        ensures none { result ≡ false → (k : ℕ) → has (rest_words (words_left self.old.words.now self.old.filled) self.old.index self.old.word) k ≡ false }
+        ensures none { result ≡ false → (k : ℕ) →
+            has (left_in self.old.words.now self.old.filled self.old.index self.old.word) k ≡ false }
     {
         if self.word != 0 {
             return true;
@@ -148,9 +150,13 @@ impl<'a> Rest<'a> {
 
     // Takes out the least number, and returns it.
     fn take_least(&mut self) -> Option<u16>
-        ensures least { IsLeast (rest_words (words_left self.old.words.now self.old.filled) self.old.index self.old.word) result }
-        ensures others { IfSome result (λ n. (k : ℕ) → has (rest_words (words_left self.new.words.now self.new.filled) self.new.index self.new.word) k ≡ (not (k == n) && has (rest_words (words_left self.old.words.now self.old.filled) self.old.index self.old.word) k)) }
-        ensures none { result ≡ None → rest_words (words_left self.new.words.now self.new.filled) self.new.index self.new.word ≡ rest_words (words_left self.old.words.now self.old.filled) self.old.index self.old.word }
+        ensures least { IsLeast (left_in self.old.words.now self.old.filled self.old.index self.old.word) result }
+        ensures others { IfSome result (λ n. (k : ℕ) →
+            has (left_in self.new.words.now self.new.filled self.new.index self.new.word) k
+            ≡ (not (k == n) && has (left_in self.old.words.now self.old.filled self.old.index self.old.word) k)) }
+        ensures none { result ≡ None →
+            left_in self.new.words.now self.new.filled self.new.index self.new.word
+            ≡ left_in self.old.words.now self.old.filled self.old.index self.old.word }
     {
         if !self.find_word() {
             return None;
@@ -187,11 +193,11 @@ impl<'a> Numbers<'a> {
 
 impl<'a> Model for Numbers<'a> {
     ghost use Rattle.std.specs.Prelude.{List, ℕ};
-    ghost use Rattle.pim_chain.specs.Numbers.{members, words_left, rest_words};
+    ghost use Rattle.pim_chain.specs.Numbers.{members, left_in};
 
     ghost Value = { List ℕ };
 
-    ghost view = { λ n. members (rest_words (words_left n.left.words.now n.left.filled) n.left.index n.left.word) };
+    ghost view = { λ n. members (left_in n.left.words.now n.left.filled n.left.index n.left.word) };
 }
 
 impl<'a> Iterator for Numbers<'a> {
