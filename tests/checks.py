@@ -76,11 +76,11 @@ def program():
     return str(pathlib.Path(sys.argv[1]).resolve()) if len(sys.argv) > 1 else own_program()
 
 
-def own_program():
-    """Returns the path of the repository's own program, and builds it if it is older than the code."""
-    if subprocess.run([ROOT / "pim"], input=b"pim 1\n", stdout=subprocess.DEVNULL).returncode:
-        sys.exit("the program was not built")
-    return str(ROOT / "crates/pim/out/pim")
+def own_program(name="pim", crate="pim"):
+    """Returns the path of a program of the repository, and builds it if it is older than the code."""
+    if subprocess.run([ROOT / name], input=b"pim 1\n", stdout=subprocess.DEVNULL).returncode:
+        sys.exit(f"the program {name} was not built")
+    return str(ROOT / "crates" / crate / "out" / crate)
 
 
 def built(crate, file, *command):
