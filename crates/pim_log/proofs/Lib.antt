@@ -1,2 +1,3 @@
 pub mod IndexLemmas
 pub mod FoundLemmas
+pub mod UsedLemmas

@@ -1,5 +1,5 @@
 -- The header of a log.
-use Rattle.std.specs.Prelude.{ℕ, ◌+◌, ◌*◌, ◌-◌, ◌/◌, ◌==◌, min, nat_lt, nat_le, List, length, Bool, not, ◌&&◌, ◌||◌, if◌then◌else◌, Option, Some, None}
+use Rattle.std.specs.Prelude.{ℕ, ◌+◌, ◌*◌, ◌-◌, ◌/◌, ◌^◌, ◌==◌, min, nat_lt, nat_le, List, length, Bool, not, ◌&&◌, ◌||◌, if◌then◌else◌, Option, Some, None}
 use Rattle.std.specs.Option.{option_or}
 use Rattle.pim_log.specs.Numbers.{number_at}
 use Rattle.pim_log.specs.declared.header.Header.{Header}
@@ -61,6 +61,18 @@ counter_fault h bytes =
     else if nat_lt (RECORDS_OF_CHUNK * chunks_of h + 1) (end_of h) then Some TooManyNumbers
     else None
 
--- what is wrong with a header
+-- what is wrong with a header that begins a log of so many bytes
+abbrev pub fault_within : ℕ → List ℕ → Option HeaderFault
+fault_within n start = option_or (form_fault_of start) (counter_fault (header_of start) n)
+
+-- what is wrong with the header of a log
 abbrev pub header_fault : List ℕ → Option HeaderFault
-header_fault bytes = option_or (form_fault_of bytes) (counter_fault (header_of bytes) (length bytes))
+header_fault bytes = fault_within (length bytes) bytes
+
+-- what is wrong with a header that begins a log as long as a file can be
+abbrev pub start_fault : List ℕ → Option HeaderFault
+start_fault start = fault_within (2 ^ 64 - 1) start
+
+-- how many bytes of a log are used: its header, and the chunks that a reader reads
+abbrev pub used_of : Header → ℕ
+used_of h = HEADER_BYTES + SLOT_BYTES * (CHUNK_SLOTS * chunks_of h)

@@ -127,3 +127,11 @@ pub record IsIndex (bytes : List ℕ) (end : ℕ) (index : List ℕ) : Type 0 wh
   pub room : length index ≡ end_of (header_of bytes)
   pub has : (number : ℕ) → slice_index index number ≢ 0 → (slice_index index number < end) × IsNumbered bytes (slice_index index number) number
   pub lacks : (s number : ℕ) → s < end → IsNumbered bytes s number → slice_index index number ≢ 0
+
+-- what a reader finds in one list of bytes it finds in another: a log or the same fault, the same header, the same records
+pub record ReadsAs (bytes others : List ℕ) : Type 0 where
+  pub header : header_of bytes ≡ header_of others
+  pub log : IsLog bytes → IsLog others
+  pub fault : (fault : LogFault) → IsFault bytes fault → IsFault others fault
+  pub numbered : (s number : ℕ) → IsNumbered bytes s number → IsNumbered others s number
+  pub fields : (s number : ℕ) (r : Record) → IsNumbered bytes s number → IsRecord bytes s r → IsRecord others s r

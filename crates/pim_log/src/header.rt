@@ -1,6 +1,7 @@
 //! The header of a log.
-ghost use Rattle.std.specs.Prelude.{◌≡◌, ◌≤◌, length, None, Some, MatchResult};
-ghost use Rattle.pim_log.specs.Headers.{header_of, has_sizes, form_fault_of, counter_fault, header_fault, is_contradictory, end_of, chunks_of};
+ghost use Rattle.std.specs.Prelude.{◌≡◌, ◌≤◌, ℕ, List, length, take, None, Some, IfOk, MatchResult};
+ghost use Rattle.pim_log.specs.Headers.{header_of, has_sizes, form_fault_of, counter_fault, fault_within, start_fault, is_contradictory, end_of, chunks_of, used_of};
+ghost use Rattle.pim_log.specs.Logs.{ReadsAs};
 
 use crate::fault::HeaderFault;
 use crate::numbers::{u32_at, u64_at};
@@ -50,6 +51,25 @@ fn has_sizes(bytes: &[u8]) -> bool
         && u32_at(bytes, 24) as usize == CHUNK_SLOTS
 }
 
+/// Returns how many bytes of a log are used, by its first [`HEADER_BYTES`] or more: the header, and the chunks that a
+/// reader reads. The file is longer, with holes. [`Log::read`](crate::Log::read) finds in the used bytes what it finds in
+/// the whole file: the same records, or the same fault.
+///
+/// # Errors
+///
+/// Returns the first `HeaderFault` that no file's length mends.
+pub fn used_bytes(start: &[u8]) -> Result<usize, HeaderFault>
+    ensures bytes { MatchResult result
+        (λ used. (start_fault start.now ≡ None) × (used ≡ used_of (header_of start.now)))
+        (λ fault. start_fault start.now ≡ Some fault) }
+    ensures enough { IfOk result (λ used. (file : List ℕ) →
+        take HEADER_BYTES file ≡ take HEADER_BYTES start.now → ReadsAs file (take used file)) }
+{
+    let header = Header::read(start, usize::MAX)?;
+    let chunks = header.chunks_taken() as usize;
+    Ok(HEADER_BYTES + SLOT_BYTES * (CHUNK_SLOTS * chunks))
+}
+
 /// What the header of a log says.
 #[derive(Clone, Copy, Debug, PartialEq, Eq)]
 pub struct Header {
@@ -82,21 +102,22 @@ pub struct Header {
 }
 
 impl Header {
-    /// Reads the header of a log.
+    /// Reads the header of a log of that many bytes.
     ///
     /// # Errors
     ///
     /// Returns the first `HeaderFault` that applies.
-    pub(crate) fn read(bytes: &[u8]) -> Result<Header, HeaderFault>
+    pub(crate) fn read(start: &[u8], file_bytes: usize) -> Result<Header, HeaderFault>
+        requires { length start.now ≤ file_bytes }
         ensures { MatchResult result
-            (λ header. (header_fault bytes.now ≡ None) × (header ≡ header_of bytes.now))
-            (λ fault. header_fault bytes.now ≡ Some fault) }
+            (λ header. (fault_within file_bytes start.now ≡ None) × (header ≡ header_of start.now))
+            (λ fault. fault_within file_bytes start.now ≡ Some fault) }
     {
-        if let Some(fault) = form_fault(bytes) {
+        if let Some(fault) = form_fault(start) {
             return Err(fault);
         }
-        let header = Header::of(bytes);
-        match header.fault(bytes.len()) {
+        let header = Header::of(start);
+        match header.fault(file_bytes) {
             Some(fault) => Err(fault),
             None => Ok(header),
         }

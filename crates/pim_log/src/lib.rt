@@ -2,7 +2,8 @@
 //!
 //! [`Log::read`] reads the bytes of a log, and finds the record of each number; [`Log::record`] returns it. A log whose
 //! bytes break its form is refused with a [`LogFault`], which says where and why. What the form is, record/FORMAT.md says;
-//! specs/Logs.antt defines it.
+//! specs/Logs.antt defines it. The file of a log is longer than what is used of it: [`used_bytes`] says how many bytes
+//! are to be read.
 //!
 //! ```text
 //! let log = Log::read(alloc, &bytes)?;
@@ -23,7 +24,7 @@ mod slots;
 
 pub use event::Event;
 pub use fault::{HeaderFault, LogFault, SlotFault};
-pub use header::Header;
+pub use header::{HEADER_BYTES, Header, used_bytes};
 pub use log::Log;
 pub use record::Record;
 

@@ -16,7 +16,7 @@ use std::marker::Model;
 pub struct Log<'a> {
     bytes: &'a [u8],
     header: Header,
-    index: Vec<usize>,
+    index: Vec<u32>,
 }
 
 impl<'a> Model for Log<'a> {
@@ -33,16 +33,16 @@ impl<'a> Model for Log<'a> {
 }
 
 impl<'a> Log<'a> {
-    /// Reads a log. Its index takes eight bytes a number; the records stay where they are.
+    /// Reads a log. Its index takes four bytes a number; the records stay where they are.
     ///
     /// # Errors
     ///
     /// Returns what is wrong with the header, else the offset of the first slot with something wrong, and what it is;
-    /// `LogFault::Memory` if out of memory.
+    /// `LogFault::Memory` if out of memory, or if the log has more than 128 GiB, for which the index has no room.
     pub fn read(alloc: Global, bytes: &'a [u8]) -> Result<Log<'a>, LogFault>
         ensures { MatchResult result (λ log. (log ≡ bytes.now) × IsLog bytes.now) (IsFault bytes.now) }
     {
-        let header = match Header::read(bytes) {
+        let header = match Header::read(bytes, bytes.len()) {
             Ok(header) => header,
             Err(fault) => return Err(LogFault::Header(fault)),
         };
@@ -74,6 +74,6 @@ impl<'a> Log<'a> {
         if slot == 0 {
             return None;
         }
-        record_of(self.bytes, slot)
+        record_of(self.bytes, slot as usize)
     }
 }

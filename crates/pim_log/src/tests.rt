@@ -2,5 +2,7 @@
 
 mod damaged;
 mod logs;
+mod messages;
 mod recorded;
 mod recording;
+mod used;
