@@ -1,4 +1,5 @@
 """What tests/record does with the kernel's events: recordings where the rights are, and stored and hand-made files."""
+import fcntl
 import os
 import pathlib
 import resource
@@ -182,7 +183,7 @@ def until(what, seconds=20):
 def is_gone(process):
     try:
         return open(f"/proc/{process}/stat").read().rpartition(")")[2].split()[0] in "ZX"
-    except FileNotFoundError:
+    except (FileNotFoundError, ProcessLookupError):
         return True
 
 
@@ -231,7 +232,7 @@ def signals(folder, tracefs):
 
 
 def killed(reader, folder, tracefs):
-    """Nothing is left by SIGKILL, and the next call removes what is left where the remover is killed, too."""
+    """Nothing is left by SIGKILL, and the next call removes what is left where the guard is killed, too."""
     child = started(folder, "sh", "-c", SAYS_AND_SLEEPS)
     program = int(first_line(child))
     child.kill()
@@ -244,13 +245,11 @@ def killed(reader, folder, tracefs):
     check("its file says that it isn't whole", difference((faults[-1:],), ([END_MISSING],)))
     child = started(folder, "sh", "-c", SAYS_AND_SLEEPS)
     program = int(first_line(child))
-    children = pathlib.Path(f"/proc/{child.pid}/task/{child.pid}/children").read_text().split()
-    for process in {int(word) for word in children} - {program}:
-        os.kill(process, signal.SIGKILL)
+    os.kill(guard_of(child.pid, program), signal.SIGKILL)
     child.kill()
     ended(child)
     left = tracefs.own()
-    check("what a killed recorder and a killed remover leave", difference((len(left),), (1,)))
+    check("what a killed recorder and a killed guard leave", difference((len(left),), (1,)))
     others(reader, folder, tracefs)
 
 
@@ -281,22 +280,76 @@ def others(reader, folder, tracefs):
                 (tracefs.instances / name).rmdir()
 
 
-def removers(folder, tracefs):
-    """The remover isn't of the group that a shell kills; and without a remover, the recorder removes its instance."""
+def guard_of(recorder, program):
+    """Returns the second process of a recording, which removes the instance when the recorder is gone."""
+    children = pathlib.Path(f"/proc/{recorder}/task/{recorder}/children").read_text().split()
+    guard, = {int(word) for word in children} - {program}
+    return guard
+
+
+def pauses_of(process):
+    """Returns how often a process has waited, or given up its CPU."""
+    lines = pathlib.Path(f"/proc/{process}/status").read_text().splitlines()
+    count, = [line.split()[1] for line in lines if line.startswith("voluntary_ctxt_switches:")]
+    return int(count)
+
+
+def guards(folder, tracefs):
+    """The guard isn't of the group that a shell kills, and removes the instance whatever becomes of the recorder."""
     child = started(folder, PROGRAMS / "keys", start_new_session=True)
     first_line(child)
     os.killpg(child.pid, signal.SIGKILL)
     ended(child)
     gone = until(lambda: not tracefs.own())
     check("a group that is killed leaves no instance", None if gone else f"{tracefs.own()}")
+    for name, number in (("killed", signal.SIGKILL), ("stopped", signal.SIGSTOP)):
+        child = started(folder, PROGRAMS / "keys")
+        program = int(first_line(child).split()[1][:-1])
+        os.kill(guard_of(child.pid, program), number)
+        child.send_signal(signal.SIGTERM)
+        got = (ended(child), tracefs.own())
+        check(f"a {name} guard leaves no instance", difference(got, (-signal.SIGTERM, [])))
     child = started(folder, PROGRAMS / "keys")
-    program = int(first_line(child).split()[1][:-1])
-    children = pathlib.Path(f"/proc/{child.pid}/task/{child.pid}/children").read_text().split()
-    for process in {int(word) for word in children} - {program}:
-        os.kill(process, signal.SIGKILL)
-    child.send_signal(signal.SIGTERM)
-    got = (len(children), ended(child), tracefs.own())
-    check("a killed remover leaves no instance", difference(got, (2, -signal.SIGTERM, [])))
+    guard = guard_of(child.pid, int(first_line(child).split()[1][:-1]))
+    os.kill(guard, signal.SIGTERM)
+    child.kill()
+    ended(child)
+    gone = until(lambda: not tracefs.own() and is_gone(guard))
+    check("no other signal ends a guard", None if gone else f"{tracefs.own()}")
+
+
+def streams(folder, tracefs):
+    """Who waits for the end of the program's streams waits no longer than for the recorder and the program."""
+    text = f"{RECORD}/pim-record --kernel -o {folder}/run sh -c 'echo out; echo err >&2' 2>&1 | cat"
+    done = run("sh", "-c", text, timeout=60)
+    check("a pipe of both streams ends", difference((done.returncode, done.stdout, done.stderr), (0, "out\nerr\n", "")))
+    ours, its = os.pipe()
+    high = fcntl.fcntl(its, fcntl.F_DUPFD, 200)
+    child = started(folder, PROGRAMS / "keys", pass_fds=[its, high])
+    os.close(its)
+    os.close(high)
+    guard = guard_of(child.pid, int(first_line(child).split()[1][:-1]))
+    instance, = tracefs.own()
+    with open(tracefs.instances / instance / "trace_pipe"):  # so the guard can't remove it
+        before = pauses_of(guard)
+        child.kill()
+        ended(child)
+        until(lambda: pauses_of(guard) > before + 1)  # it has tried, and pauses before it tries again
+        got = (child.stdout.read(), child.stderr.read(), os.read(ours, 1), is_gone(guard), tracefs.own())
+        check("a guard keeps no stream open", difference(got, ("", "", b"", False, [instance])))
+    check("it removes the instance when it can", None if until(lambda: not tracefs.own()) else "it doesn't")
+    os.close(ours)
+
+
+def adopted(folder):
+    """A recording that has ended leaves no process, dead or alive, to the one that adopts orphans."""
+    text = "import ctypes, os, subprocess, sys\n" \
+           "ctypes.CDLL(None).prctl(36, 1)\n" \
+           "subprocess.run(sys.argv[1:], check=True)\n" \
+           "try: print(os.waitpid(-1, os.WNOHANG))\n" \
+           "except ChildProcessError: print('none')"
+    done = run(sys.executable, "-c", text, RECORD / "pim-record", "--kernel", "-o", f"{folder}/run", "true")
+    check("a recording leaves no process", difference((done.returncode, done.stdout, done.stderr), (0, "none\n", "")))
 
 
 def settings(folder, tracefs):
@@ -826,9 +879,9 @@ def kernel(reader, folder):
         if tracefs.missing:
             return skip("--kernel", tracefs.missing)
         parts = ((boosts, reader, folder), (random_program, reader, folder), (ends, reader, folder, tracefs),
-                 (signals, folder, tracefs), (killed, reader, folder, tracefs), (removers, folder, tracefs),
-                 (settings, folder, tracefs), (inherited, folder), (no_room, reader, folder),
-                 (containers, reader, folder), (mounted, folder), (lost, reader, folder))
+                 (signals, folder, tracefs), (killed, reader, folder, tracefs), (guards, folder, tracefs),
+                 (streams, folder, tracefs), (adopted, folder), (settings, folder, tracefs), (inherited, folder),
+                 (no_room, reader, folder), (containers, reader, folder), (mounted, folder), (lost, reader, folder))
         for part, *arguments in parts:
             part(*arguments)
         return check("no instance of a recording is left", difference((tracefs.own(),), ([],)))

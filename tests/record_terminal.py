@@ -12,7 +12,7 @@ import signal
 import time
 
 from checks import ROOT, check, difference, skip
-from record_kernel import Tracefs, faults_of, until
+from record_kernel import Tracefs, faults_of, guard_of, is_gone, until
 
 SECONDS = 300
 INTERRUPT, QUIT, SUSPEND = b"\x03", b"\x1c", b"\x1a"
@@ -28,6 +28,7 @@ def shell(command, notes, orders):
         os.setpgid(0, 0)
         os.tcsetpgrp(0, os.getpid())
         signal.signal(signal.SIGTTOU, signal.SIG_DFL)
+        signal.signal(signal.SIGTSTP, signal.SIG_IGN)  # keys stops by it, and so is pim-record to
         os.execv(command[0], command)
     os.write(notes, b"%d\n" % job)
     while True:
@@ -37,6 +38,16 @@ def shell(command, notes, orders):
             os._exit(0)
         if os.read(orders, 1) == b"f":
             os.killpg(job, signal.SIGCONT)
+
+
+def state_of(folder):
+    """Returns the letter that /proc has for a process or a thread."""
+    return (folder / "stat").read_text().rpartition(")")[2].split()[0]
+
+
+def stopped(process):
+    """Returns whether a thread of the process is stopped by a signal."""
+    return "T" in map(state_of, pathlib.Path(f"/proc/{process}/task").iterdir())
 
 
 class Terminal:
@@ -77,16 +88,27 @@ class Terminal:
     def presses(self, key):
         os.write(self.keys, key)
 
-    def state(self):
-        """Returns the state letter of the program."""
-        return pathlib.Path(f"/proc/{self.program}/stat").read_text().rpartition(")")[2].split()[0]
+    def is_stopped(self, by=signal.SIGTSTP):
+        """Returns whether the shell sees that the job was stopped by the signal, and the program is."""
+        status = self.note() or 0
+        return os.WIFSTOPPED(status) and os.WSTOPSIG(status) == by and until(lambda: stopped(self.program), SECONDS)
 
-    def is_stopped(self):
-        return os.WIFSTOPPED(self.note() or 0) and until(lambda: self.state() == "T", SECONDS)
+    def runs(self):
+        """Returns whether neither the program nor pim-record is stopped, in time."""
+        return until(lambda: not stopped(self.program) and not stopped(self.job), SECONDS)
+
+    def sleeps(self):
+        """Returns whether the job waits for what comes, in time: pim-record has told its guard that it goes on."""
+        return until(lambda: state_of(pathlib.Path(f"/proc/{self.job}")) == "S", SECONDS)
 
     def end(self):
         """Returns the job's last status by the convention of waitstatus_to_exitcode."""
         status = self.note()
+        while status is not None and os.WIFSTOPPED(status):
+            status = self.note()
+        if status is None:
+            os.killpg(self.job, signal.SIGKILL)
+            os.kill(self.shell, signal.SIGKILL)
         os.waitpid(self.shell, 0)
         for file in (self.keys, self.notes, self.orders):
             os.close(file)
@@ -103,7 +125,7 @@ def stops(folder, kernel, tracefs):
     job.presses(SUSPEND)
     got.append(job.is_stopped())
     os.write(job.orders, b"f")
-    until(lambda: job.state() != "T", SECONDS)
+    until(lambda: not stopped(job.program), SECONDS)
     job.presses(INTERRUPT)
     return difference((*got, job.end()), (True, 1, True, True, -signal.SIGINT))
 
@@ -113,12 +135,14 @@ def stops_again(folder, kernel, _):
     job = Terminal(folder, kernel)
     job.presses(SUSPEND)
     got = [job.is_stopped()]
+    if kernel:
+        os.kill(guard_of(job.job, job.program), signal.SIGSTOP)  # so that it doesn't continue pim-record meanwhile
     os.kill(job.program, signal.SIGCONT)
     got.append(job.prints("goes on"))
     os.kill(job.program, signal.SIGTSTP)
-    until(lambda: job.state() == "T", SECONDS)
+    until(lambda: stopped(job.program), SECONDS)
     os.write(job.orders, b"-")
-    if job.job != job.program:
+    if kernel:
         os.kill(job.job, signal.SIGCONT)
     got.append(job.is_stopped())
     os.write(job.orders, b"f")
@@ -147,26 +171,108 @@ def quits(folder, kernel, _):
 
 def one_process(folder, kernel, _):
     """SIGTSTP and SIGCONT that a process sends to pim-record alone are the program's, too."""
-    job = Terminal(folder, kernel)
-    os.kill(job.job, signal.SIGTSTP)
-    stopped = job.is_stopped()
-    os.write(job.orders, b"-")
-    os.kill(job.job, signal.SIGCONT)
-    got = (stopped, job.prints("goes on"))
+    job, got = Terminal(folder, kernel), []
+    for times in (1, 2):
+        os.kill(job.job, signal.SIGTSTP)
+        got.append(job.is_stopped())
+        os.write(job.orders, b"-")
+        os.kill(job.job, signal.SIGCONT)
+        got.append(job.prints("goes on", times))
     job.presses(INTERRUPT)
-    return difference((*got, job.end()), (True, True, -signal.SIGINT))
+    return difference((*got, job.end()), (True, True, True, True, -signal.SIGINT))
+
+
+def few_files(guard):
+    """Returns whether a guard has no more open than its three descriptors, and the two of a look at the program."""
+    return len(os.listdir(f"/proc/{guard}/fd")) <= 5
+
+
+def program_alone(folder, kernel, _):
+    """A stop that a process sends to the program alone is the job's, and so is its end by SIGCONT to the program."""
+    got = []
+    for arguments, number in (((), signal.SIGTSTP), ((), signal.SIGSTOP), (("thread",), signal.SIGSTOP)):
+        job = Terminal(folder, kernel, *arguments)
+        os.kill(job.program, number)
+        got.append(job.is_stopped(number))
+        os.write(job.orders, b"-")
+        time.sleep(0.2)
+        got.append(stopped(job.job) and (not kernel or few_files(guard_of(job.job, job.program))))
+        os.kill(job.program, signal.SIGCONT)
+        got += [job.prints("goes on"), job.runs()]
+        job.presses(INTERRUPT)
+        got.append(job.end())
+    return difference(got, [True, True, True, True, -signal.SIGINT] * 3)
+
+
+def stays(folder, kernel, _):
+    """Once the program goes on, nobody continues pim-record when it alone is stopped."""
+    job = Terminal(folder, kernel)
+    job.presses(SUSPEND)
+    got = [job.is_stopped()]
+    os.write(job.orders, b"f")
+    got.append(job.runs() and job.sleeps())
+    os.kill(job.job, signal.SIGSTOP)
+    status = job.note() or 0
+    time.sleep(0.2)
+    got += [os.WIFSTOPPED(status), stopped(job.job)]
+    os.write(job.orders, b"f")
+    got.append(job.runs())
+    job.presses(INTERRUPT)
+    return difference((*got, job.end()), (True, True, True, True, True, -signal.SIGINT))
+
+
+def unguarded(folder, kernel, _):
+    """If the guard was killed, a shell still stops and continues the program."""
+    job, got = Terminal(folder, kernel), []
+    if kernel:
+        os.kill(guard_of(job.job, job.program), signal.SIGKILL)
+    for times in (1, 2):
+        job.presses(SUSPEND)
+        got.append(job.is_stopped())
+        os.write(job.orders, b"f")
+        got.append(job.prints("goes on", times))
+    job.presses(INTERRUPT)
+    return difference((*got, job.end()), (True, True, True, True, -signal.SIGINT))
+
+
+def killed(folder, kernel, _):
+    """A stopped program that is killed ends the job."""
+    job = Terminal(folder, kernel)
+    job.presses(SUSPEND)
+    got = job.is_stopped()
+    os.write(job.orders, b"-")
+    os.kill(job.program, signal.SIGKILL)
+    return difference((got, job.end()), (True, -signal.SIGKILL))
+
+
+def in_quick_succession(folder, kernel, _):
+    """Wherever pim-record is when the group is stopped and continued, it goes on as the program does."""
+    job = Terminal(folder, kernel)
+    os.write(job.orders, b"-" * 400)
+    times = 0
+    while job.runs() and times < 200:
+        os.killpg(job.job, signal.SIGTSTP)
+        time.sleep(times / 1e6)
+        os.killpg(job.job, signal.SIGCONT)
+        time.sleep(0.005)
+        times += 1
+    job.presses(INTERRUPT)
+    return difference((times, job.end()), (200, -signal.SIGINT))
 
 
 def leaves(folder, kernel, _):
     """A program whose terminal is closed ends by SIGHUP, with nothing left."""
     job = Terminal(folder, kernel)
     os.kill(job.shell, signal.SIGKILL)
-    return None if until(lambda: not os.path.exists(f"/proc/{job.job}"), SECONDS) else "it runs on"
+    return None if until(lambda: is_gone(job.job), SECONDS) else "it runs on"
 
 
 PARTS = {"Ctrl-Z, fg, Ctrl-C": stops, "stopped again by others": stops_again,
          "a program that handles the keys": handles, "Ctrl-\\": quits,
-         "SIGTSTP to pim-record alone": one_process, "a terminal that is closed": leaves}
+         "SIGTSTP to pim-record alone": one_process, "a stop of the program alone": program_alone,
+         "SIGSTOP to pim-record alone": stays, "a guard that was killed": unguarded,
+         "a stopped program that is killed": killed, "stops in quick succession": in_quick_succession,
+         "a terminal that is closed": leaves}
 
 
 def terminal(folder):

@@ -18,6 +18,7 @@
 #include <unistd.h>
 
 #include "events.h"
+#include "guard.h"
 #include "instance.h"
 #include "text.h"
 
@@ -39,8 +40,7 @@ static struct recording {
     int cpus;
     int *pages;            /* of each CPU: a descriptor that pages are read from */
     struct queue *queues;
-    pid_t remover;
-    int life; /* a pipe that the remover waits for: it is closed when this process ends */
+    struct guard guard;
     int channel;
 } recording;
 
@@ -52,34 +52,10 @@ static uint64_t now(void) {
 
 /* ---- begin and end ---- */
 
-/* Starts a process that removes the instance when this one has ended, even by SIGKILL. It is in no
- * group that a terminal or a shell ends, and has all signals blocked, as its caller. */
-static bool start_remover(void) {
-    int ends[2];
-    char none;
-    if (pipe2(ends, O_CLOEXEC) != 0) return false;
-    recording.remover = fork();
-    if (recording.remover != 0) {
-        close(ends[0]);
-        recording.life = ends[1];
-        return recording.remover > 0;
-    }
-    setsid();
-    close(ends[1]);
-    for (int standard = 0; standard <= 2; standard++) close(standard);
-    while (read(ends[0], &none, 1) < 0 && errno == EINTR) continue;
-    for (int i = 0; i < 500 && !remove_instance(&recording.instance); i++) usleep(10000);
-    _exit(0);
-}
-
 static void end_instance(void) {
     put_setting(&recording.instance, "tracing_on", "0");
     for (int cpu = 0; cpu < recording.cpus; cpu++) close(recording.pages[cpu]);
-    if (recording.remover > 0) {
-        close(recording.life);
-        waitpid(recording.remover, NULL, 0);
-    }
-    remove_instance(&recording.instance); /* where the remover was killed */
+    end_guard(&recording.guard, &recording.instance);
 }
 
 static _Noreturn void refuse(const char *what) {
@@ -207,25 +183,24 @@ static void be_ordinary(void) {
     if (is_real_time) sched_setscheduler(0, SCHED_OTHER, &none);
 }
 
-/* Continues the stopped program, unless whoever continued this process has continued it already, as
- * a shell's 'fg' does: a second SIGCONT might undo a stop that came in between. */
-static void continue_program(pid_t program) {
-    siginfo_t info = { .si_pid = 0 };
-    waitid(P_PID, (id_t)program, &info, WCONTINUED | WSTOPPED | WEXITED | WNOHANG | WNOWAIT);
-    if (info.si_pid == 0) kill(program, SIGCONT);
-}
-
-/* Returns whether the program goes on, and puts its status if not. If a terminal stops the program,
- * this process stops too, so that a shell sees it. To continue it continues the program. */
+/* Returns whether the program goes on, and puts its status if not. If it is stopped, this process
+ * stops too, so that a shell sees it. */
 static bool goes_on(pid_t program, int *status) {
     pid_t changed = waitpid(program, status, WNOHANG | WUNTRACED);
     if (changed == 0) return true;
     if (changed < 0 || !WIFSTOPPED(*status)) return false;
-    int number = WSTOPSIG(*status);
-    if (number != SIGTSTP && number != SIGTTIN && number != SIGTTOU) return true;
-    raise(SIGSTOP);
-    continue_program(program);
+    stop_as_program(&recording.guard, program, WSTOPSIG(*status));
     return true;
+}
+
+/* Passes a signal on. If a stop was sent to the whole group, its end may have come to the program
+ * already; then it is pending here, and holds. */
+static void pass_on(pid_t program, int number) {
+    bool is_stop = number == SIGTSTP || number == SIGTTIN || number == SIGTTOU;
+    sigset_t pending;
+    kill(program, number);
+    sigpending(&pending);
+    if (is_stop && sigismember(&pending, SIGCONT)) kill(program, SIGCONT);
 }
 
 /* Records until the program ends, and returns its status. A signal that a process sent is passed
@@ -236,7 +211,7 @@ static int record_until_end(pid_t program, const sigset_t *awaited) {
     while (goes_on(program, &status)) {
         siginfo_t info;
         int number = sigtimedwait(awaited, &info, &period);
-        if (number > 0 && number != SIGCHLD && info.si_code <= 0) kill(program, number);
+        if (number > 0 && number != SIGCHLD && info.si_code <= 0) pass_on(program, number);
         uint64_t limit = now() - HELD_BACK;
         for (int cpu = 0; cpu < recording.cpus; cpu++) read_pages(cpu);
         put_events(limit);
@@ -327,11 +302,11 @@ static void begin(const char *path, const char *kilobytes) {
     if (readlink("/proc/self/ns/pid", namespace, sizeof namespace - 1) > 0 &&
         strcmp(namespace, INITIAL_PID_NAMESPACE) != 0)
         refuse("the kernel's numbers of tasks, which aren't those of a container");
-    sigset_t all, before; /* so that no signal leaves an instance without its remover */
+    sigset_t all, before; /* so that no signal leaves an instance without its guard */
     sigfillset(&all);
     sigprocmask(SIG_SETMASK, &all, &before);
     if (!make_instance(&recording.instance)) refuse("tracefs");
-    const char *failed = start_remover() ? NULL : "fork";
+    const char *failed = start_guard(&recording.guard, &recording.instance) ? NULL : "fork";
     sigprocmask(SIG_SETMASK, &before, NULL);
     if (!failed) failed = set_up(kilobytes);
     if (!failed && !open_text(&recording.text, path)) failed = path;
@@ -342,7 +317,7 @@ void record_kernel(const char *path, const char *log, const char *kilobytes) {
     static const int passed_on[] = { SIGHUP,  SIGINT,  SIGQUIT, SIGTERM, SIGUSR1,
                                      SIGUSR2, SIGALRM, SIGTSTP, SIGTTIN, SIGTTOU };
     struct sigaction of_children, usual = { .sa_handler = SIG_DFL };
-    sigset_t awaited, before;
+    sigset_t awaited, blocked, before;
     int channel[2];
     pid_t recorder = getpid(), program = -1;
     recording.log = log;
@@ -351,7 +326,9 @@ void record_kernel(const char *path, const char *log, const char *kilobytes) {
     sigaddset(&awaited, SIGCHLD);
     for (size_t i = 0; i < sizeof passed_on / sizeof *passed_on; i++)
         sigaddset(&awaited, passed_on[i]);
-    sigprocmask(SIG_BLOCK, &awaited, &before);
+    blocked = awaited;
+    sigaddset(&blocked, SIGCONT); /* whether it came is asked after a stop */
+    sigprocmask(SIG_BLOCK, &blocked, &before);
     sigaction(SIGCHLD, &usual, &of_children);
     if (socketpair(AF_UNIX, SOCK_STREAM | SOCK_CLOEXEC, 0, channel) == 0) program = fork();
     if (program < 0) give_up("fork");
