@@ -19,7 +19,7 @@ int main(int count, char **arguments) {
     lock(&mutex);
     start(waiter, NULL);
     while (sem_wait(&is_coming)) continue;
-    rest(100); /* until the other waits */
+    rest(500); /* until the other waits */
     if (count > 1) raise(SIGKILL);
     abort();
 }

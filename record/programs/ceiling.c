@@ -10,7 +10,7 @@ static void *owner(void *unused) {
     lock(&mutex);
     sem_post(&is_owned);
     while (sem_wait(&is_tried)) continue;
-    rest(20); /* until the other waits */
+    rest(200); /* until the other waits */
     unlock(&mutex);
     return unused;
 }

@@ -42,7 +42,7 @@ int main(void) {
     for (int i = 0; i < 3; i++) {
         threads[i] = start_at(10 * (i + 1), bodies[i], NULL);
         while (sem_wait(&step)) continue;
-        rest(5); /* until the thread waits */
+        rest(50); /* until the thread waits */
     }
     sem_post(&done);
     for (int i = 2; i >= 0; i--) join(threads[i]);

@@ -10,7 +10,7 @@ static void *owner(void *unused) {
     for (int i = 0; i < 3; i++) lock(&mutex);
     sem_post(&is_owned);
     while (sem_wait(&is_coming)) continue;
-    rest(100); /* until the other waits */
+    rest(500); /* until the other waits */
     for (int i = 0; i < 3; i++) unlock(&mutex);
     return unused;
 }
