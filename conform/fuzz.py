@@ -91,7 +91,7 @@ def without(lines, kind, number):
 def shrunk(source, still, end):
     """Returns the smallest text found, by leaving things out, for which `still` holds."""
     found = True
-    while found and time.monotonic() < end:
+    while found:
         found = next((it for it in shorter(source) if time.monotonic() < end and still(it)), None)
         source = found or source
     return source
@@ -109,7 +109,7 @@ class Fuzz:
         done = compare.performance(compare.performed(text, self.given.cpu, self.given.seconds), len(text.steps))
         self.system = done.system
         lines = compare.differences(text, done.steps, wanted)
-        return lines, causes_of(text, done.steps) if lines else ()
+        return lines, (causes_of(text, done.steps) or None) if lines else ()
 
     def text(self, number):
         """Performs one random text, and makes it smaller if it differs in a new way."""
