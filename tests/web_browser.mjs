@@ -13,6 +13,9 @@ const CODES = {
 
 export const pause = ms => new Promise(done => setTimeout(done, ms))
 
+/** What the page evaluates to wait until it was drawn again. */
+export const TWO_FRAMES = 'new Promise(done => requestAnimationFrame(() => requestAnimationFrame(done)))'
+
 /** The pipe to the browser: calls with answers, and the events that came. */
 class Pipe {
   constructor(program, profile) {
@@ -104,6 +107,18 @@ export class Page {
   async shot(file) {
     const { data } = await this.call('Page.captureScreenshot', { format: 'png' })
     writeFileSync(file, Buffer.from(data, 'base64'))
+  }
+
+  /** Returns what the browser did while `work` ran, as it traces it. */
+  async traced(work) {
+    const traceConfig = { includedCategories: ['toplevel', 'blink.user_timing'] }
+    await this.pipe.call('Tracing.start', { traceConfig, transferMode: 'ReportEvents' })
+    await work()
+    await this.pipe.call('Tracing.end')
+    while (!this.heard.some(({ method }) => method === 'Tracing.tracingComplete')) await pause(20)
+    const isTracing = ({ method }) => /^Tracing/.test(method), told = this.heard.filter(isTracing)
+    this.pipe.heard = this.heard.filter(it => !isTracing(it))
+    return told.flatMap(it => it.params.value ?? [])
   }
 
   async close() {

@@ -1,7 +1,8 @@
 // Edits a long text of the page at random: typed, deleted, pasted, composed, scrolled away from.
 // The text that the page then has is compared with a plain string, and with what undo brings back.
+import { TWO_FRAMES } from './web_browser.mjs'
+
 const NEAR = 60 // lines that are selected at most
-const FRAMES = 'new Promise(done => requestAnimationFrame(() => requestAnimationFrame(done)))'
 const HEIGHT = `parseFloat(getComputedStyle(document.getElementById('text')).lineHeight)`
 
 const lineOf = (whole, at) => {
@@ -17,7 +18,7 @@ class Edits {
   scroll(line) {
     return this.page.evaluate(`(async () => {
       document.getElementById('editor').scrollTop = ${line} * ${HEIGHT} - 100
-      await ${FRAMES} })()`)
+      await ${TWO_FRAMES} })()`)
   }
 
   /** Selects some characters of the text, as the pointer does. */

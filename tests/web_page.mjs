@@ -4,7 +4,7 @@
 // too. A line of JSON is printed for each thing that is shown: its name and the value. With SHOTS, a
 // folder, screenshots of three sizes go there.
 import { copyFileSync, existsSync, readFileSync, renameSync } from 'node:fs'
-import { Page, pause } from './web_browser.mjs'
+import { Page, TWO_FRAMES, pause } from './web_browser.mjs'
 import { edited } from './web_edits.mjs'
 
 const [program, address, folder, shots] = process.argv.slice(2)
@@ -12,16 +12,26 @@ const input = JSON.parse(readFileSync(`${folder}/input.json`, 'utf8'))
 const page = await Page.open(program)
 const show = (name, value) => console.log(JSON.stringify([name, value]))
 const text = id => page.evaluate(`document.getElementById('${id}').innerText.trim()`)
-const report = () => page.evaluate(
-  `[...document.querySelectorAll('#report span')].map(it => it.textContent + '\\n').join('')`)
+const report = () => page.evaluate(`[...document.querySelectorAll('#report span')]
+  .filter(it => it.checkVisibility({ visibilityProperty: true })).map(it => it.textContent + '\\n').join('')`)
 const all = (query, of) => page.evaluate(`[...document.querySelectorAll('${query}')].map(it => ${of})`)
 
-/** Waits until the page has drawn what the worker answered. */
+/** Waits until the page has drawn what the worker answered, or what was chosen: that takes some frames. */
 const settled = () => page.evaluate(`(async () => {
   const isBusy = () => document.getElementById('main').getAttribute('aria-busy') === 'true'
     || !document.getElementById('start').hidden && !document.querySelector('#start mark')
   for (let n = 0; n < 6000 && isBusy(); n++) await new Promise(done => setTimeout(done, 5))
 })()`)
+
+async function pressed(...key) {
+  await page.key(...key)
+  await settled()
+}
+
+async function clicked(id) {
+  await page.evaluate(`document.getElementById('${id}').click()`)
+  await settled()
+}
 
 async function choose(name) {
   await page.evaluate(`{ const it = document.getElementById('examples'); it.value = '${name}'; it.onchange() }`)
@@ -80,15 +90,127 @@ async function typing() {
   }
 }
 
-/** Shows which numbers of the first lane are in view at the end of a trace. */
-async function longBoost() {
-  await typed(input.boost)
-  show('a long boost', await page.evaluate(`(() => {
-    const { right, left } = document.getElementById('time').getBoundingClientRect()
+/** What the lanes look like: places in columns, and heights as priorities. */
+const DETAILS = `(() => {
+  const all = (query, of, where = document) => [...where.querySelectorAll(query)].map(of)
+  const [number, round] = [(it, name) => +it.getAttribute(name), n => Math.round(100 * n) / 100]
+  const col = number(document.querySelector('#lanes .pick'), 'width'), places = new Set()
+  const place = (it, name) => round(number(it, name) / col)
+  const [, ...lanes] = document.querySelectorAll('#lanes svg > g')
+  const floors = lanes.map(it => number(it.querySelector('[style*="--grid"]'), 'y1') - .5)
+  const boosts = lanes.flatMap((lane, i) => all('.boost', it => ({ it, task: i + 1 }), lane))
+  // A boost by so much is so high: of the first one, which is by 10.
+  const scale = boosts.length ? number(boosts[0].it, 'height') / 10 : 1
+  const prio = (lane, y) => round((floors[lane] - y) / scale)
+  const points = (d, lane) => { const [, x, y, rest] = /^M(\\S+) ([^H]+)(.*)$/.exec(d)
+    const found = [[round(x / col), prio(lane, y)]]
+    for (const [, to, next] of rest.matchAll(/H([^V]+)(?:V([^H]+))?/g)) if (next) found.push([round(to / col), prio(lane, next)])
+    return found }
+  const above = lanes.flatMap((lane, i) => all('.prio', it => round(number(it, 'y') - floors[i] + scale * parseInt(it.textContent)), lane))
+  return {
+    names: all('#names text', it => it.textContent),
+    numbers: all('#lanes text[y="12"]', it => [+it.textContent, place(it, 'x')]),
+    picks: all('#lanes .pick', it => [+it.dataset.step, place(it, 'x')]),
+    now: all('#lanes rect[style*="--now-fill"]', it => [place(it, 'x'), place(it, 'width')]),
+    rejected: all('#lanes rect[style*="--bad-fill"]', it => [place(it, 'x'), place(it, 'width')]),
+    boosts: boosts.map(({ it, task }) => [task, place(it, 'x'), place(it, 'width'), prio(task - 1, number(it, 'y'))]),
+    bases: lanes.flatMap((lane, i) => all('line[style*="dasharray:2 3"]', it => prio(i, number(it, 'y1')), lane)),
+    thick: lanes.map(lane => all('line[style*="stroke-width:2.5"]', it => [place(it, 'x1'), place(it, 'x2')], lane)),
+    lines: lanes.map((lane, i) => points(lane.querySelector('path').getAttribute('d'), i)),
+    above: [...new Set(above)].sort(), tall: scale * 99,
+    graph: Math.max(...all('#graph g[data-tip]', it => it.getBoundingClientRect().right))
+      <= document.getElementById('graph').getBoundingClientRect().right,
+  } })()`
+
+async function details() {
+  await choose('boost_through_a_chain')
+  show('details', await page.evaluate(DETAILS))
+  await page.evaluate('document.activeElement.blur()')
+  await pressed('End')
+  show('details at the end', (await page.evaluate(DETAILS)).names)
+  await choose('recording_rejected')
+  show('details, rejected', (await page.evaluate(DETAILS)).rejected)
+  await typed(input.rows)
+  show('rows', await lanes())
+  await choose('recording_rejected')
+  show('examples', [await all('#examples option', '[it.value, it.text]'), await text('about-example')])
+}
+
+/** What the page says where its worker fails in a call, and where the worker itself fails; and behind it. */
+async function failures() {
+  const source = `window.Worker = class extends Worker {
+    postMessage(it) { super.postMessage(window.spoiled ? window.spoiled(it) : it) } }`
+  const { identifier } = await page.call('Page.addScriptToEvaluateOnNewDocument', { source })
+  await page.load(address)
+  await choose('ceilings')
+  const said = []
+  for (const spoiled of [`it => ({ ...it, call: 'nothing' })`, '() => null', 'null']) {
+    await page.evaluate(`window.spoiled = ${spoiled}`)
+    await typed('pim 1\n')
+    said.push(await text('verdict'))
+  }
+  show('failures', said)
+  await page.call('Page.removeScriptToEvaluateOnNewDocument', { identifier })
+  await page.load(address)
+  page.pipe.heard = page.heard.filter(it => !FAILURES.includes(it.method))
+}
+
+/** Shows what stands at the left edge of the lanes, where stretches began left of the view. */
+async function leftEdge() {
+  const edge = () => page.evaluate(`(() => {
+    const { left, right } = document.getElementById('time').getBoundingClientRect()
     const begin = Math.max(left, document.getElementById('names').getBoundingClientRect().right)
-    const inView = [...document.querySelectorAll('#time [data-lane="1"]:is(.prio, .again)')]
-      .filter(it => it.getBoundingClientRect().left >= begin && it.getBoundingClientRect().right <= right)
-    return [...new Set(inView.map(it => it.textContent))] })()`))
+    return [...document.querySelectorAll('#names .edge')].filter(it => {
+      const box = it.getBoundingClientRect()
+      return box.left >= begin && box.left < begin + 10 && box.right <= right && box.top < it.closest('#time')
+        .getBoundingClientRect().bottom }).map(it => [+it.dataset.lane, it.textContent]) })()`)
+  const scrolledTo = async left => {
+    await page.evaluate(`document.getElementById('time').scrollLeft = ${left}`)
+    await page.evaluate(TWO_FRAMES)
+    await settled()
+    return edge()
+  }
+  for (const [name, whole] of Object.entries(input.boosts)) {
+    await typed(whole)
+    const end = [await edge(), await all('#names [pointer-events]', 'it.textContent')]
+    const places = []
+    for (const left of [0, 5, 26, 40, 52, 60, 100, 1000]) places.push(await scrolledTo(left))
+    show(`the left edge, ${name}`, [...end, places])
+  }
+}
+
+/** Shows which replies of long lines are cut or covered on a narrow page, and whether the caret is. */
+async function narrowReplies() {
+  await page.size(390, 844, false)
+  await page.load('about:blank')
+  await page.load(`${address}#trace=${encodeURIComponent(input.narrow)}`)
+  await settled()
+  const seen = () => page.evaluate(`(() => {
+    const view = document.getElementById('editor').getBoundingClientRect(), range = document.createRange()
+    const texts = [...document.querySelectorAll('#lines > div')]
+    return [...document.querySelectorAll('#replies > div')].flatMap((line, i) => {
+      const reply = line.firstElementChild, box = reply?.getBoundingClientRect()
+      if (!reply) return []
+      range.selectNodeContents(texts[i])
+      const { right, top } = range.getBoundingClientRect()
+      const isInView = box.left > view.left + 46 && box.right <= view.right + .5
+        && reply.scrollWidth <= reply.clientWidth && Math.abs(box.top - top) < 6
+      const isOpaque = !/rgba\\(.*, 0(\\.\\d+)?\\)$/.test(getComputedStyle(reply).backgroundColor)
+      return [[reply.textContent, isInView && isOpaque, right <= box.left]] }) })()`)
+  const begin = await seen()
+  await page.evaluate(`{ const it = document.getElementById('editor'); it.scrollLeft = it.scrollWidth }`)
+  show('replies at 390 pixels', [begin.map(it => it.slice(0, 2)), (await seen()).map(it => it.slice(1))])
+  await page.evaluate(`{ const it = document.getElementById('text'); document.getElementById('editor').scrollLeft = 0
+    it.focus(); const end = it.value.indexOf('\\n', it.value.indexOf('cancel')) - 1; it.setSelectionRange(end, end); it.onclick() }`)
+  await settled()
+  await pressed('ArrowRight')
+  await page.evaluate(TWO_FRAMES)
+  const line = input.narrow.split('\n').findIndex(it => /cancel/.test(it))
+  show('the caret at 390 pixels', await page.evaluate(`(() => {
+    const range = document.createRange(), reply = document.querySelectorAll('#replies > div')[${line}].firstElementChild
+    range.selectNodeContents(document.querySelectorAll('#lines > div')[${line}])
+    return range.getBoundingClientRect().right <= reply.getBoundingClientRect().left })()`))
+  await page.size(1280, 800, false)
 }
 
 async function stepping() {
@@ -97,18 +219,19 @@ async function stepping() {
   await page.evaluate('document.activeElement.blur()')
   const seen = [await said()]
   for (const key of ['ArrowRight', 'ArrowLeft', 'ArrowLeft', 'Home', 'End']) {
-    await page.key(key)
+    await pressed(key)
     seen.push(await said())
   }
   await page.evaluate(`{ const it = document.getElementById('slider'); it.value = 6; it.oninput() }`)
+  await settled()
   show('stepping', [...seen, await said()])
   show('why', await all('#why li', 'it.textContent'))
   show('graph', (await all('#graph g[data-tip]', 'it.dataset.tip')).sort())
   show('now in the trace', await all('#lines .now', '+it.dataset.line'))
-  for (const id of ['on', 'on', 'back']) await page.evaluate(`document.getElementById('${id}').click()`)
+  for (const id of ['on', 'on', 'back']) await clicked(id)
   show('the buttons', await said())
   show('arrows', await all('#graph path[marker-end]', 'it.getAttribute("marker-end")'))
-  await page.evaluate(`document.getElementById('back').click()`)
+  await clicked('back')
   show('now in the report', await all('#report .now', 'it.textContent'))
   const { x, y } = await page.evaluate(`(() => {
     const it = [...document.querySelectorAll('.boost')].find(it => it.dataset.tip.includes('task 3 at 90'))
@@ -117,9 +240,11 @@ async function stepping() {
   await page.mouse(x, y)
   show('tip', await text('tip'))
   await page.mouse(x, y, 'mousePressed', 'mouseReleased')
+  await settled()
   show('a click in the lanes', await said())
   await page.evaluate(`{ const it = document.getElementById('text'); it.focus(); it.setSelectionRange(0, 0);
     it.selectionStart = it.selectionEnd = it.value.indexOf('2 lock 1'); it.onclick() }`)
+  await settled()
   show('the caret', await said())
 }
 
@@ -149,6 +274,10 @@ async function files() {
   renameSync(`${folder}/trace.svg`, `${folder}/first.svg`)
   await saved('svg')
   if (shots) copyFileSync(`${folder}/trace.svg`, `${shots}/inversion.svg`)
+  renameSync(`${folder}/trace.svg`, `${folder}/inversion.svg`)
+  await typed(input.boosts['a waiter'])
+  await saved('svg')
+  renameSync(`${folder}/trace.svg`, `${folder}/boost.svg`)
 }
 
 /** Saves the picture. A file that is there has all its bytes: the browser renames it at its end. */
@@ -163,6 +292,7 @@ async function spent() {
   return 1000 * metrics.find(it => it.name === 'TaskDuration').value
 }
 
+const FAILURES = ['Runtime.exceptionThrown', 'Log.entryAdded']
 const drop = `async text => {
   const data = new DataTransfer()
   data.items.add(new File([text], 'dropped.pim'))
@@ -190,19 +320,18 @@ async function full() {
   show('full size', [await text('verdict'), await text('limits')])
   await page.evaluate('document.activeElement.blur()')
   const begin = await spent()
-  await page.key('End')
-  await settled()
+  await pressed('End')
   show('the last step: milliseconds', await spent() - begin)
   show('a scroll in full size: milliseconds', await scrolls(20) / 20)
-  await page.key('End')
-  await settled()
+  await pressed('End')
   const line = await page.evaluate(`document.querySelector('#lines .now').dataset.line`)
   const last = await all('#report span', 'it.textContent')
   show('full size: the end', [(await text('said')).split(':')[0], +line, last[last.length - 1]])
   show('full size: lanes', await lanes())
   show('full size: numbers that overlap', await page.evaluate(`(() => {
     const boxes = [...document.querySelectorAll('#lanes text[y="12"]')].map(it => it.getBoundingClientRect())
-    return boxes.filter((it, i) => i && it.left < boxes[i - 1].right).length })()`))
+    const { right } = document.querySelector('#lanes > div').getBoundingClientRect()
+    return boxes.filter((it, i) => i && it.left < boxes[i - 1].right || it.right > right).length })()`))
   if (shots) await page.shot(`${shots}/full-size.png`)
 }
 
@@ -234,10 +363,9 @@ const typedAt = async (n, more) => {
 
 /** Edits a trace of full size at its end, its beginning and in the middle, copies it and pastes it. */
 async function longEditor() {
-  const key = async (...words) => { await page.key(...words); await settled() }
   const begun = await spent()
   await page.evaluate(`document.getElementById('text').focus()`)
-  await key('End', 2)
+  await pressed('End', 2)
   await page.type('1 lock 1')
   await verdict(/invalid/)
   await settled()
@@ -245,7 +373,7 @@ async function longEditor() {
   for (let i = 0; i < 8; i++) await page.key('Backspace')
   await verdict(/accepted/)
   show('keys in full size: milliseconds', (await spent() - begun) / 10)
-  await key('Home', 2)
+  await pressed('Home', 2)
   await page.type('x')
   await verdict(/invalid/)
   show('full size, typed at the beginning', [await text('verdict'), await all('#lines .bad', '+it.dataset.line')])
@@ -260,7 +388,7 @@ async function longEditor() {
   for (let i = 0; i < 11; i++) await page.key('Backspace')
   await verdict(/accepted/)
   await settled()
-  await key('a', 2)
+  await pressed('a', 2)
   const copied = await page.evaluate(`(() => { let text
     addEventListener('copy', event => { text = event.clipboardData.getData('text/plain') }, { once: true })
     document.execCommand('copy')
@@ -272,7 +400,7 @@ async function longEditor() {
   await verdict(/invalid/)
   await settled()
   show('full size, pasted over all', [await text('verdict'), await all('#lines .bad', '+it.dataset.line')])
-  await key('a', 2)
+  await pressed('a', 2)
   await page.type('pim 1')
   await verdict(/accepted/)
   await settled()
@@ -306,15 +434,14 @@ async function folds() {
   const shown = () => all('#names text[font-size="13"]', 'it.textContent')
   show('folded', [await shown(), await text('unfold')])
   if (shots) await page.shot(`${shots}/folded.png`)
-  await page.evaluate(`document.getElementById('unfold').click()`)
-  await settled()
+  await clicked('unfold')
   // Only the lanes near those in view are drawn.
   const first = await shown()
   await page.evaluate(`{ const it = document.getElementById('time'); it.scrollTop = it.scrollHeight }`)
-  await page.evaluate('new Promise(done => requestAnimationFrame(() => requestAnimationFrame(done)))')
+  await page.evaluate(TWO_FRAMES)
   await settled()
   show('unfolded', [first.slice(0, 3), (await shown()).pop(), await text('unfold')])
-  await page.evaluate(`document.getElementById('unfold').click()`)
+  await clicked('unfold')
 }
 
 /** Types into a text of 200 lines, and says how long the page's own thread took for a key. */
@@ -330,6 +457,66 @@ async function keys() {
     times.push(await spent() - begin)
   }
   show('a key: milliseconds', times.sort((a, b) => a - b)[times.length >> 1])
+}
+
+/** Counts the elements that the page puts in between two frames: the most, and all. */
+const COUNTING = `{ const made = window.made = { most: 0, all: 0 }; let frame = 0
+  const elements = node => node.nodeType === 1 ? 1 + node.querySelectorAll('*').length : 0
+  new MutationObserver(records => {
+    for (const { addedNodes } of records) for (const node of addedNodes) frame += elements(node)
+  }).observe(document.body, { childList: true, subtree: true })
+  const next = () => {
+    made.most = Math.max(made.most, frame); made.all += frame; frame = 0; requestAnimationFrame(next)
+  }
+  requestAnimationFrame(next) }`
+
+/** What this machine takes to make a thousand elements: a task that the keys are compared with. */
+const MAKING = `{ const box = document.createElement('pre'); box.style.position = 'fixed'; document.body.append(box)
+  box.innerHTML = '<span style="display:block"><b>lock</b> 1</span>'.repeat(500); box.offsetHeight; box.remove() }`
+
+/** Presses keys, and returns the elements that each made, and how long it held the page's thread. */
+async function watched(names) {
+  const made = []
+  const events = await page.traced(async () => {
+    for (const name of names) {
+      await page.evaluate(`performance.mark('key'); window.made.most = window.made.all = 0
+        window.drawn = new Promise(done => addEventListener('keydown', ({ timeStamp }) => { const wait = () =>
+          document.getElementById('main').getAttribute('aria-busy') === 'false'
+            ? done(performance.now() - timeStamp) : requestAnimationFrame(wait)
+          setTimeout(() => requestAnimationFrame(wait)) }, { once: true })); 0`)
+      await page.key(name)
+      const took = await page.evaluate('drawn')
+      await page.evaluate(TWO_FRAMES)
+      made.push({ ...await page.evaluate('window.made'), took })
+      await page.evaluate(`performance.mark('making')`)
+      await page.evaluate(MAKING)
+      await page.evaluate(TWO_FRAMES)
+    }
+    await page.evaluate(`performance.mark('end')`)
+  })
+  const marks = events.filter(it => it.cat === 'blink.user_timing').sort((a, b) => a.ts - b.ts)
+  const tasks = events.filter(it => it.ph === 'X' && it.tid === marks[0].tid && it.pid === marks[0].pid)
+  const longest = (name, i) => {
+    const here = tasks.filter(it => it.ts >= marks[i].ts && it.ts < marks[i + 1].ts)
+    return marks[i].name === name ? [Math.max(...here.map(it => it.tdur ?? 0)) / 1000] : []
+  }
+  const [held, making] = ['key', 'making'].map(name => marks.slice(0, -1).flatMap((_, i) => longest(name, i)))
+  return { made, held, making }
+}
+
+/** Types a line into texts of 200 lines, at the end and in the middle. */
+async function keysOfLines() {
+  for (const [name, { whole, line, wide }] of Object.entries(input.keys)) {
+    await page.size(wide, 0.6 * wide, false)
+    await typed(whole)
+    await page.evaluate(`{ const it = document.getElementById('text'), lines = it.value.split('\\n')
+      const place = lines.slice(0, ${line}).join('\\n').length
+      it.setSelectionRange(place, place); it.onclick(); document.getElementById('editor').scrollTop = 21 * ${line} - 200 }`)
+    await settled()
+    await page.evaluate(COUNTING)
+    show(`keys, ${name}`, await watched(['Enter', '1', ' ', 'l', 'o', 'c', 'k', ' ', '1', 'Backspace', '2']))
+  }
+  await page.size(1280, 800, false)
 }
 
 /** Returns the texts whose contrast with what is behind them is below that of AA. */
@@ -404,9 +591,8 @@ async function spoken() {
   show('spoken report', nodes.some(it => it.role?.value === 'StaticText' && it.name?.value === '  task 1 at 90 waiter 3 mutex 1'))
 }
 
-const FAILURES = ['Runtime.exceptionThrown', 'Log.entryAdded']
 try {
-  for (const part of [firstVisit, examples, typing, longBoost, stepping, files, full, longEditor, edits, lastWins, folds, keys, byKeyboard, spoken, looks]) await part()
+  for (const part of [firstVisit, failures, examples, details, typing, leftEdge, stepping, files, full, longEditor, edits, lastWins, folds, keys, keysOfLines, narrowReplies, byKeyboard, spoken, looks]) await part()
   const asked = page.heard.filter(it => it.method === 'Network.requestWillBeSent').map(it => it.params.request.url)
   show('requests', asked.filter(url => !/^(data|blob):/.test(url) && url.split('#')[0] !== address))
   const errors = page.heard.filter(it => FAILURES.includes(it.method)).map(it => JSON.stringify(it.params))

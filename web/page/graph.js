@@ -29,7 +29,7 @@ class Layout {
     const depth = Math.max(0, ...this.state.tasks.map((_, i) => this.depth(i + 1)))
     const mutexes = depth || (this.state.mutexes.some(m => m.owner) ? 1 : 0)
     const rest = this.broad - (depth + 1) * this.task.w - mutexes * this.mutex.w
-    return Math.max(24, Math.min(48, Math.floor(rest / Math.max(1, 2 * depth || 1))))
+    return Math.max(18, Math.min(48, Math.floor(rest / Math.max(1, 2 * depth || 1))))
   }
 
   /** Returns how many owners a task waits for, one for the other. */
@@ -119,7 +119,7 @@ function drawEdge({ from: a, to: b, why, waits, nth }, narrow) {
   const end = `marker-end="url(#${why || 'plain'})"`
   const path = `<path d="M${a.x} ${a.y}C${bend}" ${end} style="${style}"/>`
   const place = () => words(a.x - 5, a.y - 5, 10.5, 'fill:var(--mute)', nth, 'text-anchor="end"')
-  return path + (nth ? place() : '')
+  return nth ? [path, place()] : [path]
 }
 
 function drawTask({ t, x, y }, task, layout) {
@@ -162,10 +162,9 @@ function drawGraph(state, room) {
   const width = Math.max(room.width, ...layout.nodes.map(it => it.x + w + 2))
   const height = Math.max(0, ...layout.nodes.map(it => it.y + h)) + 6
   const edges = layout.edges.sort((a, b) => (a.why > b.why) - (a.why < b.why))
-  const arrows = ['plain', 'waiter', 'ceiling'].map(why => arrow(why, inkOf(why)))
-  const boxes = layout.nodes.map(it => it.t
+  const arrows = () => ['plain', 'waiter', 'ceiling'].map(why => arrow(why, inkOf(why)))
+  const boxes = () => layout.nodes.map(it => it.t
     ? drawTask(it, state.tasks[it.t - 1], layout) : drawMutex(it, state.mutexes[it.m - 1], layout))
-  return `<svg width="${width}" height="${height}" aria-hidden="true">`
-    + `<defs>${arrows.join('')}</defs>` + edges.map(it => drawEdge(it, room.narrow)).join('')
-    + boxes.join('') + '</svg>'
+  const lines = () => edges.flatMap(it => drawEdge(it, room.narrow))
+  return { width, height, groups: [arrows, lines, boxes] }
 }

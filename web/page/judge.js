@@ -48,19 +48,22 @@ class Judge {
     return this.ending
   }
 
+  /** Returns whether no newer text than that of a view has come. */
+  isLast(view) { return view.turn === this.texts }
+
   /** Returns the view of a text, or null if a newer one has come. */
   async look(text, lines) {
     const turn = ++this.texts
     if (this.waiting.size) await this.free()
     if (turn !== this.texts) return null
-    const answer = await this.send('look', [text])
+    const answer = await this.send('look', [text, turn])
     return turn === this.texts ? new View(turn, text, lines, answer) : null
   }
 
   /** Asks about the text of a view. Returns null if a newer one has come. */
   async ask(view, call, ...given) {
-    if (view.turn !== this.texts) return null
+    if (!this.isLast(view)) return null
     const answer = await this.send(call, given)
-    return view.turn === this.texts ? answer : null
+    return this.isLast(view) ? answer : null
   }
 }

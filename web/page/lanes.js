@@ -2,8 +2,10 @@
 const MARKS = { waiter: '▲', ceiling: '◆' }
 const INKS = { waiter: '--boost', ceiling: '--ceil' }
 const BAR = 13, TOP = 20
+const DEEPEST = 50_000 // pixels, more than the lanes of 256 tasks
 const MOST_UNFOLDED = 16 // lanes, of which none is folded
 const MARKED = 40 // pixels, which a number and its mark take
+const LETTER = 7  // pixels, at most, of a character of a number
 const DOT = 'fill:var(--line);stroke:var(--bg);stroke-width:1.5'
 const CROSS = 'stroke:var(--bad);stroke-width:2'
 const SVG = 'xmlns="http://www.w3.org/2000/svg" aria-hidden="true"'
@@ -29,16 +31,19 @@ function barsOf({ numbers, begins }, t, first, past) {
   return found
 }
 
+/** Returns how wide the number of the last step is, at most. */
+const wideOf = view => 7 * String(view.last).length + 4
+
 /** Where everything is: the columns of the steps, and the lanes of the tasks. */
 class Plan {
-  constructor(view, { width, height, narrow, unfolded = false }) {
+  constructor(view, { width, height, narrow, unfolded = false, often = null }) {
     this.view = view
     this.count = view.last + 1
     this.side = narrow ? 62 : 84
     const least = narrow ? 22 : 26
     this.col = Math.max(least, Math.min(84, Math.floor((width - this.side - 6) / this.count)))
-    this.width = this.count * this.col + 4
-    this.often = Math.max(80, width - this.side - MARKED)
+    this.width = this.count * this.col + Math.max(4, (wideOf(view) - this.col) / 2)
+    this.often = often ?? Math.max(80, width - this.side - MARKED)
     this.whole = { first: 0, past: this.count, top: 0, bottom: Infinity }
     this.seen = this.whole
     const { rows } = view.bars, tasks = rows.length - 1
@@ -64,11 +69,11 @@ class Plan {
     })
   }
 
-  /** Draws no more than what is seen, and half a screen more on each side. */
+  /** Draws what is seen, a third more on each side, and a half more above and below. */
   see({ left, top, wide, deep }) {
     this.seen = {
-      first: Math.max(0, Math.floor((left - wide / 2) / this.col)),
-      past: Math.min(this.count, Math.ceil((left + 1.5 * wide) / this.col)),
+      first: Math.max(0, Math.floor((left - wide / 3) / this.col)),
+      past: Math.min(this.count, Math.ceil((left + 4 / 3 * wide) / this.col)),
       top: top - deep / 2, bottom: top + 1.5 * deep,
     }
   }
@@ -77,6 +82,12 @@ class Plan {
   isSeen(lane) { return lane.end > this.seen.top && lane.y < this.seen.bottom }
   stretches(key) { return stretches(this.seen.first, this.seen.past, key) }
   level(lane, prio) { return lane.floor - this.tall * prio / 99 }
+
+  /** Returns where a number of a priority is: above its line, or below where there is no room. */
+  numberAt(lane, prio) {
+    const y = this.level(lane, prio)
+    return y - 4 < lane.y + 9 ? y + 13 : y - 4
+  }
   task(lane, k) { return this.states.task(k, lane.i) }
 }
 
@@ -121,8 +132,8 @@ function priorityLine(plan, lane) {
     const text = why && isWide ? `${it.prio} ${MARKS[why]}` : it.prio
     const more = `data-lane="${lane.i + 1}" data-from="${run.from}" data-to="${run.to}"`
     const style = `fill:${ink};font-weight:${why ? 650 : 400}`
-    const height = y - 4 < lane.y + 9 ? y + 13 : y - 4
-    const write = (x, kind) => out.push(words(x + 4, height, 11, style, text, `${kind} ${more}`))
+    const write = (x, kind) =>
+      out.push(words(x + 4, plan.numberAt(lane, it.prio), 11, style, text, `${kind} ${more}`))
     const [first, ...others] = why ? placesOf(plan, run) : [plan.x(run.from)]
     write(first, 'class="prio"')
     for (const x of others) write(x, 'class="again"')
@@ -130,21 +141,28 @@ function priorityLine(plan, lane) {
   return out
 }
 
+const verbOf = bar => bar.owns ? 'owns' : 'waits for'
+const barTop = (lane, bar) => lane.floor + 5 + bar.row * (BAR + 2)
+
+/** Writes into a bar what it is, as far as there is room. */
+function barWords(bar, x, top, room) {
+  const isWide = room > (bar.owns ? 56 : 76)
+  const text = isWide ? `${verbOf(bar)} m${bar.m}` : room > 17 ? `m${bar.m}` : ''
+  const ink = `fill:${bar.owns ? 'var(--on-m)' : hue(bar.m)};font-weight:550`
+  return words(x + 6, top + 10, 10, ink, text, 'pointer-events="none"')
+}
+
 /** Draws what a task owns, filled, and what it waits for, dashed. */
 function ownedBars(plan, lane) {
   const { first, past } = plan.seen
-  return barsOf(plan.view.bars, lane.i + 1, first, past).map(bar => {
-    const x = plan.x(bar.from), w = plan.x(bar.to) - x - 2, y = lane.floor + 5 + bar.row * (BAR + 2)
-    const verb = bar.owns ? 'owns' : 'waits for'
-    const text = w > (bar.owns ? 56 : 76) ? `${verb} m${bar.m}` : w > 17 ? `m${bar.m}` : ''
+  return barsOf(plan.view.bars, lane.i + 1, first, past).flatMap(bar => {
+    const x = plan.x(bar.from), w = plan.x(bar.to) - x - 2, y = barTop(lane, bar)
     const dashed = `fill:none;stroke:${hue(bar.m)};stroke-dasharray:3 2`
     const fill = bar.owns ? `fill:${hue(bar.m)}` : dashed
     const more = `rx="3" class="${bar.owns ? 'owns' : 'waits'}" data-lane="${lane.i + 1}"`
       + ` data-from="${bar.from}" data-to="${bar.to}" data-mutex="${bar.m}"`
-      + ` data-tip="task ${lane.i + 1} ${verb} mutex ${bar.m}"`
-    const ink = `fill:${bar.owns ? 'var(--on-m)' : hue(bar.m)};font-weight:550`
-    return rect(x + 1, y, w, BAR, fill, more)
-      + words(x + 6, y + 10, 10, ink, text, 'pointer-events="none"')
+      + ` data-tip="task ${lane.i + 1} ${verbOf(bar)} mutex ${bar.m}"`
+    return [rect(x + 1, y, w, BAR, fill, more), barWords(bar, x, y, w)]
   })
 }
 
@@ -167,7 +185,7 @@ function madeSteps(plan, lane) {
 /** Draws the numbers of the steps, the column of the chosen one, and that of a rejected one. */
 function columns(plan, now) {
   const { view, seen: { first, past } } = plan
-  const wide = 7 * String(view.last).length + 4, every = plan.col >= wide ? 1 : 5, out = []
+  const wide = wideOf(view), every = plan.col >= wide ? 1 : 5, out = []
   const isFree = k => k % every === 0 && Math.abs(k - now) * plan.col >= wide
   for (let k = first; k < past; k++) {
     if (k !== now && !isFree(k)) continue
@@ -181,7 +199,7 @@ function columns(plan, now) {
   out.push(rect(plan.x(now), 0, plan.col, plan.height, 'fill:var(--now-fill)', 'rx="3"'))
   for (let k = first; k < past; k++) {
     const more = `class="pick" data-step="${k}"`
-    out.push(rect(plan.x(k), 0, plan.col, plan.height, 'fill:transparent', more))
+    out.push(rect(plan.x(k), 0, plan.col, DEEPEST, 'fill:transparent', more))
   }
   return out
 }
@@ -198,19 +216,67 @@ function laneNames(plan, now) {
   return out
 }
 
-/** Returns the names and the lanes that are seen, as two pictures of the same height. */
+/** Lists what may be said of a priority at the left edge of the view, the longest first. */
+function edgeTexts({ prio, base, why, of, by }) {
+  if (prio <= base) return [String(prio)]
+  const cause = why === 'waiter' ? `task ${of} waits for m${by}` : `ceiling of m${by}`
+  return [`${prio} ${MARKS[why]} ${cause}`, `${prio} ${MARKS[why]}`]
+}
+
+/** Returns the number at the left edge of the view of a lane, where the stretch that is seen there
+ * began before, with its mark and what gave it as far as there is room. */
+function edgeOf(plan, lane, left) {
+  const k = Math.floor(left / plan.col), { states } = plan, it = plan.task(lane, k)
+  const isSame = n => states.has(n) && edgeTexts(plan.task(lane, n))[0] === edgeTexts(it)[0]
+  if (plan.x(k) === left && !isSame(k - 1)) return []
+  let past = k + 1
+  while (past < plan.seen.past && isSame(past)) past++
+  const isWide = text => text.length * LETTER + 8 < plan.x(past) - left
+  const text = edgeTexts(it).find(isWide), ink = it.prio > it.base ? INKS[it.why] : '--line'
+  const style = `fill:var(${ink});font-weight:${it.prio > it.base ? 650 : 400}`
+  const more = `class="edge" data-lane="${lane.i + 1}"`
+  return text ? [words(plan.side + 4, plan.numberAt(lane, it.prio), 11, style, text, more)] : []
+}
+
+/** Returns the words of the bars of a lane that began left of the view. */
+function edgeBars(plan, lane, left) {
+  const k = Math.floor(left / plan.col), bars = barsOf(plan.view.bars, lane.i + 1, k, k + 1)
+  return bars.filter(bar => plan.x(bar.from) < left).map(bar =>
+    barWords(bar, plan.side - 2, barTop(lane, bar), plan.x(bar.to) - left - 2))
+}
+
+/** Returns what is said at the left edge of the view, which is so far from the first step. */
+function edges(plan, left) {
+  const isDrawn = plan.states.has(Math.floor(left / plan.col))
+  const seen = plan.lanes.filter(it => isDrawn && plan.isSeen(it))
+  return seen.flatMap(lane => [...edgeOf(plan, lane, left), ...edgeBars(plan, lane, left)])
+}
+
+/** Draws what is seen of a task's lane. */
+function drawLane(plan, lane, left, right) {
+  return [
+    rule(left, right, lane.end, 'stroke:var(--rule)'),
+    rule(left, right, lane.floor + .5, 'stroke:var(--grid)'),
+    ...boostAreas(plan, lane), ...priorityLine(plan, lane), ...ownedBars(plan, lane),
+    ...madeSteps(plan, lane),
+  ]
+}
+
+/** Returns the names and the lanes that are seen, as two pictures of the same height. Each has
+ * groups of elements, and a function for each group. */
 function drawLanes(plan, states, now) {
   plan.states = states
-  const out = columns(plan, now), { first, past } = plan.seen
-  const left = plan.x(first), width = plan.x(past) - left + 4
-  for (const lane of plan.lanes.filter(it => plan.isSeen(it))) {
-    out.push(rule(left, left + width, lane.end, 'stroke:var(--rule)'))
-    out.push(rule(left, left + width, lane.floor + .5, 'stroke:var(--grid)'))
-    out.push(...boostAreas(plan, lane), ...priorityLine(plan, lane), ...ownedBars(plan, lane))
-    out.push(...madeSteps(plan, lane))
+  const { seen: { first, past }, height } = plan, left = plan.x(first), right = plan.x(past) + 4
+  const seen = plan.lanes.filter(it => plan.isSeen(it))
+  const lanes = seen.map(lane => () => drawLane(plan, lane, left, right))
+  return {
+    names: { width: plan.side, height, groups: [() => laneNames(plan, now)] },
+    lanes: { left, right, width: plan.width, height, groups: [() => columns(plan, now), ...lanes] },
   }
-  const svg = (x, wide, inside) => `<svg ${SVG} width="${wide}" height="${plan.height}"`
-    + ` viewBox="${x} 0 ${wide} ${plan.height}">${inside.join('')}</svg>`
-  const names = svg(0, plan.side, laneNames(plan, now))
-  return { left, width, names, lanes: svg(left, width, out) }
 }
+
+/** Returns what is seen of a picture as a text. */
+const svgOf = ({ left = 0, width, right = width, height, groups }) =>
+  `<svg ${SVG} width="${right - left}" height="${height}"`
+  + ` viewBox="${left} 0 ${right - left} ${height}">`
+  + `${groups.flatMap(texts => texts()).join('')}</svg>`

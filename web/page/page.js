@@ -3,7 +3,10 @@ const $ = id => document.getElementById(id)
 const MOST_IN_ADDRESS = 8000 // characters
 
 let judge, editor, view = null, now = 0, unfolded = false
-let drawnAt = { left: 0, top: 0 }    // where the lanes were scrolled to
+const painter = new Painter(showBusy)
+let isJudging = false
+let lanes = { plan: null, left: 0, top: 0 } // as they are drawn, and where they were scrolled to
+let drawn = ''                       // what the lanes and the graph show
 let fetching = null, missed = null   // the view whose states are fetched; what was asked meanwhile
 
 const isNarrow = () => innerWidth <= 820
@@ -11,40 +14,42 @@ const hasFocusIn = what => document.activeElement?.matches(what)
 
 /** Fills the page with what holds after the chosen step. */
 function draw() {
-  drawLines()
+  const room = rooms()
+  drawTrace()
   drawVerdict()
   drawBar()
-  drawPicture()
-  $('limits').textContent = limits(view, editor)
+  write($('limits'), limits(view, editor))
+  drawReportLines()
+  return drawPicture(true, room)
 }
 
-function drawLines() {
-  drawText(view, now, editor, $('lines'))
-  drawReport(view, now, $('report'))
-}
+const drawReportLines = () => drawReport(view, now, $('report'), painter)
+
+const drawTrace = () => drawText(view, now, editor, { lines: $('lines'), said: $('replies') })
 
 function drawVerdict() {
   const n = view.number
   const said = [`accepted ${n}`, `rejected at step ${n}`, `line ${n} is invalid`]
   const kinds = ['accepted', 'rejected', 'invalid']
   $('verdict').dataset.kind = kinds[view.kind] ?? 'memory'
-  $('verdict').textContent = said[view.kind] ?? 'out of memory'
+  write($('verdict'), said[view.kind] ?? 'out of memory')
 }
 
 // ---- the picture: of the steps in view, which the worker makes
 
-/** Returns how wide a picture can be, and whether the page is narrow. */
-function roomOf(id) {
-  const narrow = isNarrow()
-  return { narrow, width: $(id).parentElement.clientWidth - (narrow ? 28 : 36) }
+/** Returns how wide the pictures can be, and where the lanes are scrolled to. */
+function rooms() {
+  const { scrollLeft: left, scrollTop: top } = $('time')
+  const narrow = isNarrow(), side = narrow ? 28 : 36
+  const wide = id => $(id).parentElement.clientWidth - side
+  return { narrow, time: wide('time'), graph: wide('graph'), left, top }
 }
 
 /** Returns the plan of the lanes, and where they are scrolled to, where alone they are drawn. */
-function planAt(toStep) {
-  const { narrow, width } = roomOf('time')
-  const plan = new Plan(view, { width, height: innerHeight * .46, narrow, unfolded })
-  const { scrollLeft, scrollTop: top } = $('time'), wide = width - plan.side
-  const left = toStep ? placeOf(plan, scrollLeft, wide) : scrollLeft
+function planAt(toStep, { narrow, time: width, left: scrollLeft, top }) {
+  const height = innerHeight * .46, often = Infinity
+  const plan = new Plan(view, { width, height, narrow, unfolded, often })
+  const wide = width - plan.side, left = toStep ? placeOf(plan, scrollLeft, wide) : scrollLeft
   // On a narrow page few lanes are as high as they are.
   plan.see({ left, top, wide, deep: narrow && !plan.isTall ? Infinity : innerHeight * .8 })
   return { plan, at: { left, top, moves: left !== scrollLeft } }
@@ -72,23 +77,28 @@ async function fetchStates(it, { first, past }) {
 }
 
 /** Draws the lanes near the chosen step, or near what is scrolled to, and the graph. */
-async function drawPicture(toStep = true) {
+async function drawPicture(toStep = true, room = rooms()) {
   const it = view, isDrawn = !!(it.read && it.bars)
   for (const id of ['svg', 'png']) $(id).disabled = !isDrawn
   if (!it.read) drawNothing()
   if (!isDrawn) return
   if (fetching === it) { missed = { toStep: toStep || missed?.toStep }; return }
-  const { plan, at } = planAt(toStep)
+  const { plan, at } = planAt(toStep, room), shows = shownBy(it, plan, room)
+  if (shows === drawn) return
   if (!hasStates(it, plan.seen) && !await waitFor(it, plan)) return
-  // Asked for before the lanes are drawn: afterwards the browser would have to place them twice.
-  const room = roomOf('graph')
+  drawn = shows
   drawTime(plan, at)
-  if (it.statesAt(now)) drawState(it.statesAt(now).at(now), room)
+  const { narrow, graph: width } = room
+  if (it.statesAt(now)) drawState(it.statesAt(now).at(now), { narrow, width })
   if (!missed) return
   const again = missed.toStep
   missed = null
   await drawPicture(again)
 }
+
+/** Returns what tells the pictures of two plans apart. */
+const shownBy = (it, { seen, height }, { narrow, time, graph }) =>
+  JSON.stringify([it.since, now, seen, height, narrow, time, graph, unfolded])
 
 /** Waits for the states that a picture needs. Returns whether they have come and are wanted. */
 async function waitFor(it, plan) {
@@ -107,31 +117,38 @@ async function waitFor(it, plan) {
 }
 
 function drawNothing() {
-  for (const id of ['names', 'lanes', 'graph', 'why']) $(id).innerHTML = ''
+  drawn = ''
+  lanes.plan = null
+  const nothing = { width: 0, height: 0, groups: [] }
+  for (const id of ['names', 'lanes', 'graph']) painter.picture($(id), nothing)
+  fill($('why'), [])
   $('when').textContent = ''
   $('unfold').hidden = true
 }
 
 /** Draws the lanes, and scrolls to where they are drawn. */
 function drawTime(plan, at) {
-  const { names, lanes, left } = drawLanes(plan, view.states, now)
-  $('names').innerHTML = names
-  $('lanes').innerHTML = `<div style="margin-left:${left}px">${lanes}</div>`
-  $('lanes').style.width = `${plan.width}px`
+  const pictures = drawLanes(plan, view.states, now), { names } = pictures
+  const groups = [...names.groups, () => edges(plan, at.left)]
+  painter.picture($('names'), { ...names, groups })
+  painter.picture($('lanes'), pictures.lanes)
   $('time').classList.toggle('tall', plan.isTall)
   if (at.moves) $('time').scrollLeft = at.left
-  drawnAt = at
+  lanes = { plan, ...at }
   $('unfold').hidden = !plan.folded && !unfolded
   $('unfold').textContent = unfolded
     ? 'Fold the tasks that no step names' : `Show ${plan.folded} tasks that no step names`
 }
 
-/** Draws the lanes anew where they were scrolled to the end of what was drawn. */
+/** Draws what stands at the left edge, and all lanes where they were scrolled to the end of what
+ * was drawn. */
 function scrolled() {
   const { scrollLeft, scrollTop, clientWidth, clientHeight } = $('time')
-  const isNear = Math.abs(scrollLeft - drawnAt.left) < clientWidth / 4
-    && Math.abs(scrollTop - drawnAt.top) < clientHeight / 4
+  const isNear = Math.abs(scrollLeft - lanes.left) < clientWidth / 4
+    && Math.abs(scrollTop - lanes.top) < clientHeight / 4
   if (!isNear && view) drawPicture(false)
+  const edge = $('names').querySelector('svg')?.children[1]
+  if (lanes.plan && edge) fill(edge, edges(lanes.plan, scrollLeft))
 }
 
 function drawBar() {
@@ -143,16 +160,16 @@ function drawBar() {
   $('on').disabled = now >= last
   const reply = () => escape(view.reply(now))
   const step = () => `Step ${now}: <code>${escape(asked(view, now))}</code> <em>→ ${reply()}</em>`
-  $('said').innerHTML = now ? step() : last ? 'Before the first step' : 'No step yet'
+  fill($('said'), [`<span>${now ? step() : last ? 'Before the first step' : 'No step yet'}</span>`])
   $('slider').setAttribute('aria-valuetext', $('said').textContent)
 }
 
 function drawState(state, room) {
-  $('when').textContent = now ? `after step ${now}` : 'at the start'
-  $('graph').innerHTML = drawGraph(state, room)
+  write($('when'), now ? `after step ${now}` : 'at the start')
+  painter.picture($('graph'), drawGraph(state, room))
   const mark = why => `<span class="${why}" aria-hidden="true">${MARKS[why]}</span>`
   const items = boosts(state).map(({ why, said }) => `<li>${mark(why)} ${escape(said)}</li>`)
-  $('why').innerHTML = items.join('')
+  fill($('why'), items)
   const owners = state.mutexes.map((mutex, i) => ownership(i + 1, mutex))
   const waits = state.tasks.flatMap((task, i) =>
     task.waits ? [`task ${i + 1} waits for mutex ${task.waits}`] : [])
@@ -165,8 +182,9 @@ function drawState(state, room) {
 function go(k) {
   now = Math.max(0, Math.min(k, view.last))
   showLines()
-  drawLines()
+  drawTrace()
   drawBar()
+  drawReportLines()
   drawPicture()
 }
 
@@ -182,7 +200,12 @@ function atCaret() {
   return view.read && k >= 1 && k <= view.last ? k : null
 }
 
-const busy = is => $('main').setAttribute('aria-busy', is)
+function busy(is) {
+  isJudging = is
+  showBusy()
+}
+
+function showBusy() { $('main').setAttribute('aria-busy', isJudging || painter.isPainting) }
 
 /** Says that there is too little memory for the page's own buffers, or that the worker failed. */
 function failed(error) {
@@ -198,13 +221,15 @@ async function judgeText(isOpened = false) {
     const it = await judge.look(editor.text, editor.lines)
     const best = isOpened && it?.read ? await judge.ask(it, 'mostBoosted', it.last) : 0
     if (!it || best === null) return
+    await nextFrame()
+    if (!judge.isLast(it)) return
     view = it
     now = isOpened ? best : atCaret() ?? it.last
     draw()
     if (isOpened) showLines()
     keepInAddress()
-    if (it.read && !await addBars(it)) return
-    busy(false)
+    if (it.read && !it.bars && !await addBars(it)) return
+    if (judge.isLast(it)) busy(false)
   } catch (error) {
     failed(error)
   }
@@ -226,13 +251,13 @@ function take(text) {
   return judgeText(true)
 }
 
-/** Judges what was typed, and shows it before the answer comes. */
+/** Judges what was typed, and shows it in the next frame, before the answer or with it. */
 function typed() {
   $('examples').value = ''
   $('about-example').textContent = ''
   editor.changed()
-  if (view) drawText(view, now, editor, $('lines'))
   judgeText()
+  nextFrame().then(() => { if (view) drawTrace() })
 }
 
 // ---- the address, files, examples
@@ -302,7 +327,7 @@ async function drawStart() {
       line === other[n] ? `<span>${coloured(line)}</span>` : `<mark>${coloured(line)}</mark>`)
     const section = $(STARTERS[i]), state = it.states.at(2)
     section.querySelector('pre').innerHTML = lines.join('')
-    section.querySelector('.picture').innerHTML = names + lanes
+    section.querySelector('.picture').innerHTML = svgOf(names) + svgOf(lanes)
     const said = boosts(state)[0]?.said ?? `Task 1 executes at its base, ${state.tasks[0].prio}.`
     section.querySelector('.step').textContent = `After step 2: ${said}`
   })
@@ -373,12 +398,12 @@ function listenToEditor() {
   text.addEventListener('compositionstart', () => editor.composes(true))
   text.addEventListener('compositionend', () => editor.composes(false))
   text.onkeyup = text.onclick = () => {
-    const k = view && atCaret()
+    const k = view?.lines === editor.lines && atCaret()
     if (k && k !== now) go(k)
   }
   $('editor').onscroll = () => {
     editor.scrolled()
-    if (view) drawText(view, now, editor, $('lines'))
+    if (view) drawTrace()
   }
 }
 
@@ -386,7 +411,7 @@ function listen() {
   listenToControls()
   listenToEditor()
   $('report').onclick = $('time').onclick = stepClicked
-  $('report').onscroll = () => { if (view) drawReport(view, now, $('report')) }
+  $('report').onscroll = () => { if (view) drawReportLines() }
   $('time').onscroll = scrolled
   addEventListener('keydown', keyPressed)
   addEventListener('resize', resized)

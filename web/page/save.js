@@ -21,9 +21,9 @@ function savedOf(view, now) {
 function pictureOf(view, states, now, unfolded) {
   const plan = new Plan(view, { width: 1000, height: 0, narrow: false, unfolded })
   plan.seen = { ...plan.whole, first: states.from, past: states.past }
-  const { names, lanes, width: wide } = drawLanes(plan, states, now)
-  const width = plan.side + wide + 24, height = plan.height + 24
-  const part = (svg, x) => svg.replace('<svg ', `<svg x="${x}" y="12" `)
+  const { names, lanes } = drawLanes(plan, states, now)
+  const width = plan.side + lanes.right - lanes.left + 24, height = plan.height + 24
+  const part = (picture, x) => svgOf(picture).replace('<svg ', `<svg x="${x}" y="12" `)
   const font = `font-family="${getComputedStyle(document.body).fontFamily.replace(/"/g, "'")}"`
   const size = `width="${width}" height="${height}"`
   const whole = `<svg xmlns="http://www.w3.org/2000/svg" ${size} ${font}>`

@@ -1,7 +1,8 @@
 // ---- the lines of the editor, coloured, and the report ----------------------------------
 const MOST_SPOKEN = 2000 // lines of a report that are on the page as a whole
 const REPORT_LINE = 20    // pixels, as in the style
-const AROUND = 40        // lines more than those in view, on each side
+const AROUND = 20        // lines more than those in view, on each side
+const LETTER_OF_REPLY = 8, AROUND_REPLY = 32 // pixels, as in the style or a little more
 
 const KEYWORDS = /^(pim|task|mutex)\b|\b(lock|try|unlock|release|cancel|base|ceil)\b/g
 
@@ -11,51 +12,57 @@ function coloured(line) {
     .replace(/ = .*$/, recorded => `<i>${recorded}</i>`)
 }
 
-/** Returns what is said behind line n: its reply, or that it is invalid, if it was judged so. */
-function remark(view, n, line) {
-  if (line !== view.lines[n - 1]) return ''
-  if (n === view.invalid) return 'invalid line'
-  return n > view.first ? view.reply(n - view.first).replace(/ but recorded .*/, '') : ''
+/** Returns the judged line that the editor's line n is, counted from the first or from the last. */
+function judgedAs(view, editor, n) {
+  const line = editor.lines[n - 1], moved = view.lines.length - editor.lines.length
+  return [n, n + moved].find(it => view.lines[it - 1] === line) ?? 0
 }
 
-function drawLine(view, now, line, n) {
+/** Returns what is said behind the editor's line n: its reply, or that it is invalid. */
+function remark(view, editor, n) {
+  const judged = judgedAs(view, editor, n)
+  if (judged && judged === view.invalid) return 'invalid line'
+  const k = judged - view.first
+  return k > 0 ? view.reply(k).replace(/ but recorded .*/, '') : ''
+}
+
+/** Returns the class of line n. */
+function kindOf(view, now, n) {
   const bad = badLine(view), isNow = view.read && n > view.first && n - view.first === now
-  const classes = [n === bad && 'bad', bad && n > bad && 'after', isNow && 'now'].filter(Boolean)
-  const said = remark(view, n, line)
-  return `<div data-line="${n}" class="${classes.join(' ')}">${coloured(line)}`
-    + (said && `<span class="said">${escape(said)}</span>`) + '</div>'
-}
-
-/** Fills an element with these lines, and leaves those that are there already. */
-function fill(to, lines) {
-  const old = to.drawn ?? []
-  to.drawn = lines
-  if (lines.filter((line, i) => line !== old[i]).length > 50) {
-    to.innerHTML = lines.join('')
-    return
-  }
-  while (to.children.length > lines.length) to.lastElementChild.remove()
-  lines.forEach((line, i) => {
-    if (i >= old.length) to.insertAdjacentHTML('beforeend', line)
-    else if (line !== old[i]) to.children[i].outerHTML = line
-  })
+  return [n === bad && 'bad', bad && n > bad && 'after', isNow && 'now'].filter(Boolean).join(' ')
 }
 
 /** Returns how many characters wide the held lines are, with what is said behind them. */
 function widest(view, editor) {
   let most = 0
-  for (let i = editor.first; i < editor.past; i++) {
-    const line = editor.lines[i]
-    most = Math.max(most, line.length + remark(view, i + 1, line).length)
+  for (let n = editor.first + 1; n <= editor.past; n++) {
+    most = Math.max(most, editor.lines[n - 1].length + remark(view, editor, n).length)
   }
   return most + 2
 }
 
-/** Draws the copy of the lines in view below the text area. */
-function drawText(view, now, editor, to) {
+/** Fills an element with these lines. The same ones are told apart by their neighbours. */
+function fillLines(to, lines, texts) {
+  const keys = texts.map((text, i) => [lines[i - 1], lines[i], lines[i + 1], text].join('\n'))
+  fill(to, texts, Infinity, keys)
+}
+
+/** Draws the copy of the lines in view below the text area, and what is said behind them. */
+function drawText(view, now, editor, { lines: to, said }) {
   const { first, past } = editor.near(AROUND), lines = editor.lines.slice(first, past)
-  fill(to, lines.map((line, i) => drawLine(view, now, line, first + i + 1)))
-  to.style.top = `${first * editor.line}px`
+  const kinds = lines.map((_, i) => kindOf(view, now, first + i + 1))
+  fillLines(to, lines, lines.map((line, i) => `<div class="${kinds[i]}">${coloured(line)}</div>`))
+  ;[...to.children].forEach(({ dataset }, i) => {
+    if (dataset.line !== String(first + i + 1)) dataset.line = first + i + 1
+  })
+  fillLines(said, lines, lines.map((_, i) => {
+    const reply = remark(view, editor, first + i + 1)
+    return `<div class="${kinds[i]}">${reply && `<span>${escape(reply)}</span>`}</div>`
+  }))
+  for (const it of [to, said]) it.style.marginTop = `${first * editor.line}px`
+  // The browser scrolls the caret to where the reply doesn't cover it.
+  const covered = LETTER_OF_REPLY * remark(view, editor, editor.caret).length + AROUND_REPLY
+  editor.box.style.scrollPaddingRight = `${covered}px`
   editor.sheet.style.minWidth = `max(100%, ${widest(view, editor)}ch + 76px)`
 }
 
@@ -76,18 +83,25 @@ function drawnOf(view, box, high) {
   return { first: Math.max(0, first - AROUND), past: Math.min(view.reportLines, past + AROUND) }
 }
 
-/** Draws the report into the box's first element. */
-function drawReport(view, now, box) {
+/** Returns the element of line i of the report. */
+function reportLine(view, now, i) {
+  const line = view.reportLine(i), k = view.steps[i]
+  return `<span class="${classOf(view, line, k, now)}" data-step="${k}">${escape(line)}</span>`
+}
+
+/** Draws the report into the box's first element. That of an invalid text has one line, in the
+ * second: the first isn't seen meanwhile, and keeps what it has. */
+function drawReport(view, now, box, painter) {
+  const [inside, invalid] = box.children
+  box.classList.toggle('invalid', !!view.invalid)
+  fill(invalid, view.invalid ? [`<span class="last bad">line ${view.invalid}</span>`] : [])
+  if (view.invalid) return
   const { first, past } = drawnOf(view, box, REPORT_LINE)
-  const inside = box.firstElementChild, lines = []
-  for (let i = first; i < past; i++) {
-    const line = view.reportLine(i), k = view.stepOf(i)
-    const name = classOf(view, line, k, now)
-    lines.push(`<span class="${name}" data-step="${k}">${escape(line)}</span>`)
-  }
-  fill(inside, lines)
   inside.style.paddingTop = `${first * REPORT_LINE}px`
-  inside.style.paddingBottom = `${(view.reportLines - past) * REPORT_LINE}px`
+  inside.style.height = `${view.reportLines * REPORT_LINE}px`
+  const line = (_, i) => reportLine(view, now, first + i)
+  const texts = () => Array.from({ length: past - first }, line)
+  painter.paint(inside, [{ to: inside, texts }])
 }
 
 /** Returns where the report is to be scrolled to, so that the lines of a step are in view. */

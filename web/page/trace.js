@@ -2,24 +2,19 @@
 /** A text with what the worker found of it. */
 class View {
   constructor(turn, text, lines, answer) {
-    Object.assign(this, answer, { turn, text, lines })
+    Object.assign(this, answer, { turn, text, lines, here: null })
+    if (this.states) this.states = new States(this.states)
     this.first = this.read ? 1 + this.read.tasks + this.read.mutexes : 0
-    this.reportLines = this.invalid ? 1 : this.starts.length - 1
+    this.reportLines = this.starts.length - 1
   }
 
-  /** Returns a line of the report of what was judged. */
-  judgedLine(i) { return this.report.slice(this.starts[i], this.starts[i + 1] - 1) }
-
-  /** Returns a line of the report that is shown, from 0 on. An invalid text has one line. */
-  reportLine(i) { return this.invalid ? `line ${this.invalid}` : this.judgedLine(i) }
-
-  /** Returns the step that a line of the report is about, or 0. */
-  stepOf(i) { return this.invalid ? 0 : this.steps[i] }
+  /** Returns a line of the report of what was judged, from 0 on. */
+  reportLine(i) { return this.report.slice(this.starts[i], this.starts[i + 1] - 1) }
 
   /** Returns the reply to step k, or an empty text if the report is cut before. */
   reply(k) {
     const place = k && k <= this.last ? this.places[k] : -1
-    return place >= 0 && this.steps[place] === k ? this.judgedLine(place).replace(/^\d+ /, '') : ''
+    return place >= 0 && this.steps[place] === k ? this.reportLine(place).replace(/^\d+ /, '') : ''
   }
 
   /** Returns the states that have step k, or null. */

@@ -1,5 +1,6 @@
 // ---- the worker: it judges, and makes the steps ----------------------------------------
 const MOST_SEARCHED = 400_000 // tasks, over all steps, in the search for the most boosted
+const MOST_AT_ONCE = 100_000  // numbers of states that come with the report
 
 /** Returns where the lines of a report begin, the line of each step, and the step of each line. */
 function linesOf(report, last) {
@@ -20,8 +21,10 @@ function before(text, line) {
   return text.slice(0, at)
 }
 
+let latest = { front: null, turn: 0 } // what is judged and drawn, and since which turn
+
 /** Judges a text. Of an invalid one, what is above the invalid line is judged too, and drawn. */
-function look(text) {
+function look(text, turn) {
   const judged = engine.judge(text), invalid = judged.kind === INVALID ? judged.number : 0
   const front = invalid ? before(text, invalid) : text
   const drawn = invalid ? engine.judge(front) : judged
@@ -29,10 +32,17 @@ function look(text) {
   const rejected = drawn.kind === REJECTED ? drawn.number : 0
   const last = read ? rejected || read.steps : 0
   const { kind, number, length } = judged
+  if (front !== latest.front) latest = { front, turn }
   return {
-    kind, number, length, invalid, rejected, read, last,
+    kind, number, length, invalid, rejected, read, last, ...picture(read, last), since: latest.turn,
     report: drawn.report, ...linesOf(drawn.report, last), named: read ? engine.named() : null,
   }
+}
+
+/** Returns what a picture of a short text needs: all states and bars. */
+function picture(read, last) {
+  if (!read || (last + 1) * sizeOf(read) > MOST_AT_ONCE) return { states: null, bars: null }
+  return { states: engine.states(0, last + 1), bars: bars(last) }
 }
 
 /** Returns the first step after which most tasks are boosted, among as many as are searched. */
@@ -71,11 +81,18 @@ function placeBars(bars) {
 
 const CALLED = { look, mostBoosted, bars, states: (from, past) => engine.states(from, past) }
 
+/** Lists the memory of the numbers in an answer, which the page takes over without a copy. */
+function memoryOf(it) {
+  if (ArrayBuffer.isView(it)) return [it.buffer]
+  return it && typeof it === 'object' ? Object.values(it).flatMap(memoryOf) : []
+}
+
 let engine
 onmessage = ({ data: { id, call, given, module } }) => {
   try {
     engine ??= new Engine(module)
-    postMessage({ id, result: CALLED[call](...given) })
+    const result = CALLED[call](...given)
+    postMessage({ id, result }, memoryOf(result))
   } catch (error) {
     postMessage({ id, failed: String(error.message) })
   }

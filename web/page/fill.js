@@ -1,0 +1,139 @@
+// ---- elements: those stay that say the same, and no frame makes too many -----------------
+// Work is counted in characters. To look at a text is as much as to make an element of eight.
+const MOST_WORK = 7_000, LOOKING = 8, REMOVING = 40
+let work = { frame: 0, done: 0 }
+
+/** Returns how much work this frame may still do. */
+function workLeft() {
+  const frame = document.timeline.currentTime
+  if (frame !== work.frame) work = { frame, done: 0 }
+  return MOST_WORK - work.done
+}
+
+function worked(amount) { work.done = MOST_WORK - workLeft() + amount }
+
+/** Lists the elements that an element has, by their keys, the first one of a key last. */
+function elementsOf(to) {
+  const found = new Map(), keys = to.keys ?? []
+  for (let i = keys.length, it = to.lastElementChild; i--; it = it.previousElementSibling) {
+    if (!found.has(keys[i])) found.set(keys[i], [])
+    found.get(keys[i]).push(it)
+  }
+  return found
+}
+
+/** Returns elements of these texts, as they are inside an element. */
+function made(to, texts) {
+  const range = document.createRange()
+  range.selectNodeContents(to)
+  return range.createContextualFragment(texts.join(''))
+}
+
+const lengthOf = found => found.reduce((sum, { text }) => sum + text.length, 0)
+
+/** Returns the first of these, as many as have so many characters and one more. */
+function firstOf(found, most) {
+  let count = 0
+  for (let room = most; count < found.length && room > 0; count++) room -= found[count].text.length
+  return found.slice(0, count)
+}
+
+/** Gives an element one element for each of these texts. One that it has already, by its key,
+ * stays. No more than so many characters of elements are made. Returns whether all are there. */
+function fill(to, texts, most = Infinity, keys = texts) {
+  const old = elementsOf(to)
+  const found = texts.map((text, i) => ({ text, key: keys[i], it: old.get(keys[i])?.pop() }))
+  const missing = firstOf(found.filter(({ it }) => !it), most), begun = new Set(missing)
+  const shown = found.filter(one => one.it || begun.has(one)), gone = [...old.values()].flat()
+  worked(LOOKING * texts.length + REMOVING * gone.length + lengthOf(missing))
+  to.keys = shown.map(({ key }) => key)
+  const next = made(to, missing.map(({ text }) => text))
+  if (shown.length === missing.length) {
+    to.replaceChildren(next)
+  } else {
+    for (const it of gone) it.remove()
+    place(to, shown, next)
+  }
+  return shown.length === texts.length
+}
+
+/** Places the elements that stay and the next ones in their order, neighbours at once. */
+function place(to, shown, made) {
+  const run = document.createDocumentFragment()
+  let at = to.firstElementChild
+  for (const { it } of shown) {
+    if (!it) {
+      run.append(made.firstElementChild)
+      continue
+    }
+    if (run.firstElementChild) to.insertBefore(run, at)
+    if (it === at) at = at.nextElementSibling
+    else to.insertBefore(it, at)
+  }
+  to.insertBefore(run, at)
+}
+
+/** Writes a text into an element, if it is another one. */
+function write(to, text) {
+  if (to.textContent !== text) to.textContent = text
+}
+
+/** Waits for the next animation frame. */
+const nextFrame = () => new Promise(done => { requestAnimationFrame(done) })
+
+/** Fills elements one after the other, over some frames if there is much to make. */
+class Painter {
+  /** Takes what is called when it begins and when all is filled. */
+  constructor(changed) {
+    this.changed = changed
+    this.waiting = new Map() // for each element what is to be filled in it
+    this.isPainting = false
+  }
+
+  /** Fills parts of an element, in place of those of it that are still waiting. Each part has an
+   * element and a function that returns its texts. */
+  paint(whole, parts) {
+    this.waiting.set(whole, [...parts])
+    if (!this.isPainting) this.done = this.fillAll()
+  }
+
+  async fillAll() {
+    this.isPainting = true
+    this.changed()
+    try {
+      while (this.waiting.size) await this.fillFirst()
+    } finally {
+      this.isPainting = false
+      this.changed()
+    }
+  }
+
+  /** Fills the first part that waits, or a piece of it, as soon as a frame has room for it. */
+  fillFirst() {
+    if (workLeft() <= 0) return nextFrame()
+    const [[whole, parts]] = this.waiting
+    if (!parts.length) this.waiting.delete(whole)
+    else if (this.fillNext(parts[0])) parts.shift()
+  }
+
+  /** Fills a part as far as this frame may. Returns whether it is whole. */
+  fillNext(part) {
+    part.made ??= part.texts()
+    return fill(part.to, part.made, workLeft())
+  }
+
+  /** Draws a picture of these groups of elements, each given by a function. Another size of an svg
+   * would have the browser place all texts in it again, so its size stays, and its content is seen
+   * around it. */
+  picture(to, { width, height, groups }) {
+    if (!to.firstElementChild) to.innerHTML = `<div><svg ${SVG} width="1" height="1"></svg></div>`
+    const whole = to.firstElementChild, svg = whole.firstElementChild
+    whole.style.width = `${width}px`
+    whole.style.height = `${height}px`
+    while (svg.childElementCount > groups.length) svg.lastElementChild.remove()
+    while (svg.childElementCount < groups.length) {
+      svg.append(document.createElementNS(svg.namespaceURI, 'g'))
+    }
+    this.paint(to, groups.map((texts, i) => ({ to: svg.children[i], texts })))
+  }
+}
