@@ -1,0 +1,147 @@
+//! The events of a Trace Event file, written as JSON.
+
+use json::Writer;
+use pim_base::TaskNo;
+use std::alloc::{AllocError, Global};
+
+/// The microseconds that a step takes. A trace doesn't say when its steps were made.
+const STEP: u64 = 1000;
+
+/// More than the tracks of a task.
+const TRACKS: u64 = 1000;
+
+/// A track in the group of a task.
+#[derive(Clone, Copy)]
+pub(crate) struct Track {
+    pub task: TaskNo,
+    pub row: u64,
+}
+
+impl Track {
+    /// Returns the number that the track has among those of all tasks.
+    fn number(&self) -> u64 {
+        u64::from(self.task.get())
+            .saturating_mul(TRACKS)
+            .saturating_add(self.row)
+    }
+}
+
+/// The value of a field.
+#[derive(Clone, Copy)]
+enum Value<'a> {
+    Text(&'a str),
+    Number(u64),
+}
+
+/// A field of an event, or of its arguments.
+#[derive(Clone, Copy)]
+pub(crate) struct Field<'a> {
+    key: &'a str,
+    value: Value<'a>,
+}
+
+impl<'a> Field<'a> {
+    /// Returns a field that is a text.
+    pub fn text(key: &'a str, text: &'a str) -> Field<'a> {
+        Field {
+            key,
+            value: Value::Text(text),
+        }
+    }
+
+    /// Returns a field that is a number.
+    pub fn number(key: &'a str, number: u64) -> Field<'a> {
+        Field {
+            key,
+            value: Value::Number(number),
+        }
+    }
+
+    /// Returns when an event is.
+    pub fn at(step: u32) -> Field<'a> {
+        Field::number("ts", u64::from(step).saturating_mul(STEP))
+    }
+
+    /// Returns how long an event takes, to the step before another.
+    pub fn until(from: u32, past: u32) -> Field<'a> {
+        let steps = u64::from(past.saturating_sub(from));
+        Field::number("dur", steps.saturating_mul(STEP))
+    }
+}
+
+/// The events that are written so far.
+#[derive(Drop)]
+pub(crate) struct Events {
+    json: Writer<Global>,
+}
+
+impl Events {
+    /// Returns no events.
+    pub fn new(alloc: Global) -> Result<Events, AllocError> {
+        let mut events = Events {
+            json: Writer::new(Vec::new(alloc)),
+        };
+        events.json.begin_object()?;
+        events.put(&[Field::text("displayTimeUnit", "ms")])?;
+        events.json.key("traceEvents")?;
+        events.json.begin_array()?;
+        Ok(events)
+    }
+
+    /// Adds an event of this kind, with its fields, and its arguments if there are any.
+    pub fn add(
+        &mut self,
+        kind: &str,
+        track: &Track,
+        name: &str,
+        fields: &[Field<'_>],
+        arguments: &[Field<'_>],
+    ) -> Result<(), AllocError> {
+        let pid = u64::from(track.task.get());
+        self.json.begin_object()?;
+        self.put(&[
+            Field::text("ph", kind),
+            Field::number("pid", pid),
+            Field::number("tid", track.number()),
+            Field::text("name", name),
+        ])?;
+        self.put(fields)?;
+        if !arguments.is_empty() {
+            self.json.key("args")?;
+            self.json.begin_object()?;
+            self.put(arguments)?;
+            self.json.end_object()?;
+        }
+        self.json.end_object()
+    }
+
+    /// Adds fields to the object that is open.
+    fn put(&mut self, fields: &[Field<'_>]) -> Result<(), AllocError> {
+        for field in fields.iter() {
+            self.json.key(field.key)?;
+            match field.value {
+                Value::Text(text) => self.json.string(text)?,
+                Value::Number(number) => self.json.u64(number)?,
+            }
+        }
+        Ok(())
+    }
+
+    /// Adds what a group or a track is called: an event of this name.
+    pub fn call(&mut self, what: &str, track: &Track, name: &str) -> Result<(), AllocError> {
+        self.add("M", track, what, &[], &[Field::text("name", name)])
+    }
+
+    /// Adds where a group or a track is among others: an event of this name.
+    pub fn sort(&mut self, what: &str, track: &Track, place: u64) -> Result<(), AllocError> {
+        self.add("M", track, what, &[], &[Field::number("sort_index", place)])
+    }
+
+    /// Returns the bytes of the file.
+    pub fn into_bytes(self) -> Result<Vec<u8>, AllocError> {
+        let Events { mut json } = self;
+        json.end_array()?;
+        json.end_object()?;
+        Ok(json.into_inner())
+    }
+}

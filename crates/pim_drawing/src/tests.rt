@@ -1,0 +1,6 @@
+//! Pictures of small traces, with values by hand, and arguments.
+
+mod arguments;
+mod lanes;
+mod tables;
+mod tracks;
