@@ -1,3 +1,4 @@
 pub mod SharingLemmas
 pub mod CrowdedLemmas
 pub mod Replaying
+pub mod PriorityLemmas

@@ -1,2 +1,4 @@
 pub mod Sharing
 pub mod Replays
+pub mod Tallies
+pub mod Priorities

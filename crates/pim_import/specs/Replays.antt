@@ -6,6 +6,9 @@ use mathlib.Core.List.{IsPrefix}
 use Rattle.pim_base.specs.Lists.{nth, put, holds}
 use Rattle.pim_base.specs.State.{State, IsState, IsTask, wait_of}
 use Rattle.pim_base.specs.Steps.{reply_of, after}
+use Rattle.pim_base.specs.Texts.{Trace}
+use Rattle.pim_base.specs.Recordings.{recording}
+use Rattle.pim_base.specs.declared.limits.TheConstants.{LAST_VERSION}
 use Rattle.pim_base.specs.declared.steps.Protocol.{Protocol}
 use Rattle.pim_base.specs.declared.steps.Op.{Op}
 use Rattle.pim_base.specs.declared.steps.Reply.{Reply}
@@ -28,6 +31,10 @@ pub record ReplayState : Type 0 where
 -- nothing was observed yet
 abbrev pub at_start : State → ReplayState
 at_start S = record { start = S; state = S; entries = []; outside = replicate (length S.base) None }
+
+-- the trace that the steps are, with what is declared at the start; its version is the one that has each step
+abbrev pub trace_of_replay : ReplayState → Trace
+trace_of_replay r = recording (record { version = LAST_VERSION; bases = r.start.base; protocols = r.start.protocol; steps = [] }) r.entries
 
 -- the step and the model's reply are one entry more
 abbrev pub with_step : ReplayState → Step → ReplayState

@@ -1,7 +1,8 @@
-//! Why spans don't get numbers, and why a program isn't replayed.
+//! Why spans don't get numbers, why a program isn't replayed, and why a log isn't imported.
 ghost use Rattle.std.specs.Prelude.{◌≡◌};
 ghost use Rattle.pim_import.specs.declared.fault.SharingFault.TheVariants as sharing;
 ghost use Rattle.pim_import.specs.declared.fault.ReplayFault.TheVariants as replay;
+ghost use Rattle.pim_import.specs.declared.fault.ImportFault.TheVariants as import;
 
 use std::alloc::AllocError;
 use thiserror::Error;
@@ -44,5 +45,33 @@ impl From<AllocError> for ReplayFault {
 
     fn from(_error: AllocError) -> ReplayFault {
         ReplayFault::Memory
+    }
+}
+
+/// Why a log isn't imported.
+#[derive(Clone, Copy, Debug, PartialEq, Eq, Error)]
+pub enum ImportFault {
+    /// The record with this number contradicts those before it.
+    #[error("record {0}: it contradicts the records before it")]
+    Contradiction(u64),
+    /// The thread of the record with this number has a number above [`MAX_THREADS`](crate::MAX_THREADS).
+    #[error("record {0}: it has more threads than can be imported, which are 4194304")]
+    TooManyThreads(u64),
+    /// When the thread or mutex with this number takes part, as many others do as a trace has numbers for.
+    #[error("more than 256 threads, or more than 256 mutexes, contend at one time")]
+    Crowded,
+    /// Threads have more priorities than a trace has: 1 to 99 of SCHED_FIFO or SCHED_RR, and others.
+    #[error("threads and ceilings have more than 99 priorities")]
+    TooManyPriorities,
+    /// Out of memory.
+    #[error("out of memory")]
+    Memory,
+}
+
+impl From<AllocError> for ImportFault {
+    ghost from_gives = { λ _ fault. fault ≡ import.Memory };
+
+    fn from(_error: AllocError) -> ImportFault {
+        ImportFault::Memory
     }
 }

@@ -1,4 +1,18 @@
-//! From a log of pim-record to a trace: the steps, and the numbers that threads and mutexes share.
+//! From a log of pim-record to a trace, and what is found in it.
+//!
+//! [`import_log`] makes the trace of a log, in [`Piece`]s of at most 65,536 steps, and the [`Findings`]: the longest waits,
+//! hand-overs, ownerships, deadlocks. The [`Tally`] has each record of the log once, as used or left out.
+//!
+//! ```text
+//! let log = Log::read(alloc, &bytes)?;
+//! let imported = import_log(alloc, &log, false)?;
+//! imported.performed.pieces[0].replay.entries(); // the steps, each with the model's reply
+//! ```
+//!
+//! It goes through the log some times. `subjects.rt` has whom each record is about, `following.rt` who owns a mutex after a
+//! release, `requests.rt` the requests that the log lacks. `course.rt` follows the program record by record; `walk.rt` is the
+//! way along it. `episodes.rt` has the ownerships that are kept, `cast.rt` and `numbering.rt` who takes part under which
+//! number. `stage.rt` makes the steps by a replay, and cuts the pieces.
 //!
 //! A [`Replay`] makes the steps by which a manager does what was observed of a recorded program. Each [`Observation`] says
 //! what a task did, or what happened to it. After it the owners and the waits are those of the program, and each reply is
@@ -22,18 +36,49 @@
 //! ```
 #![tactic(auto)]
 
+mod cast;
+mod course;
+mod episodes;
+mod family;
 mod fault;
+mod findings;
+mod following;
+mod importing;
+mod level;
+mod lists;
+mod numbering;
 mod observation;
 mod observing;
+mod piece;
+mod priorities;
 mod replay;
+mod requests;
+mod restoring;
 mod sharing;
+mod sight;
+mod sights;
 mod span;
+mod stage;
+mod subjects;
+mod tally;
+mod walk;
 
-pub use fault::{ReplayFault, SharingFault};
+pub use course::{Course, Sources};
+pub use family::Family;
+pub use fault::{ImportFault, ReplayFault, SharingFault};
+pub use findings::{Findings, FoundMutex, FoundWait, HandOvers};
+pub use importing::{Imported, Performed, blocker_of, import_log};
+pub use numbering::{Numbering, Numbers, family_of};
 pub use observation::Observation;
+pub use piece::Piece;
+pub use priorities::{Priorities, Scale};
 pub use replay::Replay;
 pub use sharing::share;
+pub use sight::LeftOut;
 pub use span::Span;
+pub use stage::Entrance;
+pub use subjects::{LoggedMutex, LoggedThread, MAX_THREADS, Subjects};
+pub use tally::Tally;
 
 #[cfg(test)]
 mod tests;

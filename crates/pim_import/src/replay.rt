@@ -1,10 +1,12 @@
 //! The steps by which a manager does what a recorded program did.
 
-ghost use Rattle.std.specs.Prelude.{◌≡◌, Some, None, OnErr, IfOk, IfErr, IfSome, IsTrue};
+ghost use Rattle.std.specs.Prelude.{◌≡◌, length, Some, None, OnErr, IfOk, IfErr, IfSome, IsTrue};
+ghost use Rattle.pim_base.specs.Reports.{verdict_of};
 ghost use Rattle.pim_base.specs.Runs.{IsRun};
 ghost use Rattle.pim_base.specs.State.{IsState, IsTask, start, owner_of, wait_of};
 ghost use Rattle.pim_base.specs.Steps.{reply_of};
-ghost use Rattle.pim_import.specs.Replays.{Continues, awaited, mutex_of, outside_of, at_start, with_step, with_outside, IsReplayFault};
+ghost use Rattle.pim_base.specs.declared.lines.Verdict.{Verdict};
+ghost use Rattle.pim_import.specs.Replays.{Continues, trace_of_replay, awaited, mutex_of, outside_of, at_start, with_step, with_outside, IsReplayFault};
 
 use crate::fault::ReplayFault;
 use pim_base::{Entry, MutexNo, Prio, Protocol, Reply, Step, TaskNo, Wait, nth};
@@ -76,10 +78,12 @@ impl Replay {
         })
     }
 
-    /// Returns the steps, each with its reply, in order. They are a run of the model.
+    /// Returns the steps, each with its reply, in order. They are a run of the model, so `pim` accepts the trace that they
+    /// are.
     pub fn entries(&self) -> &[Entry]
         ensures entries { result.now ≡ self.now.entries }
         ensures run { IsRun self.now.start self.now.entries self.now.state }
+        ensures accepted { verdict_of (trace_of_replay self.now) ≡ Verdict.Accepted (length self.now.entries) }
     {
         self.entries.as_slice()
     }
@@ -243,7 +247,7 @@ impl Replay {
     }
 
     /// Returns what the task waits for outside of the queues.
-    fn outside_wait(&self, task: TaskNo) -> Option<Wait>
+    pub(crate) fn outside_wait(&self, task: TaskNo) -> Option<Wait>
         ensures { result ≡ outside_of self.now task }
     {
         nth(&self.outside, task.get()).flatten()

@@ -1,0 +1,172 @@
+//! The numbers that threads and mutexes have in a trace.
+
+use crate::cast::{Cast, Part};
+use crate::course::Sources;
+use crate::family::Family;
+use crate::fault::{ImportFault, SharingFault};
+use crate::lists::push;
+use crate::sharing::share;
+use crate::span::Span;
+use pim_base::{MAX_MUTEXES, MAX_TASKS};
+use std::alloc::{AllocError, Global};
+
+/// The numbers that threads and mutexes have in a trace.
+#[derive(Drop)]
+pub struct Numbering {
+    /// The tasks of threads.
+    pub threads: Numbers,
+    /// The mutexes of mutexes of the log.
+    pub mutexes: Numbers,
+}
+
+/// The numbers that threads have in a trace, or mutexes, from 1 on.
+#[derive(Drop)]
+pub struct Numbers {
+    /// By thread or mutex of the log. 0: it takes no part.
+    of_each: Vec<u16>,
+    /// For each number from 1 on, the first that has it.
+    pub firsts: Vec<u32>,
+}
+
+impl Numbering {
+    /// Returns the numbers of those who take part. Each has a number of its own if there are enough, else those whose
+    /// times don't meet share one: threads, and mutexes of the same protocol.
+    ///
+    /// # Errors
+    ///
+    /// Returns `Crowded` if more than 256 threads or mutexes take part at one time, and `Memory` if out of memory.
+    pub fn of(alloc: Global, sources: &Sources, cast: &Cast) -> Result<Numbering, ImportFault> {
+        let mut threads = Numbers::new(alloc, cast.threads.len())?;
+        let everyone = in_order(alloc, &cast.threads)?;
+        threads.give(alloc, &everyone, &cast.threads, MAX_TASKS as usize)?;
+        let mut mutexes = Numbers::new(alloc, cast.mutexes.len())?;
+        let all = in_order(alloc, &cast.mutexes)?;
+        if all.len() <= MAX_MUTEXES as usize {
+            mutexes.give(alloc, &all, &cast.mutexes, MAX_MUTEXES as usize)?;
+        } else {
+            for family in [Family::None, Family::Inherit, Family::Protect] {
+                let some = of_family(alloc, sources, &all, family)?;
+                mutexes.give(alloc, &some, &cast.mutexes, MAX_MUTEXES as usize)?;
+            }
+        }
+        Ok(Numbering { threads, mutexes })
+    }
+}
+
+impl Numbers {
+    /// Returns that none has a number.
+    fn new(alloc: Global, count: usize) -> Result<Numbers, AllocError> {
+        Ok(Numbers {
+            of_each: vec![in alloc; 0; count]?,
+            firsts: Vec::new(alloc),
+        })
+    }
+
+    /// Returns the number in the trace of a thread or a mutex of the log. 0: it takes no part.
+    pub fn of(&self, one: u32) -> u16 {
+        self.of_each.get(one as usize).copied().unwrap_or(0)
+    }
+
+    /// Returns how many threads or mutexes of the log have a number.
+    pub fn count(&self) -> u64 {
+        let mut count = 0u64;
+        for number in &self.of_each {
+            count = count.saturating_add(u64::from(*number != 0));
+        }
+        count
+    }
+
+    /// Gives numbers above those given so far to these, which are in the order in which they begin to take part.
+    fn give(
+        &mut self,
+        alloc: Global,
+        some: &[(u64, u32)],
+        parts: &[Part],
+        limit: usize,
+    ) -> Result<(), ImportFault> {
+        let given = self.firsts.len();
+        let room = limit.saturating_sub(given);
+        let numbers = numbers_of(alloc, some, parts, room)?;
+        for place in 0..some.len() {
+            let (_begin, one) = some[place];
+            let number = match numbers.get(place) {
+                Some(number) => given.saturating_add(*number),
+                None => 0,
+            };
+            if number >= self.firsts.len() {
+                push(&mut self.firsts, one)?;
+            }
+            if (one as usize) < self.of_each.len() {
+                self.of_each[one as usize] = number.min(65534) as u16 + 1;
+            }
+        }
+        Ok(())
+    }
+}
+
+/// Returns a number from 0 on for each: its own if there is room for all, else one that those share whose times don't
+/// meet.
+fn numbers_of(
+    alloc: Global,
+    some: &[(u64, u32)],
+    parts: &[Part],
+    room: usize,
+) -> Result<Vec<usize>, ImportFault> {
+    let mut spans = Vec::with_capacity(alloc, some.len())?;
+    let is_shared = some.len() > room;
+    for place in 0..some.len() {
+        let (_begin, one) = some[place];
+        let own = Span {
+            first: place as u64,
+            last: u64::MAX,
+        };
+        let span = match parts.get(one as usize) {
+            Some(part) if is_shared => part.span,
+            _ => own,
+        };
+        push(&mut spans, span)?;
+    }
+    match share(alloc, &spans, room) {
+        Ok(numbers) => Ok(numbers),
+        Err(SharingFault::Memory) => Err(ImportFault::Memory),
+        Err(SharingFault::OutOfOrder(_) | SharingFault::Crowded(_)) => Err(ImportFault::Crowded),
+    }
+}
+
+/// Returns those who take part, in the order in which they begin to, each with the record that shows it first.
+fn in_order(alloc: Global, parts: &[Part]) -> Result<Vec<(u64, u32)>, AllocError> {
+    let mut some = Vec::new(alloc);
+    let count = parts.len().min(u32::MAX as usize) as u32;
+    for one in 0..count {
+        let first = parts[one as usize].span.first;
+        if first != 0 {
+            push(&mut some, (first, one))?;
+        }
+    }
+    some.sort_unstable();
+    Ok(some)
+}
+
+/// Returns the mutexes of these that have the protocol.
+fn of_family(
+    alloc: Global,
+    sources: &Sources,
+    all: &[(u64, u32)],
+    family: Family,
+) -> Result<Vec<(u64, u32)>, AllocError> {
+    let mut some = Vec::new(alloc);
+    for (first, one) in all {
+        if family_of(sources, *one) == family {
+            push(&mut some, (*first, *one))?;
+        }
+    }
+    Ok(some)
+}
+
+/// Returns the protocol of a mutex of the log.
+pub fn family_of(sources: &Sources, mutex: u32) -> Family {
+    match sources.subjects.mutex(mutex) {
+        Some(is) => is.family,
+        None => Family::None,
+    }
+}

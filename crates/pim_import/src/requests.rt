@@ -1,0 +1,246 @@
+//! The requests that a log lacks.
+//!
+//! A call that finds its mutex free puts no REQUEST. Where another thread was quicker the call waits all the same, which
+//! shows as a call that lasts while another is granted the mutex.
+
+use crate::lists::push;
+use crate::subjects::Subjects;
+use pim_log::{Event, Log, Record};
+use std::alloc::{AllocError, Global};
+
+/// A request that the log lacks.
+#[derive(Clone, Copy, Debug, PartialEq, Eq, PartialOrd, Ord)]
+pub struct Request {
+    /// The number of the record behind which it belongs: the first grant of the mutex to another since the call began.
+    pub after: u64,
+    pub thread: u32,
+    pub mutex: u32,
+}
+
+/// The requests that a log lacks, in the order of the records behind which they belong.
+#[derive(Drop)]
+pub struct Requests {
+    pub list: Vec<Request>,
+}
+
+/// The grants of each mutex, in order.
+#[derive(Drop)]
+struct Grants {
+    /// The numbers of the records, those of mutex 0 first.
+    numbers: Vec<u64>,
+    /// Where those of each mutex begin.
+    begins: Vec<u32>,
+    /// Behind the last one so far.
+    passed: Vec<u32>,
+}
+
+/// ETIMEDOUT of Linux.
+const TIMED_OUT: u8 = 110;
+
+/// The call of a GRANTED: trylock, which doesn't wait.
+const TRYLOCK: u8 = 1;
+
+/// The call of a GRANTED: the relock of a wait at a condition variable, whose begin isn't known.
+const CONDITION: u8 = 4;
+
+impl Requests {
+    /// Returns the requests that the log lacks. If it lacks some, that takes eight bytes a grant until it returns.
+    ///
+    /// # Errors
+    ///
+    /// Returns `AllocError` if out of memory.
+    pub fn of(alloc: Global, log: &Log, subjects: &Subjects) -> Result<Requests, AllocError> {
+        let mut list = Vec::new(alloc);
+        if !lacks_some(alloc, log, subjects)? {
+            return Ok(Requests { list });
+        }
+        let mut grants = Grants::of(alloc, log, subjects)?;
+        let mut asked = vec![in alloc; 0; subjects.threads.len()]?;
+        for number in 1..log.header().end() {
+            if let Some(record) = log.record(number) {
+                let mutex = subjects.of_record(number);
+                if lacks_request(&mut asked, &record, mutex) {
+                    if let Some(after) = grants.first_since(log, &record, mutex) {
+                        push(
+                            &mut list,
+                            Request {
+                                after,
+                                thread: record.thread,
+                                mutex,
+                            },
+                        )?;
+                    }
+                }
+                grants.pass(&record, mutex);
+            }
+        }
+        list.sort_unstable();
+        Ok(Requests { list })
+    }
+}
+
+/// Returns whether a call that put no REQUEST lasted while its mutex was granted.
+fn lacks_some(alloc: Global, log: &Log, subjects: &Subjects) -> Result<bool, AllocError> {
+    let mut asked = vec![in alloc; 0; subjects.threads.len()]?;
+    let mut latest = vec![in alloc; 0u64; subjects.mutexes.len()]?;
+    for number in 1..log.header().end() {
+        if let Some(record) = log.record(number) {
+            let subject = subjects.of_record(number);
+            let mutex = subject as usize;
+            if mutex < latest.len() {
+                if lacks_request(&mut asked, &record, subject) && latest[mutex] > began(&record) {
+                    return Ok(true);
+                }
+                if record.event == Event::Granted {
+                    latest[mutex] = latest[mutex].max(record.time);
+                }
+            }
+        }
+    }
+    Ok(false)
+}
+
+/// Returns when the call began that ends with this record.
+fn began(record: &Record) -> u64 {
+    record.time.saturating_sub(record.value as u64)
+}
+
+/// Returns whether a call ends with this record that may have waited, and put no REQUEST.
+fn lacks_request(asked: &mut Vec<u32>, record: &Record, mutex: u32) -> bool {
+    let thread = record.thread as usize;
+    if thread >= asked.len() {
+        return false;
+    }
+    match &record.event {
+        Event::Request => {
+            asked[thread] = mutex;
+            false
+        }
+        Event::Granted => {
+            let has_asked = asked[thread] == mutex;
+            asked[thread] = 0;
+            let call = record.how & 127;
+            !has_asked && call != TRYLOCK && call != CONDITION && record.value > 0
+        }
+        Event::Failed => {
+            let has_asked = asked[thread] == mutex;
+            asked[thread] = 0;
+            !has_asked && record.how == TIMED_OUT && record.value > 0
+        }
+        _ => false,
+    }
+}
+
+impl Grants {
+    /// Returns the grants of each mutex of the log.
+    fn of(alloc: Global, log: &Log, subjects: &Subjects) -> Result<Grants, AllocError> {
+        let mutexes = subjects.mutexes.len();
+        let mut begins = vec![in alloc; 0; mutexes]?;
+        for number in 1..log.header().end() {
+            if is_grant(log, number) {
+                add(&mut begins, subjects.of_record(number), 1);
+            }
+        }
+        let total = begin_each(&mut begins);
+        let mut passed = vec![in alloc; 0; mutexes]?;
+        copy(&begins, &mut passed);
+        let mut numbers = vec![in alloc; 0; total as usize]?;
+        for number in 1..log.header().end() {
+            if is_grant(log, number) {
+                let mutex = subjects.of_record(number);
+                let place = get(&passed, mutex) as usize;
+                if place < numbers.len() {
+                    numbers[place] = number;
+                }
+                add(&mut passed, mutex, 1);
+            }
+        }
+        copy(&begins, &mut passed);
+        Ok(Grants {
+            numbers,
+            begins,
+            passed,
+        })
+    }
+
+    /// Goes past a record.
+    fn pass(&mut self, record: &Record, mutex: u32) {
+        if record.event == Event::Granted {
+            add(&mut self.passed, mutex, 1);
+        }
+    }
+
+    /// Returns the number of the first grant of the mutex since the call of this record began, and before the record.
+    fn first_since(&self, log: &Log, record: &Record, mutex: u32) -> Option<u64> {
+        let began = began(record);
+        let begin = get(&self.begins, mutex);
+        let end = get(&self.passed, mutex);
+        let (mut low, mut high) = (begin, end);
+        // Halves what is left, which has at most 2^32 places.
+        for _round in 0..33 {
+            if low >= high {
+                break;
+            }
+            let middle = low + (high - low) / 2;
+            if self.time(log, middle) > began {
+                high = middle;
+            } else {
+                low = middle + 1;
+            }
+        }
+        if low >= end {
+            return None;
+        }
+        let number = self.numbers.get(low as usize).copied()?;
+        if log.record(number)?.thread == record.thread {
+            return None;
+        }
+        Some(number)
+    }
+
+    fn time(&self, log: &Log, place: u32) -> u64 {
+        match self.numbers.get(place as usize) {
+            Some(number) => match log.record(*number) {
+                Some(record) => record.time,
+                None => 0,
+            },
+            None => 0,
+        }
+    }
+}
+
+fn is_grant(log: &Log, number: u64) -> bool {
+    match log.record(number) {
+        Some(record) => record.event == Event::Granted,
+        None => false,
+    }
+}
+
+/// Turns how many each has into where each begins, and returns how many there are in all.
+fn begin_each(counts: &mut Vec<u32>) -> u32 {
+    let mut begin = 0u32;
+    for place in 0..counts.len() {
+        let count = counts[place];
+        counts[place] = begin;
+        begin = begin.saturating_add(count);
+    }
+    begin
+}
+
+fn copy(from: &[u32], to: &mut Vec<u32>) {
+    for place in 0..to.len() {
+        if place < from.len() {
+            to[place] = from[place];
+        }
+    }
+}
+
+fn get(list: &[u32], place: u32) -> u32 {
+    list.get(place as usize).copied().unwrap_or(0)
+}
+
+fn add(list: &mut Vec<u32>, place: u32, count: u32) {
+    if (place as usize) < list.len() {
+        list[place as usize] = list[place as usize].saturating_add(count);
+    }
+}

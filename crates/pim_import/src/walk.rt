@@ -1,0 +1,79 @@
+//! The way through a log, record by record.
+
+use crate::course::{Course, Sources};
+use crate::sight::{LeftOut, Sight};
+use crate::subjects::Subjects;
+use pim_log::Log;
+use std::alloc::{AllocError, Global};
+
+/// The way through a log, up to a record.
+#[derive(Drop)]
+pub struct Walk {
+    /// What the program has after that record.
+    pub course: Course,
+    /// How many of the requests that the log lacks were added.
+    added: usize,
+}
+
+/// When a record was put, and what becomes of it.
+#[derive(Clone, Copy, Debug, PartialEq, Eq)]
+pub struct Moment {
+    /// CLOCK_MONOTONIC in nanoseconds.
+    pub time: u64,
+    /// Why the record is left out if nothing that it shows is in the trace.
+    pub otherwise: LeftOut,
+}
+
+impl Walk {
+    /// Returns the way at its begin.
+    ///
+    /// # Errors
+    ///
+    /// Returns `AllocError` if out of memory.
+    pub fn new(alloc: Global, subjects: &Subjects) -> Result<Walk, AllocError> {
+        Ok(Walk {
+            course: Course::new(alloc, subjects)?,
+            added: 0,
+        })
+    }
+
+    /// Returns what the record or the request shows by which the way went on last.
+    pub fn shown(&self) -> &[Sight] {
+        self.course.shown.as_slice()
+    }
+
+    /// Goes on by the record with this number.
+    pub fn read(&mut self, log: &Log, sources: &Sources, number: u64) -> Moment {
+        self.course.shown.clear();
+        match log.record(number) {
+            Some(record) => Moment {
+                time: record.time,
+                otherwise: self.course.advance(sources, &record),
+            },
+            None => Moment {
+                time: 0,
+                otherwise: LeftOut::Absent,
+            },
+        }
+    }
+
+    /// Returns how many requests the log lacks behind the record with this number.
+    pub fn lacking(&self, sources: &Sources, number: u64) -> usize {
+        let list = &sources.requests.list;
+        for place in self.added..list.len() {
+            if list[place].after != number {
+                return place - self.added;
+            }
+        }
+        list.len().saturating_sub(self.added)
+    }
+
+    /// Goes on by the next request that the log lacks.
+    pub fn add(&mut self, sources: &Sources) {
+        self.course.shown.clear();
+        if let Some(request) = sources.requests.list.get(self.added) {
+            self.added = self.added.saturating_add(1);
+            self.course.add_request(request.thread, request.mutex);
+        }
+    }
+}
