@@ -1,11 +1,13 @@
-/* inversion [none|inherit]: the classic priority inversion, on one CPU. A thread low (10) owns a
- * mutex, high (30) waits for it, and medium (20) computes meanwhile. With NONE, medium keeps low
- * from its unlock, and so holds up high; with INHERIT, low runs at 30 until it has unlocked. */
+/* inversion [none|inherit [MILLISECONDS]]: the classic priority inversion, on one CPU. A thread low
+ * (10) owns a mutex, high (30) waits for it, and medium (20) computes meanwhile, for 100 ms unless
+ * told. With NONE, medium keeps low from its unlock, and so holds up high; with INHERIT, low runs at
+ * 30 until it has unlocked. */
 #define _GNU_SOURCE
 #include "common.h"
 
 static pthread_mutex_t mutex;
 static sem_t is_owned;
+static long medium_computes = 100;
 
 static void compute(long milliseconds) {
     struct timespec until = after(CLOCK_MONOTONIC, milliseconds), now;
@@ -25,7 +27,7 @@ static void *low(void *unused) {
 
 static void *medium(void *unused) {
     pthread_setname_np(pthread_self(), "medium");
-    compute(100);
+    compute(medium_computes);
     return unused;
 }
 
@@ -38,6 +40,7 @@ static void *high(void *unused) {
 
 int main(int count, char **arguments) {
     bool is_none = count > 1 && strcmp(arguments[1], "none") == 0;
+    if (count > 2) medium_computes = atol(arguments[2]);
     stay_on_one_cpu();
     be_real_time(50);
     sem_init(&is_owned, 0, 0);

@@ -1,0 +1,53 @@
+//! Why a log isn't imported.
+
+use pim_import::ImportFault;
+use pim_log::LogFault;
+use std::alloc::AllocError;
+use thiserror::Error;
+
+/// Why a log isn't imported. No trace is written then, but for `Write`.
+#[derive(Debug, Error, Drop)]
+pub enum Fault {
+    /// The log can't be read.
+    #[error("{0}: it can't be read")]
+    Read(String),
+    /// A trace, the names or the findings can't be written.
+    #[error("the results can't be written")]
+    Write,
+    /// The file is no log.
+    #[error("{0}")]
+    Log(LogFault),
+    /// The log can't be told as a trace.
+    #[error("{0}")]
+    Import(ImportFault),
+    /// An argument isn't text.
+    #[error("an argument is not UTF-8")]
+    Argument,
+    /// Out of memory.
+    #[error("memory")]
+    Memory,
+}
+
+impl From<AllocError> for Fault {
+    fn from(_error: AllocError) -> Fault {
+        Fault::Memory
+    }
+}
+
+impl From<LogFault> for Fault {
+    fn from(fault: LogFault) -> Fault {
+        match fault {
+            LogFault::Memory => Fault::Memory,
+            other => Fault::Log(other),
+        }
+    }
+}
+
+impl From<ImportFault> for Fault {
+    fn from(fault: ImportFault) -> Fault {
+        match fault {
+            ImportFault::Memory => Fault::Memory,
+            other => Fault::Import(other),
+        }
+    }
+}

@@ -1,0 +1,180 @@
+//! The log that is read, and the files that are written.
+ghost use Rattle.std.specs.Prelude.{IfOk};
+ghost use Rattle.pim_base.specs.Texts.{IsWithinLimits};
+ghost use Rattle.pim_text.specs.Reading.{trace_of};
+
+use crate::fault::Fault;
+use crate::labels::Labels;
+use crate::names::write_table;
+use pim_base::{MAX_STEPS, Protocol};
+use pim_import::{Imported, Piece, Replay};
+use pim_judge::{Output, Text, parse, print_trace};
+use pim_log::{HEADER_BYTES, used_bytes};
+use std::alloc::{AllocError, Global};
+use std::fs::{File, OpenFile};
+use std::io::{BufWriter, Read, Write};
+use std::rt::Files;
+use std::{fs, io};
+
+/// Reads what is used of a log. The file has holes, and is longer.
+///
+/// # Errors
+///
+/// Returns `Read` if the file can't be read, `Log` if it doesn't begin with a header, and `Memory` if out of memory.
+pub fn read_log(rt: &HostRuntime, alloc: Global, path: &str) -> Result<Vec<u8>, Fault> {
+    let Ok(mut file) = fs::open(rt, path) else {
+        return Err(Fault::Read(String::from_str(alloc, path)?));
+    };
+    let length = match file.metadata() {
+        Ok(metadata) => metadata.len(),
+        Err(_) => 0,
+    };
+    let mut bytes = vec![in alloc; 0; length.min(HEADER_BYTES as u64) as usize]?;
+    if fill(&mut file, &mut bytes, 0).is_err() {
+        return Err(Fault::Read(String::from_str(alloc, path)?));
+    }
+    let used = match used_bytes(&bytes) {
+        Ok(used) => used,
+        Err(fault) => return Err(Fault::Log(pim_log::LogFault::Header(fault))),
+    };
+    let mut all = vec![in alloc; 0; (used as u64).min(length) as usize]?;
+    let begin = bytes.len().min(all.len());
+    all[..begin].copy_from_slice(&bytes[..begin]);
+    if fill(&mut file, &mut all, begin).is_err() {
+        return Err(Fault::Read(String::from_str(alloc, path)?));
+    }
+    Ok(all)
+}
+
+/// Reads into the bytes from a place on, until they are full or the file ends.
+fn fill(file: &mut File, bytes: &mut [u8], from: usize) -> io::Result<()> {
+    let mut begin = from;
+    for _read in 0..u64::MAX {
+        if begin >= bytes.len() {
+            break;
+        }
+        match file.read(&mut bytes[begin..]) {
+            Ok(0) => break,
+            Ok(count) => begin = begin.saturating_add(count),
+            Err(error) if error.kind() == io::ErrorKind::Interrupted => {}
+            Err(error) => return Err(error),
+        }
+    }
+    Ok(())
+}
+
+/// Writes each piece of the trace to its file, and removes further pieces of an earlier import.
+///
+/// # Errors
+///
+/// Returns `Write` if a file can't be written, and `Memory` if out of memory.
+pub fn write_traces(
+    rt: &HostRuntime,
+    alloc: Global,
+    log: &str,
+    imported: &Imported,
+) -> Result<(), Fault> {
+    let pieces = &imported.performed.pieces;
+    for place in 0..pieces.len() {
+        let path = path_of(alloc, log, place)?;
+        write_trace(rt, alloc, path.as_str(), &pieces[place])?;
+    }
+    for place in pieces.len()..usize::MAX {
+        let path = path_of(alloc, log, place)?;
+        if fs::remove_file(rt, path.as_str()).is_err() {
+            break;
+        }
+    }
+    Ok(())
+}
+
+/// Returns the path of a piece's trace, by its place from 0 on.
+pub fn path_of(alloc: Global, log: &str, place: usize) -> Result<String, AllocError> {
+    if place == 0 {
+        format!(in alloc; "{log}.pim")
+    } else {
+        let number = place.saturating_add(1);
+        format!(in alloc; "{log}.{number}.pim")
+    }
+}
+
+fn write_trace(rt: &HostRuntime, alloc: Global, path: &str, piece: &Piece) -> Result<(), Fault> {
+    let Ok(file) = fs::create(rt, path) else {
+        return Err(Fault::Write);
+    };
+    let mut writer = Output::new(file);
+    let text = declarations_of(alloc, &piece.replay)?;
+    match print_trace(alloc, &mut writer, &text, piece.replay.entries()) {
+        Ok(()) => Ok(()),
+        Err(pim_judge::Fault::Memory) => Err(Fault::Memory),
+        Err(_) => Err(Fault::Write),
+    }
+}
+
+/// Returns the text of what a piece declares. It is written and read again, so that its trace has only lines that `pim`
+/// takes.
+fn declarations_of(alloc: Global, replay: &Replay) -> Result<Text, Fault>
+    ensures { IfOk result (λ text. IsWithinLimits (trace_of text)) }
+{
+    let spelled = spelled_declarations(alloc, replay)?;
+    let text = match parse(alloc, spelled.as_bytes()) {
+        Ok(text) => text,
+        Err(pim_judge::Fault::Memory) => return Err(Fault::Memory),
+        Err(_) => return Err(Fault::Write),
+    };
+    let is_same = text.bases.as_slice() == replay.bases()
+        && text.protocols.as_slice() == replay.protocols()
+        && replay.entries().len() <= MAX_STEPS as usize;
+    if is_same { Ok(text) } else { Err(Fault::Write) }
+}
+
+/// Returns the lines of what a piece declares.
+fn spelled_declarations(alloc: Global, replay: &Replay) -> Result<String, AllocError> {
+    let mut out = String::from_str(alloc, "pim 2\n")?;
+    let mut number = 0u32;
+    for base in replay.bases() {
+        number = number.saturating_add(1);
+        writeln!(out, "task {number} {}", base.get())?;
+    }
+    number = 0;
+    for protocol in replay.protocols() {
+        number = number.saturating_add(1);
+        match protocol {
+            Protocol::None => writeln!(out, "mutex {number} none")?,
+            Protocol::Inherit => writeln!(out, "mutex {number} inherit")?,
+            Protocol::InheritRecursive => writeln!(out, "mutex {number} inherit recursive")?,
+            Protocol::Protect(ceiling) => writeln!(
+                out,
+                "mutex {number} protect {}",
+                ceiling.get()
+            )?,
+        }
+    }
+    Ok(out)
+}
+
+/// Writes the names of the numbers.
+///
+/// # Errors
+///
+/// Returns `Write` if the file can't be written, and `Memory` if out of memory.
+pub fn write_names(
+    rt: &HostRuntime,
+    alloc: Global,
+    log: &str,
+    imported: &Imported,
+    labels: &Labels,
+) -> Result<(), Fault> {
+    let path = format!(in alloc; "{log}.names")?;
+    let Ok(file) = fs::create(rt, path.as_str()) else {
+        return Err(Fault::Write);
+    };
+    let Ok(mut writer) = BufWriter::new(alloc, file) else {
+        return Err(Fault::Memory);
+    };
+    let written = write_table(&mut writer, alloc, imported, labels);
+    if written.is_err() || writer.flush().is_err() {
+        return Err(Fault::Write);
+    }
+    Ok(())
+}

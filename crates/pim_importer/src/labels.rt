@@ -1,0 +1,208 @@
+//! What the log says of its threads, mutexes and files: names and places.
+
+use pim_import::{LoggedMutex, Subjects};
+use pim_log::{Event, Log, Record};
+use std::alloc::{AllocError, Global};
+
+/// A name of a thread, of at most 22 bytes. Linux has at most 15.
+#[derive(Clone, Copy)]
+pub struct ThreadName {
+    bytes: [u8; 22],
+    length: u8,
+}
+
+/// A loaded file.
+#[derive(Drop)]
+pub struct Module {
+    /// Its process.
+    process: u32,
+    /// Where it is in memory.
+    address: u64,
+    /// Its path.
+    path: String,
+}
+
+/// What the texts of a thread belong to.
+#[derive(Clone, Copy, PartialEq, Eq)]
+enum Pending {
+    Nothing,
+    /// The name of a thread.
+    Name(u32),
+    /// The path of a module, by its place in the list.
+    Module(usize),
+    /// The place of the initialisation of a mutex.
+    Init(u32),
+}
+
+/// What the log says of its threads, mutexes and files.
+#[derive(Drop)]
+pub struct Labels {
+    /// By thread.
+    names: Vec<ThreadName>,
+    /// By mutex where in the code it was initialised, or 0.
+    places: Vec<u64>,
+    modules: Vec<Module>,
+    /// By thread what its next record belongs to.
+    pending: Vec<Pending>,
+}
+
+const UNNAMED: ThreadName = ThreadName {
+    bytes: [0; 22],
+    length: 0,
+};
+
+/// An address further than this from the begin of a file isn't in it.
+const MODULE_BYTES: u64 = 1 << 24;
+
+impl Labels {
+    /// Returns what the log says.
+    ///
+    /// # Errors
+    ///
+    /// Returns `AllocError` if out of memory.
+    pub fn of(alloc: Global, log: &Log, subjects: &Subjects) -> Result<Labels, AllocError> {
+        let mut labels = Labels {
+            names: vec![in alloc; UNNAMED; subjects.threads.len()]?,
+            places: vec![in alloc; 0; subjects.mutexes.len()]?,
+            modules: Vec::new(alloc),
+            pending: vec![in alloc; Pending::Nothing; subjects.threads.len()]?,
+        };
+        for number in 1..log.header().end() {
+            if let Some(record) = log.record(number) {
+                labels.read(alloc, subjects, &record)?;
+            }
+        }
+        Ok(labels)
+    }
+
+    fn read(
+        &mut self,
+        alloc: Global,
+        subjects: &Subjects,
+        record: &Record,
+    ) -> Result<(), AllocError> {
+        let thread = record.thread as usize;
+        if thread >= self.pending.len() {
+            return Ok(());
+        }
+        let pending = self.pending[thread];
+        match &record.event {
+            Event::Text => return self.read_text(pending, record),
+            Event::Place => {
+                if let Pending::Init(mutex) = pending {
+                    if (mutex as usize) < self.places.len() {
+                        self.places[mutex as usize] = record.object;
+                    }
+                }
+                self.pending[thread] = Pending::Nothing;
+            }
+            Event::Name => {
+                let named = subjects.of_record(record.number);
+                if (named as usize) < self.names.len() {
+                    self.names[named as usize] = UNNAMED;
+                }
+                self.pending[thread] = Pending::Name(named);
+            }
+            Event::Module => {
+                self.pending[thread] = Pending::Module(self.modules.len());
+                let module = Module {
+                    process: record.process,
+                    address: record.object,
+                    path: String::new(alloc),
+                };
+                if self.modules.push(module).is_err() {
+                    return Err(AllocError);
+                }
+            }
+            Event::Init => {
+                self.pending[thread] = Pending::Init(subjects.of_record(record.number));
+            }
+            _ => self.pending[thread] = Pending::Nothing,
+        }
+        Ok(())
+    }
+
+    /// Adds a part of a text.
+    fn read_text(&mut self, pending: Pending, record: &Record) -> Result<(), AllocError> {
+        let (bytes, length) = text_in(record);
+        match pending {
+            Pending::Name(thread) => {
+                let thread = thread as usize;
+                if 0 < thread && thread < self.names.len() && self.names[thread].length == 0 {
+                    self.names[thread] = ThreadName { bytes, length };
+                }
+            }
+            Pending::Module(place) => {
+                if place < self.modules.len() {
+                    let end = (length as usize).min(22);
+                    put_text(&mut self.modules[place].path, &bytes[..end])?;
+                }
+            }
+            Pending::Nothing | Pending::Init(_) => {}
+        }
+        Ok(())
+    }
+
+    /// Writes the name of a thread, or nothing if it has none.
+    pub fn put_name(&self, out: &mut String, thread: u32) -> Result<(), AllocError> {
+        match self.names.get(thread as usize) {
+            Some(name) => put_text(out, &name.bytes[..(name.length as usize).min(22)]),
+            None => Ok(()),
+        }
+    }
+
+    /// Writes where a mutex was initialised, or where it is if it was initialised statically: the file and the offset
+    /// there, or an address.
+    pub fn put_place(
+        &self,
+        out: &mut String,
+        number: u32,
+        mutex: &LoggedMutex,
+    ) -> Result<(), AllocError> {
+        let place = self.places.get(number as usize).copied().unwrap_or(0);
+        let address = if place == 0 { mutex.address } else { place };
+        match self.module_of(mutex.process, address) {
+            Some(module) => {
+                let offset = address.saturating_sub(module.address);
+                let file = module.path.as_str().rsplit('/').next().unwrap_or("?");
+                write!(out, "{file}+0x{offset:x}")
+            }
+            None => write!(out, "0x{address:x}"),
+        }
+    }
+
+    /// Returns the file that is loaded at an address.
+    fn module_of(&self, process: u32, address: u64) -> Option<&Module> {
+        let mut found: Option<&Module> = None;
+        for module in &self.modules {
+            let is_there = module.address <= address && address - module.address < MODULE_BYTES;
+            let is_nearer = match found {
+                Some(other) => other.address < module.address,
+                None => true,
+            };
+            if (process == 0 || module.process == process) && is_there && is_nearer {
+                found = Some(module);
+            }
+        }
+        found
+    }
+}
+
+/// Returns the bytes of a part of a text, and how many there are.
+fn text_in(record: &Record) -> ([u8; 22], u8) {
+    let mut bytes = [0; 22];
+    bytes[..8].copy_from_slice(&record.time.to_le_bytes());
+    bytes[8..16].copy_from_slice(&record.object.to_le_bytes());
+    bytes[16..20].copy_from_slice(&record.value.to_le_bytes());
+    bytes[20..].copy_from_slice(&record.detail.to_le_bytes());
+    (bytes, record.how.min(22))
+}
+
+/// Adds bytes to a text, with a dot for each that is no letter, digit or sign of ASCII.
+fn put_text(out: &mut String, bytes: &[u8]) -> Result<(), AllocError> {
+    for byte in bytes {
+        let shown = if byte.is_ascii_graphic() { *byte } else { b'.' };
+        out.push(shown as char)?;
+    }
+    Ok(())
+}

@@ -1,0 +1,84 @@
+//! The program `pim-import`: makes a trace of a log of pim-record, and says what is found in it.
+//!
+//! It reads the log, passes it to `pim_import::import_log`, and writes the trace, the names and the findings. All
+//! decisions about the log are in `pim_import`, and are proved there. This crate has what no contract can say: the files,
+//! the texts and the process.
+#![tactic(auto)]
+
+mod arguments;
+mod fault;
+mod files;
+mod json_report;
+mod labels;
+mod names;
+mod report;
+mod words;
+
+use crate::arguments::{Arguments, Asked, read_arguments};
+use crate::fault::Fault;
+use crate::files::{read_log, write_names, write_traces};
+use crate::json_report::json_of;
+use crate::labels::Labels;
+use crate::report::report_of;
+use pim_import::import_log;
+use pim_log::Log;
+use std::alloc::Global;
+use std::io;
+use std::process::ExitCode;
+use std::rt::Files;
+
+/// The exit status where a wait that nothing bounds was found, or a deadlock.
+const FOUND: u8 = 1;
+
+/// The exit status for a fault, and for a wrong command line.
+const FAULT: u8 = 2;
+
+fn main(rt: HostRuntime) -> ExitCode {
+    match work(&rt) {
+        Ok(status) => ExitCode::from(status),
+        Err(fault) => {
+            // If not even this line can be written, the status reports the fault.
+            let _unwritten = eprintln!(&rt; "pim-import: {fault}");
+            ExitCode::from(FAULT)
+        }
+    }
+}
+
+/// Does what the arguments ask for, and returns the exit status.
+fn work(rt: &HostRuntime) -> Result<u8, Fault> {
+    match read_arguments(rt)? {
+        Asked::Import(arguments) => import(rt, rt.alloc(), &arguments),
+        Asked::Shown(status) => Ok(status),
+    }
+}
+
+/// Imports a log, and returns the exit status.
+fn import(rt: &HostRuntime, alloc: Global, arguments: &Arguments) -> Result<u8, Fault> {
+    let bytes = read_log(rt, alloc, arguments.log.as_str())?;
+    let log = Log::read(alloc, &bytes)?;
+    let imported = import_log(alloc, &log, arguments.is_all)?;
+    let labels = Labels::of(alloc, &log, &imported.sources.subjects)?;
+    write_traces(rt, alloc, arguments.log.as_str(), &imported)?;
+    write_names(rt, alloc, arguments.log.as_str(), &imported, &labels)?;
+    let text = if arguments.is_json {
+        json_of(alloc, &log, &imported, &labels)?
+    } else {
+        report_of(alloc, &log, &imported, &labels)?
+    };
+    if print(rt, &text).is_err() {
+        return Err(Fault::Write);
+    }
+    Ok(if imported.performed.findings.is_bad() {
+        FOUND
+    } else {
+        0
+    })
+}
+
+/// Writes a text to standard output.
+fn print(rt: &HostRuntime, text: &str) -> io::Result<()> {
+    use std::io::Write;
+    let mut writer = io::writer(rt);
+    writer.write_all(text.as_bytes())?;
+    writer.flush()
+}

@@ -1,0 +1,126 @@
+//! The table of names: which thread and which mutex has each number, and when each step happened.
+
+use crate::labels::Labels;
+use pim_import::{Entrance, Imported, Piece, family_of};
+use std::alloc::Global;
+use std::io;
+use std::io::Write;
+
+/// What the table is made from, and how many of those who appear are in it.
+#[derive(Clone, Copy)]
+struct Table<'a> {
+    imported: &'a Imported,
+    labels: &'a Labels,
+    entered: usize,
+}
+
+/// Writes the table. Its lines:
+///
+/// ```text
+/// piece NUMBER RESTORING          a piece of the trace begins, with so many steps that restore the state
+/// task NUMBER PROCESS/TASK NAME   the task is this thread from here on
+/// mutex NUMBER PROTOCOL ADDRESS PROCESS PLACE   likewise; process 0: shared between processes
+/// step NUMBER NANOSECONDS         when the step of the piece happened: CLOCK_MONOTONIC
+/// ```
+///
+/// # Errors
+///
+/// An error if the writer fails, or if out of memory.
+pub fn write_table<W: Write>(
+    out: &mut W,
+    alloc: Global,
+    imported: &Imported,
+    labels: &Labels,
+) -> io::Result<()> {
+    let mut table = Table {
+        imported,
+        labels,
+        entered: 0,
+    };
+    let mut before = 0u64;
+    let mut number = 0u64;
+    for piece in &imported.performed.pieces {
+        number = number.saturating_add(1);
+        writeln!(out, "piece {number} {}", piece.restoring)?;
+        table.write_steps(out, alloc, piece, before)?;
+        before = before.saturating_add(own_steps(piece));
+    }
+    table.write_entrances(out, alloc, u64::MAX)
+}
+
+fn own_steps(piece: &Piece) -> u64 {
+    piece.times.len().saturating_sub(piece.restoring) as u64
+}
+
+impl<'a> Table<'a> {
+    /// Writes the steps of a piece, each behind those who appear before it.
+    fn write_steps<W: Write>(
+        &mut self,
+        out: &mut W,
+        alloc: Global,
+        piece: &Piece,
+        before: u64,
+    ) -> io::Result<()> {
+        for step in 0..piece.times.len() {
+            if step >= piece.restoring {
+                let own = (step - piece.restoring) as u64;
+                self.write_entrances(out, alloc, before.saturating_add(own))?;
+            }
+            let number = step.saturating_add(1);
+            writeln!(out, "step {number} {}", piece.times[step])?;
+        }
+        Ok(())
+    }
+
+    /// Writes who appears up to a step.
+    fn write_entrances<W: Write>(
+        &mut self,
+        out: &mut W,
+        alloc: Global,
+        step: u64,
+    ) -> io::Result<()> {
+        let entrances = &self.imported.performed.entrances;
+        for place in self.entered..entrances.len() {
+            if entrances[place].step > step {
+                break;
+            }
+            self.write_entrance(out, alloc, &entrances[place])?;
+            self.entered = place.saturating_add(1);
+        }
+        Ok(())
+    }
+
+    fn write_entrance<W: Write>(
+        &self,
+        out: &mut W,
+        alloc: Global,
+        entrance: &Entrance,
+    ) -> io::Result<()> {
+        let subjects = &self.imported.sources.subjects;
+        let mut label = String::new(alloc);
+        if entrance.thread != 0 {
+            if let Some(thread) = subjects.threads.get(entrance.thread as usize) {
+                let number = self.imported.numbering.threads.of(entrance.thread);
+                self.labels.put_name(&mut label, entrance.thread)?;
+                writeln!(
+                    out,
+                    "task {number} {}/{} {label}",
+                    thread.process, thread.task
+                )?;
+            }
+        }
+        if entrance.mutex != 0 {
+            if let Some(mutex) = subjects.mutex(entrance.mutex) {
+                let number = self.imported.numbering.mutexes.of(entrance.mutex);
+                let family = family_of(&self.imported.sources, entrance.mutex).name();
+                self.labels.put_place(&mut label, entrance.mutex, mutex)?;
+                let (address, process) = (mutex.address, mutex.process);
+                writeln!(
+                    out,
+                    "mutex {number} {family} 0x{address:x} {process} {label}"
+                )?;
+            }
+        }
+        Ok(())
+    }
+}

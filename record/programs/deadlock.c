@@ -1,0 +1,36 @@
+/* Two threads that lock two NONE mutexes in opposite orders, so that each waits for the other until
+ * the program ends. */
+#define _GNU_SOURCE
+#include "common.h"
+
+static pthread_mutex_t first, second;
+static sem_t has_first, has_second;
+
+static void *one(void *unused) {
+    pthread_setname_np(pthread_self(), "one");
+    lock(&first);
+    sem_post(&has_first);
+    while (sem_wait(&has_second)) continue;
+    lock(&second);
+    return unused;
+}
+
+static void *two(void *unused) {
+    while (sem_wait(&has_first)) continue; /* so that one's records come first */
+    pthread_setname_np(pthread_self(), "two");
+    lock(&second);
+    sem_post(&has_second);
+    lock(&first);
+    return unused;
+}
+
+int main(void) {
+    sem_init(&has_first, 0, 0);
+    sem_init(&has_second, 0, 0);
+    make(&first, PTHREAD_PRIO_NONE, PTHREAD_MUTEX_NORMAL, 0);
+    make(&second, PTHREAD_PRIO_NONE, PTHREAD_MUTEX_NORMAL, 0);
+    start(one, NULL);
+    start(two, NULL);
+    rest(1000); /* until both wait */
+    return 0;
+}

@@ -1,0 +1,315 @@
+"""The part of tests/record that imports: each program of record/programs with the findings that it must have, real
+programs, damaged logs, and what the program pim-import says and writes."""
+import json
+import pathlib
+import random
+import re
+import shutil
+import struct
+import subprocess
+
+from checks import ROOT, check, difference, own_program, skip
+
+PROGRAMS, SECONDS, SKIPPED = ROOT / "record/out/programs", 600, 77
+IMPORTER, PIM = ROOT / "crates/pim_importer/out/pim_importer", ROOT / "crates/pim/out/pim"
+DURATION, MOMENT = r"\d+\.\d{3} (?:s|ms|us)", r"\d+\.\d{6} s"
+
+# Of each program what its findings have: the status, lines in order (expressions over the whole line, of which further
+# ones may lie between), and lines that may not be there.
+FINDINGS = {
+    "inversion none 2000": (1, [
+        rf"high\[\d+\], at 30, waited 2\.\d{{3}} s from {MOMENT} on for mutex 1 \(none\) of low\[\d+\], at 10: "
+        r"not bounded: mutex 1 is a NONE one",
+        rf"should inherit: mutex 1 \(none\), from inversion\+0x[0-9a-f]+: 1 wait not bounded, 2\.\d{{3}} s in all",
+        rf"owned: mutex 1 \(none\), from inversion\+0x[0-9a-f]+, 2\.\d{{3}} s at most, by low\[\d+\]; 1 wait",
+        r"trace: 2 threads and 1 mutex of 5 records make 4 steps of .*; priorities as they are, SCHED_OTHER at 1"],
+        ["and ", "out of order", "deadlock"]),
+    "inversion inherit 2000": (0, [
+        rf"high\[\d+\], at 30, waited \d+\.\d{{3}} ms from {MOMENT} on for mutex 1 \(inherit\) of low\[\d+\], at 10: "
+        "bounded by inheritance",
+        rf"owned: mutex 1 \(inherit\), from inversion\+0x[0-9a-f]+, \d+\.\d{{3}} ms at most, by low\[\d+\]; 1 wait"],
+        ["should inherit", "not bounded", "out of order", "deadlock"]),
+    "chain": (0, [
+        rf"chain\[\d+\], at 20, waited {DURATION} from {MOMENT} on for mutex 1 \(inherit\) of chain\[\d+\], at 10: "
+        "bounded by inheritance",
+        rf"chain\[\d+\], at 30, waited {DURATION} from {MOMENT} on for mutex 2 \(inherit\) of chain\[\d+\], at 20: "
+        "bounded by inheritance",
+        r"trace: 3 threads and 2 mutexes of 10 records make 8 steps of .*"],
+        ["not bounded", "out of order", "deadlock"]),
+    "ceiling": (0, [
+        rf"ceiling\[\d+\], at 30, waited {DURATION} from {MOMENT} on for mutex 1 \(protect\) of ceiling\[\d+\], at 20: "
+        "bounded by the ceiling",
+        r"left out: 2 records of calls that weren't granted the mutex and didn't wait"],
+        ["not bounded", "deadlock"]),
+    "recursive": (0, [
+        rf"recursive\[\d+\], at SCHED_OTHER, waited {DURATION} from {MOMENT} on for mutex 1 \(inherit\) of "
+        r"recursive\[\d+\], at SCHED_OTHER: no inversion",
+        r"left out: 4 records of locks and unlocks of a mutex that their thread keeps"],
+        ["not bounded", "deadlock"]),
+    "condition": (0, [
+        "left out: 1 record of releases that the system refused"],
+        ["not bounded", "deadlock", "left out: 1 record of releases by"]),
+    "forks": (0, ["no thread waited for a mutex"], ["deadlock"]),
+    "aborts": (0, [
+        rf"aborts\[\d+\], at SCHED_OTHER, waits {DURATION} from {MOMENT} to the end for mutex 1 \(none\) of "
+        r"aborts\[\d+\], at SCHED_OTHER: no inversion"],
+        ["not bounded", "deadlock"]),
+    "deadlock": (1, [
+        r"deadlock: one\[\d+\] waits for mutex 2 \(none\) of two\[\d+\], two\[\d+\] waits for mutex 1 \(none\) of one\[\d+\]"],
+        ["not bounded"]),
+    "many": (0, [r"trace: .*; priorities as they are, SCHED_OTHER at 1"], ["not bounded", "deadlock"]),
+}
+# Recordings that are kept, of the programs above.
+STORED = {"chain": "chain", "ceiling": "ceiling", "recursive": "recursive", "condition": "condition",
+          "forks": "forks", "aborts": "aborts", "deadlock": "deadlock", "inversion inherit 2000": "inversion_inherit"}
+# Programs whose threads race: pim accepts their traces, and that is all that is known.
+RACING = ("random 1 400", "random 2 400", "signals", "robust", "waits", "executes", "vforks")
+
+
+def run(*command, **how):
+    return subprocess.run([str(word) for word in command], capture_output=True, timeout=SECONDS, **how)
+
+
+class Import:
+    """A log that is imported: the status, the lines, and what pim says of the pieces."""
+
+    def __init__(self, log, *options):
+        self.log = pathlib.Path(log)
+        done = run(IMPORTER, *options, log)
+        self.status, self.text = done.returncode, done.stdout.decode()
+        self.lines, self.said = self.text.splitlines(), done.stderr.decode()
+
+    def pieces(self):
+        names = [self.log.name + ".pim"]
+        while self.log.with_name(f"{self.log.name}.{len(names) + 1}.pim").exists():
+            names.append(f"{self.log.name}.{len(names) + 1}.pim")
+        return [self.log.with_name(name) for name in names]
+
+    def uncounted(self):
+        """Returns how many numbers of the log are neither in the trace nor left out: none."""
+        used = int(re.search(r" of (\d+) records? make", self.lines[-1])[1])
+        left = sum(int(line.split()[2]) for line in self.lines if line.startswith("left out: "))
+        with open(self.log, "rb") as file:
+            head = file.read(4096)
+        numbers = (struct.unpack_from("<Q", head, 216)[0] or struct.unpack_from("<Q", head, 128)[0]) - 1
+        return None if used + left == numbers else f"{used} used and {left} left out of {numbers}"
+
+    def rejected(self):
+        """Returns why a piece isn't accepted."""
+        for piece in self.pieces():
+            with open(piece, "rb") as text:
+                done = run(PIM, stdin=text)
+            if done.returncode:
+                last = (done.stdout.splitlines() or [b""])[-1].decode()
+                return f"{piece.name}: {last} {done.stderr.decode()}"
+        return None
+
+
+def missing(lines, wanted, unwanted):
+    """Returns what the lines lack or have too much."""
+    rest = iter(lines)
+    for expression in wanted:
+        if not any(re.fullmatch(expression, line) for line in rest):
+            return f"no line {expression!r} in {lines}"
+    for begin in unwanted:
+        for line in lines:
+            if line.startswith(begin) or (begin == "not bounded" and begin in line):
+                return f"a line {line!r}"
+    return None
+
+
+def record(folder, *command):
+    """Records a program. Returns the log, which isn't there if the recording failed, and the program's status."""
+    log = pathlib.Path(folder, "log")
+    log.unlink(missing_ok=True)
+    return log, run(ROOT / "record/pim-record", "-o", log, *command).returncode
+
+
+def record_own(folder, command):
+    """Records a program of record/programs, as `record` does."""
+    name, *words = command.split()
+    return record(folder, PROGRAMS / name, *words)
+
+
+def programs(folder):
+    for command, (status, wanted, unwanted) in FINDINGS.items():
+        log, ended = record_own(folder, command)
+        name = f"the findings of {command}"
+        if ended == SKIPPED:
+            skip(name, "SCHED_FIFO isn't permitted")
+            continue
+        found = Import(log)
+        why = None if found.status == status else f"status {found.status}: {found.said}"
+        check(name, why or missing(found.lines, wanted, unwanted) or found.uncounted() or found.rejected())
+        if command == "chain":
+            options(found)
+    for command in RACING:
+        log, _ended = record_own(folder, command)
+        found = Import(log)
+        why = None if found.status in (0, 1) else f"status {found.status}: {found.said}"
+        check(f"pim accepts what is imported of {command}", why or found.uncounted() or found.rejected())
+
+
+def stored(folder):
+    """The findings of recordings that are kept: these need no right, and no second run."""
+    for command, name in STORED.items():
+        log = pathlib.Path(shutil.copy(ROOT / f"record/recorded/{name}.log", folder))
+        (status, wanted, unwanted), found = FINDINGS[command], Import(log)
+        why = None if found.status == status else f"status {found.status}: {found.said}"
+        check(f"the findings of {name}.log", why or missing(found.lines, wanted, unwanted) or found.uncounted() or found.rejected())
+    found = Import(shutil.copy(ROOT / "record/recorded/random.log", folder))
+    check("pim accepts what is imported of random.log", found.uncounted() or found.rejected())
+
+
+def options(plain):
+    """--all writes the ownerships for which nobody waited, and --json has the findings of the text."""
+    every = Import(plain.log, "--all")
+    steps = [int(re.search(r"make (\d+) step", one.lines[-1])[1]) for one in (plain, every)]
+    check("--all writes what is left out else", every.rejected() or difference(steps, [8, 8]))
+    found = json.loads(Import(plain.log, "--json").text)
+    waits = [(wait["priority"], wait["owner_priority"], wait["mutex"], wait["bounded"]) for wait in found["longest_waits"]]
+    check("--json has the findings", difference(waits, [(20, 10, 1, True), (30, 20, 2, True)]))
+    reasons = ["absent", "remark", "unchanged", "again", "uncontended", "refused", "not_owner", "revoked", "absentee"]
+    left, lines = found["records_left_out"], [line.split()[2] for line in plain.lines if line.startswith("left out: ")]
+    counts = [str(count) for count in left.values() if count]
+    check("--json counts what was left out by its reason", difference((list(left), counts), (reasons, lines)))
+    names = pathlib.Path(f"{plain.log}.names").read_text().splitlines()
+    kinds = [line.split()[0] for line in names]
+    counted = [kinds.count(kind) for kind in ("piece", "task", "mutex", "step")]
+    check("the names have each thread, mutex and step", difference(counted, [1, 3, 2, 8]))
+
+
+def real(folder):
+    """pim accepts what is imported of real programs."""
+    data = pathlib.Path(folder, "data")
+    data.write_bytes(random.Random(1).randbytes(2_000_000))
+    commands = {
+        "pigz": ["pigz", "-p", "4", "-b", "128", "-c", data], "xz": ["xz", "--threads=4", "-0", "-c", data],
+        "pbzip2": ["pbzip2", "-p4", "-b1", "-c", data], "pi_stress": ["pi_stress", "-D", "2", "-q"],
+        "python3": ["/usr/bin/python3", "-c", "import threading as t; [t.Thread(target=print).start() for _ in range(20)]"]}
+    for name, command in commands.items():
+        if not shutil.which(str(command[0])):
+            skip(f"pim accepts what is imported of {name}", "it isn't installed")
+            continue
+        log, _ended = record(folder, *command)
+        found = Import(log)
+        why = None if found.status in (0, 1) else f"status {found.status}: {found.said}"
+        check(f"pim accepts what is imported of {name}", why or found.uncounted() or found.rejected())
+
+
+# ---- long traces
+
+def state_of(lines):
+    """Returns what lines of a trace lead to: owners, waits in the order of their tickets, bases and ceilings."""
+    owner, waits, level = {}, {}, {}
+    for words in map(str.split, lines):
+        verb, reply = words[1], words[-1]
+        if words[0] == "task":
+            level["task", verb] = words[2]
+        elif words[0] == "mutex":
+            level["mutex", verb] = words[2:]
+        elif verb in ("base", "ceil"):
+            key = ("task", words[2]) if verb == "base" else ("mutex", words[2])
+            level[key] = words[3] if verb == "base" else ["protect", words[3]]
+        elif reply == "granted":
+            owner[words[2]] = words[0]
+        elif reply == "queued":
+            waits[words[0]] = words[2]
+        elif reply == "withdrawn":
+            del waits[words[0]]
+        elif reply == "freed":
+            del owner[words[2]]
+        elif "handed" in words:
+            owner[words[2]] = reply
+            del waits[reply]
+    return owner, list(waits.items()), level
+
+
+def long(folder):
+    """A trace of more than 65,536 steps is cut into pieces, each of which begins as the one before ends."""
+    log = pathlib.Path(folder, "log")
+    run(ROOT / "record/out/generate", "-n", "300000", "-c", "80", "-t", "40", "-m", "30", log)
+    found = Import(log)
+    pieces = [piece.read_text().splitlines()[1:] for piece in found.pieces()]
+    few = None if len(pieces) > 2 else f"{len(pieces)} pieces: {found.said}"
+    check("pim accepts each piece of a long trace", few or found.uncounted() or found.rejected())
+    names = pathlib.Path(f"{log}.names").read_text().splitlines()
+    restoring = [int(line.split()[2]) for line in names if line.startswith("piece ")]
+    wrong = []
+    for before, piece, count in zip(pieces, pieces[1:], restoring[1:]):
+        declared = sum(line.startswith(("task ", "mutex ")) for line in piece)
+        if state_of(before) != state_of(piece[:declared + count]):
+            wrong.append(f"{difference(list(state_of(before)), list(state_of(piece[:declared + count])))}")
+    check("a piece begins as the one before ends", wrong[0] if wrong else few)
+    steps = sum(line.startswith("step ") for line in names)
+    written = sum(not line.startswith(("task ", "mutex ")) for piece in pieces for line in piece)
+    check("each step has its time", difference([steps], [written]))
+
+
+# ---- damaged logs
+
+def used(log):
+    """Returns the bytes of a log up to its last chunk."""
+    with open(log, "rb") as file:
+        head = file.read(4096)
+        chunks = min(*struct.unpack_from("<Q", head, 192), *struct.unpack_from("<Q", head, 32))
+        return head + file.read(16384 * chunks)
+
+
+def answers(path, data):
+    """Returns why an import of these bytes isn't an answer: a fault writes nothing."""
+    path.write_bytes(data)
+    results = [path.with_name(path.name + end) for end in (".pim", ".names")]
+    for result in results:
+        result.unlink(missing_ok=True)
+    done = run(IMPORTER, path)
+    if done.returncode in (0, 1):
+        return Import(path).rejected() if done.returncode == 0 and not done.stdout else None
+    if done.returncode != 2 or not done.stderr.startswith(b"pim-import: ") or done.stdout:
+        return f"status {done.returncode}, {done.stderr!r}"
+    return next((f"{one.name} is there" for one in results if one.exists()), None)
+
+
+def damaged(folder):
+    log, _ended = record_own(folder, "inversion none 20")
+    whole, path, generator = used(log), pathlib.Path(folder, "bad"), random.Random(7)
+    cuts = [0, 1, 4095, 4096, 4097, *(generator.randrange(len(whole)) for _ in range(40)), len(whole) - 1]
+    faults = [(cut, answers(path, whole[:cut])) for cut in cuts]
+    check("each prefix has an answer", next((f"{cut}: {why}" for cut, why in faults if why), None))
+    places = [at for at in range(len(whole)) if whole[at]]
+    faults = []
+    for at in generator.sample(places, min(len(places), 400)):
+        data = bytearray(whole)
+        data[at] ^= 1 << generator.randrange(8)
+        faults.append((at, answers(path, bytes(data))))
+    check("each changed byte has an answer", next((f"{at}: {why}" for at, why in faults if why), None))
+    faults = [answers(path, generator.randbytes(generator.randrange(40_000))) for _ in range(40)]
+    faults += [answers(path, whole[:4096] + generator.randbytes(len(whole) - 4096)) for _ in range(40)]
+    check("random bytes have an answer", next(filter(None, faults), None))
+
+
+def command_line(folder):
+    """Faults have a line and status 2."""
+    cases = {"no argument": [], "no such file": [f"{folder}/none"], "a folder": [folder], "no log": [ROOT / "README.md"],
+             "an unknown option": ["--none"]}
+    for name, words in cases.items():
+        done = run(ROOT / "pim-import", *words)
+        why = None if done.returncode == 2 and done.stderr and not done.stdout else f"{done.returncode} {done.stderr!r}"
+        check(f"pim-import with {name}", why)
+    told = run(ROOT / "pim-import", "--help")
+    check("pim-import --help teaches", None if b"pim-record" in told.stdout and told.returncode == 0 else told.stdout)
+
+
+def built():
+    """Builds the programs that are older than the code, however long that takes. Returns whether they are there."""
+    own_program()
+    without_log = subprocess.run([str(ROOT / "pim-import")], capture_output=True)
+    return b"Usage: pim-import" in without_log.stderr
+
+
+def imports(folder):
+    if not built():
+        return check("the importer is built", "it isn't")
+    for part in (programs, stored, real, long, damaged, command_line):
+        part(folder)
+    return None
