@@ -30,6 +30,3 @@ mod words;
 pub use command_line::{Asked, Form, command};
 pub use drawing::{Style, picture};
 pub use walking::Window;
-
-#[cfg(test)]
-mod tests;

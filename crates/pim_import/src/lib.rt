@@ -79,6 +79,3 @@ pub use span::Span;
 pub use stage::Entrance;
 pub use subjects::{LoggedMutex, LoggedThread, MAX_THREADS, Subjects};
 pub use tally::Tally;
-
-#[cfg(test)]
-mod tests;

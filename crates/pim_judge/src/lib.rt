@@ -44,6 +44,3 @@ pub use reading::{parse, parse_script};
 pub use streams::{Input, Output};
 pub use trace::print_trace;
 pub use transfer::read_all;
-
-#[cfg(test)]
-mod tests;

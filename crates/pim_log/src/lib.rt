@@ -27,6 +27,3 @@ pub use fault::{HeaderFault, LogFault, SlotFault};
 pub use header::{HEADER_BYTES, Header, used_bytes};
 pub use log::Log;
 pub use record::Record;
-
-#[cfg(test)]
-mod tests;

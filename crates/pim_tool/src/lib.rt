@@ -27,6 +27,3 @@ pub use pim_judge::{
     Trouble, Verdict, judge, judge_bytes, parse, parse_script, status,
 };
 pub use running::{check, run};
-
-#[cfg(test)]
-mod tests;

@@ -1,0 +1,32 @@
+//! Tests of pim_judge: worked texts with their reports, invalid ones, answers, entries that are judged, and ends that
+//! fail.
+//!
+//! They have a crate of their own, since a crate with tests is proved a second time with them.
+#![tactic(auto)]
+
+#[cfg(test)]
+mod answers;
+#[cfg(test)]
+mod boosts;
+#[cfg(test)]
+mod ceilings;
+#[cfg(test)]
+mod expected;
+#[cfg(test)]
+mod failing_ends;
+#[cfg(test)]
+mod invalid_texts;
+#[cfg(test)]
+mod odd_sizes;
+#[cfg(test)]
+mod pages;
+#[cfg(test)]
+mod recursive;
+#[cfg(test)]
+mod refusals;
+#[cfg(test)]
+mod sizes;
+#[cfg(test)]
+mod streams;
+#[cfg(test)]
+mod worked;
