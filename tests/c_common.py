@@ -4,7 +4,7 @@ import subprocess
 
 from checks import ROOT, check, difference
 
-C, CRATE = ROOT / "c", ROOT / "crates/pim_c"
+C = ROOT / "c"
 OUT = C / "out"
 HEADER = (C / "pim.h").read_text()
 README = (C / "README.md").read_text()

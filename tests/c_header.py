@@ -4,7 +4,7 @@ import itertools
 import re
 import shutil
 
-from c_common import C, CRATE, HEADER, HERE, expect, run, said
+from c_common import C, HEADER, HERE, expect, run, said
 from checks import ROOT, check, difference
 
 LANGUAGES = {"cc": ("c99", "c11", "c17"), "clang": ("c99", "c11"), "g++": ("c++98", "c++17", "c++20"), "clang++": ("c++98",)}
@@ -17,7 +17,9 @@ TYPES = {"u8": "uint8_t", "u16": "uint16_t", "u32": "uint32_t", "u64": "uint64_t
 
 
 def sources():
-    return {path.name: path.read_text() for path in (CRATE / "src").glob("*.rt")}
+    """Returns the Rattle files that have libpim's types and numbers, with their texts."""
+    folders = [ROOT / "crates" / name / "src" for name in ("pim_c", "pim_ffi")]
+    return {path: path.read_text() for folder in folders for path in folder.glob("*.rt")}
 
 
 def constants(text):
@@ -51,8 +53,8 @@ def version(folder):
 
 
 def numbers(folder):
-    """The header has the names and numbers of numbers.rt, and the limits, and no other names in its tables."""
-    wanted = constants(sources()["numbers.rt"])
+    """The header has the names and numbers of both numbers.rt, and the limits, and no other names in its tables."""
+    wanted = constants("\n".join(text for path, text in sources().items() if path.name == "numbers.rt"))
     in_tables = re.findall(r"^ *PIM_([A-Z_]+) = \d+", HEADER, re.M)
     check("the header's tables", difference((set(in_tables) | {"UNKNOWN"},), (set(wanted),)))
     limits = {"MAX_TASKS": 256, "MAX_MUTEXES": 256, "MAX_COUNT": 255}

@@ -4,7 +4,7 @@ use Rattle.std.proofs.lemmas.Bool.{false≢true}
 use Rattle.std.specs.Prelude.{if◌then◌else◌}
 use Rattle.std.specs.List.{list_all, cons_option}
 use Rattle.pim_c.specs.Making.{priorities_meant}
-use Rattle.pim_c.specs.Numbers.{is_priority}
+use Rattle.pim_ffi.specs.Protocols.{is_priority}
 
 one_more : (b : Bool) (n : ℕ) (ns ms : List ℕ) → (b && list_all is_priority ns) ≡ true → (list_all is_priority ns ≡ true → ms ≡ ns)
     → cons_option (if b then Some n else None) ms ≡ n ∷ ns

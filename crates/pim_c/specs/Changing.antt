@@ -6,10 +6,10 @@ use Rattle.pim_base.specs.State.{State, with_protocol}
 use Rattle.pim_manager.specs.Protocols.{protocol_refusal}
 use Rattle.pim_c.specs.Answers.{no_answer}
 use Rattle.pim_c.specs.Held.{HeldView}
-use Rattle.pim_c.specs.Shapes.{protocol_meant}
+use Rattle.pim_ffi.specs.Protocols.{protocol_meant}
 use Rattle.pim_c.specs.declared.answer.CAnswer.{CAnswer}
 use Rattle.pim_c.specs.declared.numbers.TheConstants.{SET, REFUSED, REFUSED_NO_PROTOCOL}
-use Rattle.pim_c.specs.declared.protocol.CProtocol.{CProtocol}
+use Rattle.pim_ffi.specs.declared.protocol.CProtocol.{CProtocol}
 
 -- why m can't have this protocol, or 0: the struct means none (POSIX.1-2017, pthread_mutexattr_setprotocol: EINVAL), or
 -- m can't have another one

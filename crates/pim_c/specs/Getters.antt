@@ -6,10 +6,11 @@ use Rattle.pim_base.specs.Priorities.{effective_priority}
 use Rattle.pim_base.specs.Reasons.{reason_of}
 use Rattle.pim_base.specs.declared.steps.Wait.{Wait}
 use Rattle.pim_manager.specs.Known.{of_task, of_mutex}
-use Rattle.pim_c.specs.Shapes.{c_protocol, c_reason, no_protocol, no_reason}
+use Rattle.pim_ffi.specs.Protocols.{c_protocol, no_protocol}
+use Rattle.pim_c.specs.Shapes.{c_reason, no_reason}
 use Rattle.pim_c.specs.Held.{HeldView}
-use Rattle.pim_c.specs.declared.numbers.TheConstants.{UNKNOWN}
-use Rattle.pim_c.specs.declared.protocol.CProtocol.{CProtocol}
+use Rattle.pim_ffi.specs.declared.numbers.TheConstants.{UNKNOWN}
+use Rattle.pim_ffi.specs.declared.protocol.CProtocol.{CProtocol}
 use Rattle.pim_c.specs.declared.reason.CReason.{CReason}
 
 -- a value of the manager's state, or `none` if there is no manager

@@ -4,11 +4,10 @@ use Rattle.std.specs.List.{list_all, filter_map}
 use Rattle.pim_base.specs.State.{start}
 use Rattle.pim_base.specs.declared.limits.TheConstants.{MAX_TASKS, MAX_MUTEXES}
 use Rattle.pim_base.specs.declared.steps.Protocol.{Protocol}
-use Rattle.pim_c.specs.Numbers.{is_priority, priority_meant}
-use Rattle.pim_c.specs.Shapes.{protocol_meant}
+use Rattle.pim_ffi.specs.Protocols.{is_priority, priority_meant, protocol_meant}
 use Rattle.pim_c.specs.Held.{HeldView}
 use Rattle.pim_c.specs.declared.numbers.TheConstants.{MADE, FAULT_OCCUPIED, FAULT_TOO_MANY_TASKS, FAULT_TOO_MANY_MUTEXES, FAULT_BAD_BASE, FAULT_BAD_PROTOCOL}
-use Rattle.pim_c.specs.declared.protocol.CProtocol.{CProtocol}
+use Rattle.pim_ffi.specs.declared.protocol.CProtocol.{CProtocol}
 
 -- the numbers that are priorities
 abbrev pub priorities_meant : List ℕ → List ℕ

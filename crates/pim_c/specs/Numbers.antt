@@ -1,5 +1,5 @@
--- The numbers of replies and of priorities in C.
-use Rattle.std.specs.Prelude.{ℕ, Bool, nat_le, ◌&&◌, Option, Some, None, if◌then◌else◌}
+-- The numbers of replies in C.
+use Rattle.std.specs.Prelude.{ℕ}
 use Rattle.pim_base.specs.Reports.{refusal_number}
 use Rattle.pim_base.specs.declared.steps.Reply.{Reply}
 use Rattle.pim_c.specs.declared.numbers.TheConstants.{GRANTED, QUEUED, FREED, HANDED, RELEASED, WITHDRAWN, SET, REFUSED, KEPT}
@@ -39,11 +39,3 @@ reply_detail Reply.Withdrawn = 0
 reply_detail Reply.Set = 0
 reply_detail (Reply.Refused r) = 0
 reply_detail Reply.Kept = 0
-
--- the number is 1 to 99
-abbrev pub is_priority : ℕ → Bool
-is_priority n = nat_le 1 n && nat_le n 99
-
--- the priority that C means, if it means one
-abbrev pub priority_meant : ℕ → Option ℕ
-priority_meant n = if is_priority n then Some n else None

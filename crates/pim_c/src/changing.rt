@@ -5,8 +5,8 @@ ghost use Rattle.pim_c.specs.Changing.{protocol_answer, after_protocol};
 
 use crate::answer::CAnswer;
 use crate::handle::Handle;
-use crate::protocol::CProtocol;
 use pim_base::MutexNo;
+use pim_ffi::CProtocol;
 use std::alloc::Global;
 
 /// Gives a free mutex the protocol of this kind, as where a mutex is destroyed and another one is initialized in its

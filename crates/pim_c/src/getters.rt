@@ -4,10 +4,9 @@ ghost use Rattle.std.specs.Prelude.{◌≡◌};
 ghost use Rattle.pim_c.specs.Getters.{base_in, count_in, effective_in, mutex_count, or_zero, owner_in, protocol_in, reason_in, task_count, ticket_in, waits_for_in};
 
 use crate::handle::Handle;
-use crate::numbers::UNKNOWN;
-use crate::protocol::CProtocol;
 use crate::reason::CReason;
 use pim_base::{MutexNo, Prio, TaskNo};
+use pim_ffi::{CProtocol, UNKNOWN};
 
 /// Returns how many tasks there are, or 0 if there is no manager.
 #[unsafe(no_mangle)]

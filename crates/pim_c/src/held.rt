@@ -7,14 +7,15 @@ ghost use Rattle.pim_manager.specs.Changed.{changed_task, noted_changes};
 ghost use Rattle.pim_c.specs.Answers.{IsAnswer};
 ghost use Rattle.pim_c.specs.Changing.{c_protocol_refusal, set_or_refused, reprotocoled};
 ghost use Rattle.pim_c.specs.Held.{stepped};
-ghost use Rattle.pim_c.specs.Shapes.{c_changed_task, copied};
+ghost use Rattle.pim_c.specs.Shapes.{c_changed_task};
+ghost use Rattle.pim_ffi.specs.Copied.{copied};
 
 use crate::answer::CAnswer;
 use crate::changed_task::CChangedTask;
 use crate::numbers::REFUSED_NO_PROTOCOL;
-use crate::protocol::CProtocol;
 use pim_base::{MutexNo, Prio, Protocol, Reply, Step};
 use pim_chain::Visits;
+use pim_ffi::CProtocol;
 use pim_manager::{MakeFault, Manager};
 use std::alloc::Global;
 use std::marker::Model;

@@ -24,7 +24,6 @@ mod held;
 mod lists;
 mod making;
 mod numbers;
-mod protocol;
 mod raw_box;
 mod reason;
 mod steps;

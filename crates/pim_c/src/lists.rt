@@ -1,7 +1,8 @@
 //! Lists, copied to memory of the caller.
 
 ghost use Rattle.std.specs.Prelude.{◌≡◌, length, map};
-ghost use Rattle.pim_c.specs.Shapes.{c_changed_task, c_waiter, copied};
+ghost use Rattle.pim_ffi.specs.Copied.{copied};
+ghost use Rattle.pim_c.specs.Shapes.{c_changed_task, c_waiter};
 ghost use Rattle.pim_c.specs.Lists.{changed_in, waiters_in};
 
 use crate::changed_task::CChangedTask;

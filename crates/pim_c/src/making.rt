@@ -2,7 +2,7 @@
 
 ghost use Rattle.std.specs.Prelude.{◌≡◌, ◌≢◌, true, IfOk};
 ghost use Rattle.std.specs.List.{list_all};
-ghost use Rattle.pim_c.specs.Numbers.{is_priority, priority_meant};
+ghost use Rattle.pim_ffi.specs.Protocols.{is_priority, priority_meant};
 ghost use Rattle.pim_c.specs.Making.{first_fault, is_protocol, made, priorities_meant, protocols_meant};
 
 use crate::handle::Handle;
@@ -11,8 +11,8 @@ use crate::numbers::{
     FAULT_BAD_BASE, FAULT_BAD_PROTOCOL, FAULT_NO_MEMORY, FAULT_OCCUPIED, FAULT_TOO_MANY_MUTEXES,
     FAULT_TOO_MANY_TASKS, MADE,
 };
-use crate::protocol::CProtocol;
 use pim_base::{MAX_MUTEXES, MAX_TASKS, Prio, Protocol};
+use pim_ffi::CProtocol;
 use std::alloc::{AllocError, Global};
 
 /// Makes a manager of tasks with these base priorities and of mutexes with these protocols. All mutexes are free, no

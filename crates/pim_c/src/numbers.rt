@@ -1,21 +1,11 @@
-//! The numbers by which C knows protocols, replies, refusals, reasons and faults: one table each. A later version adds
-//! numbers at the end of a table, and changes none. `c/pim.h` has the same names with `PIM_` before them.
+//! The numbers by which C knows replies, refusals, reasons and faults: one table each. A later version adds numbers at
+//! the end of a table, and changes none. `c/pim.h` has the same names with `PIM_` before them.
 
 ghost use Rattle.std.specs.Prelude.{◌≡◌};
 ghost use Rattle.pim_c.specs.Numbers.{reply_number};
 ghost use Rattle.pim_base.specs.Reports.{refusal_number};
 
 use pim_base::{Refusal, Reply};
-
-// ---- protocols of mutexes
-
-pub const NONE: u16 = 0;
-
-pub const INHERIT: u16 = 1;
-
-pub const PROTECT: u16 = 2;
-
-pub const INHERIT_RECURSIVE: u16 = 3;
 
 // ---- replies to steps
 
@@ -93,9 +83,6 @@ pub const FAULT_BAD_BASE: u32 = 4;
 pub const FAULT_BAD_PROTOCOL: u32 = 5;
 
 pub const FAULT_NO_MEMORY: u32 = 6;
-
-/// Returned as the owner and the kind of protocol of an unknown mutex, and as the mutex that an unknown task waits for.
-pub const UNKNOWN: u16 = 65535;
 
 /// Returns the number of the reply.
 pub fn number_of_reply(reply: Reply) -> u8

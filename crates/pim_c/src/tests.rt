@@ -12,18 +12,18 @@ use crate::lists::{pim_changed, pim_waiters};
 use crate::making::{pim_drop, pim_make};
 use crate::numbers::{
     FAULT_BAD_BASE, FAULT_BAD_PROTOCOL, FAULT_NO_MEMORY, FAULT_OCCUPIED, FAULT_TOO_MANY_MUTEXES,
-    FAULT_TOO_MANY_TASKS, FREED, GRANTED, HANDED, INHERIT, INHERIT_RECURSIVE, KEPT, MADE,
-    NO_MANAGER, NONE, OF_BASE, OF_CEILING, OF_NOTHING, OF_WAITER, PROTECT, QUEUED, REFUSED,
-    REFUSED_AGAIN, REFUSED_BUSY, REFUSED_CEILING, REFUSED_NO_MUTEX, REFUSED_NO_PROTOCOL,
-    REFUSED_NOT_OWNER, REFUSED_NOT_PROTECT, RELEASED, SET, UNKNOWN, WITHDRAWN,
+    FAULT_TOO_MANY_TASKS, FREED, GRANTED, HANDED, KEPT, MADE, NO_MANAGER, OF_BASE, OF_CEILING,
+    OF_NOTHING, OF_WAITER, QUEUED, REFUSED, REFUSED_AGAIN, REFUSED_BUSY, REFUSED_CEILING,
+    REFUSED_NO_MUTEX, REFUSED_NO_PROTOCOL, REFUSED_NOT_OWNER, REFUSED_NOT_PROTECT, RELEASED, SET,
+    WITHDRAWN,
 };
-use crate::protocol::CProtocol;
 use crate::reason::CReason;
 use crate::steps::{
     pim_cancel, pim_lock, pim_release_all, pim_set_base, pim_set_ceiling, pim_try, pim_unlock,
 };
 use crate::version::pim_version;
 use crate::waiter::CWaiter;
+use pim_ffi::{CProtocol, INHERIT, INHERIT_RECURSIVE, NONE, PROTECT, UNKNOWN};
 use std::alloc::Global;
 use std::test::Fail;
 

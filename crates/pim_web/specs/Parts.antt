@@ -1,24 +1,18 @@
 -- The parts of a text, as numbers for the host.
-use Rattle.std.specs.Prelude.{ℕ, ◌≡◌, List, [], ◌∷◌, map, length}
+use Rattle.std.specs.Prelude.{ℕ, ◌≡◌, List, map, length}
 use Rattle.pim_base.specs.Texts.{Trace, Spells, lines_of}
 use Rattle.pim_base.specs.declared.steps.Op.{Op}
-use Rattle.pim_base.specs.declared.steps.Protocol.{Protocol}
 use Rattle.pim_base.specs.declared.lines.StepLine.{StepLine}
-use Rattle.pim_web.specs.declared.numbers.TheConstants.{INVALID, NO_MEMORY, NONE, INHERIT, PROTECT, INHERIT_RECURSIVE, LOCK, TRY, UNLOCK, RELEASE, CANCEL, BASE, CEILING}
-use Rattle.pim_web.specs.declared.parts.CProtocol.{CProtocol}
+use Rattle.pim_ffi.specs.Copied.{copied}
+use Rattle.pim_ffi.specs.Protocols.{c_protocol}
+use Rattle.pim_ffi.specs.declared.protocol.CProtocol.{CProtocol}
+use Rattle.pim_web.specs.declared.numbers.TheConstants.{INVALID, NO_MEMORY, LOCK, TRY, UNLOCK, RELEASE, CANCEL, BASE, CEILING}
 use Rattle.pim_web.specs.declared.parts.CStep.{CStep}
 use Rattle.pim_web.specs.declared.reading.CRead.{CRead}
 
 -- a base priority is its own number
 abbrev pub c_base : ℕ → ℕ
 c_base base = base
-
--- the protocol, with 0 for the ceiling that it doesn't have
-abbrev pub c_protocol : Protocol → CProtocol
-c_protocol Protocol.None = record { kind = NONE; ceiling = 0 }
-c_protocol Protocol.Inherit = record { kind = INHERIT; ceiling = 0 }
-c_protocol (Protocol.Protect c) = record { kind = PROTECT; ceiling = c }
-c_protocol Protocol.InheritRecursive = record { kind = INHERIT_RECURSIVE; ceiling = 0 }
 
 -- the operation of a task, with 0 for what it doesn't name
 abbrev pub c_op : ℕ → Op → CStep
@@ -33,12 +27,6 @@ c_op t (Op.SetCeiling m p) = record { actor = t; op = CEILING; first = m; second
 -- the step of a line, without the recorded reply
 abbrev pub c_step : StepLine → CStep
 c_step line = c_op line.step.actor line.step.op
-
--- the buffer ys with its front overwritten by xs, as far as xs fits
-abbrev pub copied : {X : Type 0} → List X → List X → List X
-copied [] ys = ys
-copied (x ∷ xs) [] = []
-copied (x ∷ xs) (y ∷ ys) = x ∷ copied xs ys
 
 -- the bytes spell a trace, and the buffers have its parts, as far as they fit; each pair is a buffer before and after
 abbrev pub IsRead : List ℕ → CRead → (List ℕ × List ℕ) → (List CProtocol × List CProtocol) → (List CStep × List CStep) → Type 0

@@ -1,4 +1,4 @@
-//! The numbers that the host knows verdicts, faults, protocols and operations by. Those of protocols are libpim's.
+//! The numbers that the host knows verdicts, faults and operations by.
 
 // ---- verdicts and faults
 
@@ -13,16 +13,6 @@ pub const INVALID: u32 = 2;
 
 /// An allocation failed.
 pub const NO_MEMORY: u32 = 3;
-
-// ---- protocols of mutexes
-
-pub const NONE: u16 = 0;
-
-pub const INHERIT: u16 = 1;
-
-pub const PROTECT: u16 = 2;
-
-pub const INHERIT_RECURSIVE: u16 = 3;
 
 // ---- operations
 

@@ -1,22 +1,10 @@
 //! The parts of a text, as numbers for the host.
 
 ghost use Rattle.std.specs.Prelude.{◌≡◌};
-ghost use Rattle.pim_web.specs.Parts.{c_base, c_protocol, c_step};
+ghost use Rattle.pim_web.specs.Parts.{c_base, c_step};
 
-use crate::numbers::{
-    BASE, CANCEL, CEILING, INHERIT, INHERIT_RECURSIVE, LOCK, NONE, PROTECT, RELEASE, TRY, UNLOCK,
-};
-use pim_base::{Op, Prio, Protocol, Step, StepLine};
-
-/// The protocol of a mutex, as libpim's `pim_make` reads it.
-#[repr(C)]
-#[derive(Clone, Copy, Debug, PartialEq, Eq)]
-pub struct CProtocol {
-    /// The number of the protocol.
-    pub kind: u16,
-    /// The ceiling of a PROTECT mutex, or 0.
-    pub ceiling: u16,
-}
+use crate::numbers::{BASE, CANCEL, CEILING, LOCK, RELEASE, TRY, UNLOCK};
+use pim_base::{Op, Prio, Step, StepLine};
 
 /// The step of a line, without the recorded reply.
 #[repr(C)]
@@ -37,32 +25,6 @@ pub fn base_of(base: Prio) -> u16
     ensures { result ≡ c_base base }
 {
     base.get()
-}
-
-impl CProtocol {
-    /// Returns this protocol.
-    pub fn of(protocol: Protocol) -> CProtocol
-        ensures { result ≡ c_protocol protocol }
-    {
-        match protocol {
-            Protocol::None => CProtocol {
-                kind: NONE,
-                ceiling: 0,
-            },
-            Protocol::Inherit => CProtocol {
-                kind: INHERIT,
-                ceiling: 0,
-            },
-            Protocol::Protect(ceiling) => CProtocol {
-                kind: PROTECT,
-                ceiling: ceiling.get(),
-            },
-            Protocol::InheritRecursive => CProtocol {
-                kind: INHERIT_RECURSIVE,
-                ceiling: 0,
-            },
-        }
-    }
 }
 
 impl CStep {

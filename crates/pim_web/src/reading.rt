@@ -2,12 +2,15 @@
 
 ghost use Rattle.std.specs.Prelude.{◌≡◌, ◌≢◌, ◌⊎◌, map};
 ghost use Rattle.pim_base.specs.Texts.{lines_of, FirstBadLine};
-ghost use Rattle.pim_web.specs.Parts.{c_base, c_protocol, c_step, copied, invalid, unread, IsRead};
+ghost use Rattle.pim_ffi.specs.Copied.{copied};
+ghost use Rattle.pim_ffi.specs.Protocols.{c_protocol};
+ghost use Rattle.pim_web.specs.Parts.{c_base, c_step, invalid, unread, IsRead};
 ghost use Rattle.pim_web.specs.declared.numbers.TheConstants.{ACCEPTED, INVALID};
 
 use crate::numbers::{ACCEPTED, INVALID, NO_MEMORY};
-use crate::parts::{CProtocol, CStep, base_of};
+use crate::parts::{CStep, base_of};
 use pim_base::{Prio, Protocol, StepLine};
+use pim_ffi::CProtocol;
 use pim_text::{TextFault, parse};
 use std::alloc::Global;
 

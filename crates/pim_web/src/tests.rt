@@ -2,11 +2,11 @@
 
 use crate::judging::pim_judge;
 use crate::numbers::{
-    ACCEPTED, BASE, CANCEL, CEILING, INHERIT, INHERIT_RECURSIVE, INVALID, LOCK, NONE, PROTECT,
-    REJECTED, RELEASE, TRY, UNLOCK,
+    ACCEPTED, BASE, CANCEL, CEILING, INVALID, LOCK, REJECTED, RELEASE, TRY, UNLOCK,
 };
-use crate::parts::{CProtocol, CStep};
+use crate::parts::CStep;
 use crate::reading::pim_read;
+use pim_ffi::{CProtocol, INHERIT, INHERIT_RECURSIVE, NONE, PROTECT};
 use std::test::Fail;
 
 const BOOSTED: &str = "pim 1\ntask 1 10\nmutex 1 protect 40\n1 lock 1\n";

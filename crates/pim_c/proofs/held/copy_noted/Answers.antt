@@ -4,9 +4,10 @@ use Rattle.pim_base.specs.State.{State}
 use Rattle.pim_manager.specs.Changed.{changed_task}
 use Rattle.pim_manager.specs.declared.changed_tasks.ChangedTask.{ChangedTask}
 use Rattle.pim_manager.proofs.Listing.{listing_none, listing_next, listing_has_next, unnoted_changes}
-use Rattle.pim_c.specs.Shapes.{c_changed_task, copied}
+use Rattle.pim_ffi.specs.Copied.{copied}
+use Rattle.pim_c.specs.Shapes.{c_changed_task}
 use Rattle.pim_c.proofs.Changes.{shown_of_known}
-use Rattle.pim_c.proofs.Copies.{copied_more, copied_past}
+use Rattle.pim_ffi.proofs.Copies.{copied_more, copied_past}
 use Rattle.pim_c.proofs.held.copy_noted.Goals as goal
 use Rattle.pim_c.proofs.held.copy_noted.Goals.{then-count-to, else-count-to}
 

@@ -1,7 +1,8 @@
 use Rattle.std.proofs.Common.{◌≡◌, length, map, suc, ◌+◌, ◌<◌, ap, ◌∙◌, arith}
 use Rattle.std.specs.Prelude.{slice_set, take}
-use Rattle.pim_c.specs.Shapes.{c_waiter, copied}
-use Rattle.pim_c.proofs.Copies.{copied_step, copied_all, copied_full}
+use Rattle.pim_ffi.specs.Copied.{copied}
+use Rattle.pim_c.specs.Shapes.{c_waiter}
+use Rattle.pim_ffi.proofs.Copies.{copied_step, copied_all, copied_full}
 use Rattle.pim_c.proofs.lists.copy_waiters.Goals as goal
 use Rattle.pim_c.proofs.lists.copy_waiters.Goals.{then-from-room, else-from-room}
 

@@ -5,8 +5,8 @@ use Rattle.pim_manager.specs.Changed.{changed_task, noted_changes}
 use Rattle.pim_manager.specs.Protocols.{protocol_refusal}
 use Rattle.pim_c.specs.Changing.{reprotocoled}
 use Rattle.pim_c.specs.Held.{HeldView}
-use Rattle.pim_c.specs.Shapes.{protocol_meant}
-use Rattle.pim_c.specs.declared.protocol.CProtocol.{CProtocol}
+use Rattle.pim_ffi.specs.Protocols.{protocol_meant}
+use Rattle.pim_ffi.specs.declared.protocol.CProtocol.{CProtocol}
 use Rattle.pim_c.proofs.Changes.{view_of_new}
 use Rattle.pim_c.proofs.held.Held.set_protocol.Goals as goal
 

@@ -1,7 +1,7 @@
 //! The protocol of a mutex.
 
 ghost use Rattle.std.specs.Prelude.{◌≡◌};
-ghost use Rattle.pim_c.specs.Shapes.{c_protocol, no_protocol, protocol_meant};
+ghost use Rattle.pim_ffi.specs.Protocols.{c_protocol, no_protocol, protocol_meant};
 
 use crate::numbers::{INHERIT, INHERIT_RECURSIVE, NONE, PROTECT, UNKNOWN};
 use pim_base::{Prio, Protocol};
