@@ -64,14 +64,6 @@ tells-same n f g a same = record {
 pub tells-refl : (n : ℕ) (f : ℕ → ℕ) (a : Work) → Tells n f a f a
 tells-refl n f a = tells-same n f f a (λ t low high. refl)
 
--- one visit that changes nothing
-pub tells-counted : (n : ℕ) (f : ℕ → ℕ) (a b : Work) → b ≡ record a { count = a.count + 1 } → Tells n f a f b
-tells-counted n f a b is =
-    subst (Tells n f a f) (sym is) (record {
-      counted = (let none = differing_none n f f (λ t low high. refl) in omega (arith, none));
-      noted = (refl, λ some t low high. refl);
-    })
-
 -- one visit, which changes the priority of x alone, if any
 pub tells-once :
     (n : ℕ) (f g : ℕ → ℕ) (a b : Work) (x : ℕ)

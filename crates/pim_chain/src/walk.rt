@@ -221,8 +221,8 @@ impl Tables {
     /// Makes the task, which must wait for nothing, the owner of the mutex, which must be free, and restores all
     /// stored priorities. They must be settled before.
     ///
-    /// This is one visit. If the mutex gives no higher priority than the task has, a comparison shows that nothing
-    /// else changes. Else the visit reads each mutex that the task owns.
+    /// If the mutex gives no higher priority than the task has, a comparison shows that nothing else changes. Else the
+    /// task is visited once.
     #[inline(always)]
     pub fn gain(&mut self, mutex: MutexNo, task: TaskNo, visits: &mut Visits)
         requires settled { SettledBut self.old.state (stored_at self.old) None }
@@ -234,15 +234,13 @@ impl Tables {
         ensures state { self.new.state ≡ with_owner self.old.state mutex (Some task) }
         ensures settled { SettledBut self.new.state (stored_at self.new) None }
         ensures ready { Ready self.new }
-        ensures single { visits.new.count ≡ visits.old.count + 1 }
+        ensures single { visits.new.count ≤ visits.old.count + 1 }
         ensures work { Tells (length self.old.state.base) (stored_at self.old) visits.old (stored_at self.new) visits.new }
     {
         // The contract of this call gives the proof the invariant of the tables.
         let _tasks = self.tasks();
         self.bind(mutex, task);
-        if self.gives_no_more(mutex, task) {
-            visits.add();
-        } else {
+        if !self.gives_no_more(mutex, task) {
             self.settle_from(task, visits);
         }
     }
@@ -250,8 +248,8 @@ impl Tables {
     /// Makes the mutex free, whose owner must be this task, which must wait for nothing, and restores all stored
     /// priorities. They must be settled before.
     ///
-    /// This is one visit. If the mutex gave a lower priority than the owner has, a comparison shows that nothing else
-    /// changes. Else the visit reads each mutex that the owner still has.
+    /// If the mutex gave a lower priority than the owner has, a comparison shows that nothing else changes. Else the
+    /// owner is visited once.
     #[inline(always)]
     pub fn lose(&mut self, mutex: MutexNo, owner: TaskNo, visits: &mut Visits)
         requires settled { SettledBut self.old.state (stored_at self.old) None }
@@ -261,16 +259,14 @@ impl Tables {
         ensures state { self.new.state ≡ with_owner self.old.state mutex None }
         ensures settled { SettledBut self.new.state (stored_at self.new) None }
         ensures ready { Ready self.new }
-        ensures single { visits.new.count ≡ visits.old.count + 1 }
+        ensures single { visits.new.count ≤ visits.old.count + 1 }
         ensures work { Tells (length self.old.state.base) (stored_at self.old) visits.old (stored_at self.new) visits.new }
     {
         // The contract of this call gives the proof the invariant of the tables.
         let _tasks = self.tasks();
         let given = self.given_level(mutex);
         self.unbind(mutex);
-        if given < self.known_stored(owner).get() {
-            visits.add();
-        } else {
+        if self.known_stored(owner).get() <= given {
             self.settle_from(owner, visits);
         }
     }
@@ -278,8 +274,8 @@ impl Tables {
     /// Lets the task wait as `join` does, for the mutex that has this owner, and restores all stored priorities. They
     /// must be settled before.
     ///
-    /// If the mutex then gives no higher priority than its owner has, a comparison shows that nothing else changes,
-    /// and counts as a visit. Else a walk begins at the owner.
+    /// If the mutex then gives no higher priority than its owner has, a comparison shows that nothing else changes.
+    /// Else a walk begins at the owner.
     #[inline(always)]
     pub fn enter(
         &mut self,
@@ -306,9 +302,7 @@ impl Tables {
         // The contract of this call gives the proof the invariant of the tables.
         let _tasks = self.tasks();
         self.join(task, mutex, ticket);
-        if self.gives_no_more(mutex, owner) {
-            visits.add();
-        } else {
+        if !self.gives_no_more(mutex, owner) {
             self.settle_from(owner, visits);
         }
     }
@@ -316,8 +310,8 @@ impl Tables {
     /// Lets the task, which waits for this mutex, stop waiting, and restores all stored priorities. They must be
     /// settled before.
     ///
-    /// If the task donated a lower priority than the owner has, a comparison shows that nothing else changes, and
-    /// counts as a visit. Else a walk begins at the owner.
+    /// If the task donated a lower priority than the owner has, a comparison shows that nothing else changes. Else a
+    /// walk begins at the owner.
     #[inline(always)]
     pub fn exit(&mut self, task: TaskNo, mutex: MutexNo, owner: TaskNo, visits: &mut Visits)
         requires settled { SettledBut self.old.state (stored_at self.old) None }
@@ -334,9 +328,7 @@ impl Tables {
         let _tasks = self.tasks();
         let donated = self.donated_by(task, mutex);
         self.leave(task);
-        if donated < self.known_stored(owner).get() {
-            visits.add();
-        } else {
+        if self.known_stored(owner).get() <= donated {
             self.settle_from(owner, visits);
         }
     }

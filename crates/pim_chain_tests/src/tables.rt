@@ -216,10 +216,10 @@ const INHERIT: Protocol = Protocol::Inherit;
 fn lowered_through_an_owner_with_another_waiter(rt: HostRuntime) -> Result<(), Fail> {
     let mut tables = tables(&rt, rt.alloc(), &[10, 20, 30, 60, 90], &[INHERIT; 4])?;
     const ROWS: &[Row] = &[
-        Row(Event::Lock(1, 1), 1, &[10, 20, 30, 60, 90]),
-        Row(Event::Lock(2, 2), 1, &[10, 20, 30, 60, 90]),
-        Row(Event::Lock(2, 3), 1, &[10, 20, 30, 60, 90]),
-        Row(Event::Lock(3, 4), 1, &[10, 20, 30, 60, 90]),
+        Row(Event::Lock(1, 1), 0, &[10, 20, 30, 60, 90]),
+        Row(Event::Lock(2, 2), 0, &[10, 20, 30, 60, 90]),
+        Row(Event::Lock(2, 3), 0, &[10, 20, 30, 60, 90]),
+        Row(Event::Lock(3, 4), 0, &[10, 20, 30, 60, 90]),
         Row(Event::Lock(3, 2), 1, &[10, 30, 30, 60, 90]),
         Row(Event::Lock(4, 3), 1, &[10, 60, 30, 60, 90]),
         Row(Event::Lock(2, 1), 1, &[60, 60, 30, 60, 90]),
@@ -234,11 +234,11 @@ fn lowered_through_an_owner_with_another_waiter(rt: HostRuntime) -> Result<(), F
 fn refused_deadlock_leaves_priorities(rt: HostRuntime) -> Result<(), Fail> {
     let mut tables = tables(&rt, rt.alloc(), &[10, 20, 30, 60, 90], &[INHERIT; 5])?;
     const ROWS: &[Row] = &[
-        Row(Event::Lock(5, 5), 1, &[10, 20, 30, 60, 90]),
-        Row(Event::Lock(1, 1), 1, &[10, 20, 30, 60, 90]),
-        Row(Event::Lock(2, 2), 1, &[10, 20, 30, 60, 90]),
-        Row(Event::Lock(2, 3), 1, &[10, 20, 30, 60, 90]),
-        Row(Event::Lock(3, 4), 1, &[10, 20, 30, 60, 90]),
+        Row(Event::Lock(5, 5), 0, &[10, 20, 30, 60, 90]),
+        Row(Event::Lock(1, 1), 0, &[10, 20, 30, 60, 90]),
+        Row(Event::Lock(2, 2), 0, &[10, 20, 30, 60, 90]),
+        Row(Event::Lock(2, 3), 0, &[10, 20, 30, 60, 90]),
+        Row(Event::Lock(3, 4), 0, &[10, 20, 30, 60, 90]),
         Row(Event::Lock(3, 2), 1, &[10, 30, 30, 60, 90]),
         Row(Event::Lock(4, 3), 1, &[10, 60, 30, 60, 90]),
         Row(Event::Lock(2, 1), 1, &[60, 60, 30, 60, 90]),
@@ -253,10 +253,10 @@ fn refused_deadlock_leaves_priorities(rt: HostRuntime) -> Result<(), Fail> {
 fn new_owner_keeps_what_its_waiters_donate(rt: HostRuntime) -> Result<(), Fail> {
     let mut tables = tables(&rt, rt.alloc(), &[10, 50, 40], &[INHERIT])?;
     const ROWS: &[Row] = &[
-        Row(Event::Lock(1, 1), 1, &[10, 50, 40]),
+        Row(Event::Lock(1, 1), 0, &[10, 50, 40]),
         Row(Event::Lock(2, 1), 1, &[50, 50, 40]),
         Row(Event::Lock(3, 1), 1, &[50, 50, 40]),
-        Row(Event::Unlock(1), 2, &[10, 50, 40]),
+        Row(Event::Unlock(1), 1, &[10, 50, 40]),
         Row(Event::Base(2, 20), 1, &[10, 40, 40]),
         Row(Event::Base(2, 21), 1, &[10, 40, 40]),
     ];
@@ -269,17 +269,17 @@ fn new_owner_keeps_what_its_waiters_donate(rt: HostRuntime) -> Result<(), Fail> 
 fn second_waiter_becomes_first_with_a_changed_priority(rt: HostRuntime) -> Result<(), Fail> {
     let mut tables = tables(&rt, rt.alloc(), &[10, 20, 30, 50, 70, 90], &[INHERIT; 4])?;
     const ROWS: &[Row] = &[
-        Row(Event::Lock(2, 1), 1, &[10, 20, 30, 50, 70, 90]),
-        Row(Event::Lock(2, 2), 1, &[10, 20, 30, 50, 70, 90]),
-        Row(Event::Lock(3, 3), 1, &[10, 20, 30, 50, 70, 90]),
-        Row(Event::Lock(1, 4), 1, &[10, 20, 30, 50, 70, 90]),
+        Row(Event::Lock(2, 1), 0, &[10, 20, 30, 50, 70, 90]),
+        Row(Event::Lock(2, 2), 0, &[10, 20, 30, 50, 70, 90]),
+        Row(Event::Lock(3, 3), 0, &[10, 20, 30, 50, 70, 90]),
+        Row(Event::Lock(1, 4), 0, &[10, 20, 30, 50, 70, 90]),
         Row(Event::Lock(4, 2), 1, &[10, 50, 30, 50, 70, 90]),
         Row(Event::Lock(6, 1), 1, &[10, 90, 30, 50, 70, 90]),
         Row(Event::Lock(1, 3), 1, &[10, 90, 30, 50, 70, 90]),
         Row(Event::Lock(2, 3), 1, &[10, 90, 90, 50, 70, 90]),
         Row(Event::Lock(5, 4), 1, &[70, 90, 90, 50, 70, 90]),
-        Row(Event::Unlock(3), 2, &[70, 90, 30, 50, 70, 90]),
-        Row(Event::Unlock(1), 2, &[70, 70, 30, 50, 70, 90]),
+        Row(Event::Unlock(3), 1, &[70, 90, 30, 50, 70, 90]),
+        Row(Event::Unlock(1), 1, &[70, 70, 30, 50, 70, 90]),
     ];
     play(&rt, &mut tables, ROWS);
     assert_eq!(rt;
@@ -295,9 +295,9 @@ fn second_waiter_becomes_first_with_a_changed_priority(rt: HostRuntime) -> Resul
 fn walk_stops_where_nothing_changes(rt: HostRuntime) -> Result<(), Fail> {
     // a chain of three, a waiter who changes nothing at its end, and a lower base there
     const ROWS: &[Row] = &[
-        Row(Event::Lock(1, 1), 1, &[10, 20, 30, 90, 40]),
-        Row(Event::Lock(2, 2), 1, &[10, 20, 30, 90, 40]),
-        Row(Event::Lock(3, 3), 1, &[10, 20, 30, 90, 40]),
+        Row(Event::Lock(1, 1), 0, &[10, 20, 30, 90, 40]),
+        Row(Event::Lock(2, 2), 0, &[10, 20, 30, 90, 40]),
+        Row(Event::Lock(3, 3), 0, &[10, 20, 30, 90, 40]),
         Row(Event::Lock(2, 1), 1, &[20, 20, 30, 90, 40]),
         Row(Event::Lock(3, 2), 2, &[30, 30, 30, 90, 40]),
         Row(Event::Lock(4, 3), 3, &[90, 90, 90, 90, 40]),
@@ -314,10 +314,10 @@ fn walk_stops_where_nothing_changes(rt: HostRuntime) -> Result<(), Fail> {
 fn ceiling_hands_nothing_on(rt: HostRuntime) -> Result<(), Fail> {
     const ROWS: &[Row] = &[
         Row(Event::Lock(1, 1), 1, &[50, 40, 90]),
-        Row(Event::Lock(2, 2), 1, &[50, 40, 90]),
+        Row(Event::Lock(2, 2), 0, &[50, 40, 90]),
         Row(Event::Lock(2, 1), 1, &[50, 40, 90]),
         Row(Event::Lock(3, 2), 1, &[50, 90, 90]),
-        Row(Event::Unlock(1), 2, &[20, 90, 90]),
+        Row(Event::Unlock(1), 1, &[20, 90, 90]),
     ];
     let protocols = [Protocol::Protect(prio(&rt, 50)), INHERIT];
     let mut tables = tables(&rt, rt.alloc(), &[20, 40, 90], &protocols)?;
@@ -330,12 +330,12 @@ fn raised_waiter_is_first_of_a_mutex_that_passes_on_no_priority(
     rt: HostRuntime,
 ) -> Result<(), Fail> {
     const ROWS: &[Row] = &[
-        Row(Event::Lock(1, 1), 1, &[10, 40, 30, 90]),
-        Row(Event::Lock(3, 2), 1, &[10, 40, 30, 90]),
+        Row(Event::Lock(1, 1), 0, &[10, 40, 30, 90]),
+        Row(Event::Lock(3, 2), 0, &[10, 40, 30, 90]),
         Row(Event::Lock(2, 1), 1, &[10, 40, 30, 90]),
         Row(Event::Lock(3, 1), 1, &[10, 40, 30, 90]),
         Row(Event::Lock(4, 2), 1, &[10, 40, 90, 90]),
-        Row(Event::Unlock(1), 2, &[10, 40, 90, 90]),
+        Row(Event::Unlock(1), 0, &[10, 40, 90, 90]),
     ];
     let protocols = [Protocol::None, INHERIT];
     let mut tables = tables(&rt, rt.alloc(), &[10, 40, 30, 90], &protocols)?;
@@ -347,7 +347,7 @@ fn raised_waiter_is_first_of_a_mutex_that_passes_on_no_priority(
 #[test]
 fn one_of_two_equal_waiters_may_go(rt: HostRuntime) -> Result<(), Fail> {
     const ROWS: &[Row] = &[
-        Row(Event::Lock(1, 1), 1, &[10, 50, 50]),
+        Row(Event::Lock(1, 1), 0, &[10, 50, 50]),
         Row(Event::Lock(2, 1), 1, &[50, 50, 50]),
         Row(Event::Lock(3, 1), 1, &[50, 50, 50]),
         Row(Event::Cancel(2), 1, &[50, 50, 50]),
@@ -363,7 +363,7 @@ fn one_of_two_equal_waiters_may_go(rt: HostRuntime) -> Result<(), Fail> {
 fn another_ceiling_reaches_the_owner_and_its_heir(rt: HostRuntime) -> Result<(), Fail> {
     const ROWS: &[Row] = &[
         Row(Event::Ceiling(1, 45), 0, &[20, 40, 10]),
-        Row(Event::Lock(3, 2), 1, &[20, 40, 10]),
+        Row(Event::Lock(3, 2), 0, &[20, 40, 10]),
         Row(Event::Lock(1, 1), 1, &[45, 40, 10]),
         Row(Event::Lock(1, 2), 1, &[45, 40, 45]),
         Row(Event::Ceiling(1, 30), 2, &[30, 40, 30]),
@@ -405,7 +405,7 @@ fn scene(rt: &impl Abort, alloc: Global) -> Result<Tables, AllocError>
     ensures { IfOk result (λ tables. SettledBut tables.state (stored_at tables) None) }
 {
     const ROWS: &[Row] = &[
-        Row(Event::Lock(1, 1), 1, &[10, 20, 90]),
+        Row(Event::Lock(1, 1), 0, &[10, 20, 90]),
         Row(Event::Lock(1, 2), 1, &[50, 20, 90]),
         Row(Event::Lock(2, 1), 1, &[50, 20, 90]),
     ];
@@ -593,11 +593,11 @@ fn lower_waiter_comes_and_goes_by_a_look_each(rt: HostRuntime) -> Result<(), Fai
     let mut tables = tables(&rt, rt.alloc(), &[50, 10], &[Protocol::Inherit])?;
     let mut visits = Visits::new();
     lock(&rt, &mut tables, TaskNo(1), MutexNo(1), 1, &mut visits);
-    assert_eq!(rt; visits.get(), 1);
+    assert_eq!(rt; visits.get(), 0);
     enter(&rt, &mut tables, &mut visits);
-    assert_eq!(rt; (visits.get(), tables.is_waiting(TaskNo(2))), (2, true));
+    assert_eq!(rt; (visits.get(), tables.is_waiting(TaskNo(2))), (0, true));
     exit(&rt, &mut tables, &mut visits);
-    assert_eq!(rt; (visits.get(), tables.is_waiting(TaskNo(2))), (3, false));
+    assert_eq!(rt; (visits.get(), tables.is_waiting(TaskNo(2))), (0, false));
     assert_eq!(rt; tables.stored(TaskNo(1)), Prio::new(50));
     Ok(())
 }
@@ -636,9 +636,9 @@ fn chain(rt: &impl Abort, alloc: Global) -> Result<Tables, AllocError>
     ensures { IfOk result (λ tables. SettledBut tables.state (stored_at tables) None) }
 {
     const ROWS: &[Row] = &[
-        Row(Event::Lock(1, 1), 1, &[10, 20, 30, 60, 90]),
-        Row(Event::Lock(2, 2), 1, &[10, 20, 30, 60, 90]),
-        Row(Event::Lock(3, 4), 1, &[10, 20, 30, 60, 90]),
+        Row(Event::Lock(1, 1), 0, &[10, 20, 30, 60, 90]),
+        Row(Event::Lock(2, 2), 0, &[10, 20, 30, 60, 90]),
+        Row(Event::Lock(3, 4), 0, &[10, 20, 30, 60, 90]),
         Row(Event::Lock(3, 2), 1, &[10, 30, 30, 60, 90]),
         Row(Event::Lock(2, 1), 1, &[30, 30, 30, 60, 90]),
     ];
@@ -691,7 +691,7 @@ fn notes_begin_anew(rt: HostRuntime) -> Result<(), Fail> {
 #[test]
 fn free_mutex_has_another_protocol(rt: HostRuntime) -> Result<(), Fail> {
     let mut tables = tables(&rt, rt.alloc(), &[10, 20], &[INHERIT; 2])?;
-    play(&rt, &mut tables, &[Row(Event::Lock(1, 1), 1, &[10, 20])]);
+    play(&rt, &mut tables, &[Row(Event::Lock(1, 1), 0, &[10, 20])]);
     let second = MutexNo(2);
     assert!(rt; !tables.is_unknown_mutex(second) && !tables.is_owned(second));
     tables.put_protocol(second, Protocol::Protect(prio(&rt, 50)));

@@ -7,6 +7,6 @@ use pim_base::Reply;
 pub struct Done {
     /// The reply to the task that made the step.
     pub reply: Reply,
-    /// How many visits the step made: priorities computed, and comparisons which show that a priority stays.
+    /// How many visits the step made: each computes one task's priority.
     pub visits: u32,
 }

@@ -96,19 +96,19 @@ const SECOND: MutexNo = MutexNo(2);
 
 /// Steps with their replies, and how many visits each makes.
 const ROWS: [(u16, Op, Reply, u32); 16] = [
-    (1, Lock(FIRST), Reply::Granted, 1),
-    (2, Lock(SECOND), Reply::Granted, 1),
+    (1, Lock(FIRST), Reply::Granted, 0),
+    (2, Lock(SECOND), Reply::Granted, 0),
     (2, Lock(FIRST), Reply::Queued, 1),
     (3, Try(SECOND), Reply::Refused(Refusal::Busy), 0),
     (3, Lock(SECOND), Reply::Queued, 2),
     (1, Lock(SECOND), Reply::Refused(Refusal::Deadlock), 0),
     (3, Cancel(TaskNo(3)), Reply::Withdrawn, 2),
-    (1, Unlock(FIRST), Reply::Handed(TaskNo(2)), 2),
+    (1, Unlock(FIRST), Reply::Handed(TaskNo(2)), 1),
     (1, SetBase(TaskNo(2), 30), Reply::Set, 1),
     // Both mutexes become free: the actor alone is visited, once.
     (2, ReleaseAll, Reply::Released(2), 1),
-    (1, Lock(FIRST), Reply::Granted, 1),
-    (1, Lock(SECOND), Reply::Granted, 1),
+    (1, Lock(FIRST), Reply::Granted, 0),
+    (1, Lock(SECOND), Reply::Granted, 0),
     (2, Lock(FIRST), Reply::Queued, 1),
     (3, Lock(SECOND), Reply::Queued, 1),
     // Each new owner is visited, and the actor, once.
@@ -174,7 +174,7 @@ const CEILINGS: [(u16, Op, Reply, u32, Listed); 10] = [
         0,
         None,
     ),
-    (1, Unlock(FIRST), Reply::Freed, 1, None),
+    (1, Unlock(FIRST), Reply::Freed, 0, None),
     (2, SetCeiling(FIRST, 45), Reply::Set, 0, None),
     (2, Lock(FIRST), Reply::Granted, 1, Some((2, 45, BY_CEILING))),
 ];

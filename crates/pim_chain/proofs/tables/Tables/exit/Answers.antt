@@ -9,7 +9,7 @@ use Rattle.pim_chain.specs.Settled.{SettledBut, changed, left}
 use Rattle.pim_chain.specs.Work.{Tells}
 use Rattle.pim_chain.proofs.NoHigher.{left_settled}
 use Rattle.pim_chain.proofs.Known.{owned_mutex}
-use Rattle.pim_chain.proofs.Told.{tells-counted}
+use Rattle.pim_chain.proofs.Told.{tells-refl}
 use Rattle.pim_chain.proofs.tables.Tables.exit.Goals as goal
 
 -- the tables once the task has left the queue of this mutex
@@ -35,19 +35,19 @@ blocked v t m o waits owned = go (wait_of v.state t) waits
     go None e = absurd (none-some m e)
     go (Some u) e = ap (owner_of v.state) (same_Some _ _ e) ∙ owned
 
-pub returns-then-donated-get-clause-state : goal.returns-then-donated-get-clause-state
-returns-then-donated-get-clause-state c = ap (λ (u : View). u.state) (gone c.args.self.now c.leave.new.self c.args.task c.args.mutex c.requires.waits c.leave.ensures.left)
+pub returns-else-get-donated-clause-state : goal.returns-else-get-donated-clause-state
+returns-else-get-donated-clause-state c = ap (λ (u : View). u.state) (gone c.args.self.now c.leave.new.self c.args.task c.args.mutex c.requires.waits c.leave.ensures.left)
 
-pub returns-else-donated-get-clause-state : goal.returns-else-donated-get-clause-state
-returns-else-donated-get-clause-state c = c.settle_from.ensures.state ∙ ap (λ (u : View). u.state) (gone c.args.self.now c.leave.new.self c.args.task c.args.mutex c.requires.waits c.leave.ensures.left)
+pub returns-then-get-donated-clause-state : goal.returns-then-get-donated-clause-state
+returns-then-get-donated-clause-state c = c.settle_from.ensures.state ∙ ap (λ (u : View). u.state) (gone c.args.self.now c.leave.new.self c.args.task c.args.mutex c.requires.waits c.leave.ensures.left)
 
-pub returns-else-donated-get-clause-at_most : goal.returns-else-donated-get-clause-at_most
-returns-else-donated-get-clause-at_most c =
+pub returns-then-get-donated-clause-at_most : goal.returns-then-get-donated-clause-at_most
+returns-then-get-donated-clause-at_most c =
     subst (λ (u : View). c.settle_from.new.visits.count ≤ c.args.visits.now.count + changed u c.settle_from.new.self + 1) (gone c.args.self.now c.leave.new.self c.args.task c.args.mutex c.requires.waits c.leave.ensures.left)
     c.settle_from.ensures.at_most
 
-pub returns-then-donated-get-clause-settled : goal.returns-then-donated-get-clause-settled
-returns-then-donated-get-clause-settled c =
+pub returns-else-get-donated-clause-settled : goal.returns-else-get-donated-clause-settled
+returns-else-get-donated-clause-settled c =
     let v = c.args.self.now in
     let w = c.leave.new.self in
     left_settled v w c.args.task c.args.owner c.args.mutex None c.tasks-tasks.ensures.ready c.leave.ensures.ready
@@ -55,16 +55,16 @@ returns-then-donated-get-clause-settled c =
     (owned_mutex v.state c.args.mutex c.args.owner c.tasks-tasks.ensures.ready.sound.lists c.requires.owned) c.requires.owned c.requires.settled
     (subst (SettledBut w.state (stored_at w)) (blocked v c.args.task c.args.mutex c.args.owner c.requires.waits c.requires.owned)
     (c.leave.ensures.unsettles c.requires.settled))
-    (omega (arith, c.if-donated-get.true, c.donated_by-donated.ensures, c.get.ensures.value, c.known_stored.ensures))
+    (omega (arith, c.if-get-donated.false, c.donated_by-donated.ensures, c.get.ensures.value, c.known_stored.ensures))
 
-pub returns-then-donated-get-clause-work : goal.returns-then-donated-get-clause-work
-returns-then-donated-get-clause-work c =
+pub returns-else-get-donated-clause-work : goal.returns-else-get-donated-clause-work
+returns-else-get-donated-clause-work c =
     let v = c.args.self.now in
-    subst (λ (w : View). Tells (length v.state.base) (stored_at v) c.args.visits.now (stored_at w) c.add.new.self)
+    subst (λ (w : View). Tells (length v.state.base) (stored_at v) c.args.visits.now (stored_at w) c.args.visits.now)
     (sym (gone c.args.self.now c.leave.new.self c.args.task c.args.mutex c.requires.waits c.leave.ensures.left))
-    (tells-counted (length v.state.base) (stored_at v) c.args.visits.now c.add.new.self c.add.ensures)
+    (tells-refl (length v.state.base) (stored_at v) c.args.visits.now)
 
-pub returns-else-donated-get-clause-work : goal.returns-else-donated-get-clause-work
-returns-else-donated-get-clause-work c =
+pub returns-then-get-donated-clause-work : goal.returns-then-get-donated-clause-work
+returns-then-get-donated-clause-work c =
     subst (λ (w : View). Tells (length w.state.base) (stored_at w) c.args.visits.now (stored_at c.settle_from.new.self) c.settle_from.new.visits)
     (gone c.args.self.now c.leave.new.self c.args.task c.args.mutex c.requires.waits c.leave.ensures.left) c.settle_from.ensures.work
