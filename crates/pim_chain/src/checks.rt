@@ -3,7 +3,7 @@
 ghost use Rattle.std.specs.Prelude.{◌≡◌, ◌↔◌, IsTrue, ℕ, Some};
 ghost use Rattle.pim_base.specs.Lists.{holds};
 ghost use Rattle.pim_base.specs.State.{IsTask, IsMutex, owner_of, wait_of, protocol_of, is_recursive, relocks};
-ghost use Rattle.pim_base.specs.Checks.{unknown_task, unknown_mutex, is_waiting, is_owned, owned_by_another, locked_too_often, above_ceiling};
+ghost use Rattle.pim_base.specs.Checks.{unknown_task, unknown_mutex, owned_by_another, locked_too_often, above_ceiling};
 ghost use Rattle.pim_base.specs.Steps.{is_kept};
 
 use crate::tables::Tables;
@@ -22,20 +22,6 @@ impl Tables {
         ensures { result ≡ unknown_mutex self.now.state mutex }
     {
         mutex.get() == 0 || self.mutexes() < mutex.get()
-    }
-
-    /// Returns whether the task waits for a mutex.
-    pub fn is_waiting(&self, task: TaskNo) -> bool
-        ensures { result ≡ is_waiting self.now.state task }
-    {
-        self.waits_for(task).is_some()
-    }
-
-    /// Returns whether the mutex has an owner.
-    pub fn is_owned(&self, mutex: MutexNo) -> bool
-        ensures { result ≡ is_owned self.now.state mutex }
-    {
-        self.owner(mutex).is_some()
     }
 
     /// Returns whether a task other than this one owns the mutex.
@@ -107,16 +93,6 @@ impl Tables {
         match self.queue(mutex) {
             Some(queue) => queue.has_ticket(ticket),
             None => false,
-        }
-    }
-
-    /// Returns whether the base of the task is above the ceiling of the mutex.
-    pub fn is_above_ceiling(&self, task: TaskNo, mutex: MutexNo) -> bool
-        ensures { result ≡ above_ceiling self.now.state task mutex }
-    {
-        match (self.ceiling(mutex), self.base(task)) {
-            (Some(ceiling), Some(base)) => ceiling < base,
-            _ => false,
         }
     }
 

@@ -3,7 +3,7 @@
 ghost use Rattle.std.specs.Prelude.{◌≡◌, IfSome};
 ghost use Rattle.pim_base.specs.Lists.{contains};
 ghost use Rattle.pim_base.specs.State.{IsTask};
-ghost use Rattle.pim_base.specs.Chains.{blocker, waits_chain, leads_back, closes_cycle};
+ghost use Rattle.pim_base.specs.Chains.{blocker, waits_chain, leads_back};
 
 use crate::tables::Tables;
 use pim_base::{MutexNo, TaskNo};
@@ -67,14 +67,6 @@ impl Tables {
             }
         }
         task == at
-    }
-
-    /// Returns whether a request of the task for the mutex would close a cycle: its wait would lead back to it. A
-    /// relock closes none, since it doesn't wait.
-    pub fn closes_cycle(&self, task: TaskNo, mutex: MutexNo) -> bool
-        ensures { result ≡ closes_cycle self.now.state task mutex }
-    {
-        !self.relocks(task, mutex) && self.leads_back(task, mutex)
     }
 
     /// Returns whether a wait of the task for the mutex would lead back to it: the mutex is owned, and the task is on

@@ -67,14 +67,6 @@ impl Queues {
         self.queues.get(place)
     }
 
-    /// Returns the first waiter for the mutex, if a task waits.
-    pub fn first_waiter(&self, mutex: MutexNo) -> Option<Waiter>
-        ensures { result ≡ first_item (queue_in self.now mutex) }
-    {
-        let place = (mutex.get() as usize).checked_sub(1)?;
-        self.queues.get(place)?.front()
-    }
-
     /// Returns the first waiter for a known mutex, if a task waits.
     pub fn known_first(&self, mutex: MutexNo) -> Option<Waiter>
         requires least { 1 ≤ mutex }

@@ -246,13 +246,6 @@ impl Tables {
         self.queues.get(mutex)
     }
 
-    /// Returns the first waiter for the mutex, `None` where no task waits or the mutex is unknown.
-    pub fn first_waiter(&self, mutex: MutexNo) -> Option<Waiter>
-        ensures { result ≡ first_item (queue_at self.now mutex) }
-    {
-        self.queues.first_waiter(mutex)
-    }
-
     /// Returns the base priority of a known task.
     pub fn known_base(&self, task: TaskNo) -> Prio
         requires { IsTask self.now.state task }

@@ -5,7 +5,7 @@ ghost use Rattle.std.specs.Prelude.{None, IfOk};
 ghost use Rattle.pim_chain.specs.Views.{stored_at};
 ghost use Rattle.pim_chain.specs.Settled.{SettledBut};
 
-use pim_base::{MAX_MUTEXES, MAX_TASKS, MutexNo, Prio, Protocol, Reason, TaskNo};
+use pim_base::{MAX_MUTEXES, MAX_TASKS, MutexNo, Prio, Protocol, Reason, TaskNo, Waiter};
 use pim_chain::*;
 use std::alloc::{AllocError, Global};
 use std::process::Abort;
@@ -74,7 +74,7 @@ fn lock(
 {
     assert!(rt; !tables.is_unknown_task(task));
     assert!(rt; !tables.is_unknown_mutex(mutex));
-    assert!(rt; !tables.is_waiting(task));
+    assert!(rt; tables.waits_for(task).is_none());
     match tables.owner(mutex) {
         None => {
             assert!(rt; visits.get() < 1000);
@@ -97,7 +97,7 @@ fn free(rt: &impl Abort, tables: &mut Tables, mutex: MutexNo, visits: &mut Visit
     let owner = tables.owner(mutex);
     assert!(rt; owner.is_some());
     if let Some(owner) = owner {
-        assert!(rt; !tables.is_waiting(owner));
+        assert!(rt; tables.waits_for(owner).is_none());
         assert!(rt; visits.get() < 1000);
         tables.lose(mutex, owner, visits);
     }
@@ -108,22 +108,26 @@ fn take(rt: &impl Abort, tables: &mut Tables, mutex: MutexNo, task: TaskNo, visi
     requires { SettledBut tables.old.state (stored_at tables.old) None }
     ensures { SettledBut tables.new.state (stored_at tables.new) None }
 {
-    assert!(rt; tables.is_waiting(task));
+    assert!(rt; tables.waits_for(task).is_some());
     assert!(rt; tables.blocker(task).is_none());
     tables.leave(task);
     assert!(rt; !tables.is_unknown_task(task));
     assert!(rt; !tables.is_unknown_mutex(mutex));
-    assert!(rt; !tables.is_waiting(task));
-    assert!(rt; !tables.is_owned(mutex));
+    assert!(rt; tables.waits_for(task).is_none());
+    assert!(rt; tables.owner(mutex).is_none());
     assert!(rt; visits.get() < 1000);
     tables.gain(mutex, task, visits);
+}
+
+fn first_waiter(tables: &Tables, mutex: MutexNo) -> Option<Waiter> {
+    tables.queue(mutex)?.front()
 }
 
 fn unlock(rt: &impl Abort, tables: &mut Tables, mutex: MutexNo, visits: &mut Visits)
     requires { SettledBut tables.old.state (stored_at tables.old) None }
     ensures { SettledBut tables.new.state (stored_at tables.new) None }
 {
-    let first = tables.first_waiter(mutex);
+    let first = first_waiter(tables, mutex);
     free(rt, tables, mutex, visits);
     if let Some(waiter) = &first {
         take(rt, tables, mutex, waiter.task, visits);
@@ -134,7 +138,7 @@ fn cancel(rt: &impl Abort, tables: &mut Tables, task: TaskNo, visits: &mut Visit
     requires { SettledBut tables.old.state (stored_at tables.old) None }
     ensures { SettledBut tables.new.state (stored_at tables.new) None }
 {
-    assert!(rt; tables.is_waiting(task));
+    assert!(rt; tables.waits_for(task).is_some());
     let blocker = tables.blocker(task);
     tables.leave(task);
     if let Some(owner) = blocker {
@@ -178,7 +182,7 @@ fn happen(rt: &impl Abort, tables: &mut Tables, event: Event, ticket: u64, visit
             lock(rt, tables, TaskNo(task), MutexNo(mutex), ticket, visits)
         }
         Event::Deadlock(task, mutex) => {
-            assert!(rt; tables.closes_cycle(TaskNo(task), MutexNo(mutex)));
+            assert!(rt; tables.leads_back(TaskNo(task), MutexNo(mutex)));
         }
         Event::Unlock(mutex) => unlock(rt, tables, MutexNo(mutex), visits),
         Event::Cancel(task) => cancel(rt, tables, TaskNo(task), visits),
@@ -282,12 +286,8 @@ fn second_waiter_becomes_first_with_a_changed_priority(rt: HostRuntime) -> Resul
         Row(Event::Unlock(1), 1, &[70, 70, 30, 50, 70, 90]),
     ];
     play(&rt, &mut tables, ROWS);
-    assert_eq!(rt;
-        tables
-            .first_waiter(MutexNo(3))
-            .is_some_and(|first| first.task == TaskNo(1)),
-        true
-    );
+    let first = first_waiter(&tables, MutexNo(3)).map(|first| first.task);
+    assert_eq!(rt; first, Some(TaskNo(1)));
     Ok(())
 }
 
@@ -480,7 +480,8 @@ fn checks_answer_from_what_stands(rt: HostRuntime) -> Result<(), Fail> {
     let tables = scene(&rt, rt.alloc())?;
     assert!(rt; tables.on_chain(TaskNo(2), TaskNo(1)));
     assert!(rt; !tables.on_chain(TaskNo(1), TaskNo(2)));
-    assert!(rt; tables.is_above_ceiling(TaskNo(3), MutexNo(2)));
+    assert!(rt; !tables.is_unknown_task(TaskNo(3)) && !tables.is_unknown_mutex(MutexNo(2)));
+    assert!(rt; tables.known_above_ceiling(TaskNo(3), MutexNo(2)));
     assert!(rt; tables.has_ticket(MutexNo(1), 3));
     assert!(rt; !tables.has_ticket(MutexNo(1), 4));
     Ok(())
@@ -569,7 +570,7 @@ fn enter(rt: &impl Abort, tables: &mut Tables, visits: &mut Visits)
 {
     assert!(rt; !tables.is_unknown_task(TaskNo(2)));
     assert!(rt; !tables.is_unknown_mutex(MutexNo(1)));
-    assert!(rt; !tables.is_waiting(TaskNo(2)));
+    assert!(rt; tables.waits_for(TaskNo(2)).is_none());
     assert!(rt; tables.owner(MutexNo(1)) == Some(TaskNo(1)));
     assert!(rt; !tables.leads_back(TaskNo(2), MutexNo(1)));
     assert!(rt; !tables.has_ticket(MutexNo(1), 2));
@@ -595,20 +596,25 @@ fn lower_waiter_comes_and_goes_by_a_look_each(rt: HostRuntime) -> Result<(), Fai
     lock(&rt, &mut tables, TaskNo(1), MutexNo(1), 1, &mut visits);
     assert_eq!(rt; visits.get(), 0);
     enter(&rt, &mut tables, &mut visits);
-    assert_eq!(rt; (visits.get(), tables.is_waiting(TaskNo(2))), (0, true));
+    assert_eq!(rt;
+        (visits.get(), tables.waits_for(TaskNo(2)).is_some()),
+        (0, true)
+    );
     exit(&rt, &mut tables, &mut visits);
-    assert_eq!(rt; (visits.get(), tables.is_waiting(TaskNo(2))), (0, false));
+    assert_eq!(rt;
+        (visits.get(), tables.waits_for(TaskNo(2)).is_some()),
+        (0, false)
+    );
     assert_eq!(rt; tables.stored(TaskNo(1)), Prio::new(50));
     Ok(())
 }
 
 #[test]
-fn a_relock_leads_back_and_closes_no_cycle(rt: HostRuntime) -> Result<(), Fail> {
+fn a_relock_leads_back_to_its_task(rt: HostRuntime) -> Result<(), Fail> {
     let tables = locked_again(&rt, rt.alloc())?;
     assert!(rt; tables.is_recursive(MutexNo(1)) && !tables.is_recursive(MutexNo(2)));
-    assert!(rt; tables.leads_back(TaskNo(1), MutexNo(1)));
-    assert!(rt; !tables.closes_cycle(TaskNo(1), MutexNo(1)));
-    assert!(rt; tables.closes_cycle(TaskNo(1), MutexNo(2)));
+    assert!(rt; tables.leads_back(TaskNo(1), MutexNo(1)) && tables.relocks(TaskNo(1), MutexNo(1)));
+    assert!(rt; tables.leads_back(TaskNo(1), MutexNo(2)) && !tables.relocks(TaskNo(1), MutexNo(2)));
     assert!(rt; !tables.leads_back(TaskNo(2), MutexNo(2)));
     Ok(())
 }
@@ -693,7 +699,7 @@ fn free_mutex_has_another_protocol(rt: HostRuntime) -> Result<(), Fail> {
     let mut tables = tables(&rt, rt.alloc(), &[10, 20], &[INHERIT; 2])?;
     play(&rt, &mut tables, &[Row(Event::Lock(1, 1), 0, &[10, 20])]);
     let second = MutexNo(2);
-    assert!(rt; !tables.is_unknown_mutex(second) && !tables.is_owned(second));
+    assert!(rt; !tables.is_unknown_mutex(second) && tables.owner(second).is_none());
     tables.put_protocol(second, Protocol::Protect(prio(&rt, 50)));
     assert_eq!(rt; tables.protocol(MutexNo(1)), Some(INHERIT));
     assert_eq!(rt; tables.ceiling(second), Prio::new(50));
