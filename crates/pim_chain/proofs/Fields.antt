@@ -11,10 +11,10 @@ use Rattle.pim_base.specs.declared.steps.Protocol.{Protocol}
 use Rattle.pim_base.specs.declared.steps.Wait.{Wait}
 use Rattle.pim_base.specs.declared.steps.Waiter.{Waiter}
 use Rattle.pim_queue.specs.QueueView.{QueueView}
-use Rattle.pim_queue.specs.Waiters.{is_of, has_ticket}
+use Rattle.pim_queue.specs.Waiters.{is_of, has_ticket, repositioned}
 use Rattle.pim_queue.proofs.Order.{Found, found}
-use Rattle.pim_chain.specs.Views.{View, Ready, Shows, IsQueue, with_state, stored_at, queue_at, view_in, waiter_at}
-use Rattle.pim_chain.specs.Settled.{SettledBut}
+use Rattle.pim_chain.specs.Views.{View, Ready, Shows, IsQueue, with_state, stored_at, queue_at, queue_in, view_in, put_queue, waiter_at}
+use Rattle.pim_chain.specs.Settled.{SettledBut, moved, restored}
 use Rattle.pim_chain.proofs.Local.{waits_for_from}
 use Rattle.pim_chain.proofs.Changes.{not_waiting}
 use Rattle.pim_chain.proofs.Visit.{stands}
@@ -53,6 +53,47 @@ pub protocol_written :
     → k ≡ m
     → with_state v (record v.state { protocol = protocols }) ≡ with_state u (with_protocol u.state m p)
 protocol_written p same is at = cc
+
+pub stored_written :
+    {v u : View} {t k : ℕ} {stored : List ℕ} (p : ℕ)
+    → v ≡ u
+    → stored ≡ put v.stored k p
+    → k ≡ t
+    → record v { stored = stored } ≡ record u { stored = put u.stored t p }
+stored_written p same is at = cc
+
+-- the task waits for nothing
+pub stored_free :
+    {v u : View} {t k : ℕ} {stored : List ℕ} (p : ℕ)
+    → v ≡ u
+    → stored ≡ put v.stored k p
+    → k ≡ t
+    → wait_of u.state t ≡ None
+    → record v { stored = stored } ≡ restored u t p
+stored_free {u = u} {t = t} p same is at free =
+    stored_written p same is at ∙ ap (λ q. record u { stored = put u.stored t p; queues = moved u.queues q t p }) (sym free)
+
+queue_written :
+    {v u : View} {t k : ℕ} {stored : List ℕ} {queues : List QueueView} (p m : ℕ)
+    → v ≡ u
+    → stored ≡ put v.stored k p
+    → k ≡ t
+    → queues ≡ put_queue v.queues m (repositioned t p (queue_in v.queues m))
+    → record v { stored = stored; queues = queues }
+    ≡ record u { stored = put u.stored t p; queues = put_queue u.queues m (repositioned t p (queue_in u.queues m)) }
+queue_written p m same is at placed = cc
+
+-- the task is moved in the queue that it waits in
+pub stored_waiting :
+    {v u : View} {t k : ℕ} {stored : List ℕ} {queues : List QueueView} (p : ℕ) (w : Wait)
+    → v ≡ u
+    → stored ≡ put v.stored k p
+    → k ≡ t
+    → wait_of u.state t ≡ Some w
+    → queues ≡ put_queue v.queues w.mutex (repositioned t p (queue_in v.queues w.mutex))
+    → record v { stored = stored; queues = queues } ≡ restored u t p
+stored_waiting {u = u} {t = t} p w same is at waits placed =
+    queue_written p w.mutex same is at placed ∙ ap (λ q. record u { stored = put u.stored t p; queues = moved u.queues q t p }) (sym waits)
 
 -- ---- what held of the tables before, of what they are then
 pub ready_after : {v u w x : View} → v ≡ u → w ≡ x → (Ready u → Ready x) → Ready v → Ready w

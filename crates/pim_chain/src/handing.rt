@@ -9,6 +9,7 @@ ghost use Rattle.pim_chain.specs.Views.{Ready, stored_at};
 ghost use Rattle.pim_chain.specs.Settled.{SettledBut, SetRight, HandedAll};
 ghost use Rattle.pim_chain.specs.Work.{Tells, VisitedOnce};
 
+use crate::numbered::put;
 use crate::owned::Owned;
 use crate::tables::Tables;
 use crate::visits::Visits;
@@ -30,7 +31,7 @@ impl Tables {
             return;
         }
         visits.note(task, had);
-        self.restore(task, None, prio);
+        put(&mut self.stored, task.get(), prio);
     }
 
     // Takes the mutex from its owner, which waits for nothing, and hands it to the first waiter, if there is one.

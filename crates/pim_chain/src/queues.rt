@@ -6,7 +6,7 @@ ghost use Rattle.std.specs.Option.{option_copied};
 ghost use Rattle.pim_base.specs.Lists.{nth, insert_by, first_item};
 ghost use Rattle.pim_base.specs.Queues.{precedes};
 ghost use Rattle.pim_queue.specs.Waiters.{is_of, has_ticket, without, repositioned};
-ghost use Rattle.pim_chain.specs.Views.{view_in, queue_in, put_queue};
+ghost use Rattle.pim_chain.specs.Views.{view_in, queue_in, first_prio, put_queue};
 
 use pim_base::{MutexNo, Prio, Waiter};
 use pim_queue::Queue;
@@ -74,6 +74,15 @@ impl Queues {
         ensures { result ≡ first_item (queue_in self.now mutex) }
     {
         self.queues[mutex.get() as usize - 1].front()
+    }
+
+    /// Returns the level of the first waiter for a known mutex, 0 if no task waits.
+    pub fn first_level(&self, mutex: MutexNo) -> u16
+        requires least { 1 ≤ mutex }
+        requires most { mutex ≤ length self.now }
+        ensures { result ≡ first_prio (queue_in self.now mutex) }
+    {
+        self.known_first(mutex).map_or(0, |first| first.prio.get())
     }
 
     /// Puts the waiter in the queue of the mutex.

@@ -185,13 +185,14 @@ impl Tables {
         nth(&self.count, mutex.get()).map(|count| count as u16)
     }
 
-    /// Returns the owner of an INHERIT mutex, which gets the priority of those that wait for it, `None` for any other
-    /// one.
-    pub fn heir_of(&self, mutex: MutexNo) -> Option<TaskNo>
+    /// Returns the owner of a known INHERIT mutex, which gets the priority of those that wait for it, `None` for any
+    /// other one.
+    pub(crate) fn heir_of(&self, mutex: MutexNo) -> Option<TaskNo>
+        requires { IsMutex self.now.state mutex }
         ensures { result ≡ heir_of self.now.state mutex }
     {
-        match self.protocol(mutex)? {
-            Protocol::Inherit | Protocol::InheritRecursive => self.owner(mutex),
+        match self.known_protocol(mutex) {
+            Protocol::Inherit | Protocol::InheritRecursive => self.known_owner(mutex),
             Protocol::None | Protocol::Protect(_) => None,
         }
     }

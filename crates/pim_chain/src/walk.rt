@@ -1,7 +1,7 @@
 //! The walk that restores the stored priorities, and stops early.
 
 ghost use Rattle.std.specs.Prelude.{◌≡◌, ◌≢◌, ◌≤◌, ◌<◌, ◌+◌, ◌-◌, ◌^◌, None, Some, false, length, unwrap_or, ℕ, ◌↔◌, IsTrue};
-ghost use Rattle.std.specs.Option.{option_and_then, option_map, option_map_or};
+ghost use Rattle.std.specs.Option.{option_map};
 ghost use Rattle.pim_base.specs.declared.limits.TheConstants.{MAX_TASKS};
 ghost use Rattle.pim_base.specs.State.{IsTask, IsMutex, owner_of, wait_of, with_owner, with_wait};
 ghost use Rattle.pim_base.specs.Chains.{heir, leads_back};
@@ -10,13 +10,13 @@ ghost use Rattle.pim_base.specs.Queues.{queue_of};
 ghost use Rattle.pim_base.specs.declared.steps.Wait.{Wait};
 ghost use Rattle.pim_chain.specs.Views.{Ready, stored_at, queue_at, first_prio};
 ghost use Rattle.pim_chain.specs.Owned.{worth, donated_by};
-ghost use Rattle.pim_chain.specs.Settled.{SettledBut, Visited, onward_from, next_of, changed, restored};
+ghost use Rattle.pim_chain.specs.Settled.{SettledBut, Visited, next_of, changed};
 ghost use Rattle.pim_chain.specs.Work.{Tells, VisitedOnce};
 
 use crate::numbered::put;
 use crate::tables::Tables;
 use crate::visits::Visits;
-use pim_base::{MutexNo, Prio, Protocol, TaskNo, Wait, higher};
+use pim_base::{MutexNo, Prio, Protocol, TaskNo, Waiter, higher};
 
 impl Tables {
     // Returns the priority of the first waiter for the known mutex.
@@ -32,7 +32,9 @@ impl Tables {
         requires { IsMutex self.now.state mutex }
         ensures { result ≡ first_prio (queue_at self.now mutex) }
     {
-        self.first_prio(mutex).map_or(0, |prio| prio.get())
+        // The contract of this call gives the proof the invariant of the tables.
+        let _tasks = self.tasks();
+        self.queues.first_level(mutex)
     }
 
     // Returns the priority that the owned mutex gives its owner: its ceiling, or the donation of its first waiter.
@@ -107,50 +109,6 @@ impl Tables {
         prio
     }
 
-    // Returns the level of the first waiter in the queue that a task waits in, 0 if it waits in none.
-    fn level_there(&self, wait: &Option<Wait>) -> u16
-        requires { (w : Wait) → wait.now ≡ Some w → IsMutex self.now.state w.mutex }
-        ensures { result ≡ option_map_or (λ (w : Wait). first_prio (queue_at self.now w.mutex)) wait.now 0 }
-    {
-        match wait {
-            Some(wait) => self.first_level(wait.mutex),
-            None => 0,
-        }
-    }
-
-    // [5] and [6]: returns the task at which the walk goes on from a queue whose first waiter had this level before.
-    fn onward(&self, wait: &Option<Wait>, before: u16) -> Option<TaskNo>
-        requires { (w : Wait) → wait.now ≡ Some w → IsMutex self.now.state w.mutex }
-        ensures { result ≡ option_and_then (onward_from before self.now) wait.now }
-    {
-        let mutex = wait.as_ref()?.mutex;
-        // [5]
-        if self.first_level(mutex) == before {
-            return None;
-        }
-        // [6]
-        match self.known_protocol(mutex) {
-            Protocol::Inherit | Protocol::InheritRecursive => self.known_owner(mutex),
-            Protocol::None | Protocol::Protect(_) => None,
-        }
-    }
-
-    // [3] and [4]: stores the priority, and moves the task to its place in the queue that it waits in.
-    #[inline(always)]
-    pub(crate) fn restore(&mut self, task: TaskNo, wait: Option<Wait>, prio: Prio)
-        requires known { IsTask self.old.state task }
-        requires waits { wait ≡ wait_of self.old.state task }
-        ensures { self.new ≡ restored self.old task prio }
-    {
-        // [4]
-        if let Some(wait) = wait {
-            let waiter = self.waiter(task, wait.ticket);
-            self.queues.reposition(wait.mutex, &waiter, prio);
-        }
-        // [3]
-        put(&mut self.stored, task.get(), prio);
-    }
-
     // [2] to [6], one turn of the walk: restores one task's priority, and returns the task to go on with.
     #[inline(always)]
     fn visit(&mut self, task: TaskNo, visits: &mut Visits) -> Option<TaskNo>
@@ -169,13 +127,25 @@ impl Tables {
         if prio == had {
             return None;
         }
+        // [3]
         visits.note(task, had);
-        // [3] and [4]
         let wait = self.known_wait(task);
-        let before = self.level_there(&wait);
-        self.restore(task, wait, prio);
-        // [5] and [6]
-        self.onward(&wait, before)
+        put(&mut self.stored, task.get(), prio);
+        let wait = wait?;
+        // [4]
+        let before = self.queues.first_level(wait.mutex);
+        let waiter = Waiter {
+            task,
+            prio: had,
+            ticket: wait.ticket,
+        };
+        self.queues.reposition(wait.mutex, &waiter, prio);
+        // [5]
+        if self.queues.first_level(wait.mutex) == before {
+            return None;
+        }
+        // [6]
+        self.heir_of(wait.mutex)
     }
 
     /// Walks from a task whose local priority a change may have altered, and restores all stored priorities and
@@ -186,7 +156,7 @@ impl Tables {
     /// 3. `[3]` Note what it had, and store the new priority. If the task waits for nothing, stop.
     /// 4. `[4]` Move the task, with its ticket, to its place in the queue that it waits in.
     /// 5. `[5]` If the priority of the first waiter in that queue is what it was, stop.
-    /// 6. `[6]` If the mutex isn't an INHERIT one, or is free, stop. Else go on with its owner at `[2]`.
+    /// 6. `[6]` Go on at `[2]` with the heir, the owner of an INHERIT mutex. If there is none, stop.
     ///
     /// Before the walk every task but the given one must have the stored priority that it has locally. After it each
     /// stored priority is the effective one, each queue is in the order of these priorities, and nothing else changed.

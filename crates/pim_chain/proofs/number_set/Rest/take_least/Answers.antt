@@ -1,4 +1,4 @@
-use Rattle.std.proofs.Common.{◌≡◌, ◌≢◌, ◌==◌, ◌&&◌, ◌∙◌, ◌*◌, ◌+◌, not, ap, subst, refl, rules, Some}
+use Rattle.std.proofs.Common.{◌≢◌, ◌==◌, ◌&&◌, ◌∙◌, ◌*◌, ◌+◌, not, ap, subst, refl, rules, Some}
 use Rattle.pim_chain.specs.Numbers.{has, words_left, IsLeast}
 use Rattle.pim_chain.proofs.Members.{least_rest, taken_rest}
 use Rattle.pim_chain.proofs.WordsLeft.{length_left}
