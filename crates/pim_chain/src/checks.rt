@@ -61,12 +61,14 @@ impl Tables {
         self.is_recursive(mutex) && self.owns(task, mutex)
     }
 
-    /// Returns whether the task owns the known mutex and may lock it again.
-    pub fn known_relocks(&self, task: TaskNo, mutex: MutexNo) -> bool
-        requires { IsMutex self.now.state mutex }
+    /// Returns whether the task is this owner of the mutex, and may lock it again.
+    pub fn known_relocks(&self, task: TaskNo, mutex: MutexNo, owner: TaskNo) -> bool
+        requires { owner_of self.now.state mutex ≡ Some owner }
         ensures { result ≡ relocks self.now.state task mutex }
     {
-        self.known_protocol(mutex).is_recursive() && self.known_owns(task, mutex)
+        // The contract of this call gives the proof the invariant of the tables.
+        let _tasks = self.tasks();
+        self.known_protocol(mutex).is_recursive() && owner == task
     }
 
     /// Returns whether the task would lock the mutex once more than can be counted.

@@ -48,10 +48,12 @@ impl Tables {
         self.known_on_chain(from, task)
     }
 
-    // Returns whether the task is on the chain of the known task `from`.
+    /// Returns whether the task is on the chain of the known task `from`.
+    ///
+    /// Makes at most as many hops as there are tasks.
     #[tactic(auto, using(crate::proofs::Hopping::contains_onward))]
     #[inline(always)]
-    fn known_on_chain(&self, from: TaskNo, task: TaskNo) -> bool
+    pub fn known_on_chain(&self, from: TaskNo, task: TaskNo) -> bool
         requires { IsTask self.now.state from }
         ensures { result ≡ contains (waits_chain self.now.state from) task }
     {

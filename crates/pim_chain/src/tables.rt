@@ -264,7 +264,7 @@ impl Tables {
     }
 
     /// Returns how often its owner has locked the mutex, 0 of a free or an unknown one.
-    pub(crate) fn count_of(&self, mutex: MutexNo) -> u8
+    pub fn count_of(&self, mutex: MutexNo) -> u8
         ensures { result ≡ count_of self.now.state mutex }
     {
         nth(&self.count, mutex.get()).unwrap_or(0)

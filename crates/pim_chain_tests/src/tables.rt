@@ -558,7 +558,7 @@ fn known_numbers_are_looked_up_without_a_test(rt: HostRuntime) -> Result<(), Fai
     let first = tables.known_first(MutexNo(1)).map(|first| first.task);
     assert_eq!(rt; first, Some(TaskNo(2)));
     assert!(rt; !tables.known_owns(TaskNo(2), MutexNo(1)));
-    assert!(rt; !tables.known_relocks(TaskNo(2), MutexNo(1)));
+    assert!(rt; !tables.known_relocks(TaskNo(2), MutexNo(1), TaskNo(1)));
     assert!(rt; !tables.known_above_ceiling(TaskNo(2), MutexNo(1)));
     Ok(())
 }

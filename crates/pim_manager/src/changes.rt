@@ -1,15 +1,16 @@
 //! The changes of a step, each with the walks from the tasks whose local priority it may have changed.
 
-ghost use Rattle.std.specs.Prelude.{◌≡◌, ◌≤◌, ◌<◌, ◌+◌, ◌-◌, ◌^◌, Some, None, true, false};
+ghost use Rattle.std.specs.Prelude.{◌≡◌, ◌≢◌, ◌≤◌, ◌<◌, ◌+◌, ◌-◌, ◌^◌, Some, None, true, false};
 ghost use Rattle.std.specs.Option.{option_map};
-ghost use Rattle.pim_base.specs.State.{IsTask, IsMutex, owner_of, count_of, wait_of, relocks, with_owner, with_count, with_wait, with_base, with_ceiling, queued};
+ghost use Rattle.pim_base.specs.State.{IsTask, IsMutex, owner_of, protocol_of, is_recursive, count_of, wait_of, with_owner, with_count, with_wait, with_base, with_ceiling, queued};
 ghost use Rattle.pim_base.specs.Chains.{blocker, leads_back};
-ghost use Rattle.pim_base.specs.Checks.{not_protect, locked_too_often};
+ghost use Rattle.pim_base.specs.Checks.{not_protect};
 ghost use Rattle.pim_base.specs.Counts.{changed_task_count, handed_mutex_count};
 ghost use Rattle.pim_base.specs.Queues.{first_of};
 ghost use Rattle.pim_base.specs.Steps.{is_kept, hand_over};
 ghost use Rattle.pim_base.specs.declared.steps.Waiter.{Waiter};
-ghost use Rattle.pim_base.specs.declared.limits.TheConstants.{LAST_TICKET, MAX_TASKS};
+ghost use Rattle.pim_base.specs.declared.limits.TheConstants.{LAST_TICKET, MAX_COUNT, MAX_TASKS};
+ghost use Rattle.pim_chain.specs.Work.{Work};
 ghost use Rattle.pim_manager.specs.Settled.{Worked};
 
 use crate::manager::Manager;
@@ -32,21 +33,22 @@ impl Manager {
         self.tables.gain(mutex, task, visits);
     }
 
-    /// Counts one more lock of the recursive mutex, which the task owns. No priority changes.
-    pub(crate) fn lock_again(&mut self, mutex: MutexNo, task: TaskNo, visits: &Visits)
-        requires again { relocks self.old task mutex ≡ true }
-        requires few { locked_too_often self.old task mutex ≡ false }
+    /// Counts one more lock of the recursive mutex, which is owned. No priority changes.
+    pub(crate) fn relock(&mut self, mutex: MutexNo)
+        requires owned { owner_of self.old mutex ≢ None }
+        requires recursive { is_recursive (protocol_of self.old mutex) ≡ true }
+        requires few { count_of self.old mutex < MAX_COUNT }
         ensures state { self.new ≡ with_count self.old mutex (count_of self.old mutex + 1) }
-        ensures work { Worked self.old visits.now self.new visits.now }
+        ensures work { (a : Work) → Worked self.old a self.new a }
     {
         self.tables.count_up(mutex);
     }
 
     /// Takes back one lock of the recursive mutex, which its owner keeps. No priority changes.
-    pub(crate) fn unlock_once(&mut self, mutex: MutexNo, visits: &Visits)
+    pub(crate) fn unlock_once(&mut self, mutex: MutexNo)
         requires { is_kept self.old mutex ≡ true }
         ensures state { self.new ≡ with_count self.old mutex (count_of self.old mutex - 1) }
-        ensures work { Worked self.old visits.now self.new visits.now }
+        ensures work { (a : Work) → Worked self.old a self.new a }
     {
         self.tables.count_down(mutex);
     }

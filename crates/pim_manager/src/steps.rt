@@ -1,14 +1,16 @@
 //! The steps: the reply to each, and what it changes.
 
-ghost use Rattle.std.specs.Prelude.{◌≡◌, ◌≤◌, ◌+◌, ◌*◌, None, true};
-ghost use Rattle.pim_base.specs.State.{IsTask, wait_of, relocks};
+ghost use Rattle.std.specs.Prelude.{◌≡◌, ◌≤◌, ◌+◌, ◌*◌, None, true, false};
+ghost use Rattle.pim_base.specs.State.{IsTask, owner_of, wait_of, relocks};
+ghost use Rattle.pim_base.specs.Checks.{unknown_mutex};
 ghost use Rattle.pim_base.specs.Counts.{changed_task_count, handed_mutex_count};
 ghost use Rattle.pim_base.specs.Steps.{answer, after_reply, reply_of, after};
+ghost use Rattle.pim_chain.specs.Work.{Work};
 ghost use Rattle.pim_manager.specs.Relocks.{relocked};
 ghost use Rattle.pim_manager.specs.Settled.{Worked};
 
 use crate::manager::Manager;
-use pim_base::{LAST_TICKET, MutexNo, Op, Prio, Refusal, Reply, Step, TaskNo};
+use pim_base::{LAST_TICKET, MAX_COUNT, MutexNo, Op, Prio, Refusal, Reply, Step, TaskNo};
 use pim_chain::Visits;
 
 impl Manager {
@@ -42,6 +44,7 @@ impl Manager {
     /// Answers a lock by a known task that doesn't wait: the mutex is granted if it is free, or once more to its
     /// owner if it is recursive, else the actor queues for it. The deadlock test makes at most as many hops as there
     /// are tasks.
+    #[tactic(auto, using(crate::proofs::Requests::owned_leads_back))]
     #[inline(always)]
     fn answer_lock(&mut self, actor: TaskNo, mutex: MutexNo, visits: &mut Visits) -> Reply
         requires known { IsTask self.old actor }
@@ -55,19 +58,18 @@ impl Manager {
         if self.tables.is_unknown_mutex(mutex) {
             return Reply::Refused(Refusal::NoMutex);
         }
-        if self.tables.known_relocks(actor, mutex) {
-            return self.answer_relock(actor, mutex, visits);
+        let Some(owner) = self.tables.known_owner(mutex) else {
+            return self.answer_free(actor, mutex, visits);
+        };
+        if self.tables.known_relocks(actor, mutex, owner) {
+            return self.answer_relock(actor, mutex);
         }
-        if self.tables.leads_back(actor, mutex) {
+        if self.tables.known_on_chain(owner, actor) {
             return Reply::Refused(Refusal::Deadlock);
         }
         if self.tables.known_above_ceiling(actor, mutex) {
             return Reply::Refused(Refusal::Ceiling);
         }
-        let Some(owner) = self.tables.known_owner(mutex) else {
-            self.grant(mutex, actor, visits);
-            return Reply::Granted;
-        };
         if self.tables.next_ticket() > LAST_TICKET {
             return Reply::Refused(Refusal::Tickets);
         }
@@ -90,14 +92,36 @@ impl Manager {
         if self.tables.is_unknown_mutex(mutex) {
             return Reply::Refused(Refusal::NoMutex);
         }
-        if self.tables.known_relocks(actor, mutex) {
-            return self.answer_relock(actor, mutex, visits);
+        let Some(owner) = self.tables.known_owner(mutex) else {
+            return self.answer_free(actor, mutex, visits);
+        };
+        if self.tables.known_relocks(actor, mutex, owner) {
+            return self.answer_relock(actor, mutex);
         }
         if self.tables.known_above_ceiling(actor, mutex) {
             return Reply::Refused(Refusal::Ceiling);
         }
-        if self.tables.known_owner(mutex).is_some() {
-            return Reply::Refused(Refusal::Busy);
+        Reply::Refused(Refusal::Busy)
+    }
+
+    /// Answers a lock or a try of a free mutex by a known task that doesn't wait: the mutex is granted, unless the
+    /// actor's base is above its ceiling.
+    #[tactic(auto, using(crate::proofs::Requests::free_relocks, crate::proofs::Requests::free_leads_back))]
+    #[inline(always)]
+    fn answer_free(&mut self, actor: TaskNo, mutex: MutexNo, visits: &mut Visits) -> Reply
+        requires known { IsTask self.old actor }
+        requires idle { wait_of self.old actor ≡ None }
+        requires mutex { unknown_mutex self.old mutex ≡ false }
+        requires free { owner_of self.old mutex ≡ None }
+        requires fresh { visits.old.count ≡ 0 }
+        ensures lock { result ≡ answer self.old actor (Op.Lock mutex) }
+        ensures tried { result ≡ answer self.old actor (Op.Try mutex) }
+        ensures state { self.new ≡ after_reply self.old actor (Op.Lock mutex) result }
+        ensures work { Worked self.old visits.old self.new visits.new }
+        ensures most { visits.new.count ≤ 1 }
+    {
+        if self.tables.known_above_ceiling(actor, mutex) {
+            return Reply::Refused(Refusal::Ceiling);
         }
         self.grant(mutex, actor, visits);
         Reply::Granted
@@ -105,16 +129,16 @@ impl Manager {
 
     /// Answers a lock or a try of a recursive mutex by its owner: the mutex is locked once more, unless its count is
     /// `MAX_COUNT`.
-    fn answer_relock(&mut self, actor: TaskNo, mutex: MutexNo, visits: &Visits) -> Reply
+    fn answer_relock(&mut self, actor: TaskNo, mutex: MutexNo) -> Reply
         requires { relocks self.old actor mutex ≡ true }
         ensures reply { result ≡ relocked self.old mutex }
         ensures state { self.new ≡ after_reply self.old actor (Op.Lock mutex) result }
-        ensures work { Worked self.old visits.now self.new visits.now }
+        ensures work { (a : Work) → Worked self.old a self.new a }
     {
-        if self.tables.is_locked_too_often(actor, mutex) {
+        if self.tables.count_of(mutex) == MAX_COUNT {
             return Reply::Refused(Refusal::Again);
         }
-        self.lock_again(mutex, actor, visits);
+        self.relock(mutex);
         Reply::Granted
     }
 
@@ -136,7 +160,7 @@ impl Manager {
             return Reply::Refused(Refusal::NotOwner);
         }
         if self.tables.known_kept(mutex) {
-            self.unlock_once(mutex, visits);
+            self.unlock_once(mutex);
             return Reply::Kept;
         }
         match self.hand_over(mutex, actor, visits) {

@@ -234,7 +234,7 @@ fn recursive_mutex_with_a_waiter(rt: HostRuntime) -> Result<(), Fail> {
     Ok(())
 }
 
-// task 1 locks the mutex 255 times, and no more
+// Tests that task 1 can lock the mutex 255 times, and no more.
 fn expect_relocks(rt: &impl Abort, manager: &mut Manager) {
     for _time in 0..255 {
         assert_eq!(rt; manager.step(by(1, Lock(FIRST))).reply, Reply::Granted);
@@ -272,7 +272,7 @@ fn sized(
     Ok(Manager::with_next_ticket(alloc, &bases, &protocols, 7))
 }
 
-// so many tasks and mutexes, and the next ticket
+// Returns the numbers of tasks and mutexes, and the next ticket.
 fn sizes(manager: &Manager) -> (u16, u16, u64) {
     (manager.tasks(), manager.mutexes(), manager.next_ticket())
 }
@@ -336,7 +336,7 @@ fn replies_of_a_run(rt: HostRuntime) -> Result<(), Fail> {
     Ok(())
 }
 
-// the mutex is owned by this task, and task 1 has this priority
+// Tests that this task owns the mutex, and that task 1 has this priority.
 fn expect_owned(rt: &impl Abort, manager: &Manager, owner: u16, level: u16) {
     let shown = (manager.owner(FIRST), manager.effective(TaskNo(1)));
     let owner = Some(Some(TaskNo(owner)));
@@ -361,7 +361,7 @@ const AWAY: [(Op, Op); 2] = [
     (SetBase(TaskNo(2), 91), SetBase(TaskNo(2), 90)),
 ];
 
-// the managers are equal, but between the two steps of a row
+// Tests that the managers are equal, except between the two steps of a row.
 fn expect_equal(rt: &impl Abort, manager: &mut Manager, start: &Manager) {
     assert!(rt; manager.has_state_of(start));
     for (away, back) in AWAY {
@@ -381,7 +381,7 @@ fn equal_managers_have_the_same_state(rt: HostRuntime) -> Result<(), Fail> {
     Ok(())
 }
 
-// a manager with these bases and protocols has another state
+// Tests that a manager with these bases and protocols has another state.
 fn expect_other(
     rt: &impl Abort,
     alloc: Global,
@@ -422,7 +422,7 @@ fn waits_and_tickets_are_of_the_state(rt: HostRuntime) -> Result<(), Fail> {
     Ok(())
 }
 
-// the first two tasks whose priority the last step changed
+// Returns the first two tasks whose priority the last step changed.
 fn first_changed(manager: &Manager, visits: &Visits) -> [Option<TaskNo>; 2] {
     let mut changed = manager.changed(visits);
     [changed.next(), changed.next()]

@@ -6,3 +6,6 @@ returns-then-is_unknown_mutex-clause-work c = worked_none c.args.self.now c.args
 
 pub returns-then-not-known_owns-clause-work : goal.returns-then-not-known_owns-clause-work
 returns-then-not-known_owns-clause-work c = worked_none c.args.self.now c.args.visits.now
+
+pub returns-then-known_kept-clause-work : goal.returns-then-known_kept-clause-work
+returns-then-known_kept-clause-work c = c.unlock_once.ensures.work c.args.visits.now

@@ -7,9 +7,9 @@ use Rattle.pim_manager.proofs.manager.Manager.unlock_once.Goals as goal
 
 -- no priority comes from a count
 pub returns-clause-work : goal.returns-clause-work
-returns-clause-work c =
+returns-clause-work c a =
     let S : State = c.args.self.now in
     let counted : State → State = λ U. with_count U c.args.mutex (count_of U c.args.mutex - 1) in
-    subst (λ (T : State). Worked S c.args.visits.now T c.args.visits.now)
+    subst (λ (T : State). Worked S a T a)
     (sym (ap (λ (w : View). w.state) c.count_down.ensures.state ∙ ap counted c.self.view_is))
-    (worked_none S c.args.visits.now)
+    (worked_none S a)
