@@ -259,7 +259,7 @@ struct pim_answer {
     uint8_t kind;    /* PIM_NO_MANAGER .. PIM_KEPT */
     uint8_t refusal; /* PIM_REFUSED_NO_TASK .. PIM_REFUSED_NO_PROTOCOL, or 0 */
     uint16_t number; /* the task that was handed the mutex, or how many mutexes were released, or 0 */
-    uint32_t visits; /* computed priorities, and comparisons that show that one stays */
+    uint32_t visits; /* how many priorities the step computed */
 };
 
 struct pim_reason {

@@ -40,13 +40,13 @@ fn unknown_numbers_are_refused() -> &'static Scene {
 fn waiters_are_served_by_priority_and_ask_for_nothing() -> &'static Scene {
     const BASES: &[Seen] = &[Base(10), Base(30), Base(20)];
     const ROWS: &[Row] = &[
-        Row(Lock(1, 1), Granted, 1, BASES),
-        Row(Lock(3, 1), Queued, 1, BASES),
-        Row(Lock(2, 1), Queued, 1, BASES),
+        Row(Lock(1, 1), Granted, 0, BASES),
+        Row(Lock(3, 1), Queued, 0, BASES),
+        Row(Lock(2, 1), Queued, 0, BASES),
         Row(Unlock(2, 1), Refused(Waiting), 0, BASES),
-        Row(Unlock(1, 1), Handed(2), 2, BASES),
-        Row(Unlock(2, 1), Handed(3), 2, BASES),
-        Row(Unlock(3, 1), Freed, 1, BASES),
+        Row(Unlock(1, 1), Handed(2), 0, BASES),
+        Row(Unlock(2, 1), Handed(3), 0, BASES),
+        Row(Unlock(3, 1), Freed, 0, BASES),
         Row(Unlock(3, 1), Refused(NotOwner), 0, BASES),
     ];
     const SCENE: &Scene = &Scene {
@@ -62,9 +62,9 @@ fn medium_task_cannot_delay_boosted_owner() -> &'static Scene {
     const BASES: &[Seen] = &[Base(10), Base(50), Base(90)];
     const BOOSTED: &[Seen] = &[Donated(90, 3, 1), Base(50), Base(90)];
     const ROWS: &[Row] = &[
-        Row(Lock(1, 1), Granted, 1, BASES),
+        Row(Lock(1, 1), Granted, 0, BASES),
         Row(Lock(3, 1), Queued, 1, BOOSTED),
-        Row(Unlock(1, 1), Handed(3), 2, BASES),
+        Row(Unlock(1, 1), Handed(3), 1, BASES),
     ];
     const SCENE: &Scene = &Scene {
         name: "medium task cannot delay boosted owner",
@@ -79,8 +79,8 @@ fn deadlock_is_refused_across_two_mutexes_and_to_the_owner() -> &'static Scene {
     const BASES: &[Seen] = &[Base(10), Base(20)];
     const BOOSTED: &[Seen] = &[Donated(20, 2, 1), Base(20)];
     const ROWS: &[Row] = &[
-        Row(Lock(1, 1), Granted, 1, BASES),
-        Row(Lock(2, 2), Granted, 1, BASES),
+        Row(Lock(1, 1), Granted, 0, BASES),
+        Row(Lock(2, 2), Granted, 0, BASES),
         Row(Lock(2, 1), Queued, 1, BOOSTED),
         Row(Lock(1, 2), Refused(Deadlock), 0, BOOSTED),
         Row(Lock(1, 1), Refused(Deadlock), 0, BOOSTED),
@@ -98,11 +98,11 @@ fn try_answers_busy_where_lock_answers_deadlock() -> &'static Scene {
     const BASES: &[Seen] = &[Base(10), Base(20), Base(30)];
     const BOOSTED: &[Seen] = &[Donated(20, 2, 1), Base(20), Base(30)];
     const ROWS: &[Row] = &[
-        Row(Lock(1, 1), Granted, 1, BASES),
-        Row(Lock(2, 2), Granted, 1, BASES),
-        Row(Lock(3, 3), Granted, 1, BASES),
+        Row(Lock(1, 1), Granted, 0, BASES),
+        Row(Lock(2, 2), Granted, 0, BASES),
+        Row(Lock(3, 3), Granted, 0, BASES),
         Row(Lock(2, 1), Queued, 1, BOOSTED),
-        Row(Lock(3, 2), Queued, 1, BOOSTED),
+        Row(Lock(3, 2), Queued, 0, BOOSTED),
         Row(Lock(1, 3), Refused(Deadlock), 0, BOOSTED),
         Row(Try(1, 3), Refused(Busy), 0, BOOSTED),
         Row(Try(1, 1), Refused(Busy), 0, BOOSTED),
@@ -118,9 +118,9 @@ fn try_answers_busy_where_lock_answers_deadlock() -> &'static Scene {
 
 fn deadlock_is_refused_through_mutexes_that_pass_on_no_priority() -> &'static Scene {
     const ROWS: &[Row] = &[
-        Row(Lock(1, 1), Granted, 1, &[Base(10), Base(20)]),
+        Row(Lock(1, 1), Granted, 0, &[Base(10), Base(20)]),
         Row(Lock(2, 2), Granted, 1, &[Base(10), Ceiling(30, 2)]),
-        Row(Lock(2, 1), Queued, 1, &[Base(10), Ceiling(30, 2)]),
+        Row(Lock(2, 1), Queued, 0, &[Base(10), Ceiling(30, 2)]),
         Row(
             Lock(1, 2),
             Refused(Deadlock),
@@ -144,10 +144,10 @@ fn boost_stops_at_a_protect_mutex() -> &'static Scene {
     const BOOSTED: Seen = Donated(90, 3, 2);
     const ROWS: &[Row] = &[
         Row(Lock(1, 1), Granted, 1, &[ONE, TWO, THREE]),
-        Row(Lock(2, 2), Granted, 1, &[ONE, TWO, THREE]),
-        Row(Lock(2, 1), Queued, 1, &[ONE, TWO, THREE]),
+        Row(Lock(2, 2), Granted, 0, &[ONE, TWO, THREE]),
+        Row(Lock(2, 1), Queued, 0, &[ONE, TWO, THREE]),
         Row(Lock(3, 2), Queued, 1, &[ONE, BOOSTED, THREE]),
-        Row(Unlock(1, 1), Handed(2), 2, &[Base(20), BOOSTED, THREE]),
+        Row(Unlock(1, 1), Handed(2), 1, &[Base(20), BOOSTED, THREE]),
     ];
     const SCENE: &Scene = &Scene {
         name: "boost stops at a protect mutex",
@@ -162,13 +162,13 @@ fn raised_waiter_is_handed_a_mutex_that_passes_on_no_priority() -> &'static Scen
     const BASES: &[Seen] = &[Base(10), Base(40), Base(30), Base(90)];
     const BOOSTED: &[Seen] = &[Base(10), Base(40), Donated(90, 4, 2), Base(90)];
     const FIRST: &[Row] = &[
-        Row(Lock(1, 1), Granted, 1, BASES),
-        Row(Lock(3, 2), Granted, 1, BASES),
-        Row(Lock(2, 1), Queued, 1, BASES),
-        Row(Lock(3, 1), Queued, 1, BASES),
+        Row(Lock(1, 1), Granted, 0, BASES),
+        Row(Lock(3, 2), Granted, 0, BASES),
+        Row(Lock(2, 1), Queued, 0, BASES),
+        Row(Lock(3, 1), Queued, 0, BASES),
     ];
     const RAISED: &[Row] = &[Row(Lock(4, 2), Queued, 1, BOOSTED)];
-    const HANDED: &[Row] = &[Row(Unlock(1, 1), Handed(3), 2, BOOSTED)];
+    const HANDED: &[Row] = &[Row(Unlock(1, 1), Handed(3), 0, BOOSTED)];
     const PARTS: &[Part] = &[
         Part(FIRST, Some((1, &[2, 3]))),
         Part(RAISED, Some((1, &[3, 2]))),
@@ -188,9 +188,9 @@ fn boost_lasts_until_the_last_equal_waiter_withdraws() -> &'static Scene {
     const TWO: Seen = Base(50);
     const THREE: Seen = Base(50);
     const ROWS: &[Row] = &[
-        Row(Lock(1, 1), Granted, 1, &[ONE, TWO, THREE]),
+        Row(Lock(1, 1), Granted, 0, &[ONE, TWO, THREE]),
         Row(Lock(2, 1), Queued, 1, &[Donated(50, 2, 1), TWO, THREE]),
-        Row(Lock(3, 1), Queued, 1, &[Donated(50, 2, 1), TWO, THREE]),
+        Row(Lock(3, 1), Queued, 0, &[Donated(50, 2, 1), TWO, THREE]),
         Row(Cancel(2, 2), Withdrawn, 1, &[Donated(50, 3, 1), TWO, THREE]),
         Row(Cancel(3, 3), Withdrawn, 1, &[ONE, TWO, THREE]),
     ];
@@ -206,12 +206,12 @@ fn boost_lasts_until_the_last_equal_waiter_withdraws() -> &'static Scene {
 fn ceiling_is_compared_with_the_base_at_the_lock_alone() -> &'static Scene {
     const ROWS: &[Row] = &[
         Row(Lock(1, 1), Refused(Refusal::Ceiling), 0, &[Base(60)]),
-        Row(Lock(1, 2), Granted, 1, &[Base(60)]),
+        Row(Lock(1, 2), Granted, 0, &[Base(60)]),
         Row(SetBase(1, 1, 99), Set, 1, &[Base(99)]),
         Row(SetBase(1, 1, 100), Refused(Priority), 0, &[Base(99)]),
         Row(SetBase(1, 1, 0), Refused(Priority), 0, &[Base(99)]),
         Row(SetBase(1, 1, 59), Set, 1, &[Ceiling(60, 2)]),
-        Row(Try(1, 1), Granted, 1, &[Ceiling(60, 2)]),
+        Row(Try(1, 1), Granted, 0, &[Ceiling(60, 2)]),
     ];
     const SCENE: &Scene = &Scene {
         name: "ceiling is compared with the base at the lock alone",
@@ -233,7 +233,7 @@ fn ceiling_is_set_by_the_owner_or_of_a_free_mutex() -> &'static Scene {
         Row(SetCeiling(1, 1, 10), Set, 1, BASES),
         Row(SetCeiling(1, 2, 30), Refused(NotProtect), 0, BASES),
         Row(SetCeiling(1, 1, 100), Refused(Priority), 0, BASES),
-        Row(Unlock(1, 1), Freed, 1, BASES),
+        Row(Unlock(1, 1), Freed, 0, BASES),
         Row(SetCeiling(2, 1, 45), Set, 0, BASES),
         Row(Lock(2, 1), Granted, 1, &[Base(20), Ceiling(45, 1)]),
     ];
@@ -250,8 +250,8 @@ fn lowered_ceiling_leaves_what_a_waiter_donates() -> &'static Scene {
     const KINDS: &[Kind] = &[Protect(70), INHERIT];
     const ROWS: &[Row] = &[
         Row(Lock(1, 1), Granted, 1, &[Ceiling(70, 1), Base(60)]),
-        Row(Lock(1, 2), Granted, 1, &[Ceiling(70, 1), Base(60)]),
-        Row(Lock(2, 2), Queued, 1, &[Ceiling(70, 1), Base(60)]),
+        Row(Lock(1, 2), Granted, 0, &[Ceiling(70, 1), Base(60)]),
+        Row(Lock(2, 2), Queued, 0, &[Ceiling(70, 1), Base(60)]),
         Row(SetCeiling(1, 1, 40), Set, 1, &[Donated(60, 2, 2), Base(60)]),
         Row(SetCeiling(1, 1, 60), Set, 1, &[Ceiling(60, 1), Base(60)]),
         Row(SetCeiling(1, 1, 65), Set, 1, &[Ceiling(65, 1), Base(60)]),
@@ -270,11 +270,11 @@ fn owner_executes_at_the_highest_of_ceilings_and_waiters() -> &'static Scene {
     const KINDS: &[Kind] = &[Protect(30), Protect(50), INHERIT];
     const ROWS: &[Row] = &[
         Row(Lock(1, 1), Granted, 1, &[Ceiling(30, 1), Base(40)]),
-        Row(Lock(1, 3), Granted, 1, &[Ceiling(30, 1), Base(40)]),
+        Row(Lock(1, 3), Granted, 0, &[Ceiling(30, 1), Base(40)]),
         Row(Lock(2, 3), Queued, 1, &[Donated(40, 2, 3), Base(40)]),
         Row(Lock(1, 2), Granted, 1, &[Ceiling(50, 2), Base(40)]),
         Row(Unlock(1, 2), Freed, 1, &[Donated(40, 2, 3), Base(40)]),
-        Row(Unlock(1, 3), Handed(2), 2, &[Ceiling(30, 1), Base(40)]),
+        Row(Unlock(1, 3), Handed(2), 1, &[Ceiling(30, 1), Base(40)]),
     ];
     const SCENE: &Scene = &Scene {
         name: "owner executes at the highest of ceilings and waiters",
@@ -293,12 +293,12 @@ fn hand_over_above_the_ceiling_goes_by_ticket() -> &'static Scene {
     const HIGH3: Seen = Base(50);
     const ROWS: &[Row] = &[
         Row(Lock(1, 1), Granted, 1, &[ONE, TWO, THREE]),
-        Row(Lock(2, 1), Queued, 1, &[ONE, TWO, THREE]),
-        Row(Lock(3, 1), Queued, 1, &[ONE, TWO, THREE]),
+        Row(Lock(2, 1), Queued, 0, &[ONE, TWO, THREE]),
+        Row(Lock(3, 1), Queued, 0, &[ONE, TWO, THREE]),
         Row(SetBase(1, 3, 50), Set, 1, &[ONE, TWO, HIGH3]),
         Row(SetBase(1, 2, 50), Set, 1, &[ONE, HIGH2, HIGH3]),
-        Row(Unlock(1, 1), Handed(2), 2, &[Base(10), HIGH2, HIGH3]),
-        Row(Unlock(2, 1), Handed(3), 2, &[Base(10), HIGH2, HIGH3]),
+        Row(Unlock(1, 1), Handed(2), 1, &[Base(10), HIGH2, HIGH3]),
+        Row(Unlock(2, 1), Handed(3), 0, &[Base(10), HIGH2, HIGH3]),
     ];
     const SCENE: &Scene = &Scene {
         name: "hand over above the ceiling goes by ticket",
@@ -311,10 +311,10 @@ fn hand_over_above_the_ceiling_goes_by_ticket() -> &'static Scene {
 
 fn ceiling_is_the_reason_before_a_waiter() -> &'static Scene {
     const ROWS: &[Row] = &[
-        Row(Lock(1, 2), Granted, 1, &[Base(10), Base(50)]),
+        Row(Lock(1, 2), Granted, 0, &[Base(10), Base(50)]),
         Row(Lock(2, 2), Queued, 1, &[Donated(50, 2, 2), Base(50)]),
-        Row(Lock(1, 1), Granted, 1, &[Ceiling(50, 1), Base(50)]),
-        Row(Unlock(1, 2), Handed(2), 2, &[Ceiling(50, 1), Base(50)]),
+        Row(Lock(1, 1), Granted, 0, &[Ceiling(50, 1), Base(50)]),
+        Row(Unlock(1, 2), Handed(2), 1, &[Ceiling(50, 1), Base(50)]),
         Row(Unlock(1, 1), Freed, 1, &[Base(10), Base(50)]),
     ];
     const SCENE: &Scene = &Scene {
@@ -332,10 +332,10 @@ fn release_hands_all_mutexes_over() -> &'static Scene {
     const RELEASED: &[Seen] = &[Base(10), Ceiling(40, 1), Ceiling(50, 2)];
     const ROWS: &[Row] = &[
         Row(Lock(1, 2), Granted, 1, RAISED),
-        Row(Lock(1, 1), Granted, 1, RAISED),
-        Row(Lock(1, 3), Granted, 1, RAISED),
-        Row(Lock(2, 1), Queued, 1, RAISED),
-        Row(Lock(3, 2), Queued, 1, RAISED),
+        Row(Lock(1, 1), Granted, 0, RAISED),
+        Row(Lock(1, 3), Granted, 0, RAISED),
+        Row(Lock(2, 1), Queued, 0, RAISED),
+        Row(Lock(3, 2), Queued, 0, RAISED),
         Row(Release(1), Released(3), 3, RELEASED),
         Row(Release(1), Released(0), 0, RELEASED),
     ];
@@ -351,14 +351,14 @@ fn release_hands_all_mutexes_over() -> &'static Scene {
 fn only_owners_unlock_and_only_waiters_withdraw() -> &'static Scene {
     const BASES: &[Seen] = &[Base(10), Base(20)];
     const ROWS: &[Row] = &[
-        Row(Lock(1, 1), Granted, 1, BASES),
+        Row(Lock(1, 1), Granted, 0, BASES),
         Row(Unlock(2, 1), Refused(NotOwner), 0, BASES),
-        Row(Lock(2, 1), Queued, 1, BASES),
+        Row(Lock(2, 1), Queued, 0, BASES),
         Row(Try(2, 2), Refused(Waiting), 0, BASES),
         Row(Cancel(2, 1), Refused(Waiting), 0, BASES),
         Row(Cancel(1, 1), Refused(NotWaiting), 0, BASES),
-        Row(Unlock(1, 1), Handed(2), 2, BASES),
-        Row(Unlock(2, 1), Freed, 1, BASES),
+        Row(Unlock(1, 1), Handed(2), 0, BASES),
+        Row(Unlock(2, 1), Freed, 0, BASES),
     ];
     const SCENE: &Scene = &Scene {
         name: "only owners unlock and only waiters withdraw",
@@ -384,7 +384,7 @@ fn last_ticket_is_given_out_and_no_more(rt: HostRuntime) -> Result<(), Fail> {
     const LEVELS: &[u16] = &[10, 20, 30];
     const BOOSTED: &[Seen] = &[Donated(20, 2, 1), Base(20), Base(30)];
     const ROWS: &[Row] = &[
-        Row(Lock(1, 1), Granted, 1, &[Base(10), Base(20), Base(30)]),
+        Row(Lock(1, 1), Granted, 0, &[Base(10), Base(20), Base(30)]),
         Row(Lock(2, 1), Queued, 1, BOOSTED),
         Row(Lock(3, 1), Refused(Tickets), 0, BOOSTED),
         Row(Try(3, 1), Refused(Busy), 0, BOOSTED),
@@ -398,7 +398,7 @@ fn recursive_mutex_goes_to_its_waiter_at_the_last_unlock() -> &'static Scene {
     const BASES: &[Seen] = &[Base(10), Base(50)];
     const BOOSTED: &[Seen] = &[Donated(50, 2, 1), Base(50)];
     const ROWS: &[Row] = &[
-        Row(Lock(1, 1), Granted, 1, BASES),
+        Row(Lock(1, 1), Granted, 0, BASES),
         Row(Lock(1, 1), Granted, 0, BASES),
         Row(Try(1, 1), Granted, 0, BASES),
         Row(Try(2, 1), Refused(Busy), 0, BASES),
@@ -407,7 +407,7 @@ fn recursive_mutex_goes_to_its_waiter_at_the_last_unlock() -> &'static Scene {
         Row(Lock(1, 1), Granted, 0, BOOSTED),
         Row(Unlock(1, 1), Kept, 0, BOOSTED),
         Row(Unlock(1, 1), Kept, 0, BOOSTED),
-        Row(Unlock(1, 1), Handed(2), 2, BASES),
+        Row(Unlock(1, 1), Handed(2), 1, BASES),
         Row(Unlock(1, 1), Refused(NotOwner), 0, BASES),
         Row(Lock(2, 1), Granted, 0, BASES),
         Row(Release(2), Released(1), 1, BASES),
@@ -428,7 +428,7 @@ fn relocks_end_at_255_and_the_deadlock_of_another_stays(rt: HostRuntime) -> Resu
     const ROWS: &[Row] = &[
         Row(Lock(1, 1), Refused(Again), 0, BASES),
         Row(Try(1, 1), Refused(Again), 0, BASES),
-        Row(Lock(2, 2), Granted, 1, BASES),
+        Row(Lock(2, 2), Granted, 0, BASES),
         Row(Lock(2, 1), Queued, 1, BOOSTED),
         Row(Lock(1, 2), Refused(Deadlock), 0, BOOSTED),
         Row(Release(1), Released(1), 2, BASES),

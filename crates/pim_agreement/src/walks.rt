@@ -16,19 +16,19 @@ const CHAIN: &[Row] = &[
     Row(
         Lock(1, 1),
         Granted,
-        1,
+        0,
         &[Base(10), Base(20), Base(30), FOUR, FIVE],
     ),
     Row(
         Lock(2, 2),
         Granted,
-        1,
+        0,
         &[Base(10), Base(20), Base(30), FOUR, FIVE],
     ),
     Row(
         Lock(3, 3),
         Granted,
-        1,
+        0,
         &[Base(10), Base(20), Base(30), FOUR, FIVE],
     ),
     Row(
@@ -62,7 +62,7 @@ const BOOSTED: &[Seen] = &[
 const BEGIN: Part = Part(CHAIN, Some((3, &[4])));
 
 fn lower_waiter_changes_no_priority() -> &'static Scene {
-    const ROWS: &[Row] = &[Row(Lock(5, 3), Queued, 1, BOOSTED)];
+    const ROWS: &[Row] = &[Row(Lock(5, 3), Queued, 0, BOOSTED)];
     const SCENE: &Scene = &Scene {
         name: "lower waiter changes no priority",
         bases: &[10, 20, 30, 90, 40],
@@ -120,10 +120,10 @@ fn lowered_owner_keeps_what_another_waiter_donates() -> &'static Scene {
         FIVE,
     ];
     const ROWS: &[Row] = &[
-        Row(Lock(1, 1), Granted, 1, &[ONE, TWO, THREE, FOUR, FIVE]),
-        Row(Lock(2, 2), Granted, 1, &[ONE, TWO, THREE, FOUR, FIVE]),
-        Row(Lock(2, 3), Granted, 1, &[ONE, TWO, THREE, FOUR, FIVE]),
-        Row(Lock(3, 4), Granted, 1, &[ONE, TWO, THREE, FOUR, FIVE]),
+        Row(Lock(1, 1), Granted, 0, &[ONE, TWO, THREE, FOUR, FIVE]),
+        Row(Lock(2, 2), Granted, 0, &[ONE, TWO, THREE, FOUR, FIVE]),
+        Row(Lock(2, 3), Granted, 0, &[ONE, TWO, THREE, FOUR, FIVE]),
+        Row(Lock(3, 4), Granted, 0, &[ONE, TWO, THREE, FOUR, FIVE]),
         Row(
             Lock(3, 2),
             Queued,
@@ -157,11 +157,11 @@ fn refused_deadlock_changes_no_priority() -> &'static Scene {
     const FIVE: Seen = Base(90);
     const BOOSTED: &[Seen] = &[Donated(60, 2, 1), Donated(60, 4, 3), THREE, FOUR, FIVE];
     const ROWS: &[Row] = &[
-        Row(Lock(5, 5), Granted, 1, &[ONE, TWO, THREE, FOUR, FIVE]),
-        Row(Lock(1, 1), Granted, 1, &[ONE, TWO, THREE, FOUR, FIVE]),
-        Row(Lock(2, 2), Granted, 1, &[ONE, TWO, THREE, FOUR, FIVE]),
-        Row(Lock(2, 3), Granted, 1, &[ONE, TWO, THREE, FOUR, FIVE]),
-        Row(Lock(3, 4), Granted, 1, &[ONE, TWO, THREE, FOUR, FIVE]),
+        Row(Lock(5, 5), Granted, 0, &[ONE, TWO, THREE, FOUR, FIVE]),
+        Row(Lock(1, 1), Granted, 0, &[ONE, TWO, THREE, FOUR, FIVE]),
+        Row(Lock(2, 2), Granted, 0, &[ONE, TWO, THREE, FOUR, FIVE]),
+        Row(Lock(2, 3), Granted, 0, &[ONE, TWO, THREE, FOUR, FIVE]),
+        Row(Lock(3, 4), Granted, 0, &[ONE, TWO, THREE, FOUR, FIVE]),
         Row(
             Lock(3, 2),
             Queued,
@@ -175,7 +175,7 @@ fn refused_deadlock_changes_no_priority() -> &'static Scene {
             &[ONE, Donated(60, 4, 3), THREE, FOUR, FIVE],
         ),
         Row(Lock(2, 1), Queued, 1, BOOSTED),
-        Row(Lock(1, 5), Queued, 1, BOOSTED),
+        Row(Lock(1, 5), Queued, 0, BOOSTED),
         Row(Lock(5, 4), Refused(Deadlock), 0, BOOSTED),
     ];
     const SCENE: &Scene = &Scene {
@@ -192,10 +192,10 @@ fn new_owner_keeps_what_its_waiters_donate() -> &'static Scene {
     const TWO: Seen = Base(50);
     const THREE: Seen = Base(40);
     const ROWS: &[Row] = &[
-        Row(Lock(1, 1), Granted, 1, &[ONE, TWO, THREE]),
+        Row(Lock(1, 1), Granted, 0, &[ONE, TWO, THREE]),
         Row(Lock(2, 1), Queued, 1, &[Donated(50, 2, 1), TWO, THREE]),
-        Row(Lock(3, 1), Queued, 1, &[Donated(50, 2, 1), TWO, THREE]),
-        Row(Unlock(1, 1), Handed(2), 2, &[ONE, TWO, THREE]),
+        Row(Lock(3, 1), Queued, 0, &[Donated(50, 2, 1), TWO, THREE]),
+        Row(Unlock(1, 1), Handed(2), 1, &[ONE, TWO, THREE]),
         Row(SetBase(1, 2, 20), Set, 1, &[ONE, Donated(40, 3, 1), THREE]),
         Row(SetBase(1, 2, 21), Set, 1, &[ONE, Donated(40, 3, 1), THREE]),
     ];
@@ -221,25 +221,25 @@ fn second_waiter_becomes_first_with_a_changed_priority() -> &'static Scene {
     const BY5: Seen = Donated(70, 5, 4);
     const BY6: Seen = Donated(90, 6, 1);
     const ROWS: &[Row] = &[
-        Row(Lock(2, 1), Granted, 1, &[ONE, TWO, THREE, FOUR, FIVE, SIX]),
-        Row(Lock(2, 2), Granted, 1, &[ONE, TWO, THREE, FOUR, FIVE, SIX]),
-        Row(Lock(3, 3), Granted, 1, &[ONE, TWO, THREE, FOUR, FIVE, SIX]),
-        Row(Lock(1, 4), Granted, 1, &[ONE, TWO, THREE, FOUR, FIVE, SIX]),
+        Row(Lock(2, 1), Granted, 0, &[ONE, TWO, THREE, FOUR, FIVE, SIX]),
+        Row(Lock(2, 2), Granted, 0, &[ONE, TWO, THREE, FOUR, FIVE, SIX]),
+        Row(Lock(3, 3), Granted, 0, &[ONE, TWO, THREE, FOUR, FIVE, SIX]),
+        Row(Lock(1, 4), Granted, 0, &[ONE, TWO, THREE, FOUR, FIVE, SIX]),
         Row(Lock(4, 2), Queued, 1, &[ONE, BY4, THREE, FOUR, FIVE, SIX]),
         Row(Lock(6, 1), Queued, 1, &[ONE, BY6, THREE, FOUR, FIVE, SIX]),
-        Row(Lock(1, 3), Queued, 1, &[ONE, BY6, THREE, FOUR, FIVE, SIX]),
+        Row(Lock(1, 3), Queued, 0, &[ONE, BY6, THREE, FOUR, FIVE, SIX]),
         Row(Lock(2, 3), Queued, 1, &[ONE, BY6, BY2, FOUR, FIVE, SIX]),
         Row(Lock(5, 4), Queued, 1, &[BY5, BY6, BY2, FOUR, FIVE, SIX]),
         Row(
             Unlock(3, 3),
             Handed(2),
-            2,
+            1,
             &[BY5, BY6, THREE, FOUR, FIVE, SIX],
         ),
         Row(
             Unlock(2, 1),
             Handed(6),
-            2,
+            1,
             &[BY5, BY1, THREE, FOUR, FIVE, SIX],
         ),
     ];
@@ -381,7 +381,7 @@ fn expect_donated(rt: &impl Abort, manager: &Manager, first: u16) -> Result<(), 
 // compares the replies with the plain manager, and the whole queue only at the end
 #[test]
 fn waiters_of_a_full_queue_are_raised_one_by_one(rt: HostRuntime) -> Result<(), Fail> {
-    const HANDED: Row = Row(Unlock(1, 1), Handed(2), 2, &[Base(10)]);
+    const HANDED: Row = Row(Unlock(1, 1), Handed(2), 1, &[Base(10)]);
     let mut both = Both::new(&rt, rt.alloc(), &[10; 256], &[INHERIT])?;
     for number in 1u16..257 {
         both.step(lock(number, 1));

@@ -18,7 +18,7 @@ pub struct CAnswer {
     pub refusal: u8,
     /// The task that the mutex was handed to, or how many mutexes were released, or 0.
     pub number: u16,
-    /// How many visits the step made. Each computes a priority, or shows by a comparison that it stays.
+    /// How many visits the step made: each computes one task's priority.
     pub visits: u32,
 }
 
