@@ -106,6 +106,8 @@ const DETAILS = `(() => {
     const found = [[round(x / col), prio(lane, y)]]
     for (const [, to, next] of rest.matchAll(/H([^V]+)(?:V([^H]+))?/g)) if (next) found.push([round(to / col), prio(lane, next)])
     return found }
+  const levels = (lane, style) => all('path[style*="' + style + '"]', it => it.getAttribute('d'), lane)
+    .flatMap(d => [...d.matchAll(/M(\\S+) ([^H]+)H([^M]+)/g)].map(([, ...at]) => at.map(Number)))
   const above = lanes.flatMap((lane, i) => all('.prio', it => round(number(it, 'y') - floors[i] + scale * parseInt(it.textContent)), lane))
   return {
     names: all('#names text', it => it.textContent),
@@ -114,9 +116,9 @@ const DETAILS = `(() => {
     now: all('#lanes rect[style*="--now-fill"]', it => [place(it, 'x'), place(it, 'width')]),
     rejected: all('#lanes rect[style*="--bad-fill"]', it => [place(it, 'x'), place(it, 'width')]),
     boosts: boosts.map(({ it, task }) => [task, place(it, 'x'), place(it, 'width'), prio(task - 1, number(it, 'y'))]),
-    bases: lanes.flatMap((lane, i) => all('line[style*="dasharray:2 3"]', it => prio(i, number(it, 'y1')), lane)),
-    thick: lanes.map(lane => all('line[style*="stroke-width:2.5"]', it => [place(it, 'x1'), place(it, 'x2')], lane)),
-    lines: lanes.map((lane, i) => points(lane.querySelector('path').getAttribute('d'), i)),
+    bases: lanes.flatMap((lane, i) => levels(lane, 'dasharray:2 3').map(([, y]) => prio(i, y))),
+    thick: lanes.map(lane => levels(lane, 'stroke-width:2.5').map(([x, , to]) => [round(x / col), round(to / col)])),
+    lines: lanes.map((lane, i) => points(lane.querySelector('[style*="stroke-width:1.75"]').getAttribute('d'), i)),
     above: [...new Set(above)].sort(), tall: scale * 99,
     graph: Math.max(...all('#graph g[data-tip]', it => it.getBoundingClientRect().right))
       <= document.getElementById('graph').getBoundingClientRect().right,
@@ -327,7 +329,15 @@ async function full() {
   const line = await page.evaluate(`document.querySelector('#lines .now').dataset.line`)
   const last = await all('#report span', 'it.textContent')
   show('full size: the end', [(await text('said')).split(':')[0], +line, last[last.length - 1]])
-  show('full size: lanes', await lanes())
+  // Only the lanes near those in view are drawn.
+  const { prios } = await lanes()
+  await page.evaluate(`{ const it = document.getElementById('time'); it.scrollTop = it.scrollHeight }`)
+  await page.evaluate(TWO_FRAMES)
+  await settled()
+  show('full size: lanes', { prios: [...prios, ...(await lanes()).prios] })
+  await page.evaluate(`document.getElementById('time').scrollTop = 0`)
+  await page.evaluate(TWO_FRAMES)
+  await settled()
   show('full size: numbers that overlap', await page.evaluate(`(() => {
     const boxes = [...document.querySelectorAll('#lanes text[y="12"]')].map(it => it.getBoundingClientRect())
     const { right } = document.querySelector('#lanes > div').getBoundingClientRect()

@@ -12,21 +12,30 @@ function workLeft() {
 
 function worked(amount) { work.done = MOST_WORK - workLeft() + amount }
 
-/** Lists the elements that an element has, by their keys, the first one of a key last. */
-function elementsOf(to) {
-  const found = new Map(), keys = to.keys ?? []
-  for (let i = keys.length, it = to.lastElementChild; i--; it = it.previousElementSibling) {
+/** Returns how many keys two lists have in common where they begin, and then where they end. */
+function sharedEnds(one, other) {
+  const most = Math.min(one.length, other.length), lastOf = (list, n) => list[list.length - 1 - n]
+  let begin = 0, end = 0
+  while (begin < most && one[begin] === other[begin]) begin++
+  while (end < most - begin && lastOf(one, end) === lastOf(other, end)) end++
+  return { begin, end }
+}
+
+/** Lists some of the elements that an element has, by their keys, the first one of a key last. */
+function elementsOf(to, keys, from, past) {
+  const found = new Map()
+  for (let i = past - 1, it = to.children[i]; i >= from; i--, it = it.previousElementSibling) {
     if (!found.has(keys[i])) found.set(keys[i], [])
     found.get(keys[i]).push(it)
   }
   return found
 }
 
-/** Returns elements of these texts, as they are inside an element. */
-function made(to, texts) {
+/** Returns the elements of these texts, as they are inside an element. */
+function made(to, found) {
   const range = document.createRange()
   range.selectNodeContents(to)
-  return range.createContextualFragment(texts.join(''))
+  return range.createContextualFragment(found.map(({ text }) => text).join(''))
 }
 
 const lengthOf = found => found.reduce((sum, { text }) => sum + text.length, 0)
@@ -41,26 +50,27 @@ function firstOf(found, most) {
 /** Gives an element one element for each of these texts. One that it has already, by its key,
  * stays. No more than so many characters of elements are made. Returns whether all are there. */
 function fill(to, texts, most = Infinity, keys = texts) {
-  const old = elementsOf(to)
-  const found = texts.map((text, i) => ({ text, key: keys[i], it: old.get(keys[i])?.pop() }))
+  const had = to.keys ?? [], { begin, end } = sharedEnds(had, keys), past = keys.length - end
+  const old = elementsOf(to, had, begin, had.length - end)
+  const found = keys.slice(begin, past)
+    .map((key, i) => ({ text: texts[begin + i], key, it: old.get(key)?.pop() }))
   const missing = firstOf(found.filter(({ it }) => !it), most), begun = new Set(missing)
   const shown = found.filter(one => one.it || begun.has(one)), gone = [...old.values()].flat()
   worked(LOOKING * texts.length + REMOVING * gone.length + lengthOf(missing))
-  to.keys = shown.map(({ key }) => key)
-  const next = made(to, missing.map(({ text }) => text))
-  if (shown.length === missing.length) {
-    to.replaceChildren(next)
+  to.keys = [...keys.slice(0, begin), ...shown.map(({ key }) => key), ...keys.slice(past)]
+  if (gone.length === to.childElementCount) {
+    to.replaceChildren(made(to, missing))
   } else {
     for (const it of gone) it.remove()
-    place(to, shown, next)
+    if (missing.length || gone.length || found.length) place(to, begin, shown, made(to, missing))
   }
-  return shown.length === texts.length
+  return shown.length === found.length
 }
 
 /** Places the elements that stay and the next ones in their order, neighbours at once. */
-function place(to, shown, made) {
+function place(to, begin, shown, made) {
   const run = document.createDocumentFragment()
-  let at = to.firstElementChild
+  let at = to.children[begin] ?? null
   for (const { it } of shown) {
     if (!it) {
       run.append(made.firstElementChild)
@@ -76,6 +86,13 @@ function place(to, shown, made) {
 /** Writes a text into an element, if it is another one. */
 function write(to, text) {
   if (to.textContent !== text) to.textContent = text
+}
+
+/** Sets sizes and places of an element in pixels, if they are other ones. */
+function setStyle({ style }, pixels) {
+  for (const [name, n] of Object.entries(pixels)) {
+    if (style[name] !== `${n}px`) style[name] = `${n}px`
+  }
 }
 
 /** Waits for the next animation frame. */
@@ -122,18 +139,16 @@ class Painter {
     return fill(part.to, part.made, workLeft())
   }
 
-  /** Draws a picture of these groups of elements, each given by a function. Another size of an svg
-   * would have the browser place all texts in it again, so its size stays, and its content is seen
-   * around it. */
-  picture(to, { width, height, groups }) {
-    if (!to.firstElementChild) to.innerHTML = `<div><svg ${SVG} width="1" height="1"></svg></div>`
-    const whole = to.firstElementChild, svg = whole.firstElementChild
-    whole.style.width = `${width}px`
-    whole.style.height = `${height}px`
-    while (svg.childElementCount > groups.length) svg.lastElementChild.remove()
-    while (svg.childElementCount < groups.length) {
-      svg.append(document.createElementNS(svg.namespaceURI, 'g'))
-    }
-    this.paint(to, groups.map((texts, i) => ({ to: svg.children[i], texts })))
+  /** Draws a picture of these parts, each in a box of its own, so that the browser draws only those
+   * again in which something changes. Another size of an svg would have it place all texts in it
+   * again, so that size stays, and the content is seen around it. */
+  picture(to, { width, height, parts }) {
+    const whole = to.firstElementChild ?? to.appendChild(document.createElement('div'))
+    const box = `<div class="part"><svg ${SVG} width="1" height="1"><g></g></svg></div>`
+    setStyle(whole, { width, height })
+    fill(whole, parts.map(() => box), Infinity, parts.map(({ of }) => of))
+    parts.forEach(({ top = 0, deep = height }, i) => setStyle(whole.children[i], { top, height: deep }))
+    const groups = [...whole.querySelectorAll('g')]
+    this.paint(to, parts.map(({ texts }, i) => ({ to: groups[i], texts })))
   }
 }

@@ -166,5 +166,6 @@ function drawGraph(state, room) {
   const boxes = () => layout.nodes.map(it => it.t
     ? drawTask(it, state.tasks[it.t - 1], layout) : drawMutex(it, state.mutexes[it.m - 1], layout))
   const lines = () => edges.flatMap(it => drawEdge(it, room.narrow))
-  return { width, height, groups: [arrows, lines, boxes] }
+  const parts = [arrows, lines, boxes].map((texts, of) => ({ of, texts }))
+  return { width, height, parts }
 }

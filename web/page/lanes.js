@@ -63,9 +63,9 @@ class Plan {
     this.tall = narrow ? 30 : Math.max(32, Math.min(60, each))
     this.height = TOP
     this.lanes = shown.map((i, nth) => {
-      const y = this.height
-      this.height += this.tall + below[nth]
-      return { i, y, end: this.height - .5, floor: y + 8 + this.tall }
+      const y = this.height, deep = this.tall + below[nth]
+      this.height += deep
+      return { i, y, deep, floor: 8 + this.tall }
     })
   }
 
@@ -79,32 +79,38 @@ class Plan {
   }
 
   x(k) { return k * this.col }
-  isSeen(lane) { return lane.end > this.seen.top && lane.y < this.seen.bottom }
+  isSeen(lane) { return lane.y + lane.deep > this.seen.top && lane.y < this.seen.bottom }
   stretches(key) { return stretches(this.seen.first, this.seen.past, key) }
+
+  /** Returns how far below the top of its lane a priority is. */
   level(lane, prio) { return lane.floor - this.tall * prio / 99 }
 
   /** Returns where a number of a priority is: above its line, or below where there is no room. */
   numberAt(lane, prio) {
     const y = this.level(lane, prio)
-    return y - 4 < lane.y + 9 ? y + 13 : y - 4
+    return y - 4 < 9 ? y + 13 : y - 4
   }
   task(lane, k) { return this.states.task(k, lane.i) }
 }
 
 const boostKey = it => it.prio > it.base ? [it.prio, it.base, it.why, it.of, it.by].join(' ') : null
 
+/** Draws level lines, each from a place to a place at a height, as one element. */
+const levels = (lines, style) => !lines.length ? []
+  : [`<path d="${lines.map(([x, to, y]) => `M${x} ${y}H${to}`).join('')}" style="fill:none;${style}"/>`]
+
 /** Draws the area between the base and the priority of a boosted task. */
 function boostAreas(plan, lane) {
-  const out = []
-  for (const { from, to } of plan.stretches(k => boostKey(plan.task(lane, k)))) {
-    const it = plan.task(lane, from)
+  const runs = plan.stretches(k => boostKey(plan.task(lane, k)))
+  const drawn = runs.map(({ from, to }) => {
+    const it = plan.task(lane, from), [x, end] = [plan.x(from), plan.x(to)]
     const [top, bottom] = [it.prio, it.base].map(prio => plan.level(lane, prio))
-    const [x, w] = [plan.x(from), plan.x(to) - plan.x(from)]
     const more = `class="boost" data-tip="${reason(lane.i + 1, it)}"`
-    out.push(rect(x, top, w, bottom - top, `fill:var(${INKS[it.why]}-fill)`, more))
-    out.push(rule(x, plan.x(to), bottom, 'stroke:var(--base);stroke-dasharray:2 3'))
-  }
-  return out
+    const area = rect(x, top, end - x, bottom - top, `fill:var(${INKS[it.why]}-fill)`, more)
+    return { area, base: [x, end, bottom] }
+  })
+  const bases = drawn.map(({ base }) => base)
+  return [...drawn.map(({ area }) => area), ...levels(bases, 'stroke:var(--base);stroke-dasharray:2 3')]
 }
 
 /** Returns where the number of a boost is: where it begins, and so often that one is always seen. */
@@ -116,29 +122,40 @@ function placesOf(plan, { from, to }) {
   return places
 }
 
-/** Draws the priority as a line, thicker where it is boosted, and each value with its mark. */
-function priorityLine(plan, lane) {
+/** Lists the stretches over which a lane's priority and what gave it are the same. */
+function runsOf(plan, lane) {
   const kind = it => it.prio > it.base ? it.why : ''
   const runs = plan.stretches(k => `${plan.task(lane, k).prio} ${kind(plan.task(lane, k))}`)
-  const at = run => plan.level(lane, plan.task(lane, run.from).prio)
-  const begin = run => run === runs[0] ? `M${plan.x(run.from)} ` : 'V'
-  const path = runs.map(run => `${begin(run)}${at(run)}H${plan.x(run.to)}`).join('')
-  const out = [`<path d="${path}" style="fill:none;stroke:var(--line);stroke-width:1.75"/>`]
-  for (const run of runs) {
-    const it = plan.task(lane, run.from), why = kind(it), y = at(run)
-    const ink = `var(${INKS[why] ?? '--line'})`
-    if (why) out.push(rule(plan.x(run.from), plan.x(run.to), y, `stroke:${ink};stroke-width:2.5`))
-    const isWide = plan.x(run.to) - plan.x(run.from) > 36
-    const text = why && isWide ? `${it.prio} ${MARKS[why]}` : it.prio
-    const more = `data-lane="${lane.i + 1}" data-from="${run.from}" data-to="${run.to}"`
-    const style = `fill:${ink};font-weight:${why ? 650 : 400}`
-    const write = (x, kind) =>
-      out.push(words(x + 4, plan.numberAt(lane, it.prio), 11, style, text, `${kind} ${more}`))
-    const [first, ...others] = why ? placesOf(plan, run) : [plan.x(run.from)]
-    write(first, 'class="prio"')
-    for (const x of others) write(x, 'class="again"')
-  }
-  return out
+  return runs.map(({ from, to }) => {
+    const it = plan.task(lane, from)
+    return { from, to, prio: it.prio, why: kind(it), y: plan.level(lane, it.prio) }
+  })
+}
+
+/** Draws the priority as a line, thicker where it is boosted, and each value with its mark. */
+function priorityLine(plan, lane) {
+  const runs = runsOf(plan, lane)
+  const begin = ({ from }, i) => i ? 'V' : `M${plan.x(from)} `
+  const path = runs.map((run, i) => `${begin(run, i)}${run.y}H${plan.x(run.to)}`).join('')
+  const thick = Object.entries(INKS).flatMap(([why, ink]) => levels(
+    runs.filter(run => run.why === why).map(run => [plan.x(run.from), plan.x(run.to), run.y]),
+    `stroke:var(${ink});stroke-width:2.5`))
+  return [
+    `<path d="${path}" style="fill:none;stroke:var(--line);stroke-width:1.75"/>`, ...thick,
+    ...runs.flatMap(run => numbersOf(plan, lane, run)),
+  ]
+}
+
+/** Writes the priority of a stretch where it begins, and a boost's with its mark, and so often that
+ * one is always seen. */
+function numbersOf(plan, lane, { from, to, prio, why }) {
+  const isWide = plan.x(to) - plan.x(from) > 36
+  const text = why && isWide ? `${prio} ${MARKS[why]}` : prio
+  const more = `data-lane="${lane.i + 1}" data-from="${from}" data-to="${to}"`
+  const style = `fill:var(${INKS[why] ?? '--line'});font-weight:${why ? 650 : 400}`
+  const places = why ? placesOf(plan, { from, to }) : [plan.x(from)], y = plan.numberAt(lane, prio)
+  return places.map((x, i) =>
+    words(x + 4, y, 11, style, text, `class="${i ? 'again' : 'prio'}" ${more}`))
 }
 
 const verbOf = bar => bar.owns ? 'owns' : 'waits for'
@@ -211,7 +228,7 @@ function laneNames(plan, now) {
     const { base } = (states ?? plan.states).task(states ? now : plan.states.from, lane.i)
     out.push(words(0, lane.y + 24, 13, 'fill:var(--ink);font-weight:600', `task ${lane.i + 1}`))
     out.push(words(0, lane.y + 39, 11.5, 'fill:var(--soft)', `base ${base}`))
-    out.push(rule(0, plan.side, lane.end, 'stroke:var(--rule)'))
+    out.push(rule(0, plan.side, lane.y + lane.deep - .5, 'stroke:var(--rule)'))
   }
   return out
 }
@@ -235,14 +252,14 @@ function edgeOf(plan, lane, left) {
   const text = edgeTexts(it).find(isWide), ink = it.prio > it.base ? INKS[it.why] : '--line'
   const style = `fill:var(${ink});font-weight:${it.prio > it.base ? 650 : 400}`
   const more = `class="edge" data-lane="${lane.i + 1}"`
-  return text ? [words(plan.side + 4, plan.numberAt(lane, it.prio), 11, style, text, more)] : []
+  return text ? [words(plan.side + 4, lane.y + plan.numberAt(lane, it.prio), 11, style, text, more)] : []
 }
 
 /** Returns the words of the bars of a lane that began left of the view. */
 function edgeBars(plan, lane, left) {
   const k = Math.floor(left / plan.col), bars = barsOf(plan.view.bars, lane.i + 1, k, k + 1)
   return bars.filter(bar => plan.x(bar.from) < left).map(bar =>
-    barWords(bar, plan.side - 2, barTop(lane, bar), plan.x(bar.to) - left - 2))
+    barWords(bar, plan.side - 2, lane.y + barTop(lane, bar), plan.x(bar.to) - left - 2))
 }
 
 /** Returns what is said at the left edge of the view, which is so far from the first step. */
@@ -255,28 +272,34 @@ function edges(plan, left) {
 /** Draws what is seen of a task's lane. */
 function drawLane(plan, lane, left, right) {
   return [
-    rule(left, right, lane.end, 'stroke:var(--rule)'),
+    rule(left, right, lane.deep - .5, 'stroke:var(--rule)'),
     rule(left, right, lane.floor + .5, 'stroke:var(--grid)'),
     ...boostAreas(plan, lane), ...priorityLine(plan, lane), ...ownedBars(plan, lane),
     ...madeSteps(plan, lane),
   ]
 }
 
-/** Returns the names and the lanes that are seen, as two pictures of the same height. Each has
- * groups of elements, and a function for each group. */
+/** Returns the names and the lanes that are seen, as two pictures of the same height. Each has parts,
+ * with what it is the part of, where it is, and a function that returns its elements. */
 function drawLanes(plan, states, now) {
   plan.states = states
   const { seen: { first, past }, height } = plan, left = plan.x(first), right = plan.x(past) + 4
   const seen = plan.lanes.filter(it => plan.isSeen(it))
-  const lanes = seen.map(lane => () => drawLane(plan, lane, left, right))
+  const names = { of: 'names', texts: () => laneNames(plan, now) }
+  const steps = { of: 'steps', texts: () => columns(plan, now) }
+  const lanes = seen.map(lane => ({
+    of: lane.i, top: lane.y, deep: lane.deep, texts: () => drawLane(plan, lane, left, right) }))
   return {
-    names: { width: plan.side, height, groups: [() => laneNames(plan, now)] },
-    lanes: { left, right, width: plan.width, height, groups: [() => columns(plan, now), ...lanes] },
+    names: { width: plan.side, height, parts: [names] },
+    lanes: { left, right, width: plan.width, height, parts: [steps, ...lanes] },
   }
 }
 
 /** Returns what is seen of a picture as a text. */
-const svgOf = ({ left = 0, width, right = width, height, groups }) =>
-  `<svg ${SVG} width="${right - left}" height="${height}"`
-  + ` viewBox="${left} 0 ${right - left} ${height}">`
-  + `${groups.flatMap(texts => texts()).join('')}</svg>`
+function svgOf({ left = 0, width, right = width, height, parts }) {
+  const size = `width="${right - left}" height="${height}"`
+  const drawn = ({ top, texts }) =>
+    top ? `<g transform="translate(0 ${top})">${texts().join('')}</g>` : texts().join('')
+  return `<svg ${SVG} ${size} viewBox="${left} 0 ${right - left} ${height}">`
+    + `${parts.map(drawn).join('')}</svg>`
+}

@@ -12,15 +12,13 @@ let fetching = null, missed = null   // the view whose states are fetched; what 
 const isNarrow = () => innerWidth <= 820
 const hasFocusIn = what => document.activeElement?.matches(what)
 
-/** Fills the page with what holds after the chosen step. */
-function draw() {
-  const room = rooms()
+/** Draws all but the picture: the trace, the report and what is said of the chosen step. */
+function drawTexts() {
   drawTrace()
   drawVerdict()
   drawBar()
   write($('limits'), limits(view, editor))
   drawReportLines()
-  return drawPicture(true, room)
 }
 
 const drawReportLines = () => drawReport(view, now, $('report'), painter)
@@ -50,8 +48,9 @@ function planAt(toStep, { narrow, time: width, left: scrollLeft, top }) {
   const height = innerHeight * .46, often = Infinity
   const plan = new Plan(view, { width, height, narrow, unfolded, often })
   const wide = width - plan.side, left = toStep ? placeOf(plan, scrollLeft, wide) : scrollLeft
-  // On a narrow page few lanes are as high as they are.
-  plan.see({ left, top, wide, deep: narrow && !plan.isTall ? Infinity : innerHeight * .8 })
+  // As the style has it, but that on a narrow page few lanes are as high as they are.
+  const deep = !narrow ? innerHeight * .56 : plan.isTall ? innerHeight * .8 : Infinity
+  plan.see({ left, top, wide, deep })
   return { plan, at: { left, top, moves: left !== scrollLeft } }
 }
 
@@ -77,9 +76,10 @@ async function fetchStates(it, { first, past }) {
 }
 
 /** Draws the lanes near the chosen step, or near what is scrolled to, and the graph. */
-async function drawPicture(toStep = true, room = rooms()) {
-  const it = view, isDrawn = !!(it.read && it.bars)
+async function drawPicture(toStep = true) {
+  const it = view, isDrawn = !!(it.read && it.bars), room = rooms()
   for (const id of ['svg', 'png']) $(id).disabled = !isDrawn
+  for (const id of ['time', 'graph']) $(id).classList.toggle('nothing', !it.read)
   if (!it.read) drawNothing()
   if (!isDrawn) return
   if (fetching === it) { missed = { toStep: toStep || missed?.toStep }; return }
@@ -116,21 +116,22 @@ async function waitFor(it, plan) {
   }
 }
 
+/** Shows no picture. The elements of the last one stay, so that the next one makes few. */
 function drawNothing() {
   drawn = ''
   lanes.plan = null
-  const nothing = { width: 0, height: 0, groups: [] }
-  for (const id of ['names', 'lanes', 'graph']) painter.picture($(id), nothing)
+  for (const id of ['names', 'lanes', 'graph']) painter.paint($(id), [])
   fill($('why'), [])
-  $('when').textContent = ''
+  write($('when'), '')
+  $('graph').removeAttribute('aria-label')
   $('unfold').hidden = true
 }
 
 /** Draws the lanes, and scrolls to where they are drawn. */
 function drawTime(plan, at) {
   const pictures = drawLanes(plan, view.states, now), { names } = pictures
-  const groups = [...names.groups, () => edges(plan, at.left)]
-  painter.picture($('names'), { ...names, groups })
+  const parts = [...names.parts, { of: 'edges', texts: () => edges(plan, at.left) }]
+  painter.picture($('names'), { ...names, parts })
   painter.picture($('lanes'), pictures.lanes)
   $('time').classList.toggle('tall', plan.isTall)
   if (at.moves) $('time').scrollLeft = at.left
@@ -147,7 +148,7 @@ function scrolled() {
   const isNear = Math.abs(scrollLeft - lanes.left) < clientWidth / 4
     && Math.abs(scrollTop - lanes.top) < clientHeight / 4
   if (!isNear && view) drawPicture(false)
-  const edge = $('names').querySelector('svg')?.children[1]
+  const edge = $('names').querySelectorAll('g')[1]
   if (lanes.plan && edge) fill(edge, edges(lanes.plan, scrollLeft))
 }
 
@@ -225,9 +226,12 @@ async function judgeText(isOpened = false) {
     if (!judge.isLast(it)) return
     view = it
     now = isOpened ? best : atCaret() ?? it.last
-    draw()
+    drawTexts()
     if (isOpened) showLines()
     keepInAddress()
+    await nextFrame()
+    if (it !== view) return
+    drawPicture()
     if (it.read && !it.bars && !await addBars(it)) return
     if (judge.isLast(it)) busy(false)
   } catch (error) {
@@ -431,7 +435,9 @@ function resized() {
   if (!$('start').hidden) { drawStart(); return }
   editor.measure()
   editor.fit()
-  if (view) draw()
+  if (!view) return
+  drawTexts()
+  drawPicture()
 }
 
 /** Says that the browser can't run the module. */
