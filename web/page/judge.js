@@ -13,6 +13,8 @@ class Judge {
 
   start() {
     this.worker?.terminate()
+    // What an ended worker was asked is about an older text.
+    for (const { done } of this.waiting?.values() ?? []) done(null)
     this.waiting = new Map()
     this.worker = new Worker(this.address)
     this.worker.onmessage = ({ data }) => this.answered(data)
