@@ -82,7 +82,8 @@ async function typing() {
     await typed(whole)
     const bad = await all('#lines .bad', '+it.dataset.line')
     const slider = await page.evaluate(`+document.getElementById('slider').max`)
-    show(`typed ${name}`, [await text('verdict'), bad, await report(), slider])
+    const isShown = await page.evaluate(`['time', 'graph'].some(id => document.getElementById(id).firstElementChild.checkVisibility())`)
+    show(`typed ${name}`, [await text('verdict'), bad, await report(), slider, isShown])
   }
   for (const [name, whole] of Object.entries(input.pictures)) {
     await typed(whole)
@@ -120,6 +121,9 @@ const DETAILS = `(() => {
     thick: lanes.map(lane => levels(lane, 'stroke-width:2.5').map(([x, , to]) => [round(x / col), round(to / col)])),
     lines: lanes.map((lane, i) => points(lane.querySelector('[style*="stroke-width:1.75"]').getAttribute('d'), i)),
     above: [...new Set(above)].sort(), tall: scale * 99,
+    // A lane ends where its name does.
+    beside: all('#names line', (it, i) => it.getBoundingClientRect().y)
+      .map((y, i) => Math.abs(y - lanes[i].querySelector('[style*="--rule"]').getBoundingClientRect().y) < 1),
     graph: Math.max(...all('#graph g[data-tip]', it => it.getBoundingClientRect().right))
       <= document.getElementById('graph').getBoundingClientRect().right,
   } })()`
@@ -132,6 +136,10 @@ async function details() {
   show('details at the end', (await page.evaluate(DETAILS)).names)
   await choose('recording_rejected')
   show('details, rejected', (await page.evaluate(DETAILS)).rejected)
+  await typed('pim 1\ntask 1 85\ntask 2 95\n')
+  show('numbers of 85 and 95', await page.evaluate(`[...document.querySelectorAll('#lanes .prio')].map(it => {
+    const line = it.closest('g').querySelector('[style*="stroke-width:1.75"]').getAttribute('d')
+    return Math.round(it.getAttribute('y') - /^M0 ([^H]+)/.exec(line)[1]) })`))
   await typed(input.rows)
   show('rows', await lanes())
   await choose('recording_rejected')
@@ -157,6 +165,32 @@ async function failures() {
   page.pipe.heard = page.heard.filter(it => !FAILURES.includes(it.method))
 }
 
+/** Gives an element other texts at random. Returns what is wrong first, or null. */
+const FILLS = `(() => { ${input.fill}
+  let seed = 5
+  const draw = n => (seed = seed * 48271 % 2147483647) % n, to = document.createElement('div')
+  const textOf = key => '<i>' + key + '</i>', said = () => [...to.children].map(it => it.textContent).join()
+  const some = () => Array.from({ length: draw(12) }, () => 'abcdefghijkl'[draw(12)])
+  const edited = old => { const keys = [...old]; keys.splice(draw(keys.length + 1), draw(3), ...some().slice(0, 2)); return keys }
+  const inBoth = (one, other) => { const rest = [...other]
+    return one.filter(key => rest.includes(key) && rest.splice(rest.indexOf(key), 1)).length }
+  for (let round = 0, keys = []; round < 3000; round++) {
+    const old = keys, before = [...to.children], most = [Infinity, 20, 16, 1][draw(4)]
+    keys = draw(3) ? edited(old) : some()
+    let whole = fill(to, keys.map(textOf), most, keys), rounds = 1
+    const made = [...to.children].filter(it => !before.includes(it)).length, stay = to.childElementCount - made
+    if (stay !== inBoth(old, keys)) return ['stay', old, keys, stay]
+    // An element has 8 characters: of 16 there are two, and of 20 three.
+    const wanted = Math.min(keys.length - stay, Math.ceil(most / 8))
+    if (made !== wanted || whole !== (made + stay === keys.length)) return ['made', old, keys, most, made, whole]
+    for (; !whole; rounds++) whole = fill(to, keys.map(textOf), most, keys)
+    if (said() !== keys.join() || to.keys.join() !== keys.join()) return ['said', old, keys, said()]
+    if (rounds > keys.length + 1) return ['rounds', rounds]
+  }
+  return null })()`
+
+async function fills() { show('elements that are filled in', await page.evaluate(FILLS)) }
+
 /** Shows what stands at the left edge of the lanes, where stretches began left of the view. */
 async function leftEdge() {
   const edge = () => page.evaluate(`(() => {
@@ -166,6 +200,13 @@ async function leftEdge() {
       const box = it.getBoundingClientRect()
       return box.left >= begin && box.left < begin + 10 && box.right <= right && box.top < it.closest('#time')
         .getBoundingClientRect().bottom }).map(it => [+it.dataset.lane, it.textContent]) })()`)
+  // Words of the lanes on which those of the left edge are.
+  const covered = () => page.evaluate(`(() => {
+    const boxes = [...document.querySelectorAll('#names .edge, #names [pointer-events]')].map(it => it.getBoundingClientRect())
+    return [...document.querySelectorAll('#lanes text')].filter(it => getComputedStyle(it).visibility === 'visible').filter(it => {
+      const box = it.getBoundingClientRect()
+      return boxes.some(one => one.left < box.right && box.left < one.right && one.top < box.bottom - 2 && box.top < one.bottom - 2)
+    }).map(it => it.textContent) })()`)
   const scrolledTo = async left => {
     await page.evaluate(`document.getElementById('time').scrollLeft = ${left}`)
     await page.evaluate(TWO_FRAMES)
@@ -175,9 +216,16 @@ async function leftEdge() {
   for (const [name, whole] of Object.entries(input.boosts)) {
     await typed(whole)
     const end = [await edge(), await all('#names [pointer-events]', 'it.textContent')]
-    const places = []
-    for (const left of [0, 5, 26, 40, 52, 60, 100, 1000]) places.push(await scrolledTo(left))
+    const places = [], under = []
+    for (const left of input.lefts) {
+      places.push(await scrolledTo(left))
+      under.push(...await covered())
+    }
     show(`the left edge, ${name}`, [...end, places])
+    show(`words under the left edge, ${name}`, under)
+    await scrolledTo(0)
+    show(`words that are shown again, ${name}`,
+      await page.evaluate(`[...document.querySelectorAll('#lanes text')].every(it => getComputedStyle(it).visibility === 'visible')`))
   }
 }
 
@@ -201,13 +249,13 @@ async function narrowReplies() {
       return [[reply.textContent, isInView && isOpaque, right <= box.left]] }) })()`)
   const begin = await seen()
   await page.evaluate(`{ const it = document.getElementById('editor'); it.scrollLeft = it.scrollWidth }`)
-  show('replies at 390 pixels', [begin.map(it => it.slice(0, 2)), (await seen()).map(it => it.slice(1))])
+  show('replies at 390 pixels', [begin, (await seen()).map(it => it.slice(1))])
   await page.evaluate(`{ const it = document.getElementById('text'); document.getElementById('editor').scrollLeft = 0
-    it.focus(); const end = it.value.indexOf('\\n', it.value.indexOf('cancel')) - 1; it.setSelectionRange(end, end); it.onclick() }`)
+    it.focus(); const end = it.value.indexOf('\\n', it.value.indexOf('base')) - 1; it.setSelectionRange(end, end); it.onclick() }`)
   await settled()
   await pressed('ArrowRight')
   await page.evaluate(TWO_FRAMES)
-  const line = input.narrow.split('\n').findIndex(it => /cancel/.test(it))
+  const line = input.narrow.split('\n').findIndex(it => /base/.test(it))
   show('the caret at 390 pixels', await page.evaluate(`(() => {
     const range = document.createRange(), reply = document.querySelectorAll('#replies > div')[${line}].firstElementChild
     range.selectNodeContents(document.querySelectorAll('#lines > div')[${line}])
@@ -450,6 +498,27 @@ async function folds() {
   await page.evaluate(`{ const it = document.getElementById('time'); it.scrollTop = it.scrollHeight }`)
   await page.evaluate(TWO_FRAMES)
   await settled()
+  show('lanes that aren\'t drawn', await page.evaluate(`(async () => {
+    const it = document.getElementById('time'), gaps = []
+    const isWhole = () => { const { top, bottom } = it.getBoundingClientRect(), [...lanes] = document.querySelectorAll('#lanes .part')
+      const boxes = lanes.slice(1).map(lane => lane.getBoundingClientRect())
+      const begin = Math.min(...boxes.map(box => box.top)), end = Math.max(...boxes.map(box => box.bottom))
+      return begin <= top + 21 && end >= bottom - 1 }
+    const isBusy = () => document.getElementById('main').getAttribute('aria-busy') === 'true'
+    const most = it.scrollHeight - it.clientHeight
+    for (const place of [0, .25, .5, .75, 1]) {
+      it.scrollTop = place * most
+      await ${TWO_FRAMES}
+      while (isBusy()) await new Promise(requestAnimationFrame)
+      if (!isWhole()) gaps.push([place, 'drawn'])
+      // So far from there nothing is drawn again.
+      for (const way of [-1, 1]) { const from = it.scrollTop; it.scrollTop += way * (it.clientHeight / 4 - 4)
+        if (!isWhole()) gaps.push([place, way]); it.scrollTop = from }
+    }
+    it.scrollTop = most
+    await ${TWO_FRAMES}
+    return gaps })()`))
+  await settled()
   show('unfolded', [first.slice(0, 3), (await shown()).pop(), await text('unfold')])
   await clicked('unfold')
 }
@@ -602,7 +671,7 @@ async function spoken() {
 }
 
 try {
-  for (const part of [firstVisit, failures, examples, details, typing, leftEdge, stepping, files, full, longEditor, edits, lastWins, folds, keys, keysOfLines, narrowReplies, byKeyboard, spoken, looks]) await part()
+  for (const part of [firstVisit, failures, examples, details, typing, fills, leftEdge, stepping, files, full, longEditor, edits, lastWins, folds, keys, keysOfLines, narrowReplies, byKeyboard, spoken, looks]) await part()
   const asked = page.heard.filter(it => it.method === 'Network.requestWillBeSent').map(it => it.params.request.url)
   show('requests', asked.filter(url => !/^(data|blob):/.test(url) && url.split('#')[0] !== address))
   const errors = page.heard.filter(it => FAILURES.includes(it.method)).map(it => JSON.stringify(it.params))

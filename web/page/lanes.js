@@ -122,13 +122,17 @@ function placesOf(plan, { from, to }) {
   return places
 }
 
-/** Lists the stretches over which a lane's priority and what gave it are the same. */
+/** Returns what boosts a task, a waiter or a ceiling, or nothing. */
+const boostOf = it => it.prio > it.base ? it.why : ''
+
+/** Returns what is the same over a stretch of a lane that has one number. */
+const runKey = it => `${it.prio} ${boostOf(it)}`
+
+/** Lists the stretches over which a lane's priority and what boosts it are the same. */
 function runsOf(plan, lane) {
-  const kind = it => it.prio > it.base ? it.why : ''
-  const runs = plan.stretches(k => `${plan.task(lane, k).prio} ${kind(plan.task(lane, k))}`)
-  return runs.map(({ from, to }) => {
+  return plan.stretches(k => runKey(plan.task(lane, k))).map(({ from, to }) => {
     const it = plan.task(lane, from)
-    return { from, to, prio: it.prio, why: kind(it), y: plan.level(lane, it.prio) }
+    return { from, to, prio: it.prio, why: boostOf(it), y: plan.level(lane, it.prio) }
   })
 }
 
@@ -162,11 +166,11 @@ const verbOf = bar => bar.owns ? 'owns' : 'waits for'
 const barTop = (lane, bar) => lane.floor + 5 + bar.row * (BAR + 2)
 
 /** Writes into a bar what it is, as far as there is room. */
-function barWords(bar, x, top, room) {
+function barWords(bar, x, top, room, more = '') {
   const isWide = room > (bar.owns ? 56 : 76)
   const text = isWide ? `${verbOf(bar)} m${bar.m}` : room > 17 ? `m${bar.m}` : ''
   const ink = `fill:${bar.owns ? 'var(--on-m)' : hue(bar.m)};font-weight:550`
-  return words(x + 6, top + 10, 10, ink, text, 'pointer-events="none"')
+  return words(x + 6, top + 10, 10, ink, text, `pointer-events="none" ${more}`)
 }
 
 /** Draws what a task owns, filled, and what it waits for, dashed. */
@@ -179,7 +183,8 @@ function ownedBars(plan, lane) {
     const more = `rx="3" class="${bar.owns ? 'owns' : 'waits'}" data-lane="${lane.i + 1}"`
       + ` data-from="${bar.from}" data-to="${bar.to}" data-mutex="${bar.m}"`
       + ` data-tip="task ${lane.i + 1} ${verbOf(bar)} mutex ${bar.m}"`
-    return [rect(x + 1, y, w, BAR, fill, more), barWords(bar, x, y, w)]
+    const span = `data-from="${bar.from}" data-to="${bar.to}"`
+    return [rect(x + 1, y, w, BAR, fill, more), barWords(bar, x, y, w, span)]
   })
 }
 
@@ -237,22 +242,29 @@ function laneNames(plan, now) {
 function edgeTexts({ prio, base, why, of, by }) {
   if (prio <= base) return [String(prio)]
   const cause = why === 'waiter' ? `task ${of} waits for m${by}` : `ceiling of m${by}`
-  return [`${prio} ${MARKS[why]} ${cause}`, `${prio} ${MARKS[why]}`]
+  return [`${prio} ${MARKS[why]} ${cause}`, `${prio} ${MARKS[why]}`, String(prio), MARKS[why]]
+}
+
+/** Returns before which step what a key says of a lane's task is no longer the same as after step k. */
+function pastOf(plan, lane, k, key) {
+  let past = k + 1
+  while (past < plan.seen.past && key(plan.task(lane, past)) === key(plan.task(lane, k))) past++
+  return past
 }
 
 /** Returns the number at the left edge of the view of a lane, where the stretch that is seen there
  * began before, with its mark and what gave it as far as there is room. */
 function edgeOf(plan, lane, left) {
-  const k = Math.floor(left / plan.col), { states } = plan, it = plan.task(lane, k)
-  const isSame = n => states.has(n) && edgeTexts(plan.task(lane, n))[0] === edgeTexts(it)[0]
-  if (plan.x(k) === left && !isSame(k - 1)) return []
-  let past = k + 1
-  while (past < plan.seen.past && isSame(past)) past++
-  const isWide = text => text.length * LETTER + 8 < plan.x(past) - left
-  const text = edgeTexts(it).find(isWide), ink = it.prio > it.base ? INKS[it.why] : '--line'
-  const style = `fill:var(${ink});font-weight:${it.prio > it.base ? 650 : 400}`
-  const more = `class="edge" data-lane="${lane.i + 1}"`
-  return text ? [words(plan.side + 4, lane.y + plan.numberAt(lane, it.prio), 11, style, text, more)] : []
+  const k = Math.floor(left / plan.col), it = plan.task(lane, k), [long, ...shorter] = edgeTexts(it)
+  const isFirst = !plan.states.has(k - 1) || runKey(plan.task(lane, k - 1)) !== runKey(it)
+  if (plan.x(k) === left && isFirst) return []
+  const fits = (text, key) =>
+    text.length * LETTER + 8 < plan.x(pastOf(plan, lane, k, key)) - left
+  const isLong = fits(long, other => edgeTexts(other)[0])
+  const text = isLong ? long : shorter.find(text => fits(text, runKey))
+  const style = `fill:var(${INKS[boostOf(it)] ?? '--line'});font-weight:${boostOf(it) ? 650 : 400}`
+  const y = lane.y + plan.numberAt(lane, it.prio)
+  return text ? [words(plan.side + 4, y, 11, style, text, `class="edge" data-lane="${lane.i + 1}"`)] : []
 }
 
 /** Returns the words of the bars of a lane that began left of the view. */
@@ -267,6 +279,17 @@ function edges(plan, left) {
   const isDrawn = plan.states.has(Math.floor(left / plan.col))
   const seen = plan.lanes.filter(it => isDrawn && plan.isSeen(it))
   return seen.flatMap(lane => [...edgeOf(plan, lane, left), ...edgeBars(plan, lane, left)])
+}
+
+/** Hides the words of the lanes that began left of the view, which the left edge says, and shows those
+ * again that were hidden. Returns those that are. */
+function hideCut(plan, left, lanes, hidden) {
+  const k = left / plan.col
+  const cut = [...lanes.querySelectorAll('text[data-from]')]
+    .filter(({ dataset: { from, to } }) => from < k && k < to)
+  for (const it of hidden.filter(it => !cut.includes(it))) it.style.visibility = ''
+  for (const it of cut.filter(it => !hidden.includes(it))) it.style.visibility = 'hidden'
+  return cut
 }
 
 /** Draws what is seen of a task's lane. */

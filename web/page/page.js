@@ -3,9 +3,11 @@ const $ = id => document.getElementById(id)
 const MOST_IN_ADDRESS = 8000 // characters
 
 let judge, editor, view = null, now = 0, unfolded = false
-const painter = new Painter(showBusy)
+const painter = new Painter(painted)
 let isJudging = false
-let lanes = { plan: null, left: 0, top: 0 } // as they are drawn, and where they were scrolled to
+// as they are drawn, where they were scrolled to, and whether elements of them were made since
+let lanes = { plan: null, left: 0, top: 0, isNew: false }
+let cut = []                         // the words of the lanes that the left edge says
 let drawn = ''                       // what the lanes and the graph show
 let fetching = null, missed = null   // the view whose states are fetched; what was asked meanwhile
 
@@ -135,7 +137,7 @@ function drawTime(plan, at) {
   painter.picture($('lanes'), pictures.lanes)
   $('time').classList.toggle('tall', plan.isTall)
   if (at.moves) $('time').scrollLeft = at.left
-  lanes = { plan, ...at }
+  lanes = { plan, ...at, isNew: true }
   $('unfold').hidden = !plan.folded && !unfolded
   $('unfold').textContent = unfolded
     ? 'Fold the tasks that no step names' : `Show ${plan.folded} tasks that no step names`
@@ -149,7 +151,17 @@ function scrolled() {
     && Math.abs(scrollTop - lanes.top) < clientHeight / 4
   if (!isNear && view) drawPicture(false)
   const edge = $('names').querySelectorAll('g')[1]
-  if (lanes.plan && edge) fill(edge, edges(lanes.plan, scrollLeft))
+  if (!lanes.plan || !edge) return
+  fill(edge, edges(lanes.plan, scrollLeft))
+  cut = hideCut(lanes.plan, scrollLeft, $('lanes'), cut)
+}
+
+/** Shows that elements are being made, or that all are. */
+function painted() {
+  showBusy()
+  if (painter.isPainting || !lanes.plan || !lanes.isNew) return
+  lanes.isNew = false
+  cut = hideCut(lanes.plan, $('time').scrollLeft, $('lanes'), cut)
 }
 
 function drawBar() {

@@ -4,6 +4,8 @@ const REPORT_LINE = 20    // pixels, as in the style
 const AROUND = 20        // lines more than those in view, on each side
 const LETTER_OF_REPLY = 8, AROUND_REPLY = 32 // pixels, as in the style or a little more
 
+const AS_RECORDED = '✓'
+
 const KEYWORDS = /^(pim|task|mutex)\b|\b(lock|try|unlock|release|cancel|base|ceil)\b/g
 
 function coloured(line) {
@@ -18,12 +20,13 @@ function judgedAs(view, editor, n) {
   return [n, n + moved].find(it => view.lines[it - 1] === line) ?? 0
 }
 
-/** Returns what is said behind the editor's line n: its reply, or that it is invalid. */
+/** Returns what is said behind the editor's line n: its reply, that it is the recorded one, or that the
+ * line is invalid. */
 function remark(view, editor, n) {
   const judged = judgedAs(view, editor, n)
   if (judged && judged === view.invalid) return 'invalid line'
-  const k = judged - view.first
-  return k > 0 ? view.reply(k).replace(/ but recorded .*/, '') : ''
+  const k = judged - view.first, reply = k > 0 ? view.reply(k).replace(/ but recorded .*/, '') : ''
+  return reply && view.lines[judged - 1].endsWith(` = ${reply}`) ? AS_RECORDED : reply
 }
 
 /** Returns the class of line n. */
