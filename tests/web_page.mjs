@@ -583,9 +583,15 @@ async function watched(names) {
   return { made, held, making }
 }
 
+/** Counts the words of the lanes that are hidden and don't begin left of the view, or aren't and do. */
+const WRONGLY_HIDDEN = `(() => {
+  const k = document.getElementById('time').scrollLeft / document.querySelector('#lanes .pick').getAttribute('width')
+  return [...document.querySelectorAll('#lanes text[data-from]')].filter(it =>
+    (+it.dataset.from < k && k < +it.dataset.to) !== (getComputedStyle(it).visibility === 'hidden')).length })()`
+
 /** Types a line into texts of 200 lines, at the end and in the middle. */
 async function keysOfLines() {
-  for (const [name, { whole, line, wide }] of Object.entries(input.keys)) {
+  for (const [name, { whole, line, wide, keys: names }] of Object.entries(input.keys)) {
     await page.size(wide, 0.6 * wide, false)
     await typed(whole)
     await page.evaluate(`{ const it = document.getElementById('text'), lines = it.value.split('\\n')
@@ -593,7 +599,8 @@ async function keysOfLines() {
       it.setSelectionRange(place, place); it.onclick(); document.getElementById('editor').scrollTop = 21 * ${line} - 200 }`)
     await settled()
     await page.evaluate(COUNTING)
-    show(`keys, ${name}`, await watched(['Enter', '1', ' ', 'l', 'o', 'c', 'k', ' ', '1', 'Backspace', '2']))
+    show(`keys, ${name}`, await watched(names))
+    show(`words wrongly hidden, ${name}`, await page.evaluate(WRONGLY_HIDDEN))
   }
   await page.size(1280, 800, false)
 }

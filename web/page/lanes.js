@@ -263,8 +263,8 @@ function edgeOf(plan, lane, left) {
   const isLong = fits(long, other => edgeTexts(other)[0])
   const text = isLong ? long : shorter.find(text => fits(text, runKey))
   const style = `fill:var(${INKS[boostOf(it)] ?? '--line'});font-weight:${boostOf(it) ? 650 : 400}`
-  const y = lane.y + plan.numberAt(lane, it.prio)
-  return text ? [words(plan.side + 4, y, 11, style, text, `class="edge" data-lane="${lane.i + 1}"`)] : []
+  const y = lane.y + plan.numberAt(lane, it.prio), more = `class="edge" data-lane="${lane.i + 1}"`
+  return text ? [words(plan.side + 4, y, 11, style, text, more)] : []
 }
 
 /** Returns the words of the bars of a lane that began left of the view. */
