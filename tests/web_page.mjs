@@ -251,11 +251,11 @@ async function narrowReplies() {
   await page.evaluate(`{ const it = document.getElementById('editor'); it.scrollLeft = it.scrollWidth }`)
   show('replies at 390 pixels', [begin, (await seen()).map(it => it.slice(1))])
   await page.evaluate(`{ const it = document.getElementById('text'); document.getElementById('editor').scrollLeft = 0
-    it.focus(); const end = it.value.indexOf('\\n', it.value.indexOf('base')) - 1; it.setSelectionRange(end, end); it.onclick() }`)
+    it.focus(); const end = it.value.indexOf('\\n', it.value.indexOf('unlock 1 =')) - 1; it.setSelectionRange(end, end); it.onclick() }`)
   await settled()
   await pressed('ArrowRight')
   await page.evaluate(TWO_FRAMES)
-  const line = input.narrow.split('\n').findIndex(it => /base/.test(it))
+  const line = input.narrow.split('\n').findIndex(it => /unlock 1 =/.test(it))
   show('the caret at 390 pixels', await page.evaluate(`(() => {
     const range = document.createRange(), reply = document.querySelectorAll('#replies > div')[${line}].firstElementChild
     range.selectNodeContents(document.querySelectorAll('#lines > div')[${line}])
