@@ -2,7 +2,7 @@
 
 use pim_base::{MAX_MUTEXES, MAX_TASKS, MutexNo, Prio, Protocol, TaskNo};
 use pim_chain::Tables;
-use std::alloc::Global;
+use std::alloc::{AllocError, Global};
 use std::test::Fail;
 
 /// Numbers of tasks: none, few and most, and those about 100, 150 and 200; with the base of the last task, or 0 if there
@@ -21,11 +21,16 @@ const SIZES: &[[u16; 2]] = &[
     [256, 58],
 ];
 
-fn tables(alloc: Global, tasks: u16, mutexes: u16) -> Result<Tables, Fail> {
+fn bases(alloc: Global, tasks: u16) -> Result<Vec<Prio>, Fail> {
     let mut bases = Vec::new(alloc);
     for place in 0..tasks {
         bases.push(Prio::new(place % 99 + 1).ok_or("a priority")?)?;
     }
+    Ok(bases)
+}
+
+fn tables(alloc: Global, tasks: u16, mutexes: u16) -> Result<Tables, Fail> {
+    let bases = bases(alloc, tasks)?;
     let protocols = vec![in alloc; Protocol::Inherit; mutexes as usize]?;
     if MAX_TASKS < bases.len() || MAX_MUTEXES < protocols.len() {
         return Err("at most 256 tasks and 256 mutexes")?;
@@ -54,10 +59,16 @@ fn look_at(tables: &Tables, tasks: u16, mutexes: u16) -> Shown {
     }
 }
 
+/// What is seen of a copy of the tables.
+fn copied(alloc: Global, tables: &Tables, tasks: u16, mutexes: u16) -> Result<Shown, AllocError> {
+    let copy = tables.try_clone(alloc)?;
+    Ok(look_at(&copy, tasks, mutexes))
+}
+
 /// New tables, and a copy of them.
 fn made(alloc: Global, tasks: u16, mutexes: u16) -> Result<[Shown; 2], Fail> {
     let tables = tables(alloc, tasks, mutexes)?;
-    let copy = look_at(&tables.try_clone(alloc)?, tasks, mutexes);
+    let copy = copied(alloc, &tables, tasks, mutexes)?;
     Ok([look_at(&tables, tasks, mutexes), copy])
 }
 

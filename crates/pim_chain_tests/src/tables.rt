@@ -31,24 +31,79 @@ enum Event {
 #[derive(Drop)]
 struct Row(Event, u32, &'static [u16]);
 
+// the protocol of a mutex, with its ceiling as a plain number
+#[derive(Clone, Copy)]
+enum Kind {
+    None,
+    Inherit,
+    Recursive,
+    Protect(u16),
+}
+
+// what holds after the last row of a scene
+#[derive(Clone, Copy)]
+enum End {
+    // the mutex has this owner
+    Owner(u16, u16),
+    // the mutex has this first waiter
+    First(u16, u16),
+    // the mutex has this ceiling, or none if it is 0
+    Ceiling(u16, u16),
+    // whether another task than this one owns the mutex
+    OwnedByAnother(u16, u16, bool),
+}
+
+// a scenario: its name, the bases of all tasks, the kinds of all mutexes, what happens, and what holds at the end
+#[derive(Clone, Copy)]
+struct Scene {
+    name: &'static str,
+    bases: &'static [u16],
+    kinds: &'static [Kind],
+    rows: &'static [Row],
+    ends: &'static [End],
+}
+
 fn prio(rt: &impl Abort, level: u16) -> Prio {
     Prio::new(level).expect(rt, "1 to 99")
+}
+
+fn bases(rt: &impl Abort, alloc: Global, levels: &[u16]) -> Result<Vec<Prio>, AllocError> {
+    let mut bases = Vec::new(alloc);
+    for level in levels {
+        bases.push(prio(rt, *level))?;
+    }
+    Ok(bases)
+}
+
+fn protocol(rt: &impl Abort, kind: Kind) -> Protocol {
+    match kind {
+        Kind::None => Protocol::None,
+        Kind::Inherit => Protocol::Inherit,
+        Kind::Recursive => Protocol::InheritRecursive,
+        Kind::Protect(ceiling) => Protocol::Protect(prio(rt, ceiling)),
+    }
+}
+
+fn protocols(rt: &impl Abort, alloc: Global, kinds: &[Kind]) -> Result<Vec<Protocol>, AllocError> {
+    let mut protocols = Vec::new(alloc);
+    for kind in kinds {
+        protocols.push(protocol(rt, *kind))?;
+    }
+    Ok(protocols)
 }
 
 fn tables(
     rt: &impl Abort,
     alloc: Global,
     levels: &[u16],
-    protocols: &[Protocol],
+    kinds: &[Kind],
 ) -> Result<Tables, AllocError>
     ensures { IfOk result (λ tables. SettledBut tables.state (stored_at tables) None) }
 {
-    let mut bases = Vec::new(alloc);
-    for level in levels {
-        bases.push(prio(rt, *level))?;
-    }
+    let bases = bases(rt, alloc, levels)?;
+    let protocols = protocols(rt, alloc, kinds)?;
     assert!(rt; bases.len() <= MAX_TASKS && protocols.len() <= MAX_MUTEXES);
-    Tables::new(alloc, &bases, protocols)
+    Tables::new(alloc, &bases, &protocols)
 }
 
 // walks from the task
@@ -191,8 +246,8 @@ fn happen(rt: &impl Abort, tables: &mut Tables, event: Event, ticket: u64, visit
     }
 }
 
-// lets the events happen, and compares all stored priorities and the visits after each
-fn play(rt: &impl Abort, tables: &mut Tables, rows: &[Row])
+// lets the events happen, and compares all stored priorities and the visits after each; the name is the scene's
+fn play(rt: &impl Abort, tables: &mut Tables, name: &str, rows: &[Row])
     requires { SettledBut tables.old.state (stored_at tables.old) None }
     ensures { SettledBut tables.new.state (stored_at tables.new) None }
 {
@@ -200,13 +255,13 @@ fn play(rt: &impl Abort, tables: &mut Tables, rows: &[Row])
     for row in rows {
         let mut visits = Visits::new();
         happen(rt, tables, row.0, ticket, &mut visits);
-        assert_eq!(rt; visits.get(), row.1, "visits of step {ticket}");
+        assert_eq!(rt; visits.get(), row.1, "{name}: visits of step {ticket}");
         let mut task = 1;
         for level in row.2 {
             assert_eq!(rt;
                 tables.stored(TaskNo(task)),
                 Prio::new(*level),
-                "task {task} after step {ticket}"
+                "{name}: task {task} after step {ticket}"
             );
             task = task.saturating_add(1);
         }
@@ -214,11 +269,9 @@ fn play(rt: &impl Abort, tables: &mut Tables, rows: &[Row])
     }
 }
 
-const INHERIT: Protocol = Protocol::Inherit;
+const INHERIT: Kind = Kind::Inherit;
 
-#[test]
-fn lowered_through_an_owner_with_another_waiter(rt: HostRuntime) -> Result<(), Fail> {
-    let mut tables = tables(&rt, rt.alloc(), &[10, 20, 30, 60, 90], &[INHERIT; 4])?;
+fn lowered_through_an_owner_with_another_waiter() -> &'static Scene {
     const ROWS: &[Row] = &[
         Row(Event::Lock(1, 1), 0, &[10, 20, 30, 60, 90]),
         Row(Event::Lock(2, 2), 0, &[10, 20, 30, 60, 90]),
@@ -230,13 +283,17 @@ fn lowered_through_an_owner_with_another_waiter(rt: HostRuntime) -> Result<(), F
         Row(Event::Lock(5, 4), 3, &[90, 90, 90, 60, 90]),
         Row(Event::Cancel(5), 3, &[60, 60, 30, 60, 90]),
     ];
-    play(&rt, &mut tables, ROWS);
-    Ok(())
+    const SCENE: &Scene = &Scene {
+        name: "lowered through an owner with another waiter",
+        bases: &[10, 20, 30, 60, 90],
+        kinds: &[INHERIT; 4],
+        rows: ROWS,
+        ends: &[],
+    };
+    SCENE
 }
 
-#[test]
-fn refused_deadlock_leaves_priorities(rt: HostRuntime) -> Result<(), Fail> {
-    let mut tables = tables(&rt, rt.alloc(), &[10, 20, 30, 60, 90], &[INHERIT; 5])?;
+fn refused_deadlock_leaves_priorities() -> &'static Scene {
     const ROWS: &[Row] = &[
         Row(Event::Lock(5, 5), 0, &[10, 20, 30, 60, 90]),
         Row(Event::Lock(1, 1), 0, &[10, 20, 30, 60, 90]),
@@ -249,13 +306,17 @@ fn refused_deadlock_leaves_priorities(rt: HostRuntime) -> Result<(), Fail> {
         Row(Event::Lock(1, 5), 1, &[60, 60, 30, 60, 90]),
         Row(Event::Deadlock(5, 4), 0, &[60, 60, 30, 60, 90]),
     ];
-    play(&rt, &mut tables, ROWS);
-    Ok(())
+    const SCENE: &Scene = &Scene {
+        name: "refused deadlock leaves priorities",
+        bases: &[10, 20, 30, 60, 90],
+        kinds: &[INHERIT; 5],
+        rows: ROWS,
+        ends: &[],
+    };
+    SCENE
 }
 
-#[test]
-fn new_owner_keeps_what_its_waiters_donate(rt: HostRuntime) -> Result<(), Fail> {
-    let mut tables = tables(&rt, rt.alloc(), &[10, 50, 40], &[INHERIT])?;
+fn new_owner_keeps_what_its_waiters_donate() -> &'static Scene {
     const ROWS: &[Row] = &[
         Row(Event::Lock(1, 1), 0, &[10, 50, 40]),
         Row(Event::Lock(2, 1), 1, &[50, 50, 40]),
@@ -264,14 +325,17 @@ fn new_owner_keeps_what_its_waiters_donate(rt: HostRuntime) -> Result<(), Fail> 
         Row(Event::Base(2, 20), 1, &[10, 40, 40]),
         Row(Event::Base(2, 21), 1, &[10, 40, 40]),
     ];
-    play(&rt, &mut tables, ROWS);
-    assert_eq!(rt; tables.owner(MutexNo(1)), Some(TaskNo(2)));
-    Ok(())
+    const SCENE: &Scene = &Scene {
+        name: "new owner keeps what its waiters donate",
+        bases: &[10, 50, 40],
+        kinds: &[INHERIT],
+        rows: ROWS,
+        ends: &[End::Owner(1, 2)],
+    };
+    SCENE
 }
 
-#[test]
-fn second_waiter_becomes_first_with_a_changed_priority(rt: HostRuntime) -> Result<(), Fail> {
-    let mut tables = tables(&rt, rt.alloc(), &[10, 20, 30, 50, 70, 90], &[INHERIT; 4])?;
+fn second_waiter_becomes_first_with_a_changed_priority() -> &'static Scene {
     const ROWS: &[Row] = &[
         Row(Event::Lock(2, 1), 0, &[10, 20, 30, 50, 70, 90]),
         Row(Event::Lock(2, 2), 0, &[10, 20, 30, 50, 70, 90]),
@@ -285,14 +349,17 @@ fn second_waiter_becomes_first_with_a_changed_priority(rt: HostRuntime) -> Resul
         Row(Event::Unlock(3), 1, &[70, 90, 30, 50, 70, 90]),
         Row(Event::Unlock(1), 1, &[70, 70, 30, 50, 70, 90]),
     ];
-    play(&rt, &mut tables, ROWS);
-    let first = first_waiter(&tables, MutexNo(3)).map(|first| first.task);
-    assert_eq!(rt; first, Some(TaskNo(1)));
-    Ok(())
+    const SCENE: &Scene = &Scene {
+        name: "second waiter becomes first with a changed priority",
+        bases: &[10, 20, 30, 50, 70, 90],
+        kinds: &[INHERIT; 4],
+        rows: ROWS,
+        ends: &[End::First(3, 1)],
+    };
+    SCENE
 }
 
-#[test]
-fn walk_stops_where_nothing_changes(rt: HostRuntime) -> Result<(), Fail> {
+fn walk_stops_where_nothing_changes() -> &'static Scene {
     // a chain of three, a waiter who changes nothing at its end, and a lower base there
     const ROWS: &[Row] = &[
         Row(Event::Lock(1, 1), 0, &[10, 20, 30, 90, 40]),
@@ -305,13 +372,17 @@ fn walk_stops_where_nothing_changes(rt: HostRuntime) -> Result<(), Fail> {
         Row(Event::Cancel(5), 1, &[90, 90, 90, 90, 40]),
         Row(Event::Base(4, 15), 4, &[30, 30, 30, 15, 40]),
     ];
-    let mut tables = tables(&rt, rt.alloc(), &[10, 20, 30, 90, 40], &[INHERIT; 3])?;
-    play(&rt, &mut tables, ROWS);
-    Ok(())
+    const SCENE: &Scene = &Scene {
+        name: "walk stops where nothing changes",
+        bases: &[10, 20, 30, 90, 40],
+        kinds: &[INHERIT; 3],
+        rows: ROWS,
+        ends: &[],
+    };
+    SCENE
 }
 
-#[test]
-fn ceiling_hands_nothing_on(rt: HostRuntime) -> Result<(), Fail> {
+fn ceiling_hands_nothing_on() -> &'static Scene {
     const ROWS: &[Row] = &[
         Row(Event::Lock(1, 1), 1, &[50, 40, 90]),
         Row(Event::Lock(2, 2), 0, &[50, 40, 90]),
@@ -319,16 +390,17 @@ fn ceiling_hands_nothing_on(rt: HostRuntime) -> Result<(), Fail> {
         Row(Event::Lock(3, 2), 1, &[50, 90, 90]),
         Row(Event::Unlock(1), 1, &[20, 90, 90]),
     ];
-    let protocols = [Protocol::Protect(prio(&rt, 50)), INHERIT];
-    let mut tables = tables(&rt, rt.alloc(), &[20, 40, 90], &protocols)?;
-    play(&rt, &mut tables, ROWS);
-    Ok(())
+    const SCENE: &Scene = &Scene {
+        name: "ceiling hands nothing on",
+        bases: &[20, 40, 90],
+        kinds: &[Kind::Protect(50), INHERIT],
+        rows: ROWS,
+        ends: &[],
+    };
+    SCENE
 }
 
-#[test]
-fn raised_waiter_is_first_of_a_mutex_that_passes_on_no_priority(
-    rt: HostRuntime,
-) -> Result<(), Fail> {
+fn raised_waiter_is_first_of_a_mutex_that_passes_on_no_priority() -> &'static Scene {
     const ROWS: &[Row] = &[
         Row(Event::Lock(1, 1), 0, &[10, 40, 30, 90]),
         Row(Event::Lock(3, 2), 0, &[10, 40, 30, 90]),
@@ -337,15 +409,17 @@ fn raised_waiter_is_first_of_a_mutex_that_passes_on_no_priority(
         Row(Event::Lock(4, 2), 1, &[10, 40, 90, 90]),
         Row(Event::Unlock(1), 0, &[10, 40, 90, 90]),
     ];
-    let protocols = [Protocol::None, INHERIT];
-    let mut tables = tables(&rt, rt.alloc(), &[10, 40, 30, 90], &protocols)?;
-    play(&rt, &mut tables, ROWS);
-    assert_eq!(rt; tables.owner(MutexNo(1)), Some(TaskNo(3)));
-    Ok(())
+    const SCENE: &Scene = &Scene {
+        name: "raised waiter is first of a mutex that passes on no priority",
+        bases: &[10, 40, 30, 90],
+        kinds: &[Kind::None, INHERIT],
+        rows: ROWS,
+        ends: &[End::Owner(1, 3)],
+    };
+    SCENE
 }
 
-#[test]
-fn one_of_two_equal_waiters_may_go(rt: HostRuntime) -> Result<(), Fail> {
+fn one_of_two_equal_waiters_may_go() -> &'static Scene {
     const ROWS: &[Row] = &[
         Row(Event::Lock(1, 1), 0, &[10, 50, 50]),
         Row(Event::Lock(2, 1), 1, &[50, 50, 50]),
@@ -353,14 +427,18 @@ fn one_of_two_equal_waiters_may_go(rt: HostRuntime) -> Result<(), Fail> {
         Row(Event::Cancel(2), 1, &[50, 50, 50]),
         Row(Event::Cancel(3), 1, &[10, 50, 50]),
     ];
-    let mut tables = tables(&rt, rt.alloc(), &[10, 50, 50], &[INHERIT])?;
-    play(&rt, &mut tables, ROWS);
-    Ok(())
+    const SCENE: &Scene = &Scene {
+        name: "one of two equal waiters may go",
+        bases: &[10, 50, 50],
+        kinds: &[INHERIT],
+        rows: ROWS,
+        ends: &[],
+    };
+    SCENE
 }
 
 // what the owner of a PROTECT mutex hands on, as its ceiling changes
-#[test]
-fn another_ceiling_reaches_the_owner_and_its_heir(rt: HostRuntime) -> Result<(), Fail> {
+fn another_ceiling_reaches_the_owner_and_its_heir() -> &'static Scene {
     const ROWS: &[Row] = &[
         Row(Event::Ceiling(1, 45), 0, &[20, 40, 10]),
         Row(Event::Lock(3, 2), 0, &[20, 40, 10]),
@@ -371,13 +449,74 @@ fn another_ceiling_reaches_the_owner_and_its_heir(rt: HostRuntime) -> Result<(),
         Row(Event::Ceiling(1, 60), 2, &[60, 40, 60]),
         Row(Event::Ceiling(1, 15), 2, &[20, 40, 20]),
     ];
-    let protocols = [Protocol::Protect(prio(&rt, 50)), INHERIT];
-    let mut tables = tables(&rt, rt.alloc(), &[20, 40, 10], &protocols)?;
-    play(&rt, &mut tables, ROWS);
-    assert_eq!(rt; tables.ceiling(MutexNo(1)), Prio::new(15));
-    assert_eq!(rt; tables.ceiling(MutexNo(2)), None);
-    assert!(rt; tables.is_owned_by_another(TaskNo(2), MutexNo(1)));
-    assert!(rt; !tables.is_owned_by_another(TaskNo(1), MutexNo(1)));
+    const ENDS: &[End] = &[
+        End::Ceiling(1, 15),
+        End::Ceiling(2, 0),
+        End::OwnedByAnother(2, 1, true),
+        End::OwnedByAnother(1, 1, false),
+    ];
+    const SCENE: &Scene = &Scene {
+        name: "another ceiling reaches the owner and its heir",
+        bases: &[20, 40, 10],
+        kinds: &[Kind::Protect(50), INHERIT],
+        rows: ROWS,
+        ends: ENDS,
+    };
+    SCENE
+}
+
+fn expect_end(rt: &impl Abort, tables: &Tables, name: &str, end: End) {
+    match end {
+        End::Owner(mutex, task) => {
+            assert_eq!(rt;
+                tables.owner(MutexNo(mutex)),
+                Some(TaskNo(task)),
+                "{name}: owner"
+            );
+        }
+        End::First(mutex, task) => {
+            let first = first_waiter(tables, MutexNo(mutex)).map(|first| first.task);
+            assert_eq!(rt; first, Some(TaskNo(task)), "{name}: first waiter");
+        }
+        End::Ceiling(mutex, level) => {
+            assert_eq!(rt;
+                tables.ceiling(MutexNo(mutex)),
+                Prio::new(level),
+                "{name}: ceiling"
+            );
+        }
+        End::OwnedByAnother(task, mutex, expected) => {
+            let is_so = tables.is_owned_by_another(TaskNo(task), MutexNo(mutex));
+            assert_eq!(rt; is_so, expected, "{name}: owned by another than {task}");
+        }
+    }
+}
+
+fn play_scene(rt: &impl Abort, alloc: Global, scene: &Scene) -> Result<(), AllocError> {
+    let mut tables = tables(rt, alloc, scene.bases, scene.kinds)?;
+    play(rt, &mut tables, scene.name, scene.rows);
+    for end in scene.ends {
+        expect_end(rt, &tables, scene.name, *end);
+    }
+    Ok(())
+}
+
+#[test]
+fn scenes(rt: HostRuntime) -> Result<(), Fail> {
+    let scenes = [
+        lowered_through_an_owner_with_another_waiter(),
+        refused_deadlock_leaves_priorities(),
+        new_owner_keeps_what_its_waiters_donate(),
+        second_waiter_becomes_first_with_a_changed_priority(),
+        walk_stops_where_nothing_changes(),
+        ceiling_hands_nothing_on(),
+        raised_waiter_is_first_of_a_mutex_that_passes_on_no_priority(),
+        one_of_two_equal_waiters_may_go(),
+        another_ceiling_reaches_the_owner_and_its_heir(),
+    ];
+    for scene in scenes {
+        play_scene(&rt, rt.alloc(), scene)?;
+    }
     Ok(())
 }
 
@@ -401,7 +540,7 @@ fn listed_reasons(rt: &impl Abort, tables: &Tables) -> [Reason; 2]
 }
 
 // task 1 owns mutexes 1 and 2, the second with ceiling 50, and task 2 waits for the first
-fn scene(rt: &impl Abort, alloc: Global) -> Result<Tables, AllocError>
+fn protected(rt: &impl Abort, alloc: Global) -> Result<Tables, AllocError>
     ensures { IfOk result (λ tables. SettledBut tables.state (stored_at tables) None) }
 {
     const ROWS: &[Row] = &[
@@ -409,88 +548,129 @@ fn scene(rt: &impl Abort, alloc: Global) -> Result<Tables, AllocError>
         Row(Event::Lock(1, 2), 1, &[50, 20, 90]),
         Row(Event::Lock(2, 1), 1, &[50, 20, 90]),
     ];
-    let ceiling = Protocol::Protect(prio(rt, 50));
-    let mut tables = tables(rt, alloc, &[10, 20, 90], &[INHERIT, ceiling, INHERIT])?;
-    play(rt, &mut tables, ROWS);
+    const KINDS: &[Kind] = &[INHERIT, Kind::Protect(50), INHERIT];
+    let mut tables = tables(rt, alloc, &[10, 20, 90], KINDS)?;
+    play(rt, &mut tables, "a ceiling and a waiter", ROWS);
     Ok(tables)
 }
 
-#[test]
-fn reasons_name_a_ceiling_or_the_first_waiter(rt: HostRuntime) -> Result<(), Fail> {
-    let mut tables = scene(&rt, rt.alloc())?;
-    assert_eq!(rt; reason(&rt, &tables, 1), Reason::Ceiling(MutexNo(2)));
-    lock(
-        &rt,
-        &mut tables,
-        TaskNo(3),
-        MutexNo(1),
-        9,
-        &mut Visits::new(),
-    );
-    let first = Reason::Waiter(TaskNo(3), MutexNo(1));
-    assert_eq!(rt; reason(&rt, &tables, 1), first);
-    assert_eq!(rt; reason(&rt, &tables, 2), Reason::Base);
-    assert_eq!(rt; listed_reasons(&rt, &tables), [first, Reason::Base]);
+// task 3 begins to wait for mutex 1
+fn third_waits(rt: &impl Abort, tables: &mut Tables)
+    requires { SettledBut tables.old.state (stored_at tables.old) None }
+    ensures { SettledBut tables.new.state (stored_at tables.new) None }
+{
+    let mut visits = Visits::new();
+    lock(rt, tables, TaskNo(3), MutexNo(1), 9, &mut visits);
+}
+
+fn by_third() -> Reason {
+    Reason::Waiter(TaskNo(3), MutexNo(1))
+}
+
+fn expect_donated(rt: &impl Abort, tables: &Tables)
+    requires { SettledBut tables.now.state (stored_at tables.now) None }
+{
+    let reasons = [reason(rt, tables, 1), reason(rt, tables, 2)];
+    assert_eq!(rt; reasons, [by_third(), Reason::Base]);
+    assert_eq!(rt; listed_reasons(rt, tables), [by_third(), Reason::Base]);
+}
+
+// a ceiling is the reason, and then the first waiter
+fn expect_reasons(rt: &impl Abort, tables: &mut Tables)
+    requires { SettledBut tables.old.state (stored_at tables.old) None }
+{
+    assert_eq!(rt; reason(rt, tables, 1), Reason::Ceiling(MutexNo(2)));
+    third_waits(rt, tables);
+    expect_donated(rt, tables);
+}
+
+fn expect_kept(rt: &impl Abort, copy: &Tables, tables: &mut Tables)
+    requires { SettledBut tables.old.state (stored_at tables.old) None }
+{
+    let before = copy.has_state_of(tables);
+    third_waits(rt, tables);
+    let after = copy.has_state_of(tables);
+    assert_eq!(rt; [before, after], [true, false]);
+    assert_eq!(rt; copy.stored(TaskNo(1)), Prio::new(50));
+}
+
+fn keep_copy(rt: &impl Abort, alloc: Global, tables: &mut Tables) -> Result<(), AllocError>
+    requires { SettledBut tables.old.state (stored_at tables.old) None }
+{
+    let copy = tables.try_clone(alloc)?;
+    expect_kept(rt, &copy, tables);
     Ok(())
 }
 
 #[test]
 fn copy_keeps_the_state_that_it_had(rt: HostRuntime) -> Result<(), Fail> {
-    let mut tables = scene(&rt, rt.alloc())?;
-    let copy = tables.try_clone(rt.alloc())?;
-    assert!(rt; copy.has_state_of(&tables));
-    lock(
-        &rt,
-        &mut tables,
-        TaskNo(3),
-        MutexNo(1),
-        9,
-        &mut Visits::new(),
-    );
-    assert!(rt; !copy.has_state_of(&tables));
-    assert_eq!(rt; copy.stored(TaskNo(1)), Prio::new(50));
+    let mut tables = protected(&rt, rt.alloc())?;
+    keep_copy(&rt, rt.alloc(), &mut tables)?;
     Ok(())
 }
 
-#[test]
-fn shows_tasks(rt: HostRuntime) -> Result<(), Fail> {
-    let tables = scene(&rt, rt.alloc())?;
+fn expect_tasks(rt: &impl Abort, tables: &Tables) {
+    let levels = [
+        tables.base(TaskNo(1)),
+        tables.base(TaskNo(4)),
+        tables.stored(TaskNo(0)),
+    ];
+    assert_eq!(rt; levels, [Prio::new(10), None, None]);
     assert_eq!(rt; tables.tasks(), 3);
-    let bases = [tables.base(TaskNo(1)), tables.base(TaskNo(4))];
-    assert_eq!(rt; bases, [Prio::new(10), None]);
-    assert_eq!(rt; tables.stored(TaskNo(0)), None);
     assert!(rt; tables.waits_for(TaskNo(1)).is_none());
-    Ok(())
 }
 
-#[test]
-fn shows_mutexes(rt: HostRuntime) -> Result<(), Fail> {
-    let tables = scene(&rt, rt.alloc())?;
+fn expect_mutexes(rt: &impl Abort, tables: &Tables) {
     assert_eq!(rt; tables.mutexes(), 3);
     assert!(rt; tables.protocol(MutexNo(4)).is_none());
+    assert!(rt; tables.queue(MutexNo(4)).is_none());
     assert_eq!(rt; tables.ceiling(MutexNo(2)), Prio::new(50));
     let owners = [tables.owner(MutexNo(2)), tables.owner(MutexNo(3))];
     assert_eq!(rt; owners, [Some(TaskNo(1)), None]);
-    assert!(rt; tables.queue(MutexNo(4)).is_none());
-    Ok(())
+}
+
+fn expect_checks(rt: &impl Abort, tables: &Tables) {
+    assert!(rt; !tables.is_unknown_task(TaskNo(3)) && !tables.is_unknown_mutex(MutexNo(2)));
+    let answers = [
+        tables.on_chain(TaskNo(2), TaskNo(1)),
+        tables.on_chain(TaskNo(1), TaskNo(2)),
+        tables.known_above_ceiling(TaskNo(3), MutexNo(2)),
+        tables.has_ticket(MutexNo(1), 3),
+        tables.has_ticket(MutexNo(1), 4),
+    ];
+    assert_eq!(rt; answers, [true, false, true, true, false]);
+}
+
+// the mutexes of task 1, in ascending order
+fn expect_owned(rt: &impl Abort, tables: &Tables) {
+    assert!(rt; !tables.is_unknown_task(TaskNo(1)));
+    let mut owned = tables.owned(TaskNo(1));
+    let listed = [owned.next(), owned.next(), owned.next()];
+    assert_eq!(rt; listed, [Some(MutexNo(1)), Some(MutexNo(2)), None]);
+}
+
+// the next ticket is the one that was put
+fn expect_tickets(rt: &impl Abort, tables: &mut Tables) {
+    let next = tables.next_ticket();
+    tables.put_next_ticket(10);
+    assert_eq!(rt; [next, tables.next_ticket()], [1, 10]);
 }
 
 #[test]
-fn checks_answer_from_what_stands(rt: HostRuntime) -> Result<(), Fail> {
-    let tables = scene(&rt, rt.alloc())?;
-    assert!(rt; tables.on_chain(TaskNo(2), TaskNo(1)));
-    assert!(rt; !tables.on_chain(TaskNo(1), TaskNo(2)));
-    assert!(rt; !tables.is_unknown_task(TaskNo(3)) && !tables.is_unknown_mutex(MutexNo(2)));
-    assert!(rt; tables.known_above_ceiling(TaskNo(3), MutexNo(2)));
-    assert!(rt; tables.has_ticket(MutexNo(1), 3));
-    assert!(rt; !tables.has_ticket(MutexNo(1), 4));
+fn tables_show_tasks_mutexes_checks_and_reasons(rt: HostRuntime) -> Result<(), Fail> {
+    let mut tables = protected(&rt, rt.alloc())?;
+    expect_tasks(&rt, &tables);
+    expect_mutexes(&rt, &tables);
+    expect_checks(&rt, &tables);
+    expect_owned(&rt, &tables);
+    expect_reasons(&rt, &mut tables);
+    expect_tickets(&rt, &mut tables);
     Ok(())
 }
 
 // a recursive mutex of task 1, which task 2 waits for, and an INHERIT one of task 1
 fn locked_again(rt: &impl Abort, alloc: Global) -> Result<Tables, AllocError> {
-    let protocols = [Protocol::InheritRecursive, Protocol::Inherit];
-    let mut tables = tables(rt, alloc, &[10, 50], &protocols)?;
+    let mut tables = tables(rt, alloc, &[10, 50], &[Kind::Recursive, INHERIT])?;
     let mut visits = Visits::new();
     lock(rt, &mut tables, TaskNo(1), MutexNo(1), 1, &mut visits);
     lock(rt, &mut tables, TaskNo(1), MutexNo(2), 2, &mut visits);
@@ -508,20 +688,30 @@ fn count_up(rt: &impl Abort, tables: &mut Tables, times: u16) {
     }
 }
 
-#[test]
-fn recursive_mutex_is_counted(rt: HostRuntime) -> Result<(), Fail> {
-    let mut tables = locked_again(&rt, rt.alloc())?;
-    assert_eq!(rt; tables.count(MutexNo(1)), Some(1));
+// the count of mutex 1, and whether an unlock leaves it to its owner
+fn counted(rt: &impl Abort, tables: &Tables) -> (Option<u16>, bool) {
     assert!(rt; !tables.is_unknown_mutex(MutexNo(1)));
-    assert!(rt; !tables.known_kept(MutexNo(1)));
-    count_up(&rt, &mut tables, 2);
-    assert_eq!(rt; tables.count(MutexNo(1)), Some(3));
+    (tables.count(MutexNo(1)), tables.known_kept(MutexNo(1)))
+}
+
+// counts one lock less of mutex 1
+fn count_down(rt: &impl Abort, tables: &mut Tables) {
     assert!(rt; !tables.is_unknown_mutex(MutexNo(1)));
     assert!(rt; tables.known_kept(MutexNo(1)));
     tables.count_down(MutexNo(1));
-    assert_eq!(rt; tables.count(MutexNo(1)), Some(2));
+}
+
+fn expect_counts(rt: &impl Abort, tables: &mut Tables) {
+    let one = counted(rt, tables);
+    count_up(rt, tables, 2);
+    let three = counted(rt, tables);
+    count_down(rt, tables);
+    let two = counted(rt, tables);
+    assert_eq!(rt;
+        [one, three, two],
+        [(Some(1), false), (Some(3), true), (Some(2), true)]
+    );
     assert_eq!(rt; tables.stored(TaskNo(1)), Prio::new(50));
-    Ok(())
 }
 
 #[test]
@@ -533,33 +723,74 @@ fn recursive_mutex_is_counted_up_to_255(rt: HostRuntime) -> Result<(), Fail> {
     Ok(())
 }
 
-#[test]
-fn other_mutexes_have_the_count_of_their_owner(rt: HostRuntime) -> Result<(), Fail> {
-    let locked = locked_again(&rt, rt.alloc())?;
-    assert_eq!(rt; locked.count(MutexNo(2)), Some(1));
-    assert_eq!(rt; locked.count(MutexNo(3)), None);
-    let free = tables(&rt, rt.alloc(), &[10], &[Protocol::None])?;
-    assert_eq!(rt; free.count(MutexNo(1)), Some(0));
-    Ok(())
+// the count of a free mutex
+fn count_of_free(rt: &impl Abort, alloc: Global) -> Result<Option<u16>, AllocError> {
+    let free = tables(rt, alloc, &[10], &[Kind::None])?;
+    Ok(free.count(MutexNo(1)))
 }
 
-#[test]
-fn known_numbers_are_looked_up_without_a_test(rt: HostRuntime) -> Result<(), Fail> {
-    let tables = locked_again(&rt, rt.alloc())?;
+fn expect_known(rt: &impl Abort, tables: &Tables) {
     assert!(rt; !tables.is_unknown_task(TaskNo(2)));
     assert!(rt; !tables.is_unknown_mutex(MutexNo(1)));
-    assert_eq!(rt; tables.known_owner(MutexNo(1)), Some(TaskNo(1)));
+    let first = tables.known_first(MutexNo(1)).map(|first| first.task);
+    let tasks = [tables.known_owner(MutexNo(1)), first];
+    assert_eq!(rt; tasks, [Some(TaskNo(1)), Some(TaskNo(2))]);
+    let wait = tables.known_wait(TaskNo(2)).map(|wait| wait.ticket);
+    assert_eq!(rt; wait, Some(3));
     assert_eq!(rt;
         tables.known_protocol(MutexNo(1)),
         Protocol::InheritRecursive
     );
-    let wait = tables.known_wait(TaskNo(2)).map(|wait| wait.ticket);
-    assert_eq!(rt; wait, Some(3));
-    let first = tables.known_first(MutexNo(1)).map(|first| first.task);
-    assert_eq!(rt; first, Some(TaskNo(2)));
-    assert!(rt; !tables.known_owns(TaskNo(2), MutexNo(1)));
-    assert!(rt; !tables.known_relocks(TaskNo(2), MutexNo(1), TaskNo(1)));
-    assert!(rt; !tables.known_above_ceiling(TaskNo(2), MutexNo(1)));
+}
+
+// task 2 doesn't own mutex 1, doesn't lock it again, and isn't above a ceiling of it
+fn expect_no_owner(rt: &impl Abort, tables: &Tables) {
+    assert!(rt; !tables.is_unknown_task(TaskNo(2)));
+    assert!(rt; !tables.is_unknown_mutex(MutexNo(1)));
+    assert!(rt; tables.owner(MutexNo(1)) == Some(TaskNo(1)));
+    let answers = [
+        tables.known_owns(TaskNo(2), MutexNo(1)),
+        tables.known_relocks(TaskNo(2), MutexNo(1), TaskNo(1)),
+        tables.known_above_ceiling(TaskNo(2), MutexNo(1)),
+    ];
+    assert_eq!(rt; answers, [false; 3]);
+}
+
+// a request leads back to its own task, which relocks only a recursive mutex
+fn expect_cycles(rt: &impl Abort, tables: &Tables) {
+    let recursive = [MutexNo(1), MutexNo(2)].map(|mutex| tables.is_recursive(mutex));
+    assert_eq!(rt; recursive, [true, false]);
+    let back = [
+        tables.leads_back(TaskNo(1), MutexNo(1)),
+        tables.leads_back(TaskNo(1), MutexNo(2)),
+        tables.leads_back(TaskNo(2), MutexNo(2)),
+    ];
+    assert_eq!(rt; back, [true, true, false]);
+    let relocks = [MutexNo(1), MutexNo(2)].map(|mutex| tables.relocks(TaskNo(1), mutex));
+    assert_eq!(rt; relocks, [true, false]);
+}
+
+// an owned mutex that isn't recursive has been locked once
+fn expect_once(rt: &impl Abort, tables: &Tables) {
+    let counts = [tables.count(MutexNo(2)), tables.count(MutexNo(3))];
+    assert_eq!(rt; counts, [Some(1), None]);
+}
+
+#[test]
+fn recursive_mutex_is_shown_and_counted(rt: HostRuntime) -> Result<(), Fail> {
+    let mut tables = locked_again(&rt, rt.alloc())?;
+    expect_known(&rt, &tables);
+    expect_no_owner(&rt, &tables);
+    expect_cycles(&rt, &tables);
+    expect_once(&rt, &tables);
+    expect_counts(&rt, &mut tables);
+    Ok(())
+}
+
+#[test]
+fn free_mutex_has_count_0(rt: HostRuntime) -> Result<(), Fail> {
+    let free = count_of_free(&rt, rt.alloc())?;
+    assert_eq!(rt; free, Some(0));
     Ok(())
 }
 
@@ -589,51 +820,27 @@ fn exit(rt: &impl Abort, tables: &mut Tables, visits: &mut Visits)
     tables.exit(TaskNo(2), MutexNo(1), TaskNo(1), visits);
 }
 
-#[test]
-fn lower_waiter_comes_and_goes_by_a_look_each(rt: HostRuntime) -> Result<(), Fail> {
-    let mut tables = tables(&rt, rt.alloc(), &[50, 10], &[Protocol::Inherit])?;
-    let mut visits = Visits::new();
-    lock(&rt, &mut tables, TaskNo(1), MutexNo(1), 1, &mut visits);
-    assert_eq!(rt; visits.get(), 0);
-    enter(&rt, &mut tables, &mut visits);
+fn expect_looks(rt: &impl Abort, tables: &mut Tables, visits: &mut Visits)
+    requires { SettledBut tables.old.state (stored_at tables.old) None }
+{
+    lock(rt, tables, TaskNo(1), MutexNo(1), 1, visits);
+    let locked = (visits.get(), tables.waits_for(TaskNo(2)).is_some());
+    enter(rt, tables, visits);
+    let entered = (visits.get(), tables.waits_for(TaskNo(2)).is_some());
+    exit(rt, tables, visits);
+    let left = (visits.get(), tables.waits_for(TaskNo(2)).is_some());
     assert_eq!(rt;
-        (visits.get(), tables.waits_for(TaskNo(2)).is_some()),
-        (0, true)
-    );
-    exit(&rt, &mut tables, &mut visits);
-    assert_eq!(rt;
-        (visits.get(), tables.waits_for(TaskNo(2)).is_some()),
-        (0, false)
+        [locked, entered, left],
+        [(0, false), (0, true), (0, false)]
     );
     assert_eq!(rt; tables.stored(TaskNo(1)), Prio::new(50));
-    Ok(())
 }
 
 #[test]
-fn a_relock_leads_back_to_its_task(rt: HostRuntime) -> Result<(), Fail> {
-    let tables = locked_again(&rt, rt.alloc())?;
-    assert!(rt; tables.is_recursive(MutexNo(1)) && !tables.is_recursive(MutexNo(2)));
-    assert!(rt; tables.leads_back(TaskNo(1), MutexNo(1)) && tables.relocks(TaskNo(1), MutexNo(1)));
-    assert!(rt; tables.leads_back(TaskNo(1), MutexNo(2)) && !tables.relocks(TaskNo(1), MutexNo(2)));
-    assert!(rt; !tables.leads_back(TaskNo(2), MutexNo(2)));
-    Ok(())
-}
-
-#[test]
-fn next_ticket_is_the_one_that_was_put(rt: HostRuntime) -> Result<(), Fail> {
-    let mut tables = scene(&rt, rt.alloc())?;
-    assert_eq!(rt; tables.next_ticket(), 1);
-    tables.put_next_ticket(10);
-    assert_eq!(rt; tables.next_ticket(), 10);
-    Ok(())
-}
-
-#[test]
-fn owned_mutexes_come_in_ascending_order(rt: HostRuntime) -> Result<(), Fail> {
-    let tables = scene(&rt, rt.alloc())?;
-    assert!(rt; !tables.is_unknown_task(TaskNo(1)));
-    let owned: Vec<MutexNo> = tables.owned(TaskNo(1)).collect(rt.alloc())?;
-    assert_eq!(rt; owned.as_slice(), [MutexNo(1), MutexNo(2)].as_slice());
+fn lower_waiter_comes_and_goes_by_a_look_each(rt: HostRuntime) -> Result<(), Fail> {
+    let mut tables = tables(&rt, rt.alloc(), &[50, 10], &[INHERIT])?;
+    let mut visits = Visits::new();
+    expect_looks(&rt, &mut tables, &mut visits);
     Ok(())
 }
 
@@ -649,60 +856,97 @@ fn chain(rt: &impl Abort, alloc: Global) -> Result<Tables, AllocError>
         Row(Event::Lock(2, 1), 1, &[30, 30, 30, 60, 90]),
     ];
     let mut tables = tables(rt, alloc, &[10, 20, 30, 60, 90], &[INHERIT; 4])?;
-    play(rt, &mut tables, ROWS);
+    play(rt, &mut tables, "a chain", ROWS);
     Ok(tables)
 }
 
-#[test]
-fn visits_without_notes_tell_of_no_change(rt: HostRuntime) -> Result<(), Fail> {
-    let tables = chain(&rt, rt.alloc())?;
-    assert_eq!(rt; tables.changed(&Visits::new()).next(), None);
-    let visits = Visits::with_notes(rt.alloc())?;
+// the first four of the tasks that changed since the notes began
+fn changed(tables: &Tables, visits: &Visits) -> [Option<TaskNo>; 4] {
+    let mut changed = tables.changed(visits);
+    [
+        changed.next(),
+        changed.next(),
+        changed.next(),
+        changed.next(),
+    ]
+}
+
+// notes that begin, and visits without notes, tell of no change
+fn expect_unchanged(rt: &impl Abort, tables: &Tables, visits: &Visits) {
     assert!(rt; visits.is_unnoted());
-    assert_eq!(rt; tables.changed(&visits).next(), None);
+    assert_eq!(rt; changed(tables, visits), [None; 4]);
+    assert_eq!(rt; changed(tables, &Visits::new()), [None; 4]);
+}
+
+fn expect_raised(rt: &impl Abort, tables: &mut Tables, visits: &mut Visits)
+    requires { SettledBut tables.old.state (stored_at tables.old) None }
+    ensures { SettledBut tables.new.state (stored_at tables.new) None }
+{
+    lock(rt, tables, TaskNo(5), MutexNo(4), 8, visits);
+    let raised = [Some(TaskNo(1)), Some(TaskNo(2)), Some(TaskNo(3)), None];
+    assert_eq!(rt; changed(tables, visits), raised);
+    assert_eq!(rt; visits.get(), 3);
+}
+
+// what is again as it was hasn't changed, but is noted
+fn expect_lowered(rt: &impl Abort, tables: &mut Tables, visits: &mut Visits)
+    requires { SettledBut tables.old.state (stored_at tables.old) None }
+    ensures { SettledBut tables.new.state (stored_at tables.new) None }
+{
+    cancel(rt, tables, TaskNo(5), visits);
+    assert_eq!(rt; changed(tables, visits), [None; 4]);
+    assert_eq!(rt; (visits.get(), visits.is_unnoted()), (6, false));
+}
+
+// notes that begin again list what changed since then
+fn expect_anew(rt: &impl Abort, tables: &mut Tables, visits: &mut Visits)
+    requires { SettledBut tables.old.state (stored_at tables.old) None }
+{
+    lock(rt, tables, TaskNo(5), MutexNo(4), 8, visits);
+    visits.restart();
+    assert_eq!(rt; (visits.get(), visits.is_unnoted()), (0, true));
+    set_base(rt, tables, TaskNo(4), 61, visits);
+    let raised = [Some(TaskNo(4)), None, None, None];
+    assert_eq!(rt; changed(tables, visits), raised);
+}
+
+fn note_changes(rt: &impl Abort, alloc: Global, tables: &mut Tables) -> Result<(), AllocError>
+    requires { SettledBut tables.old.state (stored_at tables.old) None }
+{
+    let mut visits = Visits::with_notes(alloc)?;
+    expect_unchanged(rt, tables, &visits);
+    expect_raised(rt, tables, &mut visits);
+    expect_lowered(rt, tables, &mut visits);
+    expect_anew(rt, tables, &mut visits);
     Ok(())
 }
 
 #[test]
 fn lists_what_changed_since_the_notes_began(rt: HostRuntime) -> Result<(), Fail> {
     let mut tables = chain(&rt, rt.alloc())?;
-    let mut visits = Visits::with_notes(rt.alloc())?;
-    lock(&rt, &mut tables, TaskNo(5), MutexNo(4), 8, &mut visits);
-    assert_eq!(rt; visits.get(), 3);
-    let changed: Vec<TaskNo> = tables.changed(&visits).collect(rt.alloc())?;
-    let raised = [TaskNo(1), TaskNo(2), TaskNo(3)];
-    assert_eq!(rt; changed.as_slice(), raised.as_slice());
-    // what is again as it was hasn't changed, but is noted
-    cancel(&rt, &mut tables, TaskNo(5), &mut visits);
-    assert!(rt; !visits.is_unnoted());
-    assert_eq!(rt; visits.get(), 6);
-    assert_eq!(rt; tables.changed(&visits).next(), None);
+    note_changes(&rt, rt.alloc(), &mut tables)?;
     Ok(())
 }
 
-#[test]
-fn notes_begin_anew(rt: HostRuntime) -> Result<(), Fail> {
-    let mut tables = chain(&rt, rt.alloc())?;
-    let mut visits = Visits::with_notes(rt.alloc())?;
-    lock(&rt, &mut tables, TaskNo(5), MutexNo(4), 8, &mut visits);
-    visits.restart();
-    assert!(rt; visits.is_unnoted());
-    assert_eq!(rt; visits.get(), 0);
-    set_base(&rt, &mut tables, TaskNo(4), 61, &mut visits);
-    let changed: Vec<TaskNo> = tables.changed(&visits).collect(rt.alloc())?;
-    assert_eq!(rt; changed.as_slice(), [TaskNo(4)].as_slice());
-    Ok(())
+// mutex 2, which is free, gets the ceiling 50
+fn protect(rt: &impl Abort, tables: &mut Tables)
+    requires { SettledBut tables.old.state (stored_at tables.old) None }
+    ensures { SettledBut tables.new.state (stored_at tables.new) None }
+{
+    let second = MutexNo(2);
+    assert!(rt; !tables.is_unknown_mutex(second) && tables.owner(second).is_none());
+    tables.put_protocol(second, Protocol::Protect(prio(rt, 50)));
+    assert_eq!(rt; tables.protocol(MutexNo(1)), Some(Protocol::Inherit));
+    assert_eq!(rt; tables.ceiling(second), Prio::new(50));
 }
 
 #[test]
 fn free_mutex_has_another_protocol(rt: HostRuntime) -> Result<(), Fail> {
+    const FIRST: &[Row] = &[Row(Event::Lock(1, 1), 0, &[10, 20])];
+    const SECOND: &[Row] = &[Row(Event::Lock(1, 2), 1, &[50, 20])];
     let mut tables = tables(&rt, rt.alloc(), &[10, 20], &[INHERIT; 2])?;
-    play(&rt, &mut tables, &[Row(Event::Lock(1, 1), 0, &[10, 20])]);
-    let second = MutexNo(2);
-    assert!(rt; !tables.is_unknown_mutex(second) && tables.owner(second).is_none());
-    tables.put_protocol(second, Protocol::Protect(prio(&rt, 50)));
-    assert_eq!(rt; tables.protocol(MutexNo(1)), Some(INHERIT));
-    assert_eq!(rt; tables.ceiling(second), Prio::new(50));
-    play(&rt, &mut tables, &[Row(Event::Lock(1, 2), 1, &[50, 20])]);
+    play(&rt, &mut tables, "an INHERIT mutex", FIRST);
+    protect(&rt, &mut tables);
+    play(&rt, &mut tables, "a ceiling", SECOND);
     Ok(())
 }
