@@ -30,8 +30,6 @@ mod noting;
 mod runs;
 mod shared_fault;
 mod steps;
-#[cfg(test)]
-mod tests;
 
 pub use changed_tasks::{ChangedTask, ChangedTasks};
 pub use done::Done;

@@ -36,21 +36,3 @@ impl From<AllocError> for SharedFault {
         SharedFault::Memory
     }
 }
-
-#[cfg(test)]
-mod tests {
-    use super::*;
-    use SharedFault::{Closed, Full, NoPlace, Torn};
-    use std::test::Fail;
-
-    #[test]
-    fn each_fault_has_its_text(rt: HostRuntime) -> Result<(), Fail> {
-        let faults = [Full, SharedFault::Memory, Closed, Torn, NoPlace];
-        let texts = ["full", "memory", "closed", "torn", "no place"];
-        for (fault, text) in faults.iter().zip(texts) {
-            let printed = format!(in rt.alloc(); "{fault}")?;
-            assert_eq!(rt; printed.as_str(), text);
-        }
-        Ok(())
-    }
-}

@@ -1,12 +1,14 @@
-//! Each public call once, with values worked out by hand. The scenarios of the steps are in
+//! Each public call of the manager once, with values worked out by hand. The scenarios of the steps are in
 //! pim_agreement.
 
-use crate::{ChangedTask, ChangedTasks, Done, MakeFault, Manager};
+ghost use Rattle.std.specs.Prelude.{IsSome};
+
 use Op::{Cancel, Lock, ReleaseAll, SetBase, SetCeiling, Try, Unlock};
 use Protocol::Inherit;
 use pim_base::{MutexNo, Op, Prio, Protocol, Reason, Refusal, Reply, Step, TaskNo, Waiter};
 use pim_chain::Visits;
-use std::alloc::Global;
+use pim_manager::{ChangedTask, ChangedTasks, Done, MakeFault, Manager};
+use std::alloc::{AllocError, Global};
 use std::process::Abort;
 use std::test::Fail;
 
@@ -28,53 +30,49 @@ fn reason(waiter: u16, mutex: u16) -> Reason {
     Reason::Waiter(TaskNo(waiter), MutexNo(mutex))
 }
 
-/// A manager of tasks with these bases and of mutexes with these protocols.
-fn made(alloc: Global, bases: &[u16], protocols: &[Protocol]) -> Result<Manager, Fail> {
+fn prios(alloc: Global, levels: &[u16]) -> Result<Vec<Prio>, Fail> {
     let mut prios = Vec::new(alloc);
-    for level in bases {
+    for level in levels {
         prios.push(Prio::new(*level).ok_or("a priority")?)?;
     }
+    Ok(prios)
+}
+
+/// A manager of tasks with these bases and of mutexes with these protocols.
+fn made(alloc: Global, bases: &[u16], protocols: &[Protocol]) -> Result<Manager, Fail> {
+    let prios = prios(alloc, bases)?;
     Ok(Manager::new(alloc, &prios, protocols)?)
 }
 
-/// Task 1 owns mutex 1, and task 2 waits for it.
+/// Task 1 locks mutex 1, and task 2 waits for it.
+fn contend(manager: &mut Manager) {
+    manager.run(&[by(1, Lock(FIRST)), by(2, Lock(FIRST))]);
+}
+
 fn contended(alloc: Global) -> Result<Manager, Fail> {
     let mut manager = made(alloc, &[10, 90], &[Inherit, Protocol::None])?;
-    manager.run(&[by(1, Lock(FIRST)), by(2, Lock(FIRST))]);
+    contend(&mut manager);
     Ok(manager)
 }
 
-#[test]
-fn counts_and_the_next_ticket_are_shown(rt: HostRuntime) -> Result<(), Fail> {
-    let manager = contended(rt.alloc())?;
+fn expect_counts(rt: &impl Abort, manager: &Manager) {
     let counts = (manager.tasks(), manager.mutexes(), manager.next_ticket());
-    drop(manager);
     assert_eq!(rt; counts, (2, 2, 2));
-    Ok(())
 }
 
-#[test]
-fn priorities_and_reasons_are_shown(rt: HostRuntime) -> Result<(), Fail> {
-    let manager = contended(rt.alloc())?;
+fn expect_priorities(rt: &impl Abort, manager: &Manager) {
     let levels = [manager.effective(TaskNo(1)), manager.base(TaskNo(1))];
-    let reasons = [manager.reason(TaskNo(1)), manager.reason(TaskNo(2))];
-    drop(manager);
     assert_eq!(rt; levels, [Prio::new(90), Prio::new(10)]);
+    let reasons = [manager.reason(TaskNo(1)), manager.reason(TaskNo(2))];
     assert_eq!(rt; reasons, [Some(reason(2, 1)), Some(Reason::Base)]);
-    Ok(())
 }
 
-#[test]
-fn waits_and_owners_are_shown(rt: HostRuntime) -> Result<(), Fail> {
-    let manager = contended(rt.alloc())?;
+fn expect_waits(rt: &impl Abort, manager: &Manager) {
     let waits = [1, 2, 3].map(|task| manager.waits_for(TaskNo(task)));
-    let owners = [1, 2, 3].map(|mutex| manager.owner(MutexNo(mutex)));
-    let protocol = manager.protocol(FIRST);
-    drop(manager);
     assert_eq!(rt; waits, [Some(None), Some(Some(FIRST)), None]);
+    let owners = [1, 2, 3].map(|mutex| manager.owner(MutexNo(mutex)));
     assert_eq!(rt; owners, [Some(Some(TaskNo(1))), Some(None), None]);
-    assert_eq!(rt; protocol, Some(Inherit));
-    Ok(())
+    assert_eq!(rt; manager.protocol(FIRST), Some(Inherit));
 }
 
 fn expect_waiter(rt: &impl Abort, manager: &Manager) {
@@ -86,9 +84,31 @@ fn expect_waiter(rt: &impl Abort, manager: &Manager) {
     assert!(rt; manager.waiters(FIRST) == Some(&[second][..]));
 }
 
+fn changed_task(rt: &impl Abort, task: u16, level: u16, reason: Reason) -> ChangedTask {
+    ChangedTask {
+        task: TaskNo(task),
+        prio: prio(rt, level),
+        reason,
+    }
+}
+
+fn expect_changed_task(rt: &impl Abort, manager: &Manager) {
+    let boosted = changed_task(rt, 1, 90, reason(2, 1));
+    let shown = [
+        manager.changed_task(TaskNo(1)),
+        manager.changed_task(TaskNo(4)),
+    ];
+    assert_eq!(rt; shown, [Some(boosted), None]);
+}
+
 #[test]
-fn waiters_are_shown(rt: HostRuntime) -> Result<(), Fail> {
-    expect_waiter(&rt, &contended(rt.alloc())?);
+fn manager_with_a_waiter_is_shown(rt: HostRuntime) -> Result<(), Fail> {
+    let manager = contended(rt.alloc())?;
+    expect_counts(&rt, &manager);
+    expect_priorities(&rt, &manager);
+    expect_waits(&rt, &manager);
+    expect_waiter(&rt, &manager);
+    expect_changed_task(&rt, &manager);
     Ok(())
 }
 
@@ -182,22 +202,31 @@ const CEILINGS: [(u16, Op, Reply, u32, Listed); 10] = [
 fn expect_ceilings(rt: &impl Abort, manager: &mut Manager, changed: &mut ChangedTasks) {
     for (actor, op, reply, visits, listed) in CEILINGS {
         let done = manager.step_with_changes(by(actor, op), changed);
-        assert_eq!(rt; done, Done { reply, visits }, "{actor} {op:?}");
         let shown = changed.as_slice().first();
         let shown = shown.map(|one| (one.task.get(), one.prio.get(), one.reason));
-        assert_eq!(rt; shown, listed, "{actor} {op:?}");
-        assert!(rt; changed.as_slice().len() <= 1);
+        let is_all = changed.as_slice().len() <= 1;
+        let expected = (Done { reply, visits }, listed, true);
+        assert_eq!(rt; (done, shown, is_all), expected, "{actor} {op:?}");
     }
+}
+
+fn expect_set_ceiling(rt: &impl Abort, manager: &Manager) {
+    let set = Prio::new(45).map(Protocol::Protect);
+    assert_eq!(rt; manager.protocol(FIRST), set);
+}
+
+fn play_ceilings(rt: &impl Abort, alloc: Global, manager: &mut Manager) -> Result<(), AllocError> {
+    let mut changed = ChangedTasks::new(alloc)?;
+    expect_ceilings(rt, manager, &mut changed);
+    expect_set_ceiling(rt, manager);
+    Ok(())
 }
 
 #[test]
 fn ceilings_that_change(rt: HostRuntime) -> Result<(), Fail> {
     let protocols = [Protocol::Protect(prio(&rt, 50)), Protocol::None];
     let mut manager = made(rt.alloc(), &[20, 40], &protocols)?;
-    let mut changed = ChangedTasks::new(rt.alloc())?;
-    expect_ceilings(&rt, &mut manager, &mut changed);
-    let set = Prio::new(45).map(Protocol::Protect);
-    assert_eq!(rt; manager.protocol(FIRST), set);
+    play_ceilings(&rt, rt.alloc(), &mut manager)?;
     Ok(())
 }
 
@@ -216,21 +245,26 @@ const RECURSIVE: [(u16, Op, Reply, u16); 11] = [
     (2, ReleaseAll, Reply::Released(1), 0),
 ];
 
-fn expect_counts(rt: &impl Abort, manager: &mut Manager) {
+fn expect_recursive(rt: &impl Abort, manager: &mut Manager) {
     for (actor, op, reply, count) in RECURSIVE {
-        assert_eq!(rt; manager.step(by(actor, op)).reply, reply, "{actor} {op:?}");
+        let replied = manager.step(by(actor, op)).reply;
         let donated = reply == Reply::Queued || reply == Reply::Kept;
         let level = if donated { 50 } else { 10 };
-        let shown = (manager.count(FIRST), manager.effective(TaskNo(1)));
-        assert_eq!(rt; shown, (Some(count), Prio::new(level)), "{actor} {op:?}");
+        let shown = (replied, manager.count(FIRST), manager.effective(TaskNo(1)));
+        let expected = (reply, Some(count), Prio::new(level));
+        assert_eq!(rt; shown, expected, "{actor} {op:?}");
     }
+}
+
+fn expect_unknown_count(rt: &impl Abort, manager: &Manager) {
+    assert_eq!(rt; manager.count(MutexNo(2)), None);
 }
 
 #[test]
 fn recursive_mutex_with_a_waiter(rt: HostRuntime) -> Result<(), Fail> {
     let mut manager = made(rt.alloc(), &[10, 50], &[Protocol::InheritRecursive])?;
-    expect_counts(&rt, &mut manager);
-    assert_eq!(rt; manager.count(MutexNo(2)), None);
+    expect_recursive(&rt, &mut manager);
+    expect_unknown_count(&rt, &manager);
     Ok(())
 }
 
@@ -254,33 +288,39 @@ fn relocks_end_at_255(rt: HostRuntime) -> Result<(), Fail> {
     Ok(())
 }
 
-/// What is made of so many tasks, and of so many INHERIT mutexes.
-fn sized(
-    rt: &impl Abort,
-    alloc: Global,
-    tasks: u16,
-    mutexes: u16,
-) -> Result<Result<Manager, MakeFault>, Fail> {
-    let mut bases = Vec::new(alloc);
-    for _task in 0..tasks {
-        bases.push(prio(rt, 1))?;
-    }
-    let mut protocols = Vec::new(alloc);
-    for _mutex in 0..mutexes {
-        protocols.push(Inherit)?;
-    }
-    Ok(Manager::with_next_ticket(alloc, &bases, &protocols, 7))
-}
+/// How many tasks and mutexes a manager has, and its next ticket.
+type Sizes = (u16, u16, u64);
 
-// Returns the numbers of tasks and mutexes, and the next ticket.
-fn sizes(manager: &Manager) -> (u16, u16, u64) {
+/// Returns the numbers of tasks and mutexes, and the next ticket.
+fn sizes(manager: &Manager) -> Sizes {
     (manager.tasks(), manager.mutexes(), manager.next_ticket())
 }
 
+/// What is made of these, with 7 as the next ticket.
+fn sizes_of(alloc: Global, bases: &[Prio], protocols: &[Protocol]) -> Result<Sizes, MakeFault> {
+    let manager = Manager::with_next_ticket(alloc, bases, protocols, 7)?;
+    Ok(sizes(&manager))
+}
+
+/// What is made of so many tasks, and of so many INHERIT mutexes.
+fn sized(alloc: Global, tasks: u16, mutexes: u16) -> Result<Result<Sizes, MakeFault>, Fail> {
+    let lowest = Prio::new(1).ok_or("a priority")?;
+    let bases = vec![in alloc; lowest; tasks as usize]?;
+    let protocols = vec![in alloc; Inherit; mutexes as usize]?;
+    Ok(sizes_of(alloc, &bases, &protocols))
+}
+
 #[test]
-fn most_tasks_and_mutexes(rt: HostRuntime) -> Result<(), Fail> {
-    let most = sizes(&sized(&rt, rt.alloc(), 256, 256)??);
-    assert_eq!(rt; most, (256, 256, 7));
+fn most_tasks_and_mutexes_and_one_more(rt: HostRuntime) -> Result<(), Fail> {
+    const SIZED: &[(u16, u16, Result<Sizes, MakeFault>)] = &[
+        (256, 256, Ok((256, 256, 7))),
+        (257, 257, Err(MakeFault::TooManyTasks)),
+        (256, 257, Err(MakeFault::TooManyMutexes)),
+    ];
+    for (tasks, mutexes, expected) in SIZED {
+        let shown = sized(rt.alloc(), *tasks, *mutexes)?;
+        assert_eq!(rt; shown, *expected, "{tasks} tasks, {mutexes} mutexes");
+    }
     Ok(())
 }
 
@@ -291,48 +331,33 @@ fn no_tasks_and_no_mutexes(rt: HostRuntime) -> Result<(), Fail> {
     Ok(())
 }
 
-#[test]
-fn more_than_the_most(rt: HostRuntime) -> Result<(), Fail> {
-    let fault = sized(&rt, rt.alloc(), 257, 257)?.err();
-    assert_eq!(rt; fault, Some(MakeFault::TooManyTasks));
-    let fault = sized(&rt, rt.alloc(), 256, 257)?.err();
-    assert_eq!(rt; fault, Some(MakeFault::TooManyMutexes));
-    Ok(())
-}
-
-#[test]
-fn texts_of_the_faults(rt: HostRuntime) -> Result<(), Fail> {
-    for (fault, text) in [
-        (MakeFault::TooManyTasks, "too many tasks"),
-        (MakeFault::TooManyMutexes, "too many mutexes"),
-        (MakeFault::Memory, "memory"),
-    ] {
-        let shown = format!(in rt.alloc(); "{fault}")?;
-        assert_eq!(rt; shown.as_str(), text);
-    }
-    Ok(())
-}
-
-#[test]
-fn replies_of_a_run(rt: HostRuntime) -> Result<(), Fail> {
-    let mut manager = made(rt.alloc(), &[10, 20], &[Inherit])?;
+fn expect_replies(rt: &impl Abort, alloc: Global, manager: &mut Manager) -> Result<(), AllocError> {
     let steps = [
         by(1, Lock(FIRST)),
         by(2, Lock(FIRST)),
         by(2, Unlock(FIRST)),
         by(1, Unlock(FIRST)),
     ];
-    let replies = manager.run_replies(rt.alloc(), &steps)?;
-    let owner = manager.owner(FIRST);
-    drop(manager);
     let expected = [
         Reply::Granted,
         Reply::Queued,
         Reply::Refused(Refusal::Waiting),
         Reply::Handed(TaskNo(2)),
     ];
+    let replies = manager.run_replies(alloc, &steps)?;
     assert!(rt; replies.as_slice() == &expected[..]);
-    assert_eq!(rt; owner, Some(Some(TaskNo(2))));
+    Ok(())
+}
+
+fn expect_owner(rt: &impl Abort, manager: &Manager, owner: u16) {
+    assert_eq!(rt; manager.owner(FIRST), Some(Some(TaskNo(owner))));
+}
+
+#[test]
+fn replies_of_a_run(rt: HostRuntime) -> Result<(), Fail> {
+    let mut manager = made(rt.alloc(), &[10, 20], &[Inherit])?;
+    expect_replies(&rt, rt.alloc(), &mut manager)?;
+    expect_owner(&rt, &manager, 2);
     Ok(())
 }
 
@@ -344,14 +369,20 @@ fn expect_owned(rt: &impl Abort, manager: &Manager, owner: u16, level: u16) {
     assert_eq!(rt; manager.next_ticket(), 2);
 }
 
+// the step of a copy leaves the manager as it was
+fn expect_own_way(rt: &impl Abort, alloc: Global, manager: &Manager) -> Result<(), AllocError> {
+    let mut copy = manager.try_clone(alloc)?;
+    copy.step(by(1, Unlock(FIRST)));
+    expect_owned(rt, manager, 1, 20);
+    expect_owned(rt, &copy, 2, 10);
+    Ok(())
+}
+
 #[test]
 fn a_copy_goes_its_own_way(rt: HostRuntime) -> Result<(), Fail> {
     let mut manager = made(rt.alloc(), &[10, 20], &[Inherit])?;
-    manager.run(&[by(1, Lock(FIRST)), by(2, Lock(FIRST))]);
-    let mut copy = manager.try_clone(rt.alloc())?;
-    copy.run(&[by(1, Unlock(FIRST))]);
-    expect_owned(&rt, &manager, 1, 20);
-    expect_owned(&rt, &copy, 2, 10);
+    contend(&mut manager);
+    expect_own_way(&rt, rt.alloc(), &manager)?;
     Ok(())
 }
 
@@ -373,52 +404,75 @@ fn expect_equal(rt: &impl Abort, manager: &mut Manager, start: &Manager) {
     }
 }
 
-#[test]
-fn equal_managers_have_the_same_state(rt: HostRuntime) -> Result<(), Fail> {
-    let start = made(rt.alloc(), &[10, 90], &[Inherit, Inherit])?;
-    let mut manager = start.try_clone(rt.alloc())?;
-    expect_equal(&rt, &mut manager, &start);
+fn compare_copy(rt: &impl Abort, alloc: Global, start: &Manager) -> Result<(), AllocError> {
+    let mut manager = start.try_clone(alloc)?;
+    expect_equal(rt, &mut manager, start);
     Ok(())
 }
 
-// Tests that a manager with these bases and protocols has another state.
-fn expect_other(
-    rt: &impl Abort,
+#[test]
+fn equal_managers_have_the_same_state(rt: HostRuntime) -> Result<(), Fail> {
+    let start = made(rt.alloc(), &[10, 90], &[Inherit, Inherit])?;
+    compare_copy(&rt, rt.alloc(), &start)?;
+    Ok(())
+}
+
+/// Returns whether a manager with these bases and protocols has another state.
+fn is_other(
     alloc: Global,
     start: &Manager,
     bases: &[u16],
     protocols: &[Protocol],
-) -> Result<(), Fail> {
+) -> Result<bool, Fail> {
     let other = made(alloc, bases, protocols)?;
-    assert!(rt; !other.has_state_of(start));
+    Ok(!other.has_state_of(start))
+}
+
+fn expect_others(rt: &impl Abort, alloc: Global, start: &Manager) -> Result<(), Fail> {
+    const BASES: &[&[u16]] = &[&[10, 91], &[10], &[10, 90, 90]];
+    for bases in BASES {
+        let is_other = is_other(alloc, start, *bases, &[Inherit, Inherit])?;
+        assert!(rt; is_other, "{bases:?}");
+    }
+    assert!(rt; is_other(alloc, start, &[10, 90], &[Inherit, Protocol::None])?);
+    assert!(rt; is_other(alloc, start, &[10, 90], &[Inherit])?);
     Ok(())
 }
 
 #[test]
 fn managers_of_other_tasks_or_mutexes_have_other_states(rt: HostRuntime) -> Result<(), Fail> {
-    const BASES: &[&[u16]] = &[&[10, 91], &[10], &[10, 90, 90]];
     let start = made(rt.alloc(), &[10, 90], &[Inherit, Inherit])?;
-    for bases in BASES {
-        expect_other(&rt, rt.alloc(), &start, *bases, &[Inherit, Inherit])?;
-    }
-    let alloc = rt.alloc();
-    expect_other(&rt, alloc, &start, &[10, 90], &[Inherit, Protocol::None])?;
-    expect_other(&rt, alloc, &start, &[10, 90], &[Inherit])?;
+    expect_others(&rt, rt.alloc(), &start)
+}
+
+// neither a wait nor a ticket that was given out leaves the state as it was
+fn expect_marks(
+    rt: &impl Abort,
+    alloc: Global,
+    manager: &mut Manager,
+    start: &Manager,
+) -> Result<(), AllocError> {
+    let waits = manager.try_clone(alloc)?;
+    manager.step(by(2, Cancel(TaskNo(2))));
+    let waiting = manager.has_state_of(&waits);
+    // No mutex is owned and no task waits, but a ticket was given out.
+    manager.step(by(1, Unlock(FIRST)));
+    let ticketed = manager.has_state_of(start);
+    drop(waits);
+    assert!(rt; !waiting && !ticketed);
     Ok(())
+}
+
+fn mark_copy(rt: &impl Abort, alloc: Global, start: &Manager) -> Result<(), AllocError> {
+    let mut manager = start.try_clone(alloc)?;
+    contend(&mut manager);
+    expect_marks(rt, alloc, &mut manager, start)
 }
 
 #[test]
 fn waits_and_tickets_are_of_the_state(rt: HostRuntime) -> Result<(), Fail> {
     let start = made(rt.alloc(), &[10, 90], &[Inherit, Inherit])?;
-    let mut waits = start.try_clone(rt.alloc())?;
-    waits.run(&[by(1, Lock(FIRST)), by(2, Lock(FIRST))]);
-    let mut withdrawn = waits.try_clone(rt.alloc())?;
-    withdrawn.step(by(2, Cancel(TaskNo(2))));
-    let waiting = withdrawn.has_state_of(&waits);
-    // No mutex is owned and no task waits, but a ticket was given out.
-    withdrawn.step(by(1, Unlock(FIRST)));
-    let ticketed = withdrawn.has_state_of(&start);
-    assert!(rt; !waiting && !ticketed);
+    mark_copy(&rt, rt.alloc(), &start)?;
     Ok(())
 }
 
@@ -428,42 +482,31 @@ fn first_changed(manager: &Manager, visits: &Visits) -> [Option<TaskNo>; 2] {
     [changed.next(), changed.next()]
 }
 
-#[test]
-fn noted_changes_are_those_of_the_last_step(rt: HostRuntime) -> Result<(), Fail> {
-    let mut manager = made(rt.alloc(), &[10, 20, 90], &[Inherit])?;
-    let mut visits = Visits::with_notes(rt.alloc())?;
-    manager.step_with_notes(by(1, Lock(FIRST)), &mut visits);
-    let granted = first_changed(&manager, &visits);
-    let done = manager.step_with_notes(by(3, Lock(FIRST)), &mut visits);
-    let queued = first_changed(&manager, &visits);
-    manager.step_with_notes(by(2, Lock(FIRST)), &mut visits);
-    let behind = first_changed(&manager, &visits);
-    drop(manager);
-    drop(visits);
+fn expect_noted(rt: &impl Abort, manager: &mut Manager, visits: &mut Visits)
+    requires { IsSome visits.old.notes }
+{
+    manager.step_with_notes(by(1, Lock(FIRST)), visits);
+    let granted = first_changed(manager, visits);
+    let done = manager.step_with_notes(by(3, Lock(FIRST)), visits);
+    let queued = first_changed(manager, visits);
+    manager.step_with_notes(by(2, Lock(FIRST)), visits);
+    let behind = first_changed(manager, visits);
     assert_eq!(rt; (done.reply, done.visits), (Reply::Queued, 1));
     assert_eq!(rt; queued, [Some(TaskNo(1)), None]);
     assert_eq!(rt; [granted, behind], [[None, None], [None, None]]);
+}
+
+fn note_steps(rt: &impl Abort, alloc: Global, manager: &mut Manager) -> Result<(), AllocError> {
+    let mut visits = Visits::with_notes(alloc)?;
+    expect_noted(rt, manager, &mut visits);
     Ok(())
 }
 
 #[test]
-fn a_changed_task_is_shown_with_its_reason(rt: HostRuntime) -> Result<(), Fail> {
-    let manager = contended(rt.alloc())?;
-    let boosted = changed_task(&rt, 1, 90, reason(2, 1));
-    let shown = [
-        manager.changed_task(TaskNo(1)),
-        manager.changed_task(TaskNo(4)),
-    ];
-    assert_eq!(rt; shown, [Some(boosted), None]);
+fn noted_changes_are_those_of_the_last_step(rt: HostRuntime) -> Result<(), Fail> {
+    let mut manager = made(rt.alloc(), &[10, 20, 90], &[Inherit])?;
+    note_steps(&rt, rt.alloc(), &mut manager)?;
     Ok(())
-}
-
-fn changed_task(rt: &impl Abort, task: u16, level: u16, reason: Reason) -> ChangedTask {
-    ChangedTask {
-        task: TaskNo(task),
-        prio: prio(rt, level),
-        reason,
-    }
 }
 
 /// Each of tasks 2, 3 and 4 waits for a mutex of the one before, and the last one's step lists what it changed.
@@ -479,71 +522,87 @@ fn chained(alloc: Global, changed: &mut ChangedTasks) -> Result<Manager, Fail> {
     Ok(manager)
 }
 
+fn expect_raised(rt: &impl Abort, changed: &ChangedTasks) {
+    let raised = [
+        changed_task(rt, 1, 90, reason(2, 1)),
+        changed_task(rt, 2, 90, reason(3, 2)),
+        changed_task(rt, 3, 90, reason(4, 3)),
+    ];
+    assert!(rt; changed.as_slice() == &raised[..]);
+}
+
+// task 4 stops waiting
+fn expect_lowered(rt: &impl Abort, manager: &mut Manager, changed: &mut ChangedTasks) {
+    let done = manager.step_with_changes(by(4, Cancel(TaskNo(4))), changed);
+    assert_eq!(rt; done.visits, 3);
+    let lowered = [
+        changed_task(rt, 1, 30, reason(2, 1)),
+        changed_task(rt, 2, 30, reason(3, 2)),
+        changed_task(rt, 3, 30, Reason::Base),
+    ];
+    assert!(rt; changed.as_slice() == &lowered[..]);
+}
+
+fn expect_none(rt: &impl Abort, changed: &ChangedTasks) {
+    assert!(rt; changed.as_slice().is_empty());
+}
+
+fn expect_chain(rt: &impl Abort, alloc: Global, changed: &mut ChangedTasks) -> Result<(), Fail> {
+    let mut manager = chained(alloc, changed)?;
+    expect_raised(rt, changed);
+    // A step that is refused lists nothing.
+    manager.step_with_changes(by(1, Lock(FIRST)), changed);
+    expect_none(rt, changed);
+    expect_lowered(rt, &mut manager, changed);
+    Ok(())
+}
+
 #[test]
 fn changed_tasks_in_ascending_order(rt: HostRuntime) -> Result<(), Fail> {
     let mut changed = ChangedTasks::new(rt.alloc())?;
-    assert!(rt; changed.as_slice().is_empty());
-    chained(rt.alloc(), &mut changed)?;
-    let raised = [
-        changed_task(&rt, 1, 90, reason(2, 1)),
-        changed_task(&rt, 2, 90, reason(3, 2)),
-        changed_task(&rt, 3, 90, reason(4, 3)),
-    ];
-    assert!(rt; changed.as_slice() == &raised[..]);
-    Ok(())
+    expect_none(&rt, &changed);
+    expect_chain(&rt, rt.alloc(), &mut changed)
 }
 
-#[test]
-fn lowered_tasks_are_changed_ones(rt: HostRuntime) -> Result<(), Fail> {
-    let mut changed = ChangedTasks::new(rt.alloc())?;
-    let mut manager = chained(rt.alloc(), &mut changed)?;
-    let done = manager.step_with_changes(by(4, Cancel(TaskNo(4))), &mut changed);
-    assert_eq!(rt; done.visits, 3);
-    let lowered = [
-        changed_task(&rt, 1, 30, reason(2, 1)),
-        changed_task(&rt, 2, 30, reason(3, 2)),
-        changed_task(&rt, 3, 30, Reason::Base),
-    ];
-    assert!(rt; changed.as_slice() == &lowered[..]);
-    Ok(())
-}
-
-#[test]
-fn refused_step_lists_nothing(rt: HostRuntime) -> Result<(), Fail> {
-    let mut changed = ChangedTasks::new(rt.alloc())?;
-    let mut manager = chained(rt.alloc(), &mut changed)?;
-    manager.step_with_changes(by(1, Lock(FIRST)), &mut changed);
-    assert!(rt; changed.as_slice().is_empty());
-    Ok(())
-}
-
-#[test]
-fn free_mutex_gets_another_protocol(rt: HostRuntime) -> Result<(), Fail> {
-    let protocols = [Inherit, Protocol::None];
-    let mut manager = made(rt.alloc(), &[10, 20, 90], &protocols)?;
-    manager.run(&[by(1, Lock(FIRST)), by(3, Lock(FIRST))]);
-    let answer = manager.set_protocol(SECOND, Protocol::Protect(prio(&rt, 50)));
+fn expect_another_protocol(rt: &impl Abort, manager: &mut Manager) {
+    let answer = manager.set_protocol(SECOND, Protocol::Protect(prio(rt, 50)));
     assert_eq!(rt; answer, Ok(()));
-    assert_eq!(rt; manager.protocol(FIRST), Some(Inherit));
     let shown = manager
         .protocol(SECOND)
         .and_then(|protocol| protocol.ceiling());
     assert_eq!(rt; shown, Prio::new(50));
+    assert_eq!(rt; manager.protocol(FIRST), Some(Inherit));
+}
+
+fn expect_levels(rt: &impl Abort, manager: &Manager, first: u16, second: u16, third: u16) {
     let levels = [1, 2, 3].map(|task| manager.effective(TaskNo(task)));
-    assert_eq!(rt; levels, [Prio::new(90), Prio::new(20), Prio::new(90)]);
+    assert_eq!(rt;
+        levels,
+        [Prio::new(first), Prio::new(second), Prio::new(third)]
+    );
+}
+
+#[test]
+fn free_mutex_gets_another_protocol(rt: HostRuntime) -> Result<(), Fail> {
+    let mut manager = made(rt.alloc(), &[10, 20, 90], &[Inherit, Protocol::None])?;
+    manager.run(&[by(1, Lock(FIRST)), by(3, Lock(FIRST))]);
+    expect_another_protocol(&rt, &mut manager);
+    expect_levels(&rt, &manager, 90, 20, 90);
     manager.step(by(2, Lock(SECOND)));
-    assert_eq!(rt; manager.effective(TaskNo(2)), Prio::new(50));
+    expect_levels(&rt, &manager, 90, 50, 90);
     Ok(())
+}
+
+fn expect_refused_protocols(rt: &impl Abort, manager: &mut Manager) {
+    let answers = [0, 1, 3].map(|mutex| manager.set_protocol(MutexNo(mutex), Protocol::None));
+    let refused = [Refusal::NoMutex, Refusal::Busy, Refusal::NoMutex];
+    assert_eq!(rt; answers, refused.map(Err));
+    assert_eq!(rt; manager.protocol(FIRST), Some(Inherit));
 }
 
 #[test]
 fn owned_or_unknown_mutex_keeps_its_protocol(rt: HostRuntime) -> Result<(), Fail> {
     let mut manager = contended(rt.alloc())?;
-    let answers = [0, 1, 3].map(|mutex| manager.set_protocol(MutexNo(mutex), Protocol::None));
-    let first = manager.protocol(FIRST);
-    drop(manager);
-    let refused = [Refusal::NoMutex, Refusal::Busy, Refusal::NoMutex];
-    assert_eq!(rt; answers, refused.map(Err));
-    assert_eq!(rt; first, Some(Inherit));
+    expect_refused_protocols(&rt, &mut manager);
     Ok(())
 }
