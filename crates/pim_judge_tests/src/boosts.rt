@@ -1,11 +1,12 @@
 //! Priorities that waiters donate, and take back.
 
-use crate::expected::expect_report;
+use crate::scenes::{Scene, play};
 use pim_judge::Verdict::Accepted;
 
-#[test]
-fn waiter_donates_its_priority_until_the_unlock(rt: HostRuntime) {
-    let text = "\
+const BOOSTS: &[Scene] = &[
+    Scene {
+        name: "waiter donates its priority until the unlock",
+        text: "\
 pim 1
 task 1 10
 task 2 50
@@ -14,21 +15,20 @@ mutex 1 inherit
 1 lock 1
 3 lock 1
 1 unlock 1
-";
-    let report = "\
+",
+        report: "\
 1 granted
 2 queued
   task 1 at 90 waiter 3 mutex 1
 3 handed 3
   task 1 at 10 base
 accepted 3
-";
-    expect_report(&rt, text, report, Accepted(3));
-}
-
-#[test]
-fn boost_through_a_chain_of_three(rt: HostRuntime) {
-    let text = "\
+",
+        verdict: Accepted(3),
+    },
+    Scene {
+        name: "boost through a chain of three",
+        text: "\
 pim 1
 task 1 10
 task 2 20
@@ -44,8 +44,8 @@ mutex 3 inherit
 2 lock 1
 3 lock 2
 4 lock 3
-";
-    let report = "\
+",
+        report: "\
 1 granted
 2 granted
 3 granted
@@ -59,13 +59,12 @@ mutex 3 inherit
   task 2 at 90 waiter 3 mutex 2
   task 3 at 90 waiter 4 mutex 3
 accepted 6
-";
-    expect_report(&rt, text, report, Accepted(6));
-}
-
-#[test]
-fn lower_waiter_changes_no_priority(rt: HostRuntime) {
-    let text = "\
+",
+        verdict: Accepted(6),
+    },
+    Scene {
+        name: "lower waiter changes no priority",
+        text: "\
 pim 1
 task 1 10
 task 2 20
@@ -82,8 +81,8 @@ mutex 3 inherit
 3 lock 2
 4 lock 3
 5 lock 3
-";
-    let report = "\
+",
+        report: "\
 1 granted
 2 granted
 3 granted
@@ -98,13 +97,12 @@ mutex 3 inherit
   task 3 at 90 waiter 4 mutex 3
 7 queued
 accepted 7
-";
-    expect_report(&rt, text, report, Accepted(7));
-}
-
-#[test]
-fn new_base_of_the_last_waiter_lowers_the_whole_chain(rt: HostRuntime) {
-    let text = "\
+",
+        verdict: Accepted(7),
+    },
+    Scene {
+        name: "new base of the last waiter lowers the whole chain",
+        text: "\
 pim 1
 task 1 10
 task 2 20
@@ -121,8 +119,8 @@ mutex 3 inherit
 3 lock 2
 4 lock 3
 1 base 4 15
-";
-    let report = "\
+",
+        report: "\
 1 granted
 2 granted
 3 granted
@@ -141,13 +139,12 @@ mutex 3 inherit
   task 3 at 30 base
   task 4 at 15 base
 accepted 7
-";
-    expect_report(&rt, text, report, Accepted(7));
-}
-
-#[test]
-fn withdrawal_from_the_middle_cuts_the_chain(rt: HostRuntime) {
-    let text = "\
+",
+        verdict: Accepted(7),
+    },
+    Scene {
+        name: "withdrawal from the middle cuts the chain",
+        text: "\
 pim 1
 task 1 10
 task 2 20
@@ -165,8 +162,8 @@ mutex 3 inherit
 4 lock 3
 1 cancel 3
 5 cancel 9
-";
-    let report = "\
+",
+        report: "\
 1 granted
 2 granted
 3 granted
@@ -184,13 +181,12 @@ mutex 3 inherit
   task 2 at 20 base
 8 refused no-task
 accepted 8
-";
-    expect_report(&rt, text, report, Accepted(8));
-}
-
-#[test]
-fn boost_lasts_until_the_last_equal_waiter_withdraws(rt: HostRuntime) {
-    let text = "\
+",
+        verdict: Accepted(8),
+    },
+    Scene {
+        name: "boost lasts until the last equal waiter withdraws",
+        text: "\
 pim 1
 task 1 10
 task 2 50
@@ -201,8 +197,8 @@ mutex 1 inherit
 3 lock 1
 2 cancel 2
 3 cancel 3
-";
-    let report = "\
+",
+        report: "\
 1 granted
 2 queued
   task 1 at 50 waiter 2 mutex 1
@@ -211,13 +207,12 @@ mutex 1 inherit
 5 withdrawn
   task 1 at 10 base
 accepted 5
-";
-    expect_report(&rt, text, report, Accepted(5));
-}
-
-#[test]
-fn raised_waiter_is_handed_a_mutex_that_passes_on_no_priority(rt: HostRuntime) {
-    let text = "\
+",
+        verdict: Accepted(5),
+    },
+    Scene {
+        name: "raised waiter is handed a mutex that passes on no priority",
+        text: "\
 pim 1
 task 1 10
 task 2 40
@@ -231,8 +226,8 @@ mutex 2 inherit
 3 lock 1
 4 lock 2
 1 unlock 1
-";
-    let report = "\
+",
+        report: "\
 1 granted
 2 granted
 3 queued
@@ -241,6 +236,39 @@ mutex 2 inherit
   task 3 at 90 waiter 4 mutex 2
 6 handed 3
 accepted 6
-";
-    expect_report(&rt, text, report, Accepted(6));
+",
+        verdict: Accepted(6),
+    },
+    Scene {
+        name: "priorities 98 and 99",
+        text: "\
+pim 1
+task 1 98
+task 2 99
+mutex 1 protect 99
+mutex 2 inherit
+1 lock 2
+2 lock 2
+1 unlock 2
+2 lock 1
+1 base 1 97
+",
+        report: "\
+1 granted
+2 queued
+  task 1 at 99 waiter 2 mutex 2
+3 handed 2
+  task 1 at 98 base
+4 granted
+5 set
+  task 1 at 97 base
+accepted 5
+",
+        verdict: Accepted(5),
+    },
+];
+
+#[test]
+fn boosts_are_reported(rt: HostRuntime) {
+    play(&rt, BOOSTS);
 }

@@ -1,11 +1,12 @@
 //! Ceilings: from the grant to the release, and together with what waiters donate.
 
-use crate::expected::expect_report;
+use crate::scenes::{Scene, play};
 use pim_judge::Verdict::Accepted;
 
-#[test]
-fn boost_stops_at_a_protect_mutex(rt: HostRuntime) {
-    let text = "\
+const CEILINGS: &[Scene] = &[
+    Scene {
+        name: "boost stops at a protect mutex",
+        text: "\
 pim 1
 task 1 20
 task 2 40
@@ -17,8 +18,8 @@ mutex 2 inherit
 2 lock 1
 3 lock 2
 1 unlock 1
-";
-    let report = "\
+",
+        report: "\
 1 granted
   task 1 at 50 ceiling 1
 2 granted
@@ -28,13 +29,12 @@ mutex 2 inherit
 5 handed 2
   task 1 at 20 base
 accepted 5
-";
-    expect_report(&rt, text, report, Accepted(5));
-}
-
-#[test]
-fn ceiling_is_compared_with_the_base_at_the_lock_alone(rt: HostRuntime) {
-    let text = "\
+",
+        verdict: Accepted(5),
+    },
+    Scene {
+        name: "ceiling is compared with the base at the lock alone",
+        text: "\
 pim 1
 task 1 60
 mutex 1 protect 59
@@ -43,21 +43,20 @@ mutex 2 protect 60
 1 lock 2
 1 base 1 99
 1 base 1 100
-";
-    let report = "\
+",
+        report: "\
 1 refused ceiling
 2 granted
 3 set
   task 1 at 99 base
 4 refused priority
 accepted 4
-";
-    expect_report(&rt, text, report, Accepted(4));
-}
-
-#[test]
-fn ceilings_end_with_the_release_of_all(rt: HostRuntime) {
-    let text = "\
+",
+        verdict: Accepted(4),
+    },
+    Scene {
+        name: "ceilings end with the release of all",
+        text: "\
 pim 1
 task 1 10
 task 2 20
@@ -72,8 +71,8 @@ mutex 3 none
 3 lock 2
 1 release
 1 release
-";
-    let report = "\
+",
+        report: "\
 1 granted
   task 1 at 50 ceiling 2
 2 granted
@@ -86,13 +85,12 @@ mutex 3 none
   task 3 at 50 ceiling 2
 7 released 0
 accepted 7
-";
-    expect_report(&rt, text, report, Accepted(7));
-}
-
-#[test]
-fn owner_executes_at_the_highest_of_ceilings_and_waiters(rt: HostRuntime) {
-    let text = "\
+",
+        verdict: Accepted(7),
+    },
+    Scene {
+        name: "owner executes at the highest of ceilings and waiters",
+        text: "\
 pim 1
 task 1 10
 task 2 40
@@ -105,8 +103,8 @@ mutex 3 inherit
 1 lock 2
 1 unlock 2
 1 unlock 3
-";
-    let report = "\
+",
+        report: "\
 1 granted
   task 1 at 30 ceiling 1
 2 granted
@@ -119,13 +117,12 @@ mutex 3 inherit
 6 handed 2
   task 1 at 30 ceiling 1
 accepted 6
-";
-    expect_report(&rt, text, report, Accepted(6));
-}
-
-#[test]
-fn hand_over_above_the_ceiling_goes_by_ticket(rt: HostRuntime) {
-    let text = "\
+",
+        verdict: Accepted(6),
+    },
+    Scene {
+        name: "hand over above the ceiling goes by ticket",
+        text: "\
 pim 1
 task 1 10
 task 2 20
@@ -138,8 +135,8 @@ mutex 1 protect 40
 1 base 2 50
 1 unlock 1
 2 unlock 1
-";
-    let report = "\
+",
+        report: "\
 1 granted
   task 1 at 40 ceiling 1
 2 queued
@@ -152,13 +149,12 @@ mutex 1 protect 40
   task 1 at 10 base
 7 handed 3
 accepted 7
-";
-    expect_report(&rt, text, report, Accepted(7));
-}
-
-#[test]
-fn ceiling_is_set_while_the_mutex_is_free_or_ones_own(rt: HostRuntime) {
-    let text = "\
+",
+        verdict: Accepted(7),
+    },
+    Scene {
+        name: "ceiling is set while the mutex is free or ones own",
+        text: "\
 pim 2
 task 1 20
 task 2 40
@@ -174,8 +170,8 @@ mutex 2 none
 1 unlock 1
 2 ceil 1 45
 2 lock 1
-";
-    let report = "\
+",
+        report: "\
 1 granted
   task 1 at 50 ceiling 1
 2 set
@@ -191,13 +187,12 @@ mutex 2 none
 10 granted
   task 2 at 45 ceiling 1
 accepted 10
-";
-    expect_report(&rt, text, report, Accepted(10));
-}
-
-#[test]
-fn task_whose_reason_alone_changed_has_no_line(rt: HostRuntime) {
-    let text = "\
+",
+        verdict: Accepted(10),
+    },
+    Scene {
+        name: "task whose reason alone changed has no line",
+        text: "\
 pim 1
 task 1 10
 task 2 50
@@ -208,8 +203,8 @@ mutex 2 inherit
 1 lock 1
 1 unlock 2
 1 unlock 1
-";
-    let report = "\
+",
+        report: "\
 1 granted
 2 queued
   task 1 at 50 waiter 2 mutex 2
@@ -218,6 +213,12 @@ mutex 2 inherit
 5 freed
   task 1 at 10 base
 accepted 5
-";
-    expect_report(&rt, text, report, Accepted(5));
+",
+        verdict: Accepted(5),
+    },
+];
+
+#[test]
+fn ceilings_are_reported(rt: HostRuntime) {
+    play(&rt, CEILINGS);
 }

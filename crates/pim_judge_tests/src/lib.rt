@@ -11,8 +11,6 @@ mod boosts;
 #[cfg(test)]
 mod ceilings;
 #[cfg(test)]
-mod expected;
-#[cfg(test)]
 mod failing_ends;
 #[cfg(test)]
 mod invalid_texts;
@@ -21,12 +19,18 @@ mod odd_sizes;
 #[cfg(test)]
 mod pages;
 #[cfg(test)]
+mod parts;
+#[cfg(test)]
 mod recursive;
 #[cfg(test)]
 mod refusals;
 #[cfg(test)]
+mod scenes;
+#[cfg(test)]
 mod sizes;
 #[cfg(test)]
 mod streams;
+#[cfg(test)]
+mod versions;
 #[cfg(test)]
 mod worked;

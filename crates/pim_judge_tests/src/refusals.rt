@@ -1,28 +1,28 @@
 //! Steps that are refused, replies that were recorded, and queues of mutexes that pass on no priority.
 
-use crate::expected::expect_report;
+use crate::scenes::{Scene, play};
 use pim_judge::Verdict::{Accepted, Rejected};
 
-#[test]
-fn unknown_numbers_are_refused_by_the_manager(rt: HostRuntime) {
-    let text = "\
+const REFUSALS: &[Scene] = &[
+    Scene {
+        name: "unknown numbers are refused by the manager",
+        text: "\
 pim 1
 task 1 10
 mutex 1 none
 2 lock 1
 1 lock 9
-";
-    let report = "\
+",
+        report: "\
 1 refused no-task
 2 refused no-mutex
 accepted 2
-";
-    expect_report(&rt, text, report, Accepted(2));
-}
-
-#[test]
-fn waiters_are_served_by_priority_and_ask_for_nothing(rt: HostRuntime) {
-    let text = "\
+",
+        verdict: Accepted(2),
+    },
+    Scene {
+        name: "waiters are served by priority and ask for nothing",
+        text: "\
 pim 1
 task 1 10
 task 2 30
@@ -36,8 +36,8 @@ mutex 1 none
 2 unlock 1
 3 unlock 1
 3 unlock 1
-";
-    let report = "\
+",
+        report: "\
 1 granted
 2 queued
 3 queued
@@ -47,13 +47,12 @@ mutex 1 none
 7 freed
 8 refused not-owner
 accepted 8
-";
-    expect_report(&rt, text, report, Accepted(8));
-}
-
-#[test]
-fn deadlock_is_refused_across_two_mutexes_and_to_the_owner(rt: HostRuntime) {
-    let text = "\
+",
+        verdict: Accepted(8),
+    },
+    Scene {
+        name: "deadlock is refused across two mutexes and to the owner",
+        text: "\
 pim 1
 task 1 10
 task 2 20
@@ -64,8 +63,8 @@ mutex 2 inherit
 2 lock 1
 1 lock 2
 1 lock 1
-";
-    let report = "\
+",
+        report: "\
 1 granted
 2 granted
 3 queued
@@ -73,13 +72,12 @@ mutex 2 inherit
 4 refused deadlock
 5 refused deadlock
 accepted 5
-";
-    expect_report(&rt, text, report, Accepted(5));
-}
-
-#[test]
-fn deadlock_is_refused_through_mutexes_that_pass_on_no_priority(rt: HostRuntime) {
-    let text = "\
+",
+        verdict: Accepted(5),
+    },
+    Scene {
+        name: "deadlock is refused through mutexes that pass on no priority",
+        text: "\
 pim 1
 task 1 10
 task 2 20
@@ -89,21 +87,20 @@ mutex 2 protect 30
 2 lock 2
 2 lock 1
 1 lock 2
-";
-    let report = "\
+",
+        report: "\
 1 granted
 2 granted
   task 2 at 30 ceiling 2
 3 queued
 4 refused deadlock
 accepted 4
-";
-    expect_report(&rt, text, report, Accepted(4));
-}
-
-#[test]
-fn try_answers_busy_where_lock_answers_deadlock(rt: HostRuntime) {
-    let text = "\
+",
+        verdict: Accepted(4),
+    },
+    Scene {
+        name: "try answers busy where lock answers deadlock",
+        text: "\
 pim 1
 task 1 10
 task 2 20
@@ -119,8 +116,8 @@ mutex 3 inherit
 1 lock 3
 1 try 3
 1 try 1
-";
-    let report = "\
+",
+        report: "\
 1 granted
 2 granted
 3 granted
@@ -131,13 +128,12 @@ mutex 3 inherit
 7 refused busy
 8 refused busy
 accepted 8
-";
-    expect_report(&rt, text, report, Accepted(8));
-}
-
-#[test]
-fn only_owners_unlock_and_only_waiters_withdraw(rt: HostRuntime) {
-    let text = "\
+",
+        verdict: Accepted(8),
+    },
+    Scene {
+        name: "only owners unlock and only waiters withdraw",
+        text: "\
 pim 1
 task 1 10
 task 2 20
@@ -150,8 +146,8 @@ mutex 2 none
 1 cancel 1
 1 unlock 1
 2 unlock 1
-";
-    let report = "\
+",
+        report: "\
 1 granted
 2 refused not-owner
 3 queued
@@ -160,13 +156,12 @@ mutex 2 none
 6 handed 2
 7 freed
 accepted 7
-";
-    expect_report(&rt, text, report, Accepted(7));
-}
-
-#[test]
-fn first_recorded_reply_that_differs_ends_the_report(rt: HostRuntime) {
-    let text = "\
+",
+        verdict: Accepted(7),
+    },
+    Scene {
+        name: "first recorded reply that differs ends the report",
+        text: "\
 pim 1
 task 1 10
 task 2 20
@@ -175,12 +170,18 @@ mutex 1 inherit
 2 try 1 = refused busy
 2 lock 1 = granted
 1 unlock 1
-";
-    let report = "\
+",
+        report: "\
 1 granted
 2 refused busy
 3 queued but recorded granted
 rejected 3
-";
-    expect_report(&rt, text, report, Rejected(3));
+",
+        verdict: Rejected(3),
+    },
+];
+
+#[test]
+fn refusals_are_reported(rt: HostRuntime) {
+    play(&rt, REFUSALS);
 }

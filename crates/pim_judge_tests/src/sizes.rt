@@ -1,54 +1,59 @@
 //! The report of a text of full size, and reports of several pieces.
 
+use crate::parts::{Part, written};
 use pim_judge::{Fault, MemoryReader, MemoryWriter, Trouble, Verdict, judge};
-use std::alloc::{AllocGlobal, Global};
-use std::process::Abort;
+use std::alloc::Global;
 use std::test::Fail;
 
-/// `pim 1`, and so many steps of a task that isn't declared.
-fn releases(alloc: Global, times: u32) -> Result<Vec<u8>, Fail> {
-    let mut text = b"pim 1\n".to_vec(alloc)?;
-    for _ in 0..times {
-        text.extend_from_slice(b"1 release\n")?;
-    }
-    Ok(text)
+/// Returns `pim 1` and so many steps of a task that isn't declared, and the lines that report them.
+fn releases(alloc: Global, times: u32) -> Result<(Vec<u8>, Vec<u8>), Fail> {
+    let text = [("pim 1\n", 1, 0), ("1 release\n", times, 0)];
+    let report = [("# refused no-task\n", times, 1)];
+    Ok((written(alloc, &text)?, written(alloc, &report)?))
 }
 
-/// The first lines of the report of such steps.
-fn refusals(alloc: Global, count: u32) -> Result<Vec<u8>, Fail> {
-    let mut report = Vec::new(alloc);
-    for number in 0..count {
-        let line = format!(in alloc; "{} refused no-task\n", u64::from(number) + 1)?;
-        report.extend_from_slice(line.as_bytes())?;
-    }
-    Ok(report)
+/// Returns the judge's answer, whether it writes this report, of how many bytes and in how many calls.
+fn judged(alloc: Global, text: &[u8], report: &[u8]) -> (Result<Verdict, Fault>, bool, usize, u64) {
+    let mut writer = MemoryWriter::new(alloc);
+    let answer = judge(alloc, &mut MemoryReader::new(text), &mut writer);
+    let bytes = writer.bytes();
+    (answer, bytes == report, bytes.len(), writer.calls())
 }
 
 #[test]
 fn text_of_full_size_is_judged_whole(rt: HostRuntime) -> Result<(), Fail> {
-    let text = releases(rt.alloc(), 65_536)?;
-    let mut report = refusals(rt.alloc(), 65_536)?;
+    let (text, mut report) = releases(rt.alloc(), 65_536)?;
     report.extend_from_slice(b"accepted 65536\n")?;
-    let mut writer = MemoryWriter::new(rt.alloc());
-    let answer = judge(rt.alloc(), &mut MemoryReader::new(&text), &mut writer);
-    assert_eq!(rt; answer, Ok(Verdict::Accepted(65_536)));
-    assert!(rt; writer.bytes() == report.as_slice());
+    let judged = judged(rt.alloc(), &text, &report);
+    drop(text);
+    drop(report);
     // 1,430,701 bytes: 21 pages of 65,536 to 65,557 bytes each, and what is left.
-    assert_eq!(rt; writer.bytes().len(), 1_430_701);
-    assert_eq!(rt; writer.calls(), 22);
+    let accepted = Ok(Verdict::Accepted(65_536));
+    assert_eq!(rt; judged, (accepted, true, 1_430_701, 22));
     Ok(())
+}
+
+/// Returns the judge's answer if the third write goes wrong, and whether the first two wrote how the report begins.
+fn first_pieces(
+    alloc: Global,
+    text: &[u8],
+    report: &[u8],
+    trouble: Trouble,
+) -> (Result<Verdict, Fault>, bool) {
+    let mut writer = MemoryWriter::piecewise(alloc, usize::MAX, trouble, 3);
+    let answer = judge(alloc, &mut MemoryReader::new(text), &mut writer);
+    let bytes = writer.bytes();
+    (answer, !bytes.is_empty() && report.starts_with(bytes))
 }
 
 #[test]
 fn failed_write_of_a_later_piece_leaves_the_earlier_ones(rt: HostRuntime) -> Result<(), Fail> {
-    let text = releases(rt.alloc(), 20_000)?;
-    let report = refusals(rt.alloc(), 20_000)?;
-    for trouble in [Trouble::Fails, Trouble::Stalls] {
-        let mut writer = MemoryWriter::piecewise(rt.alloc(), usize::MAX, trouble, 3);
-        let answer = judge(rt.alloc(), &mut MemoryReader::new(&text), &mut writer);
-        assert_eq!(rt; answer, Err(Fault::Write), "{trouble:?}");
-        assert!(rt; !writer.bytes().is_empty(), "{trouble:?}");
-        assert!(rt; report.starts_with(writer.bytes()), "{trouble:?}");
-    }
+    let (text, report) = releases(rt.alloc(), 20_000)?;
+    let failed = first_pieces(rt.alloc(), &text, &report, Trouble::Fails);
+    let stalled = first_pieces(rt.alloc(), &text, &report, Trouble::Stalls);
+    drop(text);
+    drop(report);
+    assert_eq!(rt; failed, (Err(Fault::Write), true));
+    assert_eq!(rt; stalled, (Err(Fault::Write), true));
     Ok(())
 }
