@@ -6,43 +6,19 @@ use std::alloc::AllocGlobal;
 use std::process::Abort;
 use std::test::Fail;
 
-/// The program's name, the word behind it, and the job that they name.
-const JOBS: [(&str, Option<&str>, Job); 4] = [
-    ("pim", None, Job::Judge),
-    ("bin/pim", Some("judge"), Job::Judge),
-    ("pim", Some("run"), Job::Run),
-    ("", Some("check"), Job::Check),
+/// The program's name and the word behind it, and the job that they name.
+const JOBS: &[(&[&str], Job)] = &[
+    (&["pim"], Job::Judge),
+    (&["bin/pim", "judge"], Job::Judge),
+    (&["pim", "run"], Job::Run),
+    (&["", "check"], Job::Check),
 ];
 
 #[test]
 fn words_name_the_job(rt: HostRuntime) {
-    for (name, word, job) in JOBS {
-        let answer = match word {
-            None => command(rt.alloc(), &[name]).ok(),
-            Some(word) => command(rt.alloc(), &[name, word]).ok(),
-        };
-        assert_eq!(rt; answer, Some(job), "{word:?}");
+    for (words, job) in JOBS {
+        assert_eq!(rt; command(rt.alloc(), words).ok(), Some(*job), "{words:?}");
     }
-}
-
-/// The words are an error of this kind, which standard error is told or not, and whose text has these parts.
-fn expect_error<'a>(
-    rt: &(impl Abort + AllocGlobal),
-    words: &'a [&'a str],
-    kind: ErrorKind,
-    is_fault: bool,
-    parts: &[&str],
-) -> Result<(), Fail> {
-    let Err(error) = command(rt.alloc(), words) else {
-        return Err(Fail::from("the words name a job"));
-    };
-    assert_eq!(rt; error.kind(), kind, "{words:?}");
-    assert_eq!(rt; error.use_stderr(), is_fault, "{words:?}");
-    let text = format!(in rt.alloc(); "{error}")?;
-    for part in parts {
-        assert!(rt; text.as_str().contains(part), "{part} in {text}");
-    }
-    Ok(())
 }
 
 /// What help says, among other things.
@@ -62,32 +38,107 @@ const TAUGHT: &[&str] = &[
     "Exit status: 0 accepted, 1 rejected, 2 any fault",
 ];
 
-#[test]
-fn help_teaches_the_text_and_the_statuses(rt: HostRuntime) -> Result<(), Fail> {
-    let kind = ErrorKind::DisplayHelp;
-    expect_error(&rt, &["pim", "--help"], kind, false, TAUGHT)?;
-    expect_error(&rt, &["pim", "-h"], kind, false, TAUGHT)?;
-    expect_error(&rt, &["pim", "help"], kind, false, TAUGHT)
+/// Words that name no job: the kind of their error, whether standard error is told, and parts of its text.
+struct Wrong {
+    words: &'static [&'static str],
+    kind: ErrorKind,
+    is_fault: bool,
+    parts: &'static [&'static str],
+}
+
+const HELP: &[Wrong] = &[
+    Wrong {
+        words: &["pim", "--help"],
+        kind: ErrorKind::DisplayHelp,
+        is_fault: false,
+        parts: TAUGHT,
+    },
+    Wrong {
+        words: &["pim", "-h"],
+        kind: ErrorKind::DisplayHelp,
+        is_fault: false,
+        parts: TAUGHT,
+    },
+    Wrong {
+        words: &["pim", "help"],
+        kind: ErrorKind::DisplayHelp,
+        is_fault: false,
+        parts: TAUGHT,
+    },
+    Wrong {
+        words: &["pim", "--version"],
+        kind: ErrorKind::DisplayVersion,
+        is_fault: false,
+        parts: &["pim 0.1.0\n"],
+    },
+    Wrong {
+        words: &["pim", "-V"],
+        kind: ErrorKind::DisplayVersion,
+        is_fault: false,
+        parts: &["pim 0.1.0\n"],
+    },
+];
+
+const FAULTS: &[Wrong] = &[
+    Wrong {
+        words: &["pim", "jugde"],
+        kind: ErrorKind::InvalidSubcommand,
+        is_fault: true,
+        parts: &["error: unrecognized subcommand 'jugde'\n", "'judge'"],
+    },
+    Wrong {
+        words: &["pim", "--fast"],
+        kind: ErrorKind::UnknownArgument,
+        is_fault: true,
+        parts: &["error: unexpected argument '--fast' found\n"],
+    },
+    Wrong {
+        words: &["pim", "check", "--fast"],
+        kind: ErrorKind::UnknownArgument,
+        is_fault: true,
+        parts: &["error: unexpected argument '--fast' found\n"],
+    },
+    Wrong {
+        words: &["pim", "judge", "trace.pim"],
+        kind: ErrorKind::UnknownArgument,
+        is_fault: true,
+        parts: &["error: unexpected argument 'trace.pim' found\n"],
+    },
+];
+
+/// The text of the row's error has each of its parts.
+fn expect_contained(rt: &impl Abort, row: &Wrong, text: &str) {
+    for part in row.parts {
+        assert!(rt; text.contains(part), "{:?}: {part} in {text}", row.words);
+    }
+}
+
+/// The words are the error of this row.
+fn expect_error(rt: &(impl Abort + AllocGlobal), row: &Wrong) -> Result<(), Fail> {
+    let Err(error) = command(rt.alloc(), row.words) else {
+        return Err(Fail::from("the words name a job"));
+    };
+    let found = (error.kind(), error.use_stderr());
+    let text = format!(in rt.alloc(); "{error}")?;
+    drop(error);
+    expect_contained(rt, row, text.as_str());
+    drop(text);
+    assert_eq!(rt; found, (row.kind, row.is_fault), "{:?}", row.words);
+    Ok(())
 }
 
 #[test]
-fn version_is_told(rt: HostRuntime) -> Result<(), Fail> {
-    for words in [["pim", "--version"], ["pim", "-V"]] {
-        let kind = ErrorKind::DisplayVersion;
-        expect_error(&rt, &words, kind, false, &["pim 0.1.0\n"])?;
+fn help_teaches_the_text_and_the_statuses(rt: HostRuntime) -> Result<(), Fail> {
+    for row in HELP {
+        expect_error(&rt, row)?;
     }
     Ok(())
 }
 
 #[test]
 fn wrong_words_are_named(rt: HostRuntime) -> Result<(), Fail> {
-    let kind = ErrorKind::InvalidSubcommand;
-    let parts = ["error: unrecognized subcommand 'jugde'\n", "'judge'"];
-    expect_error(&rt, &["pim", "jugde"], kind, true, &parts)?;
-    let kind = ErrorKind::UnknownArgument;
-    let parts = ["error: unexpected argument '--fast' found\n"];
-    expect_error(&rt, &["pim", "--fast"], kind, true, &parts)?;
-    expect_error(&rt, &["pim", "check", "--fast"], kind, true, &parts)?;
-    let parts = ["error: unexpected argument 'trace.pim' found\n"];
-    expect_error(&rt, &["pim", "judge", "trace.pim"], kind, true, &parts)
+    for row in FAULTS {
+        expect_error(&rt, row)?;
+    }
+    Ok(())
 }

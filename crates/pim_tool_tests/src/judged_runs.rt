@@ -1,6 +1,6 @@
 //! `check` and `run` start a thread for each task: if none can be started, they return a fault.
 
-use crate::scripts::{checked, ran};
+use crate::scripts::{check_and_calls, checked, run_and_judged};
 use pim_shared::SharedFault;
 use pim_tool::{Fault, Verdict};
 use std::alloc::{AllocError, Global};
@@ -44,26 +44,22 @@ const NOT_STARTED: Fault = Fault::Shared(SharedFault::Memory);
 
 #[test]
 fn check_accepts_no_script_whose_workers_are_not_started(rt: HostRuntime) -> Result<(), Fail> {
-    let alloc = rt.alloc();
-    let blocks = all_large_blocks(alloc)?;
-    let (refused, unwritten) = checked(&rt, alloc, SCRIPT.as_bytes());
+    let blocks = all_large_blocks(rt.alloc())?;
+    let refused = check_and_calls(&rt, rt.alloc(), SCRIPT.as_bytes());
     drop(blocks);
-    assert_eq!(rt; (refused, unwritten.calls()), (Err(NOT_STARTED), 0));
-    let (accepted, written) = checked(&rt, alloc, SCRIPT.as_bytes());
-    let text = written.text();
-    assert_eq!(rt;
-        (accepted, text),
-        (Ok(Verdict::Accepted(5)), Some("accepted 5\n"))
-    );
+    assert_eq!(rt; refused, (Err(NOT_STARTED), 0));
+    let (accepted, written) = checked(&rt, rt.alloc(), SCRIPT.as_bytes());
+    assert_eq!(rt; written.text(), Some("accepted 5\n"));
+    drop(written);
+    assert_eq!(rt; accepted, Ok(Verdict::Accepted(5)));
     Ok(())
 }
 
 #[test]
 fn run_prints_no_trace_of_workers_that_are_not_started(rt: HostRuntime) -> Result<(), Fail> {
-    let alloc = rt.alloc();
-    let blocks = all_large_blocks(alloc)?;
-    let (answer, written) = ran(&rt, alloc, SCRIPT.as_bytes());
+    let blocks = all_large_blocks(rt.alloc())?;
+    let refused = run_and_judged(&rt, rt.alloc(), SCRIPT.as_bytes());
     drop(blocks);
-    assert_eq!(rt; (answer, written.calls()), (Err(NOT_STARTED), 0));
+    assert_eq!(rt; refused, (Err(NOT_STARTED), 0));
     Ok(())
 }

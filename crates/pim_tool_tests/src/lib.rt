@@ -10,8 +10,6 @@ mod invalid_scripts;
 #[cfg(test)]
 mod judged_runs;
 #[cfg(test)]
-mod recursive;
-#[cfg(test)]
 mod running;
 #[cfg(test)]
 mod running_ends;

@@ -1,6 +1,6 @@
 //! Scripts, and runs of them in memory.
 
-use pim_tool::{Fault, MemoryReader, MemoryWriter, Verdict, check, run};
+use pim_tool::{Fault, MemoryReader, MemoryWriter, Verdict, check, judge_bytes, run};
 use std::alloc::{AllocError, Global};
 use std::sync::Wait;
 use std::thread::Threads;
@@ -27,41 +27,59 @@ pub fn checked<T: Threads + Wait + Sync>(
     (answer, writer)
 }
 
+/// Runs the script, and returns the verdict on its trace and in how many calls that was written.
+pub fn run_and_judged<T: Threads + Wait + Sync>(
+    rt: &T,
+    alloc: Global,
+    script: &[u8],
+) -> (Result<Verdict, Fault>, u64) {
+    let (answer, written) = ran(rt, alloc, script);
+    let verdict = match answer {
+        Ok(()) => verdict_of(alloc, written.bytes()),
+        Err(fault) => Err(fault),
+    };
+    (verdict, written.calls())
+}
+
+/// Returns the verdict on a trace.
+fn verdict_of(alloc: Global, trace: &[u8]) -> Result<Verdict, Fault> {
+    match judge_bytes(alloc, trace) {
+        Ok(judged) => Ok(judged.verdict),
+        Err(fault) => Err(fault),
+    }
+}
+
+/// Checks the script, and returns the verdict and in how many calls it was written.
+pub fn check_and_calls<T: Threads + Wait + Sync>(
+    rt: &T,
+    alloc: Global,
+    script: &[u8],
+) -> (Result<Verdict, Fault>, u64) {
+    let (answer, written) = checked(rt, alloc, script);
+    (answer, written.calls())
+}
+
+/// Adds a line for each of so many tasks: its number between these.
+fn push_each(
+    alloc: Global,
+    script: &mut Vec<u8>,
+    tasks: u32,
+    before: &str,
+    behind: &str,
+) -> Result<(), AllocError> {
+    for task in 0..tasks {
+        let line = format!(in alloc; "{before}{}{behind}\n", u64::from(task) + 1)?;
+        script.extend_from_slice(line.as_bytes())?;
+    }
+    Ok(())
+}
+
 /// A script of so many tasks of base 10, each of which releases all so many times.
 pub fn of_tasks(alloc: Global, tasks: u32, times: u32) -> Result<Vec<u8>, AllocError> {
     let mut script = b"pim 1\n".to_vec(alloc)?;
-    for task in 0..tasks {
-        let line = format!(in alloc; "task {} 10\n", u64::from(task) + 1)?;
-        script.extend_from_slice(line.as_bytes())?;
-    }
-    for _ in 0..times {
-        for task in 0..tasks {
-            let line = format!(in alloc; "{} release\n", u64::from(task) + 1)?;
-            script.extend_from_slice(line.as_bytes())?;
-        }
-    }
-    Ok(script)
-}
-
-/// 16 tasks of base 10 to 25: those with odd numbers lock mutex 1 and then 2, the others 2 and then 1, and unlock both.
-pub fn in_opposite_orders(alloc: Global) -> Result<Vec<u8>, AllocError> {
-    let mut script = b"pim 1\n".to_vec(alloc)?;
-    for task in 1u32..17 {
-        let line = format!(in alloc; "task {task} {}\n", task + 9)?;
-        script.extend_from_slice(line.as_bytes())?;
-    }
-    script.extend_from_slice(b"mutex 1 inherit\nmutex 2 inherit\n")?;
-    for task in 1u32..17 {
-        let (first, second) = if task % 2 == 1 { (1, 2) } else { (2, 1) };
-        for (asked, mutex) in [
-            ("lock", first),
-            ("lock", second),
-            ("unlock", second),
-            ("unlock", first),
-        ] {
-            let line = format!(in alloc; "{task} {asked} {mutex}\n")?;
-            script.extend_from_slice(line.as_bytes())?;
-        }
+    push_each(alloc, &mut script, tasks, "task ", " 10")?;
+    for _time in 0..times {
+        push_each(alloc, &mut script, tasks, "", " release")?;
     }
     Ok(script)
 }
