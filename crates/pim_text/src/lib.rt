@@ -28,6 +28,3 @@ pub use laws::{first_bad_line_law, first_bad_script_line_law};
 pub use pim_base::StepLine;
 pub use reading::{parse, parse_script};
 pub use text::Text;
-
-#[cfg(test)]
-mod tests;
