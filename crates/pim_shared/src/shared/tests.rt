@@ -2,7 +2,7 @@
 
 use super::lookers_of;
 use crate::publisher::Publisher;
-use crate::tests::{base, made, shared};
+use crate::tests::{base, base_of, made, shared};
 use crate::version::entry;
 use crate::{Looker, Settled, Shared, SharedFault};
 use pim_base::{MutexNo, Reply, TaskNo};
@@ -58,57 +58,86 @@ fn woken<R: Threads + Wait + Clock + Sync>(
     (answer, meanwhile, shared.changed.notifications())
 }
 
-// a call with this room for entries returns this, and wakes once: after it got the lock
-fn expect_woken_at_the_end<R: Threads + Wait + Clock + Abort + Sync>(
+/// Makes a call on a shared manager with this room for entries.
+fn woken_once<R: Threads + Wait + Clock + Abort + Sync>(
     rt: &R,
     alloc: Global,
     room: usize,
     by_looker: bool,
-    answer: Result<Reply, SharedFault>,
-) {
-    let (shared, mut lookers) = shared(rt, alloc, &[], room, 1);
-    let looker = if by_looker { lookers.get_mut(0) } else { None };
-    let woken = woken(rt, &shared, looker);
+) -> Woken {
+    let (shared, mut lookers) = shared(rt, alloc, &[], room, u16::from(by_looker));
+    let woken = woken(rt, &shared, lookers.get_mut(0));
     let (_, _log) = shared.finish(rt);
-    assert_eq!(rt;
-        woken,
-        (answer, 0, 1),
-        "room {room}, by a looker {by_looker}"
-    );
+    woken
 }
+
+/// The room, and what the call returns.
+const ROWS: [(usize, Result<Reply, SharedFault>); 2] = [
+    (1, Ok(Reply::Set)),
+    (0, Err(SharedFault::Full)),
+];
 
 #[test]
 fn a_call_wakes_once_and_not_before_it_has_the_lock(rt: HostRuntime) {
-    let alloc = rt.alloc();
     for by_looker in [false, true] {
-        expect_woken_at_the_end(&rt, alloc, 1, by_looker, Ok(Reply::Set));
-        expect_woken_at_the_end(&rt, alloc, 0, by_looker, Err(SharedFault::Full));
+        for (room, answer) in ROWS {
+            let shown = woken_once(&rt, rt.alloc(), room, by_looker);
+            assert_eq!(rt;
+                shown,
+                (answer, 0, 1),
+                "room {room}, by a looker {by_looker}"
+            );
+        }
     }
+}
+
+/// The fault of three readers of a publisher that has two places.
+fn fault_of_three<R: Wait + Abort>(rt: &R, alloc: Global) -> Option<SharedFault> {
+    let first = made(rt, alloc, &[10], &[]);
+    let second = first.try_clone(alloc).expect(rt, "memory");
+    let mut publisher = Publisher::new(rt, alloc, first, second, 2).expect(rt, "memory");
+    let fault = lookers_of(&mut publisher, alloc, 3).err();
+    publisher.end(rt);
+    fault
 }
 
 #[test]
 fn there_is_no_place_for_more_lookers_than_were_made(rt: HostRuntime) {
-    let alloc = rt.alloc();
-    let first = made(&rt, alloc, &[10], &[]);
-    let second = first.try_clone(alloc).expect(&rt, "memory");
-    let mut publisher = Publisher::new(&rt, alloc, first, second, 2).expect(&rt, "memory");
-    let fault = lookers_of(&mut publisher, alloc, 3).err();
-    publisher.end(&rt);
+    let fault = fault_of_three(&rt, rt.alloc());
     assert_eq!(rt; fault, Some(SharedFault::NoPlace));
+}
+
+/// The numbers of tasks and entries, the base of task 2, whether the book is closed, and what task 2 settles to.
+type Book = ((u16, usize), u16, bool, Option<Settled>);
+
+fn shown(book: &crate::Book) -> Book {
+    let manager = book.manager();
+    let counts = (manager.tasks(), book.entries().len());
+    let settled = book.settled(TaskNo(2), MutexNo(1));
+    (counts, base_of(manager, 2), book.is_closed(), settled)
+}
+
+/// What a book shows before a call and after it, what the call returns, and whether it is the entry.
+fn called<R: Wait + Abort>(
+    rt: &R,
+    alloc: Global,
+) -> (Book, Book, (Result<Reply, SharedFault>, bool)) {
+    let (shared, _) = shared(rt, alloc, &[], 2, 0);
+    let Shared { book, changed: _ } = shared;
+    let mut book = book.into_inner();
+    let before = shown(&book);
+    let answer = book.call(rt, base(2, 70));
+    let after = shown(&book);
+    let is_entry = book.entries() == [entry(base(2, 70), Reply::Set)].as_slice();
+    let (_, _log) = book.end(rt);
+    (before, after, (answer, is_entry))
 }
 
 #[test]
 fn a_book_shows_the_manager_as_it_is_now(rt: HostRuntime) {
-    let (shared, _) = shared(&rt, rt.alloc(), &[], 2, 0);
-    let Shared { book, changed: _ } = shared;
-    let mut book = book.into_inner();
-    let before = (book.manager().tasks(), book.entries().len());
-    let answer = book.call(&rt, base(2, 70));
-    let base_now = book.manager().base(TaskNo(2)).map(|prio| prio.get());
-    let after = (book.is_closed(), book.settled(TaskNo(2), MutexNo(1)));
-    let is_entry = book.entries() == [entry(base(2, 70), Reply::Set)].as_slice();
-    let (_, _log) = book.end(&rt);
-    assert_eq!(rt; (before, answer), ((2, 0), Ok(Reply::Set)));
-    assert_eq!(rt; after, (false, Some(Settled::Withdrawn)));
-    assert_eq!(rt; (base_now, is_entry), (Some(70), true));
+    let (before, after, answer) = called(&rt, rt.alloc());
+    let withdrawn = Some(Settled::Withdrawn);
+    assert_eq!(rt; before, ((2, 0), 20, false, withdrawn));
+    assert_eq!(rt; after, ((2, 1), 70, false, withdrawn));
+    assert_eq!(rt; answer, (Ok(Reply::Set), true));
 }

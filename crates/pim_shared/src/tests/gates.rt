@@ -1,7 +1,7 @@
 //! What workers call, over gates that replace a manager.
 
-use super::{FIRST, scripts_of};
-use crate::{Gate, Settled, SharedFault, run_scripts, worker};
+use super::{FIRST, run_lines};
+use crate::{Gate, Settled, SharedFault, worker};
 use Op::{Cancel, Lock, ReleaseAll, SetBase, SetCeiling, Try, Unlock};
 use pim_base::{MAX_WORKERS, MutexNo, Op, Refusal, Reply, Step, TaskNo};
 use std::alloc::Global;
@@ -13,11 +13,11 @@ use std::thread::Threads;
 
 const SECOND: MutexNo = MutexNo(2);
 
-/// A call of a gate.
-#[derive(Clone, Copy, Debug, PartialEq, Eq)]
+/// A call of a gate: a step, or `settle`, with the number of its task.
+#[derive(Clone, Copy, PartialEq, Eq)]
 enum Call {
-    Step(Step),
-    Settle(TaskNo, MutexNo),
+    Step(u16, Op),
+    Settle(u16, MutexNo),
 }
 
 /// What `settle` answers.
@@ -68,24 +68,33 @@ impl Recorder {
         Ok(())
     }
 
+    /// Returns the number of calls that were kept.
+    fn kept<R: Wait>(&self, rt: &R) -> usize {
+        self.calls.lock(rt).len()
+    }
+
     /// Returns whether these calls were kept, in this order.
     fn has_kept(self, calls: &[Call]) -> bool {
         self.calls.into_inner().as_slice() == calls
     }
 
     /// Returns whether these are the steps of the task, in this order.
-    fn has_asked(&self, rt: &impl Wait, task: u16, ops: &[Op]) -> bool {
-        let mut due = ops.iter();
-        for call in self.calls.lock(rt).as_slice() {
-            if let Call::Step(step) = call
-                && step.actor == TaskNo(task)
-                && due.next() != Some(&step.op)
-            {
-                return false;
-            }
-        }
-        due.next().is_none()
+    fn has_asked<R: Wait>(&self, rt: &R, task: u16, ops: &[Op]) -> bool {
+        are_asked(&self.calls.lock(rt), task, ops)
     }
+}
+
+fn are_asked(calls: &[Call], task: u16, ops: &[Op]) -> bool {
+    let mut due = ops.iter();
+    for call in calls {
+        if let Call::Step(actor, op) = call
+            && *actor == task
+            && due.next() != Some(op)
+        {
+            return false;
+        }
+    }
+    due.next().is_none()
 }
 
 impl Gate for Recorder {
@@ -95,7 +104,7 @@ impl Gate for Recorder {
             Lock(_) | Try(_) => self.locked,
             Unlock(_) | ReleaseAll | Cancel(_) | SetBase(..) | SetCeiling(..) => self.freed,
         };
-        self.keep(rt, Call::Step(Step { actor, op }))?;
+        self.keep(rt, Call::Step(actor.get(), op))?;
         Ok(reply)
     }
 
@@ -105,7 +114,7 @@ impl Gate for Recorder {
         task: TaskNo,
         mutex: MutexNo,
     ) -> Result<Settled, SharedFault> {
-        self.keep(rt, Call::Settle(task, mutex))?;
+        self.keep(rt, Call::Settle(task.get(), mutex))?;
         self.settled
     }
 }
@@ -164,18 +173,15 @@ impl Gate for Rendezvous {
     }
 }
 
-const THIRD: TaskNo = TaskNo(3);
-
-// task 3 makes the lines, the gate keeps these calls, and the worker returns this
-fn expect_calls<R: Wait + Abort>(
+/// What the worker of task 3 returns for the lines, and whether the gate keeps these calls.
+fn worked<R: Wait>(
     rt: &R,
     gate: Recorder,
     lines: &[Op],
-    answer: Result<(), SharedFault>,
     calls: &[Call],
-) {
-    assert_eq!(rt; worker(&gate, rt, THIRD, lines), answer);
-    assert!(rt; gate.has_kept(calls));
+) -> (Result<(), SharedFault>, bool) {
+    let answer = worker(&gate, rt, TaskNo(3), lines);
+    (answer, gate.has_kept(calls))
 }
 
 /// A lock and an unlock.
@@ -183,19 +189,10 @@ const LOCKED: [Op; 2] = [Lock(FIRST), Unlock(FIRST)];
 
 /// The calls of a worker whose lock was queued. The last one is the release.
 const SETTLED: [Call; 4] = [
-    Call::Step(Step {
-        actor: THIRD,
-        op: Lock(FIRST),
-    }),
-    Call::Settle(THIRD, FIRST),
-    Call::Step(Step {
-        actor: THIRD,
-        op: Unlock(FIRST),
-    }),
-    Call::Step(Step {
-        actor: THIRD,
-        op: ReleaseAll,
-    }),
+    Call::Step(3, Lock(FIRST)),
+    Call::Settle(3, FIRST),
+    Call::Step(3, Unlock(FIRST)),
+    Call::Step(3, ReleaseAll),
 ];
 
 /// The room of the gate, what its `settle` returns, what the worker returns, and how many of its calls are kept.
@@ -214,64 +211,52 @@ const ENDS: [(usize, Settling, Result<(), SharedFault>, usize); 8] = [
 fn a_worker_settles_after_a_queued_lock_and_ends_at_a_fault(rt: HostRuntime) {
     for (room, settled, answer, kept) in ENDS {
         let gate = Recorder::new(&rt, rt.alloc(), room, settled);
-        expect_calls(&rt, gate, &LOCKED, answer, &SETTLED[..kept.min(4)]);
+        let shown = worked(&rt, gate, &LOCKED, &SETTLED[..kept.min(4)]);
+        assert_eq!(rt; shown, (answer, true), "room {room}, {kept} calls");
     }
 }
 
-/// The step of task 3.
-fn asked(op: Op) -> Call {
-    let actor = THIRD;
-    Call::Step(Step { actor, op })
-}
+/// The calls of a worker whose steps are all refused.
+const REFUSED: [Call; 3] = [
+    Call::Step(3, Lock(FIRST)),
+    Call::Step(3, Unlock(FIRST)),
+    Call::Step(3, ReleaseAll),
+];
 
 #[test]
 fn a_worker_goes_on_after_a_refusal(rt: HostRuntime) {
-    let calls = [asked(Lock(FIRST)), asked(Unlock(FIRST)), asked(ReleaseAll)];
     for refusal in Refusal::ALL {
         let gate = Recorder::refusing(&rt, rt.alloc(), refusal);
-        expect_calls(&rt, gate, &LOCKED, Ok(()), &calls);
+        let shown = worked(&rt, gate, &LOCKED, &REFUSED);
+        assert_eq!(rt; shown, (Ok(()), true), "{refusal:?}");
     }
 }
 
+/// A try, a new base, two locks and a release.
+const LINES: [Op; 5] = [
+    Try(FIRST),
+    SetBase(TaskNo(3), 7),
+    Lock(SECOND),
+    Lock(FIRST),
+    ReleaseAll,
+];
+
+/// The calls of a worker of these lines, all of whose locks and tries are queued.
+const CALLS: [Call; 8] = [
+    Call::Step(3, Try(FIRST)),
+    Call::Step(3, SetBase(TaskNo(3), 7)),
+    Call::Step(3, Lock(SECOND)),
+    Call::Settle(3, SECOND),
+    Call::Step(3, Lock(FIRST)),
+    Call::Settle(3, FIRST),
+    Call::Step(3, ReleaseAll),
+    Call::Step(3, ReleaseAll),
+];
+
 #[test]
 fn each_queued_lock_is_settled_and_a_release_follows_a_release(rt: HostRuntime) {
-    let lines = [
-        Try(FIRST),
-        SetBase(THIRD, 7),
-        Lock(SECOND),
-        Lock(FIRST),
-        ReleaseAll,
-    ];
-    let calls = [
-        asked(Try(FIRST)),
-        asked(SetBase(THIRD, 7)),
-        asked(Lock(SECOND)),
-        Call::Settle(THIRD, SECOND),
-        asked(Lock(FIRST)),
-        Call::Settle(THIRD, FIRST),
-        asked(ReleaseAll),
-        asked(ReleaseAll),
-    ];
     let gate = Recorder::new(&rt, rt.alloc(), 9, OWNS);
-    expect_calls(&rt, gate, &lines, Ok(()), &calls);
-}
-
-// the task has made these steps
-fn expect_asked<R: Wait + Abort>(rt: &R, gate: &Recorder, task: u16, ops: &[Op]) {
-    assert!(rt; gate.has_asked(rt, task, ops), "{task}");
-}
-
-// runs the scripts over the gate, which then has kept this number of calls
-fn expect_run<R: Threads + Wait + Abort + Sync>(
-    rt: &R,
-    alloc: Global,
-    gate: &Recorder,
-    scripts: &[Vec<Op>],
-    calls: usize,
-) {
-    assert!(rt; scripts.len() <= MAX_WORKERS);
-    assert_eq!(rt; run_scripts(rt, alloc, gate, scripts), Ok(()));
-    assert_eq!(rt; gate.calls.lock(rt).len(), calls);
+    assert_eq!(rt; worked(&rt, gate, &LINES, &CALLS), (Ok(()), true));
 }
 
 #[test]
@@ -279,18 +264,34 @@ fn each_task_makes_its_script(rt: HostRuntime) {
     const UNLOCKED: [Op; 3] = [Lock(FIRST), Unlock(FIRST), ReleaseAll];
     const TRIED: [Op; 2] = [Try(SECOND), ReleaseAll];
     let gate = Recorder::new(&rt, rt.alloc(), 20, OWNS);
-    let scripts = scripts_of(&rt, rt.alloc(), &[&LOCKED, &[], &TRIED[..1]]);
-    expect_run(&rt, rt.alloc(), &gate, &scripts, 7);
-    expect_asked(&rt, &gate, 1, &UNLOCKED);
-    expect_asked(&rt, &gate, 2, &[ReleaseAll]);
-    expect_asked(&rt, &gate, 3, &TRIED);
+    let answer = run_lines(&rt, rt.alloc(), &gate, &[&LOCKED, &[], &TRIED[..1]]);
+    let asked = [
+        gate.has_asked(&rt, 1, &UNLOCKED),
+        gate.has_asked(&rt, 2, &[ReleaseAll]),
+        gate.has_asked(&rt, 3, &TRIED),
+    ];
+    let kept = gate.kept(&rt);
+    drop(gate);
+    assert_eq!(rt; (answer, kept, asked), (Ok(()), 7, [true, true, true]));
 }
 
 #[test]
 fn no_scripts_make_no_call(rt: HostRuntime) {
     let gate = Recorder::new(&rt, rt.alloc(), 1, OWNS);
-    assert_eq!(rt; run_scripts(&rt, rt.alloc(), &gate, &[]), Ok(()));
-    assert!(rt; gate.has_kept(&[]));
+    let answer = run_lines(&rt, rt.alloc(), &gate, &[]);
+    let kept = gate.has_kept(&[]);
+    assert_eq!(rt; (answer, kept), (Ok(()), true));
+}
+
+/// How many of the tasks up to 16 have made these steps.
+fn askers<R: Wait>(rt: &R, gate: &Recorder, ops: &[Op]) -> u64 {
+    let mut askers = 0u64;
+    for task in 1..=16 {
+        if gate.has_asked(rt, task, ops) {
+            askers = askers.saturating_add(1);
+        }
+    }
+    askers
 }
 
 #[test]
@@ -298,12 +299,21 @@ fn sixteen_workers_make_their_scripts(rt: HostRuntime) {
     const UNLOCKED: [Op; 2] = [Unlock(FIRST), ReleaseAll];
     let gate = Recorder::new(&rt, rt.alloc(), 33, OWNS);
     let unlocked = UNLOCKED;
-    let line = &unlocked[..1];
-    let scripts = scripts_of(&rt, rt.alloc(), &[line; MAX_WORKERS]);
-    expect_run(&rt, rt.alloc(), &gate, &scripts, 32);
-    for task in 1..=16 {
-        expect_asked(&rt, &gate, task, &UNLOCKED);
-    }
+    let answer = run_lines(&rt, rt.alloc(), &gate, &[&unlocked[..1]; MAX_WORKERS]);
+    let kept = (gate.kept(&rt), askers(&rt, &gate, &UNLOCKED));
+    drop(gate);
+    assert_eq!(rt; (answer, kept), (Ok(()), (32, 16)));
+}
+
+/// What this number of empty scripts over the gate answers.
+fn outcome<G: Gate + Sync, R: Threads + Wait + Abort + Sync>(
+    rt: &R,
+    alloc: Global,
+    gate: &G,
+    count: usize,
+) -> Result<(), SharedFault> {
+    let empty: [&[Op]; MAX_WORKERS] = [&[]; MAX_WORKERS];
+    run_lines(rt, alloc, gate, &empty[..count.min(MAX_WORKERS)])
 }
 
 #[test]
@@ -311,9 +321,7 @@ fn scripts_run_at_once(rt: HostRuntime) {
     let gate = Rendezvous {
         calls: AtomicU64::new(0),
     };
-    let scripts = scripts_of(&rt, rt.alloc(), &[&[], &[]]);
-    assert!(rt; scripts.len() <= MAX_WORKERS);
-    assert_eq!(rt; run_scripts(&rt, rt.alloc(), &gate, &scripts), Ok(()));
+    assert_eq!(rt; outcome(&rt, rt.alloc(), &gate, 2), Ok(()));
 }
 
 const CLOSED: Option<SharedFault> = Some(SharedFault::Closed);
@@ -335,23 +343,10 @@ const FAULTS: [(usize, [Option<SharedFault>; 3], Result<(), SharedFault>); 9] = 
     (16, [CLOSED, CLOSED, CLOSED], Err(SharedFault::Closed)),
 ];
 
-/// Runs this number of empty scripts over a gate with these faults.
-fn outcome<R: Threads + Wait + Abort + Sync>(
-    rt: &R,
-    alloc: Global,
-    count: usize,
-    faults: [Option<SharedFault>; 3],
-) -> Result<(), SharedFault> {
-    let empty: [&[Op]; MAX_WORKERS] = [&[]; MAX_WORKERS];
-    let scripts = scripts_of(rt, alloc, &empty[..count.min(MAX_WORKERS)]);
-    assert!(rt; scripts.len() <= MAX_WORKERS);
-    run_scripts(rt, alloc, &Refusing { faults }, &scripts)
-}
-
 #[test]
 fn the_fault_of_the_least_task_that_is_not_closed(rt: HostRuntime) {
     for (count, faults, answer) in FAULTS {
-        let shown = outcome(&rt, rt.alloc(), count, faults);
+        let shown = outcome(&rt, rt.alloc(), &Refusing { faults }, count);
         assert_eq!(rt; shown, answer, "{count} {faults:?}");
     }
 }

@@ -1,5 +1,8 @@
 //! Workers whose threads can't be started.
 
+ghost use Rattle.std.specs.Prelude.{◌≤◌, length};
+ghost use Rattle.pim_base.specs.declared.limits.TheConstants.{MAX_WORKERS};
+
 use super::scripts_of;
 use crate::{Gate, Settled, SharedFault, run_scripts};
 use pim_base::{MAX_WORKERS, MutexNo, Op, Reply, Step, TaskNo};
@@ -53,23 +56,30 @@ fn all_large_blocks(alloc: Global) -> Result<Vec<Vec<u8>>, AllocError> {
     Ok(blocks)
 }
 
-// this number of scripts makes no call if no thread can be started
-fn expect_none_started<R: Threads + Wait + Abort + Sync>(rt: &R, alloc: Global, count: usize) {
-    let calls = AtomicU64::new(0);
-    let gate = Counter { calls };
-    let empty: [&[Op]; MAX_WORKERS] = [&[]; MAX_WORKERS];
-    let scripts = scripts_of(rt, alloc, &empty[..count.min(MAX_WORKERS)]);
-    assert!(rt; scripts.len() <= MAX_WORKERS);
+/// What a run of these scripts returns if no thread can be started, and the number of its calls.
+fn not_started<R: Threads + Wait + Abort + Sync>(
+    rt: &R,
+    alloc: Global,
+    scripts: &[Vec<Op>],
+) -> (Result<(), SharedFault>, u64)
+    requires { length scripts.now ≤ MAX_WORKERS }
+{
+    let gate = Counter {
+        calls: AtomicU64::new(0),
+    };
     let blocks = all_large_blocks(alloc).expect(rt, "memory");
-    let answer = run_scripts(rt, alloc, &gate, &scripts);
+    let answer = run_scripts(rt, alloc, &gate, scripts);
     drop(blocks);
-    let made = (answer, gate.calls.load(Ordering::SeqCst));
-    assert_eq!(rt; made, (Err(SharedFault::Memory), 0), "{count}");
+    (answer, gate.calls.load(Ordering::SeqCst))
 }
 
 #[test]
 fn a_worker_that_is_not_started_makes_no_call_and_counts_as_memory(rt: HostRuntime) {
+    let empty: [&[Op]; MAX_WORKERS] = [&[]; MAX_WORKERS];
     for count in [1, 2, MAX_WORKERS] {
-        expect_none_started(&rt, rt.alloc(), count);
+        let scripts = scripts_of(&rt, rt.alloc(), &empty[..count.min(MAX_WORKERS)]);
+        assert!(rt; scripts.len() <= MAX_WORKERS);
+        let made = not_started(&rt, rt.alloc(), &scripts);
+        assert_eq!(rt; made, (Err(SharedFault::Memory), 0), "{count}");
     }
 }

@@ -4,73 +4,71 @@ use super::*;
 use crate::version::entry;
 use Op::{Try, Unlock};
 use pim_base::Entry;
-use std::alloc::AllocError;
-use std::thread::join;
+use std::thread::{Threads, join};
 
 const CALLS: usize = 100;
 
-/// Makes calls of this task, a try and an unlock in turn, and returns the steps with their replies.
-fn try_and_unlock<R: Wait>(
-    rt: &R,
-    alloc: Global,
-    shared: &Shared,
-    task: u16,
-) -> Result<Vec<Entry>, SharedFault> {
-    let mut entries = Vec::with_capacity(alloc, CALLS)?;
-    for turn in 0..CALLS {
-        let op = if turn % 2 == 0 {
-            Try(FIRST)
-        } else {
-            Unlock(FIRST)
-        };
+/// The calls of a task with their replies, in order. None for a fault.
+type Called = [Option<Entry>; CALLS];
+
+/// Makes calls of this task, a try and an unlock in turn.
+fn try_and_unlock<R: Wait>(rt: &R, shared: &Shared, task: u16) -> Called {
+    let mut called = [None; CALLS];
+    let mut tries = true;
+    for made in &mut called {
+        let op = if tries { Try(FIRST) } else { Unlock(FIRST) };
         let step = &by(task, op);
-        let reply = shared.call(rt, *step)?;
-        if entries.push(entry(*step, reply)).is_err() {
-            return Err(SharedFault::Memory);
+        if let Ok(reply) = shared.call(rt, *step) {
+            *made = Some(entry(*step, reply));
         }
+        tries = !tries;
     }
-    Ok(entries)
+    called
 }
 
-/// The entries of this task, in order.
-fn entries_of(alloc: Global, entries: &[Entry], task: u16) -> Result<Vec<Entry>, AllocError> {
-    let mut own = Vec::with_capacity(alloc, entries.len())?;
+/// Whether the entries of this task are its calls, in order.
+fn are_calls(entries: &[Entry], task: u16, called: &[Option<Entry>]) -> bool {
+    let mut place = 0usize;
     for entry in entries {
         if entry.step.actor == TaskNo(task) {
-            own.push(*entry)?;
+            if called.get(place) != Some(&Some(*entry)) {
+                return false;
+            }
+            place = place.saturating_add(1);
         }
     }
-    Ok(own)
+    place == called.len()
 }
 
-// there are two tasks, with the bases 10 and 20, and a free mutex
-fn expect_start(rt: &impl Abort, start: &Manager) {
-    assert_eq!(rt; (start.tasks(), start.mutexes()), (2, 1));
-    assert_eq!(rt; start.base(TaskNo(1)), Some(prio(rt, 10)));
-    assert_eq!(rt; start.base(TaskNo(2)), Some(prio(rt, 20)));
-    assert_eq!(rt; start.protocol(FIRST), Some(Protocol::None));
-    assert_eq!(rt; start.owner(FIRST), Some(None));
-    assert_eq!(rt; start.next_ticket(), 1);
+/// The calls of both tasks.
+fn called<R: Threads + Wait + Sync>(rt: &R, shared: &Shared) -> (Called, Called) {
+    join(
+        rt,
+        || try_and_unlock(rt, shared, 1),
+        || try_and_unlock(rt, shared, 2),
+    )
+}
+
+/// What a log shows: the numbers of tasks and mutexes at the start and the rest of it, the number of entries, and whether
+/// they are the calls of both tasks.
+type Logged = ((u16, u16), Shown, usize, (bool, bool));
+
+/// Lets two tasks call a shared manager.
+fn logged<R: Threads + Wait + Abort + Sync>(rt: &R, alloc: Global) -> Logged {
+    let (shared, _) = shared(rt, alloc, &[Protocol::None], 2 * CALLS, 0);
+    let (one, two) = called(rt, &shared);
+    let (_, log) = shared.finish(rt);
+    let (start, entries) = (log.start(), log.entries());
+    let counts = (start.tasks(), start.mutexes());
+    let are = (are_calls(entries, 1, &one), are_calls(entries, 2, &two));
+    (counts, shown(start), entries.len(), are)
 }
 
 #[test]
 fn two_threads_have_all_their_calls_in_the_log(rt: HostRuntime) {
-    let (shared, _) = shared(&rt, rt.alloc(), &[Protocol::None], 2 * CALLS, 0);
-    let (one, two) = join(
-        &rt,
-        || try_and_unlock(&rt, rt.alloc(), &shared, 1),
-        || try_and_unlock(&rt, rt.alloc(), &shared, 2),
-    );
-    let one = one.expect(&rt, "100 replies");
-    let two = two.expect(&rt, "100 replies");
-    let (_, log) = shared.finish(&rt);
-    expect_start(&rt, log.start());
-    assert_eq!(rt;
-        (log.entries().len(), one.len(), two.len()),
-        (200, CALLS, CALLS)
-    );
-    let own = entries_of(rt.alloc(), log.entries(), 1).expect(&rt, "memory");
-    assert!(rt; own == one);
-    let own = entries_of(rt.alloc(), log.entries(), 2).expect(&rt, "memory");
-    assert!(rt; own == two);
+    let (counts, start, entries, are) = logged(&rt, rt.alloc());
+    let free = (Some(None), Some(None), 1);
+    assert_eq!(rt; counts, (2, 1));
+    assert_eq!(rt; start, (free, [10, 20], Some(Protocol::None)));
+    assert_eq!(rt; (entries, are), (200, (true, true)));
 }

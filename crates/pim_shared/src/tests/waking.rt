@@ -68,15 +68,15 @@ fn release<R: Wait + Clock>(
     (answer, both)
 }
 
+/// What `settle` returns for the tasks 2 and 3.
+type Both = (Result<Settled, SharedFault>, Result<Settled, SharedFault>);
+
 /// What `settle` returns for the tasks 2 and 3, which wait for mutex 1 and mutex 2, and what the release returns.
 fn released<R: Threads + Wait + Clock + Sync>(
     rt: &R,
     shared: &Shared,
     looker: Option<&mut Looker>,
-) -> (
-    (Result<Settled, SharedFault>, Result<Settled, SharedFault>),
-    Released,
-) {
+) -> (Both, Released) {
     let waits = Waits {
         begun: AtomicU64::new(0),
         ended: AtomicU64::new(0),
@@ -95,46 +95,50 @@ fn released<R: Threads + Wait + Clock + Sync>(
     )
 }
 
-// one call of task 1 wakes the threads of the tasks 2 and 3: they own the mutexes then, or it found the log full
-fn expect_both_woken<R: Threads + Wait + Clock + Abort + Sync>(
+/// Makes a manager whose task 1 owns both mutexes, for which the tasks 2 and 3 wait.
+fn awaited(rt: &impl Abort, alloc: Global) -> Manager {
+    let protocols = [Protocol::None, Protocol::None];
+    let mut manager = made(rt, alloc, &[10, 20, 30], &protocols);
+    manager.run(&[by(1, Lock(FIRST)), by(1, Lock(SECOND))]);
+    manager.run(&[by(2, Lock(FIRST)), by(3, Lock(SECOND))]);
+    manager
+}
+
+/// What `settle` and the release return on a shared manager with this room.
+fn woken<R: Threads + Wait + Clock + Abort + Sync>(
     rt: &R,
     alloc: Global,
     room: usize,
     by_looker: bool,
-) {
-    let protocols = [Protocol::None, Protocol::None];
-    let mut manager = made(rt, alloc, &[10, 20, 30], &protocols);
-    let owned = [by(1, Lock(FIRST)), by(1, Lock(SECOND))];
-    manager.run(&owned);
-    let awaited = [by(2, Lock(FIRST)), by(3, Lock(SECOND))];
-    manager.run(&awaited);
+) -> (Both, Released) {
+    let manager = awaited(rt, alloc);
     let (shared, mut lookers) = Shared::new(rt, alloc, manager, room, 1).expect(rt, "memory");
     let looker = if by_looker { lookers.get_mut(0) } else { None };
-    let (settled, released) = released(rt, &shared, looker);
+    let answers = released(rt, &shared, looker);
     let (_, _log) = shared.finish(rt);
-    let (wanted, answer) = if room == 1 {
-        (Ok(Settled::Owns), Ok(Reply::Released(2)))
-    } else {
-        (Err(SharedFault::Closed), Err(SharedFault::Full))
-    };
-    assert_eq!(rt;
-        released,
-        (answer, true),
-        "room {room}, by a looker {by_looker}"
-    );
-    assert_eq!(rt;
-        settled,
-        (wanted, wanted),
-        "room {room}, by a looker {by_looker}"
-    );
+    answers
 }
+
+/// The room, what `settle` returns to both tasks, and what the release returns: they own the mutexes then, or it found the
+/// log full.
+const ROWS: [(
+    usize,
+    Result<Settled, SharedFault>,
+    Result<Reply, SharedFault>,
+); 2] = [
+    (0, Err(SharedFault::Closed), Err(SharedFault::Full)),
+    (1, Ok(Settled::Owns), Ok(Reply::Released(2))),
+];
 
 #[test]
 fn one_call_wakes_all_tasks_that_wait(rt: HostRuntime) {
     for _round in 0..5 {
-        for room in 0..2 {
-            expect_both_woken(&rt, rt.alloc(), room, false);
-            expect_both_woken(&rt, rt.alloc(), room, true);
+        for by_looker in [false, true] {
+            for (room, settled, answer) in ROWS {
+                let shown = woken(&rt, rt.alloc(), room, by_looker);
+                let wanted = ((settled, settled), (answer, true));
+                assert_eq!(rt; shown, wanted, "room {room}, by a looker {by_looker}");
+            }
         }
     }
 }
