@@ -9,6 +9,7 @@ use pim_manager::ChangedTasks;
 use pim_plain::PlainManager;
 use rand_core::utils::NextWord;
 use rand_pcg::Pcg32;
+use std::alloc::Global;
 use std::process::Abort;
 use std::test::Fail;
 
@@ -103,7 +104,6 @@ fn expect_same_tasks(
         let task = TaskNo(number);
         let prio = both.effective(task);
         let reason = both.reason(task);
-        assert_eq!(rt; both.manager.base(task), both.plain.base(task), "{task:?}");
         let listed = changed.as_slice().iter().find(|listed| listed.task == task);
         let listed = listed.map(|listed| (Some(listed.prio), Some(listed.reason)));
         let expected = if before[number as usize] == prio {
@@ -111,7 +111,8 @@ fn expect_same_tasks(
         } else {
             Some((prio, reason))
         };
-        assert_eq!(rt; listed, expected, "{task:?}");
+        let shown = (both.manager.base(task), listed);
+        assert_eq!(rt; shown, (both.plain.base(task), expected), "{task:?}");
     }
 }
 
@@ -119,18 +120,17 @@ fn expect_same_tasks(
 fn expect_same_mutexes(rt: &impl Abort, both: &Both<'_, impl Abort>) -> Result<(), Fail> {
     for number in 1..MUTEXES + 1 {
         let mutex = MutexNo(number);
-        assert_eq!(rt;
+        let shown = (
             both.manager.protocol(mutex),
-            both.plain.protocol(mutex),
-            "{mutex:?}"
-        );
-        let owner = both.plain.owner_of(mutex);
-        assert_eq!(rt; both.manager.owner(mutex), Some(owner), "{mutex:?}");
-        assert_eq!(rt;
+            both.manager.owner(mutex),
             both.manager.count(mutex),
-            both.plain.count(mutex),
-            "{mutex:?}"
         );
+        let expected = (
+            both.plain.protocol(mutex),
+            Some(both.plain.owner_of(mutex)),
+            both.plain.count(mutex),
+        );
+        assert_eq!(rt; shown, expected, "{mutex:?}");
         both.queue(mutex)?;
     }
     Ok(())
@@ -157,8 +157,16 @@ fn expect_agreement(
     Ok(())
 }
 
-#[test]
-fn managers_agree_over_5000_random_steps(rt: HostRuntime) -> Result<(), Fail> {
+fn expect_same_ticket(rt: &impl Abort, both: &Both<'_, impl Abort>) {
+    assert_eq!(rt; both.manager.next_ticket(), both.plain.next_ticket());
+}
+
+fn agree(
+    rt: &impl Abort,
+    alloc: Global,
+    changed: &mut ChangedTasks,
+    seed: u64,
+) -> Result<(), Fail> {
     const BASES: &[u16] = &[10, 20, 30, 30, 50, 90];
     const KINDS: &[Kind] = &[
         RECURSIVE,
@@ -169,11 +177,17 @@ fn managers_agree_over_5000_random_steps(rt: HostRuntime) -> Result<(), Fail> {
         Protect(40),
         Protect(95),
     ];
+    let mut both = Both::new(rt, alloc, BASES, KINDS)?;
+    expect_agreement(rt, &mut both, changed, seed)?;
+    expect_same_ticket(rt, &both);
+    Ok(())
+}
+
+#[test]
+fn managers_agree_over_5000_random_steps(rt: HostRuntime) -> Result<(), Fail> {
     let mut changed = ChangedTasks::new(rt.alloc())?;
     for seed in 1u64..6 {
-        let mut both = Both::new(&rt, rt.alloc(), BASES, KINDS)?;
-        expect_agreement(&rt, &mut both, &mut changed, seed)?;
-        assert_eq!(rt; both.manager.next_ticket(), both.plain.next_ticket());
+        agree(&rt, rt.alloc(), &mut changed, seed)?;
     }
     Ok(())
 }

@@ -421,6 +421,17 @@ fn recursive_mutex_goes_to_its_waiter_at_the_last_unlock() -> &'static Scene {
     SCENE
 }
 
+// task 1 locks the mutex 255 times
+fn lock_255_times(both: &mut Both<'_, impl Abort>) {
+    for _time in 0..255 {
+        both.step(lock(1, 1));
+    }
+}
+
+fn expect_count_1(rt: &impl Abort, both: &Both<'_, impl Abort>) {
+    assert_eq!(rt; both.manager.count(MutexNo(1)), Some(1));
+}
+
 #[test]
 fn relocks_end_at_255_and_the_deadlock_of_another_stays(rt: HostRuntime) -> Result<(), Fail> {
     const BASES: &[Seen] = &[Base(10), Base(20)];
@@ -434,11 +445,9 @@ fn relocks_end_at_255_and_the_deadlock_of_another_stays(rt: HostRuntime) -> Resu
         Row(Release(1), Released(1), 2, BASES),
     ];
     let mut both = Both::new(&rt, rt.alloc(), &[10, 20], &[RECURSIVE, RECURSIVE])?;
-    for _time in 0..255 {
-        both.step(lock(1, 1));
-    }
+    lock_255_times(&mut both);
     both.play("255 locks", ROWS);
-    assert_eq!(rt; both.manager.count(MutexNo(1)), Some(1));
+    expect_count_1(&rt, &both);
     Ok(())
 }
 
@@ -515,15 +524,25 @@ const PROTECTED: MutexNo = MutexNo(1);
 const INHERITED: MutexNo = MutexNo(2);
 
 fn expect_values(rt: &impl Abort, plain: &PlainManager) {
-    assert_eq!(rt; [plain.tasks(), plain.mutexes()], [3, 2]);
-    assert_eq!(rt; plain.next_ticket(), 3);
+    let counts = (plain.tasks(), plain.mutexes(), plain.next_ticket());
+    assert_eq!(rt; counts, (3, 2, 3));
     let levels = [plain.base(TWO), plain.ceiling(PROTECTED)];
-    assert_eq!(rt; levels, [Prio::new(40), Prio::new(50)]);
-    assert_eq!(rt; plain.protocol(INHERITED), Some(Protocol::Inherit));
+    let shown = (levels, plain.protocol(INHERITED));
+    let expected = [Prio::new(40), Prio::new(50)];
+    assert_eq!(rt; shown, (expected, Some(Protocol::Inherit)));
+}
+
+fn expect_chain(rt: &impl Abort, plain: &PlainManager) {
     let first = plain.first_of(INHERITED).map(|waiter| waiter.task);
-    let tasks = [plain.owner_of(INHERITED), plain.blocker(TWO), first];
-    assert_eq!(rt; tasks, [Some(TWO), Some(ONE), Some(THREE)]);
-    assert_eq!(rt; [plain.heir(TWO), plain.heir(THREE)], [None, Some(TWO)]);
+    let tasks = [
+        plain.owner_of(INHERITED),
+        plain.blocker(TWO),
+        first,
+        plain.heir(TWO),
+        plain.heir(THREE),
+    ];
+    let expected = [Some(TWO), Some(ONE), Some(THREE), None, Some(TWO)];
+    assert_eq!(rt; tasks, expected);
     let wait = plain.wait_of(THREE).map(|wait| (wait.mutex, wait.ticket));
     assert_eq!(rt; wait, Some((INHERITED, 2)));
 }
@@ -549,13 +568,18 @@ fn expect_tests(rt: &impl Abort, plain: &PlainManager) {
     assert_eq!(rt; is_not, [false; 4]);
 }
 
+fn expect_effective(rt: &impl Abort, both: &Both<'_, impl Abort>) {
+    assert_eq!(rt; both.effective(ONE), Prio::new(50));
+}
+
 #[test]
 fn plain_manager_shows_each_fact(rt: HostRuntime) -> Result<(), Fail> {
     const ACTS: &[Act] = &[Lock(1, 1), Lock(2, 2), Lock(2, 1), Lock(3, 2)];
     let mut both = Both::new(&rt, rt.alloc(), &[20, 40, 90], &[Protect(50), INHERIT])?;
     both.act(ACTS);
     expect_values(&rt, &both.plain);
+    expect_chain(&rt, &both.plain);
     expect_tests(&rt, &both.plain);
-    assert_eq!(rt; both.effective(ONE), Prio::new(50));
+    expect_effective(&rt, &both);
     Ok(())
 }

@@ -155,6 +155,22 @@ impl Seen {
 #[derive(Drop)]
 pub struct Row(pub Act, pub Answer, pub u32, pub &'static [Seen]);
 
+fn prios(alloc: Global, levels: &[u16]) -> Result<Vec<Prio>, Fail> {
+    let mut prios = Vec::new(alloc);
+    for level in levels {
+        prios.push(Prio::new(*level).ok_or("a base")?)?;
+    }
+    Ok(prios)
+}
+
+fn protocols(alloc: Global, kinds: &[Kind]) -> Result<Vec<Protocol>, Fail> {
+    let mut protocols = Vec::new(alloc);
+    for kind in kinds {
+        protocols.push(kind.protocol().ok_or("a ceiling")?)?;
+    }
+    Ok(protocols)
+}
+
 /// The manager and the plain one, which make the same steps. Both must return the same.
 #[derive(Drop)]
 pub struct Both<'a, R> {
@@ -185,20 +201,29 @@ impl<'a, R: Abort> Both<'a, R> {
     ) -> Result<Both<'a, R>, Fail>
         requires { 1 ≤ next }
     {
-        let mut prios = Vec::new(alloc);
-        for level in bases {
-            prios.push(Prio::new(*level).ok_or("a base")?)?;
-        }
-        let mut protocols = Vec::new(alloc);
-        for kind in kinds {
-            protocols.push(kind.protocol().ok_or("a ceiling")?)?;
-        }
+        let prios = prios(alloc, bases)?;
+        let protocols = protocols(alloc, kinds)?;
+        Both::made(rt, alloc, &prios, &protocols, next)
+    }
+
+    /// Makes both of these.
+    fn made(
+        rt: &'a R,
+        alloc: Global,
+        prios: &[Prio],
+        protocols: &[Protocol],
+        next: u64,
+    ) -> Result<Both<'a, R>, Fail>
+        requires { 1 ≤ next }
+    {
         if MAX_TASKS < prios.len() || MAX_MUTEXES < protocols.len() {
             return Err("at most 256 tasks and 256 mutexes")?;
         }
+        let manager = Manager::with_next_ticket(alloc, prios, protocols, next)?;
+        let plain = PlainManager::new(alloc, prios, protocols, next)?;
         Ok(Both {
-            manager: Manager::with_next_ticket(alloc, &prios, &protocols, next)?,
-            plain: PlainManager::new(alloc, &prios, &protocols, next)?,
+            manager,
+            plain,
             rt,
             alloc,
         })
@@ -236,7 +261,9 @@ impl<'a, R: Abort> Both<'a, R> {
     pub fn queue(&self, mutex: MutexNo) -> Result<&[Waiter], Fail> {
         let waiters = self.manager.waiters(mutex).ok_or("a known mutex")?;
         let queue = self.plain.queue_of(self.alloc, mutex)?;
-        assert!(self.rt; queue.as_slice() == waiters, "{mutex:?}");
+        let is_same = queue.as_slice() == waiters;
+        drop(queue);
+        assert!(self.rt; is_same, "{mutex:?}");
         Ok(waiters)
     }
 
@@ -259,6 +286,17 @@ impl<'a, R: Abort> Both<'a, R> {
         for row in rows {
             self.expect_step(name, row.0.step(), row);
         }
+    }
+
+    /// Plays the parts of the scenario, and compares their queues.
+    fn play_parts(&mut self, scene: &Scene) -> Result<(), Fail> {
+        for part in scene.parts {
+            self.play(scene.name, part.0);
+            if let Some((mutex, tasks)) = part.1 {
+                self.expect_queue(mutex, tasks)?;
+            }
+        }
+        Ok(())
     }
 
     /// Makes these steps.
@@ -300,11 +338,5 @@ pub struct Scene {
 /// the one that it gives.
 pub fn play<R: Abort>(rt: &R, alloc: Global, scene: &Scene) -> Result<(), Fail> {
     let mut both = Both::new(rt, alloc, scene.bases, scene.kinds)?;
-    for part in scene.parts {
-        both.play(scene.name, part.0);
-        if let Some((mutex, tasks)) = part.1 {
-            both.expect_queue(mutex, tasks)?;
-        }
-    }
-    Ok(())
+    both.play_parts(scene)
 }

@@ -292,8 +292,9 @@ fn expect_walk(
 ) {
     let (step, reply, visits) = (row.0.step(), row.1.reply(), row.2);
     let done = both.step_with_changes(step, changed);
-    assert_eq!(rt; done, Done { reply, visits }, "{step:?}");
-    assert_eq!(rt; changed.as_slice().len(), visits as usize, "{step:?}");
+    let shown = (done, changed.as_slice().len());
+    let expected = (Done { reply, visits }, visits as usize);
+    assert_eq!(rt; shown, expected, "{step:?}");
 }
 
 // the effective priorities of the first task and of the last
@@ -302,9 +303,12 @@ fn expect_ends(rt: &impl Abort, both: &Both<'_, impl Abort>, first: u16, last: u
     assert_eq!(rt; ends, [Prio::new(first), Prio::new(last)]);
 }
 
-// compares only the replies with the plain manager, which is too slow for all priorities
-#[test]
-fn chain_of_all_tasks_is_raised_and_lowered(rt: HostRuntime) -> Result<(), Fail> {
+fn expect_donated_by_101(rt: &impl Abort, both: &Both<'_, impl Abort>) {
+    let donated = Some(Reason::Waiter(TaskNo(101), MutexNo(100)));
+    assert_eq!(rt; both.reason(TaskNo(100)), donated);
+}
+
+fn raise_and_lower(rt: &impl Abort, both: &mut Both<'_, impl Abort>, changed: &mut ChangedTasks) {
     const RAISED: &[Row] = &[
         Row(Lock(256, 255), Queued, 255, &[]),
         Row(Lock(1, 255), Refused(Deadlock), 0, &[]),
@@ -312,16 +316,21 @@ fn chain_of_all_tasks_is_raised_and_lowered(rt: HostRuntime) -> Result<(), Fail>
         Row(Lock(256, 255), Queued, 255, &[]),
     ];
     const LOWERED: Row = Row(SetBase(1, 256, 5), Set, 256, &[]);
+    for row in RAISED {
+        expect_walk(rt, both, changed, row);
+    }
+    expect_donated_by_101(rt, both);
+    expect_ends(rt, both, 99, 99);
+    expect_walk(rt, both, changed, &LOWERED);
+    expect_ends(rt, both, 10, 5);
+}
+
+// compares only the replies with the plain manager, which is too slow for all priorities
+#[test]
+fn chain_of_all_tasks_is_raised_and_lowered(rt: HostRuntime) -> Result<(), Fail> {
     let mut both = chain_of_all_tasks(&rt, rt.alloc())?;
     let mut changed = ChangedTasks::new(rt.alloc())?;
-    for row in RAISED {
-        expect_walk(&rt, &mut both, &mut changed, row);
-    }
-    let donated = Some(Reason::Waiter(TaskNo(101), MutexNo(100)));
-    assert_eq!(rt; both.reason(TaskNo(100)), donated);
-    expect_ends(&rt, &both, 99, 99);
-    expect_walk(&rt, &mut both, &mut changed, &LOWERED);
-    expect_ends(&rt, &both, 10, 5);
+    raise_and_lower(&rt, &mut both, &mut changed);
     Ok(())
 }
 
@@ -339,20 +348,24 @@ fn expect_lowered(rt: &impl Abort, manager: &Manager, lowered: u16) {
     }
 }
 
-#[test]
-fn withdrawal_from_the_middle_of_all_tasks_cuts_their_chain(rt: HostRuntime) -> Result<(), Fail> {
+fn cut(rt: &impl Abort, both: &mut Both<'_, impl Abort>, changed: &mut ChangedTasks) {
     const CUTS: &[(Row, u16)] = &[
         (Row(Lock(256, 255), Queued, 255, &[]), 0),
         (Row(Cancel(1, 128), Withdrawn, 127, &[]), 127),
         (Row(Lock(128, 127), Queued, 127, &[]), 0),
         (Row(Cancel(1, 2), Withdrawn, 1, &[]), 1),
     ];
+    for (row, lowered) in CUTS {
+        expect_walk(rt, both, changed, row);
+        expect_lowered(rt, &both.manager, *lowered);
+    }
+}
+
+#[test]
+fn withdrawal_from_the_middle_of_all_tasks_cuts_their_chain(rt: HostRuntime) -> Result<(), Fail> {
     let mut both = chain_of_all_tasks(&rt, rt.alloc())?;
     let mut changed = ChangedTasks::new(rt.alloc())?;
-    for (row, lowered) in CUTS {
-        expect_walk(&rt, &mut both, &mut changed, row);
-        expect_lowered(&rt, &both.manager, *lowered);
-    }
+    cut(&rt, &mut both, &mut changed);
     Ok(())
 }
 
@@ -378,14 +391,14 @@ fn expect_donated(rt: &impl Abort, manager: &Manager, first: u16) -> Result<(), 
     Ok(())
 }
 
-// compares the replies with the plain manager, and the whole queue only at the end
-#[test]
-fn waiters_of_a_full_queue_are_raised_one_by_one(rt: HostRuntime) -> Result<(), Fail> {
-    const HANDED: Row = Row(Unlock(1, 1), Handed(2), 1, &[Base(10)]);
-    let mut both = Both::new(&rt, rt.alloc(), &[10; 256], &[INHERIT])?;
+// all tasks ask for mutex 1
+fn fill_queue(both: &mut Both<'_, impl Abort>) {
     for number in 1u16..257 {
         both.step(lock(number, 1));
     }
+}
+
+fn raise_waiters(rt: &impl Abort, both: &mut Both<'_, impl Abort>) -> Result<(), Fail> {
     // The last waiter raises the owner. Each further one is put in front of all that were raised.
     for raised in 0u16..255 {
         let number = 256 - raised;
@@ -393,9 +406,19 @@ fn waiters_of_a_full_queue_are_raised_one_by_one(rt: HostRuntime) -> Result<(), 
         let reply = Reply::Set;
         let done = both.step(set_base(1, number, 50));
         assert_eq!(rt; done, Done { reply, visits }, "{number}");
-        expect_donated(&rt, &both.manager, number)?;
+        expect_donated(rt, &both.manager, number)?;
     }
     both.queue(MutexNo(1))?;
-    both.play("a full queue", &[HANDED]);
+    Ok(())
+}
+
+// compares the replies with the plain manager, and the whole queue only at the end
+#[test]
+fn waiters_of_a_full_queue_are_raised_one_by_one(rt: HostRuntime) -> Result<(), Fail> {
+    const HANDED: &[Row] = &[Row(Unlock(1, 1), Handed(2), 1, &[Base(10)])];
+    let mut both = Both::new(&rt, rt.alloc(), &[10; 256], &[INHERIT])?;
+    fill_queue(&mut both);
+    raise_waiters(&rt, &mut both)?;
+    both.play("a full queue", HANDED);
     Ok(())
 }
