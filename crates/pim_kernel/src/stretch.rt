@@ -1,0 +1,18 @@
+//! A stretch in which a task ran.
+
+/// A stretch in which a task ran without a break.
+///
+/// The priority in force was `before` at its begin and `after` at its end. If they differ, it changed once in between: a
+/// thread set it, which the kernel's events don't have.
+#[derive(Clone, Copy, Debug, PartialEq, Eq)]
+pub struct Stretch {
+    /// CLOCK_MONOTONIC in nanoseconds.
+    pub begin: u64,
+    pub end: u64,
+    /// The number of the line that shows that it ran from then on.
+    pub first_line: u64,
+    /// The number of the line that shows that it ran until then, at which priority.
+    pub last_line: u64,
+    pub before: u8,
+    pub after: u8,
+}

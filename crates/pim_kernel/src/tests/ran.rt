@@ -1,0 +1,165 @@
+//! What the events of a few lines show of the tasks.
+
+use super::super::*;
+use std::alloc::{AllocError, Global};
+use std::test::*;
+
+/// Task 11 runs at 10 from 100 on, is boosted to 60 at 160, unlocks at 300, and sleeps at 400. Task 12, at 60, asks for
+/// its mutex at 150, and sleeps from 170 on. No line shows that it runs again until its call returns.
+const BOOST: &str = "\
+pim-kernel 1
+kernel 6.18.44 x86_64
+clock mono
+process 11
+began 50
+cpus 2
+100 0 9 name 9 other
+100 0 9 switch 120 R 11 89
+140 1 9 switch 120 R 12 39
+150 1 12 lock 0x5f0 private
+160 1 12 setprio 11 89 39
+170 1 12 switch 39 S 0 120
+300 0 11 unlock 0x5f0 private
+310 0 11 setprio 11 39 89
+320 0 11 return 0
+330 1 12 return 0
+350 1 12 switch 39 X 0 120
+400 0 11 switch 89 R+ 0 120
+end 500 11 0
+";
+
+/// Task 11 runs at 10, and at 20 when it stops: it set its priority. 7 events are lost from 300 to 600. It runs again.
+const LOSS: &str = "\
+pim-kernel 1
+kernel 6.18.44 x86_64
+clock mono
+process 11
+began 50
+cpus 2
+100 0 9 switch 120 R 11 89
+200 0 11 switch 79 R 9 120
+250 0 9 switch 120 R 11 79
+400 0 11 return 0
+600 1 0 lost 7 300
+700 0 11 return 0
+800 0 11 switch 79 S 9 120
+900 0 9 switch -1 R 11 79
+950 0 11 switch -1 S 9 120
+end 1000 6 7
+";
+
+fn ran(alloc: Global, text: &str, task: u32) -> Result<Vec<Stretch>, AllocError> {
+    let mut rows = Vec::new(alloc);
+    let Ok(recording) = Recording::read(alloc, text.as_bytes()) else {
+        return Ok(rows);
+    };
+    let tracks = Tracks::of(alloc, &recording)?;
+    if let Some(track) = tracks.of_task(task) {
+        for stretch in track.stretches.as_slice() {
+            if rows.push(*stretch).is_err() {
+                return Err(AllocError);
+            }
+        }
+    }
+    Ok(rows)
+}
+
+/// Returns a stretch: when, which lines show it, and its levels at the begin and at the end.
+fn row(times: (u64, u64), lines: (u64, u64), levels: (u8, u8)) -> Stretch {
+    let (begin, end) = times;
+    let (first_line, last_line) = lines;
+    let (before, after) = levels;
+    Stretch {
+        begin,
+        end,
+        first_line,
+        last_line,
+        before,
+        after,
+    }
+}
+
+#[test]
+fn owner_runs_at_its_base_and_with_a_boost(rt: HostRuntime) -> Result<(), Fail> {
+    let wanted = [
+        row((100, 160), (8, 11), (10, 10)),
+        row((160, 310), (11, 14), (60, 60)),
+        row((310, 400), (14, 18), (10, 10)),
+    ];
+    let rows = ran(rt.alloc(), BOOST, 11)?;
+    assert!(rt; rows.as_slice() == wanted.as_slice());
+    Ok(())
+}
+
+#[test]
+fn waiter_runs_again_as_its_call_returns(rt: HostRuntime) -> Result<(), Fail> {
+    let wanted = [
+        row((140, 170), (9, 12), (60, 60)),
+        row((330, 350), (16, 17), (60, 60)),
+    ];
+    let rows = ran(rt.alloc(), BOOST, 12)?;
+    assert!(rt; rows.as_slice() == wanted.as_slice());
+    Ok(())
+}
+
+#[test]
+fn nothing_is_known_of_what_was_lost(rt: HostRuntime) -> Result<(), Fail> {
+    let wanted = [
+        row((100, 200), (7, 8), (10, 20)),
+        row((900, 950), (14, 15), (20, 100)),
+    ];
+    let rows = ran(rt.alloc(), LOSS, 11)?;
+    assert!(rt; rows.as_slice() == wanted.as_slice());
+    Ok(())
+}
+
+/// Returns the calls of a task, and when it was preempted.
+fn calls(alloc: Global, text: &str, task: u32) -> Result<(Option<Call>, Option<u64>), AllocError> {
+    let Ok(recording) = Recording::read(alloc, text.as_bytes()) else {
+        return Ok((None, None));
+    };
+    let tracks = Tracks::of(alloc, &recording)?;
+    match tracks.of_task(task) {
+        Some(track) => Ok((
+            track.calls.first().copied(),
+            track.preempted.first().copied(),
+        )),
+        None => Ok((None, None)),
+    }
+}
+
+#[test]
+fn call_has_its_sleep_and_its_return(rt: HostRuntime) -> Result<(), Fail> {
+    let wanted = Call {
+        is_unlock: false,
+        address: 0x5f0,
+        begin: 150,
+        slept: 170,
+        end: 330,
+    };
+    let found = calls(rt.alloc(), BOOST, 12)?;
+    assert!(rt; found == (Some(wanted), None));
+    let found = calls(rt.alloc(), BOOST, 11)?;
+    assert!(rt; found.1 == Some(400));
+    Ok(())
+}
+
+/// Returns how many stretches were left out, and how long they are.
+fn lost(alloc: Global, text: &str) -> Result<(u64, u64), AllocError> {
+    match Recording::read(alloc, text.as_bytes()) {
+        Ok(recording) => {
+            let tracks = Tracks::of(alloc, &recording)?;
+            Ok((tracks.losses, tracks.lost_time))
+        }
+        Err(_) => Ok((0, 0)),
+    }
+}
+
+#[test]
+fn lost_stretches_are_counted(rt: HostRuntime) -> Result<(), Fail> {
+    let found = lost(rt.alloc(), LOSS)?;
+    assert!(rt; found == (1, 300));
+    let found = lost(rt.alloc(), BOOST)?;
+    assert!(rt; found == (0, 0));
+    Ok(())
+}

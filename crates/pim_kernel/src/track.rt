@@ -1,0 +1,158 @@
+//! What a task did.
+
+use crate::lists::push;
+use crate::stretch::Stretch;
+use crate::stretches::Stretches;
+use std::alloc::{AllocError, Global};
+
+/// A futex call of a mutex with priority inheritance.
+#[derive(Clone, Copy, Debug, PartialEq, Eq)]
+pub struct Call {
+    /// Whether it unlocks the mutex.
+    pub is_unlock: bool,
+    /// The mutex.
+    pub address: u64,
+    pub begin: u64,
+    /// When its task first slept within it, or 0 if it never did.
+    pub slept: u64,
+    /// When it returned. `u64::MAX` if that isn't known.
+    pub end: u64,
+}
+
+/// A line and its time.
+#[derive(Clone, Copy, Debug, PartialEq, Eq)]
+pub struct Sign {
+    pub line: u64,
+    pub time: u64,
+}
+
+/// What a task did. Only of recorded tasks it is all that they did.
+#[derive(Drop)]
+pub struct Track {
+    /// The kernel's number of the task.
+    pub task: u32,
+    /// When it ran.
+    pub stretches: Stretches,
+    /// Its futex calls, the earliest first.
+    pub calls: Vec<Call>,
+    /// When it was preempted, the earliest first.
+    pub preempted: Vec<u64>,
+    /// The first line that shows that it runs now.
+    since: Option<Sign>,
+    /// Its level, as far as that is known.
+    level: Option<u8>,
+}
+
+impl Track {
+    /// Returns that nothing is known yet of a task in a recording from this time to that.
+    pub(crate) fn new(alloc: Global, task: u32, began: u64, ended: u64) -> Track {
+        Track {
+            task,
+            stretches: Stretches::new(alloc, began, ended),
+            calls: Vec::new(alloc),
+            preempted: Vec::new(alloc),
+            since: None,
+            level: None,
+        }
+    }
+
+    /// Forgets whether the task runs, and at which level: events were lost.
+    pub(crate) fn forget(&mut self) {
+        self.since = None;
+        self.level = None;
+    }
+
+    /// The task runs.
+    pub(crate) fn see(&mut self, sign: Sign) {
+        if self.since.is_none() {
+            self.since = Some(sign);
+        }
+    }
+
+    /// The task begins to run, at this level.
+    pub(crate) fn enter(&mut self, sign: Sign, level: u8) {
+        self.since = Some(sign);
+        self.level = Some(level);
+    }
+
+    /// The task stops, at this level.
+    pub(crate) fn leave(
+        &mut self,
+        sign: Sign,
+        level: u8,
+        is_asleep: bool,
+    ) -> Result<(), AllocError> {
+        self.end_stretch(sign, level)?;
+        self.since = None;
+        self.level = Some(level);
+        if is_asleep {
+            self.sleep(sign.time);
+            Ok(())
+        } else {
+            push(&mut self.preempted, sign.time)
+        }
+    }
+
+    /// The level of the task changes.
+    pub(crate) fn change(&mut self, sign: Sign, before: u8, after: u8) -> Result<(), AllocError> {
+        self.end_stretch(sign, before)?;
+        if self.since.is_some() {
+            self.since = Some(sign);
+        }
+        self.level = Some(after);
+        Ok(())
+    }
+
+    /// Keeps the stretch that ends, if its level at the begin is known.
+    fn end_stretch(&mut self, sign: Sign, after: u8) -> Result<(), AllocError> {
+        match (self.since, self.level) {
+            (Some(since), Some(before)) => self.stretches.add(Stretch {
+                begin: since.time,
+                end: sign.time,
+                first_line: since.line,
+                last_line: sign.line,
+                before,
+                after,
+            }),
+            _ => Ok(()),
+        }
+    }
+
+    /// The task begins a call. If no line shows that the one before it returned, it returned by now.
+    pub(crate) fn call(
+        &mut self,
+        sign: Sign,
+        is_unlock: bool,
+        address: u64,
+    ) -> Result<(), AllocError> {
+        self.end_call(sign.time);
+        push(
+            &mut self.calls,
+            Call {
+                is_unlock,
+                address,
+                begin: sign.time,
+                slept: 0,
+                end: u64::MAX,
+            },
+        )
+    }
+
+    /// The last call returned, if it hadn't.
+    pub(crate) fn end_call(&mut self, time: u64) {
+        if let Some(call) = self.calls.last_mut() {
+            if call.end == u64::MAX {
+                call.end = time;
+            }
+        }
+    }
+
+    /// The task sleeps, within its last call if that hasn't returned.
+    fn sleep(&mut self, time: u64) {
+        if let Some(call) = self.calls.last_mut() {
+            if call.end == u64::MAX && call.slept == 0 {
+                call.slept = time;
+            }
+        }
+    }
+}
