@@ -1,5 +1,5 @@
 -- The lines that end before a byte, and before the next one.
-use Rattle.std.proofs.Common.{◌≡◌, ◌≢◌, ◌<◌, ℕ, ◌+◌, List, length, get_or, eq-eqb, arith, ◌==◌, rules}
+use Rattle.std.proofs.Common.{◌≡◌, ◌≢◌, ◌<◌, ℕ, ◌+◌, List, length, get_or, eq-eqb, arith, ◌==◌}
 use Rattle.std.proofs.lemmas.List.Sums.{count_by_more_yes, count_by_more_no}
 use Rattle.pim_kernel.specs.Lines.{lines_before}
 

@@ -15,7 +15,7 @@ pub struct Losses {
     until: u64,
 }
 
-/// How a time stands to what was lost.
+/// Where a time is, compared with the stretches in which events were lost.
 #[derive(Clone, Copy, Debug, PartialEq, Eq)]
 pub enum Place {
     /// Nothing was lost since the time before.
@@ -47,7 +47,7 @@ impl Losses {
         })
     }
 
-    /// Returns how a time stands to what was lost. Times ascend from call to call.
+    /// Returns where a time is, compared with what was lost. Times ascend from call to call.
     pub fn pass(&mut self, time: u64) -> Place {
         let before = self.begun;
         for place in before..self.spans.len() {

@@ -136,6 +136,22 @@ impl Recording {
     }
 }
 
+/// Returns the line with this number, from 1 on, without its newline. One that there isn't is empty.
+pub fn line_at(bytes: &[u8], number: u64) -> &[u8] {
+    let mut begin = 0;
+    let mut before = 1u64;
+    for place in 0..bytes.len() {
+        if bytes[place] == b'\n' {
+            if before == number && begin <= place {
+                return &bytes[begin..place];
+            }
+            before = before.saturating_add(1);
+            begin = place + 1;
+        }
+    }
+    &bytes[..0]
+}
+
 /// Returns what is wrong with the first line.
 fn version_fault(name: Option<&[u8]>, words: &mut Words) -> Option<LineFault> {
     if name != Some(b"pim-kernel".as_slice()) {

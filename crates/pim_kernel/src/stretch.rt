@@ -2,8 +2,8 @@
 
 /// A stretch in which a task ran without a break.
 ///
-/// The priority in force was `before` at its begin and `after` at its end. If they differ, it changed once in between: a
-/// thread set it, which the kernel's events don't have.
+/// The priority in force was `before` at its begin and `after` at its end. If they differ, a thread set it in between,
+/// which the kernel's events don't show.
 #[derive(Clone, Copy, Debug, PartialEq, Eq)]
 pub struct Stretch {
     /// CLOCK_MONOTONIC in nanoseconds.

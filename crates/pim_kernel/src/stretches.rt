@@ -22,7 +22,8 @@ pub struct Stretches {
 }
 
 impl Stretches {
-    /// Returns that a task has no stretch yet in a recording from this time to that. It ends no earlier than it begins.
+    /// Makes the list of stretches of a task that has none yet, in a recording from `began` to `ended`. It ends no
+    /// earlier than it begins.
     pub fn new(alloc: Global, began: u64, ended: u64) -> Stretches {
         Stretches {
             began,

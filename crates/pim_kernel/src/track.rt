@@ -44,7 +44,7 @@ pub struct Track {
 }
 
 impl Track {
-    /// Returns that nothing is known yet of a task in a recording from this time to that.
+    /// Makes the track of a task of which nothing is known yet, in a recording from `began` to `ended`.
     pub(crate) fn new(alloc: Global, task: u32, began: u64, ended: u64) -> Track {
         Track {
             task,

@@ -1,6 +1,6 @@
 //! Files with one line that is wrong.
 
-use super::super::*;
+use pim_kernel::*;
 use std::alloc::{AllocError, Global};
 use std::test::*;
 

@@ -1,6 +1,6 @@
 //! What the events of a few lines show of the tasks.
 
-use super::super::*;
+use pim_kernel::*;
 use std::alloc::{AllocError, Global};
 use std::test::*;
 
