@@ -1,19 +1,23 @@
 -- What a task receives from the mutexes that it owns.
-use Rattle.std.specs.Prelude.{◌==◌, ◌&&◌, ℕ, max, Bool, cond, is_some, List}
+use Rattle.std.specs.Prelude.{◌==◌, ◌&&◌, ℕ, max, Bool, cond, is_some, List, Some}
 use Rattle.std.specs.List.{find}
 use Rattle.std.specs.Option.{option_map_or}
 use Rattle.pim_base.specs.Lists.{first_item}
-use Rattle.pim_base.specs.State.{protocol_of}
+use Rattle.pim_base.specs.State.{protocol_of, with_owner}
 use Rattle.pim_base.specs.Chains.{heir_of}
 use Rattle.pim_base.specs.Priorities.{ceiling_of}
 use Rattle.pim_base.specs.Reasons.{is_inherit}
 use Rattle.pim_base.specs.declared.steps.Reason.{Reason}
 use Rattle.pim_base.specs.declared.steps.Waiter.{Waiter}
-use Rattle.pim_chain.specs.Views.{View, stored_at, queue_at, first_prio}
+use Rattle.pim_chain.specs.Views.{View, stored_at, queue_at, first_prio, with_state}
 
 -- the priority that a mutex gives its owner: its ceiling, or the priority of its first waiter
 abbrev pub worth : View → ℕ → ℕ
 worth v m = max (ceiling_of v.state m) (cond (is_some (heir_of v.state m)) (first_prio (queue_at v m)) 0)
+
+-- the priority that a free mutex gives to this task if it becomes the owner
+abbrev pub worth_to : View → ℕ → ℕ → ℕ
+worth_to v m t = worth (with_state v (with_owner v.state m (Some t))) m
 
 -- the priority that a task donates to the owner of the mutex that it waits for: its own if that is inherited, else 0
 abbrev pub donated_by : View → ℕ → ℕ → ℕ

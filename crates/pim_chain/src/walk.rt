@@ -9,7 +9,7 @@ ghost use Rattle.pim_base.specs.Priorities.{local_priority, effective_priority};
 ghost use Rattle.pim_base.specs.Queues.{queue_of};
 ghost use Rattle.pim_base.specs.declared.steps.Wait.{Wait};
 ghost use Rattle.pim_chain.specs.Views.{Ready, stored_at, queue_at, first_prio};
-ghost use Rattle.pim_chain.specs.Owned.{worth, donated_by};
+ghost use Rattle.pim_chain.specs.Owned.{worth, worth_to, donated_by};
 ghost use Rattle.pim_chain.specs.Settled.{SettledBut, Visited, next_of, changed};
 ghost use Rattle.pim_chain.specs.Work.{Tells, VisitedOnce};
 
@@ -205,6 +205,8 @@ impl Tables {
         ensures settled { SettledBut self.new.state (stored_at self.new) None }
         ensures ready { Ready self.new }
         ensures single { visits.new.count ≤ visits.old.count + 1 }
+        ensures skipped { worth_to self.old mutex task ≤ stored_at self.old task → visits.new.count ≡ visits.old.count }
+        ensures once { stored_at self.old task < worth_to self.old mutex task → visits.new.count ≡ visits.old.count + 1 }
         ensures work { Tells (length self.old.state.base) (stored_at self.old) visits.old (stored_at self.new) visits.new }
     {
         // The contract of this call gives the proof the invariant of the tables.
@@ -230,6 +232,8 @@ impl Tables {
         ensures settled { SettledBut self.new.state (stored_at self.new) None }
         ensures ready { Ready self.new }
         ensures single { visits.new.count ≤ visits.old.count + 1 }
+        ensures skipped { worth self.old mutex < stored_at self.old owner → visits.new.count ≡ visits.old.count }
+        ensures once { stored_at self.old owner ≤ worth self.old mutex → visits.new.count ≡ visits.old.count + 1 }
         ensures work { Tells (length self.old.state.base) (stored_at self.old) visits.old (stored_at self.new) visits.new }
     {
         // The contract of this call gives the proof the invariant of the tables.
