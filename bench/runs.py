@@ -69,7 +69,8 @@ def within_limits(parser, **least):
 def own_program():
     """Returns the path of the repository's program, and builds it if it is older than the code."""
     if PIM.exists() or shutil.which("rt"):
-        if not subprocess.run([ROOT / "pim"], input=b"pim 1\n", stdout=subprocess.DEVNULL).returncode:
+        check = [ROOT / "pim", "check"]
+        if not subprocess.run(check, input=b"pim 1\n", stdout=subprocess.DEVNULL).returncode:
             return str(PIM)
     return give_up(2, "./pim wasn't built")
 

@@ -78,7 +78,8 @@ def program():
 
 def own_program(name="pim", crate="pim"):
     """Returns the path of a program of the repository, and builds it if it is older than the code."""
-    if subprocess.run([ROOT / name], input=b"pim 1\n", stdout=subprocess.DEVNULL).returncode:
+    command = [ROOT / name, *(["check"] if name == "pim" else [])]
+    if subprocess.run(command, input=b"pim 1\n", stdout=subprocess.DEVNULL).returncode:
         sys.exit(f"the program {name} was not built")
     return str(ROOT / "crates" / crate / "out" / crate)
 

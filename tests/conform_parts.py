@@ -347,7 +347,7 @@ def options():
 def programs(folder):
     """The program pim and the performer are built if they aren't there."""
     module = script_module()
-    script(folder, "pim", "test -z $(cat | sed 's/^pim 1$//')")
+    script(folder, "pim", "test $1$(cat | sed 's/^pim 1$//') = check")
     with changed(module, ROOT=folder):
         same("the repository's own pim", module.own_pim(), f"{folder}/crates/pim/out/pim")
         script(folder, "pim", "exit 1")
