@@ -4,6 +4,10 @@
 #![tactic(auto)]
 
 #[cfg(test)]
+mod playing;
+#[cfg(test)]
+mod scenes;
+#[cfg(test)]
 mod sizes;
 #[cfg(test)]
 mod tables;
