@@ -17,7 +17,7 @@ const TASKS: u16 = 6;
 
 const MUTEXES: u16 = 7;
 
-// a number below the bound
+/// Returns a number below the bound.
 fn below(random: &mut Pcg32, bound: u32) -> u16
     requires least { 0 < bound }
     requires most { bound ≤ 1000 }
@@ -26,27 +26,27 @@ fn below(random: &mut Pcg32, bound: u32) -> u16
     (random.next_word() % bound) as u16
 }
 
-// mostly a known task, sometimes 0 or the number after the last
+/// Returns mostly a known task, sometimes 0 or the number after the last.
 fn task(random: &mut Pcg32) -> TaskNo {
     TaskNo(below(random, u32::from(TASKS) + 2))
 }
 
-// mostly a known mutex, sometimes 0 or the number after the last
+/// Returns mostly a known mutex, sometimes 0 or the number after the last.
 fn mutex(random: &mut Pcg32) -> MutexNo {
     MutexNo(below(random, u32::from(MUTEXES) + 2))
 }
 
-// mostly one of the two PROTECT mutexes, which are the last, sometimes the one before or the number after them
+/// Returns mostly one of the two PROTECT mutexes, which are the last, sometimes the one before or the number after them.
 fn protect_mutex(random: &mut Pcg32) -> MutexNo {
     MutexNo(MUTEXES - 2 + below(random, 4))
 }
 
-// a level, sometimes 0 or above 99
+/// Returns a level, sometimes 0 or above 99.
 fn level(random: &mut Pcg32) -> u16 {
     below(random, 110)
 }
 
-// another ceiling, mostly asked for by the owner if there is one
+/// Returns a step to another ceiling, mostly asked for by the owner if there is one.
 fn ceiling_step(random: &mut Pcg32, plain: &PlainManager) -> Step {
     let mutex = protect_mutex(random);
     let by_owner = below(random, 4) > 0;
@@ -58,7 +58,8 @@ fn ceiling_step(random: &mut Pcg32, plain: &PlainManager) -> Step {
     Step { actor, op }
 }
 
-// a lock or an unlock of one of the two recursive mutexes, which are the first, mostly by the owner if there is one
+/// Returns a lock or an unlock of one of the two recursive mutexes, which are the first, mostly by the owner if there
+/// is one.
 fn relock_step(random: &mut Pcg32, plain: &PlainManager) -> Step {
     let mutex = MutexNo(1 + below(random, 2));
     let by_owner = below(random, 4) > 0;
@@ -74,7 +75,7 @@ fn relock_step(random: &mut Pcg32, plain: &PlainManager) -> Step {
     Step { actor, op }
 }
 
-// any operation with numbers like these
+/// Returns any operation with numbers like these.
 fn any_step(random: &mut Pcg32, plain: &PlainManager) -> Step {
     match below(random, 6) {
         0 => return ceiling_step(random, plain),
@@ -93,7 +94,7 @@ fn any_step(random: &mut Pcg32, plain: &PlainManager) -> Step {
     Step { actor, op }
 }
 
-// every task has the same priority and reason, and is listed with them if its priority changed
+/// Every task has the same priority and reason, and is listed with them if its priority changed.
 fn expect_same_tasks(
     rt: &impl Abort,
     both: &Both<'_, impl Abort>,
@@ -116,7 +117,7 @@ fn expect_same_tasks(
     }
 }
 
-// every mutex has the same protocol, the same owner, the same count and the same queue
+/// Every mutex has the same protocol, the same owner, the same count and the same queue.
 fn expect_same_mutexes(rt: &impl Abort, both: &Both<'_, impl Abort>) -> Result<(), Fail> {
     for number in 1..MUTEXES + 1 {
         let mutex = MutexNo(number);
@@ -136,7 +137,7 @@ fn expect_same_mutexes(rt: &impl Abort, both: &Both<'_, impl Abort>) -> Result<(
     Ok(())
 }
 
-// a thousand steps from the seed
+/// Makes a thousand steps from the seed.
 fn expect_agreement(
     rt: &impl Abort,
     both: &mut Both<'_, impl Abort>,

@@ -369,7 +369,7 @@ fn only_owners_unlock_and_only_waiters_withdraw() -> &'static Scene {
     SCENE
 }
 
-// task 2 has the last ticket but one, and the last ticket is never used
+/// Task 2 has the last ticket but one, and the last ticket is never used.
 fn expect_last_ticket(rt: &impl Abort, both: &Both<'_, impl Abort>) -> Result<(), Fail> {
     let first = both.queue(MutexNo(1))?.first().map(|waiter| waiter.ticket);
     let wait = both.plain.wait_of(TaskNo(2)).map(|wait| wait.ticket);
@@ -421,7 +421,7 @@ fn recursive_mutex_goes_to_its_waiter_at_the_last_unlock() -> &'static Scene {
     SCENE
 }
 
-// task 1 locks the mutex 255 times
+/// Task 1 locks the mutex 255 times.
 fn lock_255_times(both: &mut Both<'_, impl Abort>) {
     for _time in 0..255 {
         both.step(lock(1, 1));
@@ -479,7 +479,7 @@ fn scenarios(rt: HostRuntime) -> Result<(), Fail> {
     Ok(())
 }
 
-// task 1 has locked a recursive mutex twice, and another mutex once
+/// Task 1 has locked a recursive mutex twice, and another mutex once.
 fn expect_counts(rt: &impl Abort, plain: &PlainManager) {
     let [one, two] = [TaskNo(1), TaskNo(2)];
     let [recursive, once] = [MutexNo(1), MutexNo(2)];

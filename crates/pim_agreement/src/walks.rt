@@ -283,7 +283,7 @@ fn chain_of_all_tasks<'a, R: Abort>(rt: &'a R, alloc: Global) -> Result<Both<'a,
     Ok(both)
 }
 
-// makes the step, which changes as many priorities as it has visits
+/// Makes the step, which changes as many priorities as it has visits.
 fn expect_walk(
     rt: &impl Abort,
     both: &mut Both<'_, impl Abort>,
@@ -297,7 +297,7 @@ fn expect_walk(
     assert_eq!(rt; shown, expected, "{step:?}");
 }
 
-// the effective priorities of the first task and of the last
+/// Returns the effective priorities of the first task and of the last.
 fn expect_ends(rt: &impl Abort, both: &Both<'_, impl Abort>, first: u16, last: u16) {
     let ends = [both.effective(TaskNo(1)), both.effective(TaskNo(256))];
     assert_eq!(rt; ends, [Prio::new(first), Prio::new(last)]);
@@ -325,7 +325,7 @@ fn raise_and_lower(rt: &impl Abort, both: &mut Both<'_, impl Abort>, changed: &m
     expect_ends(rt, both, 10, 5);
 }
 
-// compares only the replies with the plain manager, which is too slow for all priorities
+/// Compares only the replies with the plain manager, which is too slow for all priorities.
 #[test]
 fn chain_of_all_tasks_is_raised_and_lowered(rt: HostRuntime) -> Result<(), Fail> {
     let mut both = chain_of_all_tasks(&rt, rt.alloc())?;
@@ -334,7 +334,7 @@ fn chain_of_all_tasks_is_raised_and_lowered(rt: HostRuntime) -> Result<(), Fail>
     Ok(())
 }
 
-// the tasks up to this one are at their base, and the others have the last task's priority
+/// The tasks up to this one are at their base, and the others have the last task's priority.
 fn expect_lowered(rt: &impl Abort, manager: &Manager, lowered: u16) {
     for number in 1u16..256 {
         let (prio, reason) = if number <= lowered {
@@ -369,7 +369,7 @@ fn withdrawal_from_the_middle_of_all_tasks_cuts_their_chain(rt: HostRuntime) -> 
     Ok(())
 }
 
-// the tasks raised so far are first, by their tickets, and the others come after them
+/// The tasks raised so far are first, by their tickets, and the others come after them.
 fn expect_raised(rt: &impl Abort, queue: &[Waiter], first: u16) {
     assert_eq!(rt; queue.len(), 255);
     for (number, waiter) in (first..257).chain(2..first).zip(queue) {
@@ -381,7 +381,7 @@ fn expect_raised(rt: &impl Abort, queue: &[Waiter], first: u16) {
     }
 }
 
-// task 1 owns mutex 1, and has the priority of its first waiter
+/// Task 1 owns mutex 1, and has the priority of its first waiter.
 fn expect_donated(rt: &impl Abort, manager: &Manager, first: u16) -> Result<(), Fail> {
     let queue = manager.waiters(MutexNo(1)).ok_or("a known mutex")?;
     expect_raised(rt, queue, first);
@@ -391,7 +391,7 @@ fn expect_donated(rt: &impl Abort, manager: &Manager, first: u16) -> Result<(), 
     Ok(())
 }
 
-// all tasks ask for mutex 1
+/// All tasks ask for mutex 1.
 fn fill_queue(both: &mut Both<'_, impl Abort>) {
     for number in 1u16..257 {
         both.step(lock(number, 1));
@@ -412,7 +412,7 @@ fn raise_waiters(rt: &impl Abort, both: &mut Both<'_, impl Abort>) -> Result<(),
     Ok(())
 }
 
-// compares the replies with the plain manager, and the whole queue only at the end
+/// Compares the replies with the plain manager, and the whole queue only at the end.
 #[test]
 fn waiters_of_a_full_queue_are_raised_one_by_one(rt: HostRuntime) -> Result<(), Fail> {
     const HANDED: &[Row] = &[Row(Unlock(1, 1), Handed(2), 1, &[Base(10)])];

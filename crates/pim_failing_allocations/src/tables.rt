@@ -9,7 +9,7 @@ use std::alloc::{AllocError, Global};
 use std::process::Abort;
 use std::test::Fail;
 
-// three tasks of base 10 and two mutexes, for which nobody waits
+/// Returns tables of three tasks of base 10 and two mutexes, for which nobody waits.
 fn expect_tables(rt: &impl Abort, tables: &Tables) {
     let stored = (tables.stored(TaskNo(3)), tables.stored(TaskNo(4)));
     assert_eq!(rt; stored, (Prio::new(10), None));
@@ -41,7 +41,7 @@ fn insert(rt: &impl Abort, queue: &mut Queue, waiter: Waiter) {
     queue.insert(waiter);
 }
 
-// a queue with room for 2, in which the waiter waits, unless an allocation failed
+/// Returns a queue with room for 2, in which the waiter waits, unless an allocation failed.
 fn queue_of(rt: &impl Abort, alloc: Global, waiter: Waiter) -> Result<Queue, AllocError> {
     let mut queue = Queue::new(alloc, 2)?;
     insert(rt, &mut queue, waiter);

@@ -30,7 +30,7 @@ const REPORT: &str = "\
 accepted 5
 ";
 
-// the answer, unless an allocation failed, which must be the fault
+/// Returns the answer, unless an allocation failed, which must be the fault.
 fn served<T: Drop>(rt: &impl Abort, answer: Result<T, Fault>) -> Result<T, Fail> {
     match answer {
         Ok(value) => Ok(value),

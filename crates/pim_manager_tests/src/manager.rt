@@ -369,7 +369,7 @@ fn expect_owned(rt: &impl Abort, manager: &Manager, owner: u16, level: u16) {
     assert_eq!(rt; manager.next_ticket(), 2);
 }
 
-// the step of a copy leaves the manager as it was
+/// The step of a copy leaves the manager as it was.
 fn expect_own_way(rt: &impl Abort, alloc: Global, manager: &Manager) -> Result<(), AllocError> {
     let mut copy = manager.try_clone(alloc)?;
     copy.step(by(1, Unlock(FIRST)));
@@ -445,7 +445,7 @@ fn managers_of_other_tasks_or_mutexes_have_other_states(rt: HostRuntime) -> Resu
     expect_others(&rt, rt.alloc(), &start)
 }
 
-// neither a wait nor a ticket that was given out leaves the state as it was
+/// After a wait, or a ticket that was given out, the state isn't as it was.
 fn expect_marks(
     rt: &impl Abort,
     alloc: Global,
@@ -531,7 +531,7 @@ fn expect_raised(rt: &impl Abort, changed: &ChangedTasks) {
     assert!(rt; changed.as_slice() == &raised[..]);
 }
 
-// task 4 stops waiting
+/// Task 4 stops waiting.
 fn expect_lowered(rt: &impl Abort, manager: &mut Manager, changed: &mut ChangedTasks) {
     let done = manager.step_with_changes(by(4, Cancel(TaskNo(4))), changed);
     assert_eq!(rt; done.visits, 3);
