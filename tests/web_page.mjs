@@ -70,7 +70,48 @@ async function examples() {
   for (const name of input.examples) {
     await choose(name)
     show(`example ${name}`, [await report(), await lanes(), !!(await text('about-example'))])
+    show(`replies of ${name}`, await all('#replies > div', 'it.textContent'))
+    show(`steps of the report of ${name}`, await all('#report span[data-step]', '+it.dataset.step'))
   }
+}
+
+/** What the graph shows: the words of its boxes; its arrows, from box to box, with what boosts, whether one is dashed,
+ * and its place in a queue; and the boxes that overlap others or aren't in the picture. */
+const GRAPH = `(() => {
+  const number = (it, name) => +it.getAttribute(name)
+  const said = it => [...it.querySelectorAll('text')].map(one => one.textContent)
+  const boxes = [...document.querySelectorAll('#graph g[data-tip]')].map(it => {
+    const [x, y, w, h] = ['x', 'y', 'width', 'height'].map(name => number(it.firstElementChild, name))
+    return { tip: it.dataset.tip, said: said(it),
+      left: x - .75, top: y - .75, right: x + w + .75, bottom: y + h + .75 } })
+  const isNear = (a, b) => Math.abs(a - b) < .5, narrow = innerWidth <= 820
+  const [front, back, low, high] = narrow ? ['top', 'bottom', 'left', 'right'] : ['left', 'right', 'top', 'bottom']
+  const boxAt = (side, along, across) =>
+    boxes.find(it => isNear(it[side], along) && isNear((it[low] + it[high]) / 2, across))?.said[0] ?? 'nothing'
+  const places = [...document.querySelectorAll('#graph text')].filter(it => !it.closest('[data-tip]'))
+  const isAt = (it, x, y) => isNear(number(it, 'x'), x - 5) && isNear(number(it, 'y'), y - 5)
+  const nth = (x, y) => places.find(it => isAt(it, x, y))?.textContent ?? ''
+  const arrows = [...document.querySelectorAll('#graph path[marker-end]')].map(it => {
+    const [a, b, ...rest] = it.getAttribute('d').match(/[-.0-9]+/g).map(Number), [x, y] = rest.slice(-2)
+    const ends = narrow ? [[b, a], [y, x]] : [[a, b], [x, y]]
+    return [boxAt(front, ...ends[0]), boxAt(back, ends[1][0] - 6, ends[1][1]),
+      it.getAttribute('marker-end').slice(5, -1), it.style.strokeDasharray !== '', nth(a, b)] })
+  const { style } = document.querySelector('#graph > div')
+  const [wide, deep] = ['width', 'height'].map(name => parseFloat(style[name]))
+  const isOut = it => it.left < 0 || it.top < 0 || it.right > wide || it.bottom > deep
+  const wrong = boxes.filter((it, i) => isOut(it) || boxes.slice(0, i).some(one =>
+    one.left < it.right && it.left < one.right && one.top < it.bottom && it.top < one.bottom))
+  return { boxes: boxes.map(it => [it.tip, ...it.said.slice(1)]), arrows, wrong: wrong.map(it => it.tip) } })()`
+
+async function graphs() {
+  for (const [name, { whole, step, wide }] of Object.entries(input.graphs)) {
+    await page.size(wide, 844, false)
+    await typed(whole)
+    await page.evaluate(`{ const it = document.getElementById('slider'); it.value = ${step}; it.oninput() }`)
+    await settled()
+    show(`graph ${name}`, { ...await page.evaluate(GRAPH), why: await all('#why li', 'it.textContent') })
+  }
+  await page.size(1280, 800, false)
 }
 
 async function typing() {
@@ -140,6 +181,8 @@ async function details() {
   show('numbers of 85 and 95', await page.evaluate(`[...document.querySelectorAll('#lanes .prio')].map(it => {
     const line = it.closest('g').querySelector('[style*="stroke-width:1.75"]').getAttribute('d')
     return Math.round(it.getAttribute('y') - /^M0 ([^H]+)/.exec(line)[1]) })`))
+  await typed(input.twice)
+  show('two boosts', (await page.evaluate(DETAILS)).boosts)
   await typed(input.rows)
   show('rows', await lanes())
   await choose('recording_rejected')
@@ -271,6 +314,7 @@ async function stepping() {
   for (const key of ['ArrowRight', 'ArrowLeft', 'ArrowLeft', 'Home', 'End']) {
     await pressed(key)
     seen.push(await said())
+    if (key === 'Home') show('graph at the start', [await text('when'), (await page.evaluate(GRAPH)).arrows])
   }
   await page.evaluate(`{ const it = document.getElementById('slider'); it.value = 6; it.oninput() }`)
   await settled()
@@ -313,6 +357,8 @@ async function files() {
   // The address follows a quarter of a second later.
   await pause(600)
   show('a file dropped', [await text('verdict'), await report()])
+  show('the caret behind a file', await page.evaluate(`{ const it = document.getElementById('text')
+    ;[it.selectionStart === it.value.length, it.selectionEnd === it.value.length] }`))
   const hash = await page.evaluate('location.hash')
   await page.load(address + hash)
   await settled()
@@ -322,13 +368,36 @@ async function files() {
   await saved('png')
   await choose('inversion_avoided')
   renameSync(`${folder}/trace.svg`, `${folder}/first.svg`)
+  renameSync(`${folder}/trace.png`, `${folder}/first.png`)
+  const png = readFileSync(`${folder}/first.png`, 'base64')
+  show('the picture saved as PNG', await page.evaluate(`(${PIXELS})('${png}')`))
   await saved('svg')
   if (shots) copyFileSync(`${folder}/trace.svg`, `${shots}/inversion.svg`)
   renameSync(`${folder}/trace.svg`, `${folder}/inversion.svg`)
   await typed(input.boosts['a waiter'])
   await saved('svg')
   renameSync(`${folder}/trace.svg`, `${folder}/boost.svg`)
+  const ends = []
+  for (const end of ['\r\n', '\r']) {
+    await page.evaluate(`(${drop})(${JSON.stringify(input.dropped.replace(/\n/g, end))})`)
+    await verdict(/rejected at step 1$/)
+    ends.push(await text('verdict'))
+    await choose('ceilings')
+  }
+  show('files with other line ends', ends)
 }
+
+/** Returns the size of a PNG, how opaque its last pixel is, and whether its pixels have several colours. */
+const PIXELS = `async base64 => {
+  const image = new Image()
+  image.src = 'data:image/png;base64,' + base64
+  await image.decode()
+  const canvas = document.createElement('canvas'), { width, height } = image
+  Object.assign(canvas, { width, height })
+  const context = canvas.getContext('2d')
+  context.drawImage(image, 0, 0)
+  const { data } = context.getImageData(0, 0, width, height), pixels = new Uint32Array(data.buffer)
+  return [width, height, data[data.length - 1], new Set(pixels).size > 10] }`
 
 /** Saves the picture. A file that is there has all its bytes: the browser renames it at its end. */
 async function saved(kind) {
@@ -391,7 +460,22 @@ async function full() {
     const { right } = document.querySelector('#lanes > div').getBoundingClientRect()
     return boxes.filter((it, i) => i && it.left < boxes[i - 1].right || it.right > right).length })()`))
   if (shots) await page.shot(`${shots}/full-size.png`)
+  await saved('svg')
+  renameSync(`${folder}/trace.svg`, `${folder}/end.svg`)
+  await page.evaluate(`{ const it = document.getElementById('slider'); it.value = 40000; it.oninput() }`)
+  await settled()
+  show('full size: the line of a step above', await isInView(40_017))
+  show('full size: made', (await lanes()).made.filter(([, , tip]) => tip.startsWith('step 40000:')))
+  for (const kind of ['svg', 'png']) await saved(kind)
+  renameSync(`${folder}/trace.svg`, `${folder}/middle.svg`)
+  renameSync(`${folder}/trace.png`, `${folder}/middle.png`)
 }
+
+/** Returns whether a line of the trace is in view. */
+const isInView = n => page.evaluate(`(() => {
+  const box = document.getElementById('editor').getBoundingClientRect()
+  const line = document.querySelector('#lines [data-line="${n}"]')?.getBoundingClientRect()
+  return !!line && line.top + line.height / 2 > box.top && line.bottom - line.height / 2 < box.bottom })()`)
 
 /** Scrolls the trace, the report and the lanes, and returns the milliseconds that it took. */
 async function scrolls(count) {
@@ -443,7 +527,16 @@ async function longEditor() {
   await verdict(/invalid/)
   await settled()
   show('full size, typed in the middle', [await text('verdict'), await all('#lines .bad', '+it.dataset.line')])
-  for (let i = 0; i < 11; i++) await page.key('Backspace')
+  // The caret is as many lines below the view, and farther than a selection is held.
+  for (const lines of [1_000, 40_000]) {
+    await page.evaluate(`(async () => { const it = document.getElementById('editor')
+      it.scrollTop -= ${lines} * parseFloat(getComputedStyle(document.getElementById('text')).lineHeight)
+      await ${TWO_FRAMES} })()`)
+    await page.key('Backspace')
+    await page.evaluate(TWO_FRAMES)
+    show(`full size, a key ${lines} lines above the caret`, await isInView(40_017))
+  }
+  for (let i = 0; i < 9; i++) await page.key('Backspace')
   await verdict(/accepted/)
   await settled()
   await pressed('a', 2)
@@ -475,12 +568,62 @@ async function edits() {
   }
 }
 
+/** Undoes by keys and by the menu, and makes nothing again that another change took the place of. */
+async function undoing() {
+  const said = [], keep = async () => said.push(await page.evaluate(`document.getElementById('text').value`))
+  const menu = async type => page.evaluate(`document.getElementById('text').dispatchEvent(
+    new InputEvent('beforeinput', { inputType: '${type}', cancelable: true, bubbles: true }))`)
+  await typed('pim 1')
+  await page.type('\ntask 1 10')
+  for (const key of [['z', 2], ['z', 10], ['z', 2]]) { await page.key(...key); await keep() }
+  await page.type('\n')
+  for (const key of [['y', 2], ['z', 2], ['y', 2]]) { await page.key(...key); await keep() }
+  for (const type of ['historyUndo', 'historyRedo']) { await menu(type); await keep() }
+  await settled()
+  show('undone', said)
+}
+
+/** Cuts, presses Enter and composes where all of a long text is selected, and types where it no longer is. */
+async function overAll() {
+  const [[steps, whole]] = Object.entries(input.edited).reverse(), said = []
+  const compose = async () => {
+    await page.call('Input.imeSetComposition', { text: 'か', selectionStart: 1, selectionEnd: 1 })
+    await page.type('漢')
+  }
+  const away = async () => {
+    await page.key('ArrowLeft')
+    await page.evaluate(`(async () => { document.getElementById('editor').scrollTop = 20_000; await ${TWO_FRAMES} })()`)
+    await page.type('x')
+  }
+  const edits = [() => page.evaluate(`document.execCommand('cut')`), () => page.key('Enter'), compose, away]
+  for (const edit of edits) {
+    await page.evaluate(`(${drop})(${JSON.stringify(whole)})`)
+    await verdict(new RegExp(`accepted ${steps}$`))
+    await settled()
+    await page.evaluate(`document.getElementById('text').focus({ preventScroll: true })`)
+    await page.key('a', 2)
+    await edit()
+    await page.evaluate(TWO_FRAMES)
+    await settled()
+    said.push(await page.evaluate(`[document.getElementById('text').value.slice(0, 5),
+      document.getElementById('sheet').style.height]`))
+  }
+  show('over all', [...said.slice(0, 3).map(([value]) => value), said[3][1]])
+}
+
 /** A newer text takes the place of one of full size, however long that one would be judged. */
 async function lastWins() {
   show('256 tasks: milliseconds', await dropped('large', /accepted 65536/))
-  await page.evaluate(`(async () => { await (${drop})(given)
-    const isTaken = () => document.getElementById('main').getAttribute('aria-busy') === 'true'
-    while (!isTaken()) await new Promise(done => setTimeout(done, 1)) })()`)
+  show('256 tasks: the chosen step', (await text('said')).split(':')[0])
+  // The page takes a file as soon as it has read it, and then the other text is chosen.
+  await page.evaluate(`(async () => {
+    const { text } = Blob.prototype
+    const taken = new Promise(done => {
+      Blob.prototype.text = async function () { const read = await text.call(this); setTimeout(done); return read }
+    })
+    await (${drop})(given)
+    await taken
+    Blob.prototype.text = text })()`)
   await choose('ceilings')
   await pause(300)
   show('the last text', [await text('verdict'), await report()])
@@ -520,6 +663,8 @@ async function folds() {
     return gaps })()`))
   await settled()
   show('unfolded', [first.slice(0, 3), (await shown()).pop(), await text('unfold')])
+  await saved('svg')
+  renameSync(`${folder}/trace.svg`, `${folder}/unfolded.svg`)
   await clicked('unfold')
 }
 
@@ -678,7 +823,7 @@ async function spoken() {
 }
 
 try {
-  for (const part of [firstVisit, failures, examples, details, typing, fills, leftEdge, stepping, files, full, longEditor, edits, lastWins, folds, keys, keysOfLines, narrowReplies, byKeyboard, spoken, looks]) await part()
+  for (const part of [firstVisit, failures, examples, graphs, details, typing, fills, leftEdge, stepping, files, full, longEditor, edits, undoing, overAll, lastWins, folds, keys, keysOfLines, narrowReplies, byKeyboard, spoken, looks]) await part()
   const asked = page.heard.filter(it => it.method === 'Network.requestWillBeSent').map(it => it.params.request.url)
   show('requests', asked.filter(url => !/^(data|blob):/.test(url) && url.split('#')[0] !== address))
   const errors = page.heard.filter(it => FAILURES.includes(it.method)).map(it => JSON.stringify(it.params))
