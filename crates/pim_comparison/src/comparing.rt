@@ -1,0 +1,203 @@
+//! From a trace and the kernel's events to what differs.
+ghost use Rattle.std.specs.Prelude.{IfOk};
+ghost use Rattle.pim_comparison.specs.Orders.{IsLongestFirst};
+
+use crate::courses::{Course, courses_of};
+use crate::lists::push;
+use crate::timing::Timing;
+use pim_base::Reason;
+use pim_import::Imported;
+use pim_kernel::{Difference, Mark, Recording, Track, Tracks, differences, widen};
+use pim_log::Log;
+use std::alloc::{AllocError, Global};
+use std::collections::HashMap;
+
+/// A thread ran at another priority than POSIX gives.
+#[derive(Clone, Copy, Debug, PartialEq, Eq)]
+pub struct Found {
+    /// The thread, by its number in the log.
+    pub thread: u32,
+    pub difference: Difference,
+    /// The level that POSIX gives.
+    pub level: u8,
+    /// Why it gives that, in the numbers of the trace.
+    pub reason: Reason,
+}
+
+/// What came of a comparison.
+#[derive(Drop)]
+pub struct Compared {
+    /// Where threads ran at another priority, the one that did so for the longest time first.
+    pub found: Vec<Found>,
+    /// How many threads were compared.
+    pub threads: u64,
+    /// How many waits the log doesn't have as requests: within them no boost is found to be too high.
+    pub unknown: u64,
+    /// How many stretches were left out since the kernel's events of them were lost.
+    pub losses: u64,
+    /// How long these were in all, in nanoseconds.
+    pub lost_time: u64,
+}
+
+/// What a comparison needs.
+#[derive(Drop)]
+struct Sources {
+    tracks: Tracks,
+    timing: Timing,
+    courses: Vec<Course>,
+    /// How many threads of the log had each number of the kernel's.
+    counts: HashMap<u32, u32>,
+}
+
+/// Returns where the threads of a log ran at another priority than POSIX gives for longer than the tolerance, in
+/// nanoseconds.
+///
+/// # Errors
+///
+/// Returns `AllocError` if out of memory.
+pub fn compare(
+    alloc: Global,
+    log: &Log,
+    imported: &Imported,
+    recording: &Recording,
+    tolerance: u64,
+) -> Result<Compared, AllocError>
+    ensures { IfOk result (λ compared. IsLongestFirst compared.found.items) }
+{
+    let sources = sources_of(alloc, log, imported, recording)?;
+    let mut compared = Compared::new(alloc, &sources);
+    for thread in 0..sources.courses.len() {
+        compared.look(alloc, imported, &sources, thread, tolerance)?;
+    }
+    compared.sort();
+    Ok(compared)
+}
+
+fn sources_of(
+    alloc: Global,
+    log: &Log,
+    imported: &Imported,
+    recording: &Recording,
+) -> Result<Sources, AllocError> {
+    let counts = counts_of(alloc, imported)?;
+    let tracks = Tracks::of(alloc, recording)?;
+    let timing = Timing::of(alloc, log, imported, &tracks)?;
+    let courses = courses_of(alloc, imported, &timing)?;
+    Ok(Sources {
+        tracks,
+        timing,
+        courses,
+        counts,
+    })
+}
+
+impl Compared {
+    fn new(alloc: Global, sources: &Sources) -> Compared {
+        Compared {
+            found: Vec::new(alloc),
+            threads: 0,
+            unknown: sources.timing.unknown.len() as u64,
+            losses: sources.tracks.losses,
+            lost_time: sources.tracks.lost_time,
+        }
+    }
+
+    /// Compares a thread. One whose number another thread had, too, is left out: its stretches aren't its own.
+    fn look(
+        &mut self,
+        alloc: Global,
+        imported: &Imported,
+        sources: &Sources,
+        thread: usize,
+        tolerance: u64,
+    ) -> Result<(), AllocError> {
+        let Some(logged) = imported.sources.subjects.threads.get(thread) else {
+            return Ok(());
+        };
+        let Some(track) = sources.tracks.of_task(logged.task) else {
+            return Ok(());
+        };
+        let Some(course) = sources.courses.get(thread) else {
+            return Ok(());
+        };
+        let is_alone = sources.counts.get(&logged.task) == Some(&1);
+        if !is_alone || course.turns.len() < 2 {
+            return Ok(());
+        }
+        self.threads = self.threads.saturating_add(1);
+        let spans = sources.timing.unknown.as_slice();
+        let list = differences_of(alloc, track, course, spans, (imported.ended, tolerance))?;
+        self.take(thread, course, &list)
+    }
+
+    fn take(
+        &mut self,
+        thread: usize,
+        course: &Course,
+        list: &[Difference],
+    ) -> Result<(), AllocError> {
+        for difference in list {
+            if let Some(turn) = course.turns.get(difference.mark) {
+                let found = Found {
+                    thread: thread.min(u32::MAX as usize) as u32,
+                    difference: *difference,
+                    level: turn.mark.level.unwrap_or(0),
+                    reason: turn.reason,
+                };
+                push(&mut self.found, found)?;
+            }
+        }
+        Ok(())
+    }
+
+    /// Puts those first that lasted for the longest time.
+    fn sort(&mut self)
+        ensures { IsLongestFirst self.new.found.items }
+    {
+        self.found
+            .sort_unstable_by_key(|found| u64::MAX - found.difference.ran);
+    }
+}
+
+fn differences_of(
+    alloc: Global,
+    track: &Track,
+    course: &Course,
+    spans: &[(u64, u64)],
+    (ended, tolerance): (u64, u64),
+) -> Result<Vec<Difference>, AllocError> {
+    let marks = marks_of(alloc, course, ended)?;
+    differences(alloc, track.stretches.as_slice(), &marks, spans, tolerance)
+}
+
+/// Returns the marks of a thread. Behind the end of the log any level is right.
+fn marks_of(alloc: Global, course: &Course, ended: u64) -> Result<Vec<Mark>, AllocError> {
+    let mut marks = Vec::new(alloc);
+    for turn in &course.turns {
+        push(&mut marks, turn.mark)?;
+    }
+    let last = Mark {
+        earliest: ended,
+        latest: ended,
+        level: None,
+        is_set: false,
+    };
+    push(&mut marks, last)?;
+    widen(&mut marks);
+    Ok(marks)
+}
+
+/// Returns how many threads of the log had each number of the kernel's.
+fn counts_of(alloc: Global, imported: &Imported) -> Result<HashMap<u32, u32>, AllocError> {
+    let mut counts = HashMap::new(alloc);
+    for thread in &imported.sources.subjects.threads {
+        let before: u32 = counts.get(&thread.task).copied().unwrap_or(0);
+        if counts
+            .insert(thread.task, before.saturating_add(1))
+            .is_err()
+        {
+            return Err(AllocError);
+        }
+    }
+    Ok(counts)
+}

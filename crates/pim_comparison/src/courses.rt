@@ -1,0 +1,214 @@
+//! The priority of each thread after each step of a trace.
+
+use crate::lists::push;
+use crate::timing::Timing;
+use pim_base::{Op, Prio, Protocol, Reason, Step, TaskNo};
+use pim_import::{Entrance, Imported, Piece};
+use pim_kernel::Mark;
+use pim_manager::{ChangedTasks, Manager};
+use std::alloc::{AllocError, Global};
+
+/// The priority of a thread from some step on.
+#[derive(Clone, Copy, Debug, PartialEq, Eq)]
+pub struct Turn {
+    pub mark: Mark,
+    /// Why it has that priority.
+    pub reason: Reason,
+}
+
+/// The priorities of a thread, the earliest first. The first allows any.
+#[derive(Drop)]
+pub struct Course {
+    pub turns: Vec<Turn>,
+}
+
+/// The way along the steps of a trace.
+#[derive(Drop)]
+struct Walk {
+    /// By thread.
+    courses: Vec<Course>,
+    /// By task the thread that has its number now, or 0.
+    threads: Vec<u32>,
+    /// How many of those who appear have appeared.
+    entered: usize,
+    /// How many steps there were, without those that restore a state.
+    steps: u64,
+    /// The level of each priority.
+    levels: [u8; 100],
+}
+
+/// Returns the priorities of each thread, by its number in the log.
+///
+/// # Errors
+///
+/// Returns `AllocError` if out of memory.
+pub fn courses_of(
+    alloc: Global,
+    imported: &Imported,
+    timing: &Timing,
+) -> Result<Vec<Course>, AllocError> {
+    let mut walk = Walk::new(alloc, imported)?;
+    let mut changed = ChangedTasks::new(alloc)?;
+    for piece in &imported.performed.pieces {
+        walk.follow(alloc, imported, timing, piece, &mut changed)?;
+    }
+    let Walk { courses, .. } = walk;
+    Ok(courses)
+}
+
+impl Walk {
+    fn new(alloc: Global, imported: &Imported) -> Result<Walk, AllocError> {
+        let mut courses = Vec::new(alloc);
+        for _thread in &imported.sources.subjects.threads {
+            let mut turns = Vec::new(alloc);
+            push(&mut turns, make_turn(None, Reason::Base, (0, 0), false))?;
+            push(&mut courses, Course { turns })?;
+        }
+        Ok(Walk {
+            courses,
+            threads: vec![in alloc; 0; 257]?,
+            entered: 0,
+            steps: 0,
+            levels: levels_of(imported),
+        })
+    }
+
+    /// Makes the steps of a piece.
+    fn follow(
+        &mut self,
+        alloc: Global,
+        imported: &Imported,
+        timing: &Timing,
+        piece: &Piece,
+        changed: &mut ChangedTasks,
+    ) -> Result<(), AllocError> {
+        let replay = &piece.replay;
+        let Ok(mut manager) = Manager::new(alloc, replay.bases(), replay.protocols()) else {
+            return Err(AllocError);
+        };
+        let entries = replay.entries();
+        for place in 0..entries.len() {
+            let time = piece.times.get(place).copied().unwrap_or(0);
+            let bounds = timing.of_step(time);
+            if place >= piece.restoring {
+                self.enter(imported, &manager, bounds)?;
+                self.steps = self.steps.saturating_add(1);
+            }
+            let step = &entries[place].step;
+            let set = set_by(step, &manager);
+            let _done = manager.step_with_changes(*step, changed);
+            for one in changed.as_slice() {
+                let is_set = one.task == set;
+                self.note(one.task, Some(one.prio), one.reason, bounds, is_set)?;
+            }
+        }
+        Ok(())
+    }
+
+    /// Lets those appear who do so before the next step.
+    fn enter(
+        &mut self,
+        imported: &Imported,
+        manager: &Manager,
+        bounds: (u64, u64),
+    ) -> Result<(), AllocError> {
+        let entrances = imported.performed.entrances.as_slice();
+        for place in self.entered..entrances.len() {
+            let entrance = entrances[place];
+            if entrance.step > self.steps {
+                break;
+            }
+            self.entered = place + 1;
+            self.appear(imported, manager, &entrance, bounds)?;
+        }
+        Ok(())
+    }
+
+    /// Lets a thread appear. The one that had its number leaves.
+    fn appear(
+        &mut self,
+        imported: &Imported,
+        manager: &Manager,
+        entrance: &Entrance,
+        bounds: (u64, u64),
+    ) -> Result<(), AllocError> {
+        if entrance.thread == 0 {
+            return Ok(());
+        }
+        let task = TaskNo(imported.numbering.threads.of(entrance.thread));
+        self.note(task, None, Reason::Base, bounds, false)?;
+        let place = task.get() as usize;
+        if place < self.threads.len() {
+            self.threads[place] = entrance.thread;
+        }
+        let reason = manager.reason(task).unwrap_or(Reason::Base);
+        self.note(task, manager.effective(task), reason, bounds, false)
+    }
+
+    /// Keeps the priority that the thread of a task has from now on.
+    fn note(
+        &mut self,
+        task: TaskNo,
+        prio: Option<Prio>,
+        reason: Reason,
+        bounds: (u64, u64),
+        is_set: bool,
+    ) -> Result<(), AllocError> {
+        let thread = match self.threads.get(task.get() as usize) {
+            Some(thread) => *thread as usize,
+            None => 0,
+        };
+        if thread == 0 || thread >= self.courses.len() {
+            return Ok(());
+        }
+        let level = match prio {
+            Some(prio) => self.levels.get(prio.get() as usize).copied(),
+            None => None,
+        };
+        let next = make_turn(level, reason, bounds, is_set);
+        push(&mut self.courses[thread].turns, next)
+    }
+}
+
+fn make_turn(level: Option<u8>, reason: Reason, bounds: (u64, u64), is_set: bool) -> Turn {
+    let (earliest, latest) = bounds;
+    Turn {
+        mark: Mark {
+            earliest,
+            latest,
+            level,
+            is_set,
+        },
+        reason,
+    }
+}
+
+/// Returns the task whose own priority a step sets: that of a new base, or that which locks or unlocks a PROTECT mutex,
+/// since glibc sets it then. 0: none.
+fn set_by(step: &Step, manager: &Manager) -> TaskNo {
+    match &step.op {
+        Op::SetBase(task, _) => *task,
+        Op::Lock(mutex) | Op::Try(mutex) | Op::Unlock(mutex) => {
+            match manager.protocol(*mutex) {
+                Some(Protocol::Protect(_)) => step.actor,
+                _ => TaskNo(0),
+            }
+        }
+        Op::ReleaseAll => step.actor,
+        Op::Cancel(_) | Op::SetCeiling(..) => TaskNo(0),
+    }
+}
+
+/// Returns the level that each priority of the trace stands for.
+fn levels_of(imported: &Imported) -> [u8; 100] {
+    let mut levels = [0u8; 100];
+    for level in 0..101u8 {
+        if imported.sources.subjects.levels[level as usize] {
+            let prio = imported.priorities.of_level(level).get() as usize;
+            if prio < 100 {
+                levels[prio] = level;
+            }
+        }
+    }
+    levels
+}

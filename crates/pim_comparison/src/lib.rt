@@ -1,0 +1,23 @@
+//! Whether the threads of a recorded program ran at the priorities that POSIX gives them.
+//!
+//! A trace of [`import_log`](pim_import::import_log) says which priority each thread should have after each step, and a
+//! [`Recording`](pim_kernel::Recording) at which it ran. [`compare`] returns where these differ for longer than a
+//! tolerance.
+//!
+//! ```text
+//! let recording = Recording::read(alloc, &bytes)?;
+//! let compared = compare(alloc, &log, &imported, &recording, 50_000)?;
+//! compared.found.first(); // Some: a thread that ran at another priority, and for how long
+//! ```
+//!
+//! `timing.rt` has when each step was done: a release at FUTEX_UNLOCK_PI, a grant at the return of FUTEX_LOCK_PI, where the
+//! kernel's events have these calls, else a grant at some time in its call. `courses.rt` has the priority of each thread
+//! after each step. It is proved that the longest difference comes first; that each one is right is tested.
+#![tactic(auto)]
+
+mod comparing;
+mod courses;
+mod lists;
+mod timing;
+
+pub use comparing::{Compared, Found, compare};
