@@ -627,6 +627,19 @@ async function lastWins() {
   await choose('ceilings')
   await pause(300)
   show('the last text', [await text('verdict'), await report()])
+  await choose('inversion_avoided')
+  await page.evaluate(`(async () => {
+    const { text } = Blob.prototype, it = document.getElementById('examples')
+    let read
+    const until = new Promise(done => { read = done })
+    Blob.prototype.text = async function () { await until; return text.call(this) }
+    await (${drop})(given)
+    it.value = 'ceilings'
+    it.onchange()
+    read()
+    Blob.prototype.text = text })()`)
+  await pause(300)
+  show('a file that is read after a later text', [await text('verdict'), await report()])
 }
 
 /** Of many tasks, those that no step names are folded. */

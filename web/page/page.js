@@ -261,6 +261,7 @@ async function addBars(it) {
 
 /** Shows this text. */
 function take(text) {
+  comings++
   showStart(false)
   editor.set(text)
   $('time').scrollLeft = $('time').scrollTop = $('report').scrollTop = 0
@@ -269,6 +270,7 @@ function take(text) {
 
 /** Judges what was typed, and shows it in the next frame, before the answer or with it. */
 function typed() {
+  comings++
   $('examples').value = ''
   $('about-example').textContent = ''
   editor.changed()
@@ -277,6 +279,8 @@ function typed() {
 }
 
 // ---- the address, files, examples
+
+let comings = 0   // how many texts came: typed, chosen or opened
 
 let keeping = 0
 function keepInAddress() {
@@ -296,8 +300,13 @@ function inAddress() {
   try { return decodeURIComponent(location.hash.slice(7)) } catch { return null }
 }
 
+/** Shows a file, unless another text came while it was read. */
 async function openFile(file) {
-  if (file) take(await file.text())
+  if (!file) return
+  const mine = ++comings
+  const text = await file.text()
+  if (mine !== comings) return
+  take(text)
   $('examples').value = ''
 }
 
