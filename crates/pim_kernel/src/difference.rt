@@ -62,7 +62,8 @@ struct Sweep {
 
 impl Sweep {
     /// Compares what is certain of a stretch with the marks from this place on. While a mark may begin that sets the
-    /// task's priority, the level isn't known; before it is that of the begin, and behind it that of the end.
+    /// task's priority, the level isn't known; before it is that of the begin, if a line shows that, and behind it
+    /// that of the end.
     fn compare(
         &mut self,
         marks: &[Mark],
@@ -78,12 +79,13 @@ impl Sweep {
             return Ok(());
         }
         let mut part = *stretch;
-        part.end = first.min(stretch.end);
-        part.after = stretch.before;
-        self.compare_part(marks, spans, &part, from)?;
+        if stretch.is_shown {
+            part.end = first.min(stretch.end);
+            part.after = stretch.before;
+            self.compare_part(marks, spans, &part, from)?;
+        }
         part = *stretch;
         part.begin = last.max(stretch.begin);
-        part.before = stretch.after;
         self.compare_part(marks, spans, &part, from)
     }
 

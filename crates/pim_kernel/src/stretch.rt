@@ -14,5 +14,7 @@ pub struct Stretch {
     /// The number of the line that shows that it ran until then, at which priority.
     pub last_line: u64,
     pub before: u8,
+    /// Whether a line shows `before`. If not, the task woke on an idle CPU, and that is the priority with which it stopped.
+    pub is_shown: bool,
     pub after: u8,
 }

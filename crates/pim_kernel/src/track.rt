@@ -41,6 +41,8 @@ pub struct Track {
     since: Option<Sign>,
     /// Its level, as far as that is known.
     level: Option<u8>,
+    /// Whether a line shows that level since the task runs.
+    is_shown: bool,
 }
 
 impl Track {
@@ -53,6 +55,7 @@ impl Track {
             preempted: Vec::new(alloc),
             since: None,
             level: None,
+            is_shown: false,
         }
     }
 
@@ -62,10 +65,11 @@ impl Track {
         self.level = None;
     }
 
-    /// The task runs.
+    /// The task runs. If no line shows since when, a thread may have set its level since it stopped.
     pub(crate) fn see(&mut self, sign: Sign) {
         if self.since.is_none() {
             self.since = Some(sign);
+            self.is_shown = false;
         }
     }
 
@@ -73,6 +77,7 @@ impl Track {
     pub(crate) fn enter(&mut self, sign: Sign, level: u8) {
         self.since = Some(sign);
         self.level = Some(level);
+        self.is_shown = true;
     }
 
     /// The task stops, at this level.
@@ -100,10 +105,11 @@ impl Track {
             self.since = Some(sign);
         }
         self.level = Some(after);
+        self.is_shown = true;
         Ok(())
     }
 
-    /// Keeps the stretch that ends, if its level at the begin is known.
+    /// Keeps the stretch that ends, if a level before it is known.
     fn end_stretch(&mut self, sign: Sign, after: u8) -> Result<(), AllocError> {
         match (self.since, self.level) {
             (Some(since), Some(before)) => self.stretches.add(Stretch {
@@ -112,6 +118,7 @@ impl Track {
                 first_line: since.line,
                 last_line: sign.line,
                 before,
+                is_shown: self.is_shown,
                 after,
             }),
             _ => Ok(()),

@@ -10,6 +10,7 @@ const RAN: [(u64, u64, u8, u8); 3] = [(100, 200, 60, 60), (300, 400, 60, 60), (5
 /// When each mark begins, at the earliest and at the latest, and its level. 200 stands for any.
 type Row = (u64, u64, u8);
 
+/// Compares stretches, as rows of begin, end and both levels, with marks. That at 501 begins with a level that no line shows.
 fn compare(
     alloc: Global,
     ran: &[(u64, u64, u8, u8)],
@@ -27,6 +28,7 @@ fn compare(
             first_line: line,
             last_line: line.saturating_add(1),
             before: *before,
+            is_shown: *begin != 501,
             after: *after,
         };
         if stretches.push(stretch).is_err() {
@@ -114,6 +116,21 @@ fn level_is_known_before_and_behind_a_set_priority(rt: HostRuntime) -> Result<()
     assert!(rt; list.as_slice() == wanted.as_slice());
     let list = compare(rt.alloc(), &ran, &[(0, 0, 60), (540, 560, 10)], &[], 0)?;
     assert!(rt; list.is_empty());
+    Ok(())
+}
+
+/// The task stopped at 60, and no line shows its level at 501. So only behind the mark at 560 it is known.
+#[test]
+fn level_at_the_begin_is_known_only_by_a_line(rt: HostRuntime) -> Result<(), Fail> {
+    let marks = [(0, 0, 20), (540, 560, 30)];
+    let list = compare(rt.alloc(), &[(501, 600, 60, 10)], &marks, &[], 0)?;
+    let wanted = [found(10, 1, (560, 600), 40, (10, 11))];
+    assert!(rt; list.as_slice() == wanted.as_slice());
+    let list = compare(rt.alloc(), &[(501, 600, 60, 10)], &[(0, 0, 20)], &[], 0)?;
+    assert!(rt; list.is_empty());
+    let list = compare(rt.alloc(), &[(501, 600, 60, 60)], &[(0, 0, 20)], &[], 0)?;
+    let wanted = [found(60, 0, (501, 600), 99, (10, 11))];
+    assert!(rt; list.as_slice() == wanted.as_slice());
     Ok(())
 }
 

@@ -64,7 +64,7 @@ fn ran(alloc: Global, text: &str, task: u32) -> Result<Vec<Stretch>, AllocError>
     Ok(rows)
 }
 
-/// Returns a stretch: when, which lines show it, and its levels at the begin and at the end.
+/// Returns a stretch: when, which lines show it, and its levels at the begin and at the end. A line shows both.
 fn row(times: (u64, u64), lines: (u64, u64), levels: (u8, u8)) -> Stretch {
     let (begin, end) = times;
     let (first_line, last_line) = lines;
@@ -75,6 +75,7 @@ fn row(times: (u64, u64), lines: (u64, u64), levels: (u8, u8)) -> Stretch {
         first_line,
         last_line,
         before,
+        is_shown: true,
         after,
     }
 }
@@ -95,7 +96,10 @@ fn owner_runs_at_its_base_and_with_a_boost(rt: HostRuntime) -> Result<(), Fail> 
 fn waiter_runs_again_as_its_call_returns(rt: HostRuntime) -> Result<(), Fail> {
     let wanted = [
         row((140, 170), (9, 12), (60, 60)),
-        row((330, 350), (16, 17), (60, 60)),
+        Stretch {
+            is_shown: false,
+            ..row((330, 350), (16, 17), (60, 60))
+        },
     ];
     let rows = ran(rt.alloc(), BOOST, 12)?;
     assert!(rt; rows.as_slice() == wanted.as_slice());
