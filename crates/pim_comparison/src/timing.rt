@@ -105,7 +105,9 @@ impl Timing {
                 };
                 self.put(next.time, (earliest, next.time))
             }
-            Event::Priority | Event::Thread | Event::Failed | Event::Ceiling => {
+            // A virtual CPU that stalls behind the call delays the record of it, which no event shows.
+            Event::Priority | Event::Ceiling => self.put(next.time, (record.time, next.time)),
+            Event::Thread | Event::Failed => {
                 let earliest = earliest_of(track, record.time, next.time);
                 self.put(next.time, (earliest, next.time))
             }

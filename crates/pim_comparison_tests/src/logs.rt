@@ -10,6 +10,8 @@ pub const THREAD: u8 = 1;
 
 pub const EXIT: u8 = 4;
 
+pub const PRIORITY: u8 = 5;
+
 pub const REQUEST: u8 = 20;
 
 pub const GRANTED: u8 = 21;
@@ -26,6 +28,9 @@ pub const PROTECT_40: u16 = 0x2844;
 pub const FIFO_10: u16 = 0x0a01;
 
 pub const FIFO_40: u16 = 0x2801;
+
+/// The detail of a priority whose policy is as it was.
+pub const KEPT_20: u16 = 0x140f;
 
 /// The bytes of a chunk.
 const CHUNK: usize = 16384;
