@@ -59,6 +59,17 @@ FINDINGS = {
         ["not bounded"]),
     "many": (0, [r"trace: .*; priorities as they are, SCHED_OTHER at 1"], ["not bounded", "deadlock"]),
 }
+# Recordings that are kept with the kernel's events: their status, their first lines, and what each must have. In lost_boost
+# of conform/programs the owner's boost to 40 is lost as its base is set to 20. By lines 376 and 377 of its events the owner,
+# 855, runs at 20 (79 of the kernel's) from 4204640730200 on, and unlocks at 4204645748165, 5.017965 ms later, while the
+# third task of the trace, at 40, waits. The log began at 4203879842099. The boosts of chain are those of POSIX.
+KERNEL = {
+    "kernel_lost_boost": (1, [
+        "lost_boost[855] ran at 20 for 5.017 ms from 0.760888 s on, POSIX gives 40 (waiter 3 mutex 1)",
+        "    line 376: 4204640730200 3 910 switch 69 X 855 79",
+        "    line 379: 4204645769181 3 855 switch 79 R 859 59"], 1),
+    "kernel_chain": (0, [], 0),
+}
 # Recordings that are kept, of the programs above.
 STORED = {"chain": "chain", "ceiling": "ceiling", "recursive": "recursive", "condition": "condition",
           "forks": "forks", "aborts": "aborts", "deadlock": "deadlock", "inversion inherit 2000": "inversion_inherit"}
@@ -159,6 +170,43 @@ def stored(folder):
         check(f"the findings of {name}.log", why or missing(found.lines, wanted, unwanted) or found.uncounted() or found.rejected())
     found = Import(shutil.copy(ROOT / "record/recorded/random.log", folder))
     check("pim accepts what is imported of random.log", found.uncounted() or found.rejected())
+
+
+def kernel(folder):
+    """Where the kernel's events differ from the trace, by recordings that are kept; and the options for that."""
+    for name, (status, first, count) in KERNEL.items():
+        log = pathlib.Path(shutil.copy(ROOT / f"record/recorded/{name}.log", folder))
+        events = pathlib.Path(shutil.copy(ROOT / f"record/recorded/{name}.log.kernel", folder))
+        found = Import(log)
+        ran = [line for line in found.lines if " ran at " in line]
+        why = difference([found.status, found.lines[:len(first)], len(ran)], [status, first, count])
+        check(f"what differs in {name}", why or missing(found.lines, ["kernel: 3 threads compared"], []) or found.rejected())
+        if count:
+            kernel_options(log, events)
+
+
+def kernel_options(log, events):
+    """The lost boost lasts for 5.017965 ms: it doesn't exceed a tolerance of that."""
+    kept = [(words, Import(log, *words).status) for words in (
+        ["--tolerance", "5017us"], ["--tolerance", "5018"], ["--tolerance", "5017965ns"], ["--tolerance=5017964ns"],
+        ["--tolerance", "6ms"], ["--tolerance", "1s"], ["--tolerance", "soon"], ["--tolerance", "us"], ["--tolerance", "5m"])]
+    check("--tolerance", difference([status for _, status in kept], [1, 0, 0, 1, 0, 0, 2, 2, 2]))
+    one = json.loads(Import(log, "--json").text)["differences"][0]
+    keys = ("ran_at", "priority", "reason", "began", "ran", "first_line", "last_line")
+    wanted = [20, 40, "waiter 3 mutex 1", 4204640730200, 5017965, 376, 379]
+    check("--json has what differs", difference([one[key] for key in keys], wanted))
+    other = events.rename(events.with_name("events"))
+    check("without LOG.kernel nothing is compared", difference([Import(log).status, " ran at " in Import(log).text], [0, False]))
+    check("--kernel names another file", difference([Import(log, "--kernel", other).status], [1]))
+    lines = other.read_text().splitlines(keepends=True)
+    other.write_text("".join(lines[:40] + ["no event\n"] + lines[41:]))
+    said = Import(log, "--kernel", other)
+    check("a wrong line is named", difference([said.status, said.said],
+                                              [2, f"pim-import: {other}: line 41: it has no form of version 1\n"]))
+    other.write_text("".join(lines[:370]))
+    early = Import(log, "--kernel", other)
+    check("events that end early are compared as far as they go",
+          difference([early.status, "the events aren't whole" in early.text], [0, True]))
 
 
 def options(plain):
@@ -310,6 +358,6 @@ def built():
 def imports(folder):
     if not built():
         return check("the importer is built", "it isn't")
-    for part in (programs, stored, real, long, damaged, command_line):
+    for part in (programs, stored, kernel, real, long, damaged, command_line):
         part(folder)
     return None

@@ -15,6 +15,10 @@ pub struct Arguments {
     pub is_all: bool,
     /// Whether the findings are written as JSON.
     pub is_json: bool,
+    /// The path of the kernel's events. Empty: they are next to the log, if there are any.
+    pub kernel: String,
+    /// For how many nanoseconds a thread may run at another priority than POSIX gives.
+    pub tolerance: u64,
 }
 
 /// What the arguments ask for.
@@ -45,6 +49,8 @@ further one begins with steps that restore the state. LOG.names says which threa
 when each step happened.
 
 The findings go to standard output, a line each:
+  with LOG.kernel, which pim-record --kernel writes: threads that ran at another priority than POSIX gives, for longer
+  than the tolerance, each with the lines of LOG.kernel that show it. TIME is in microseconds, or has a unit: 200us, 1ms
   the longest waits: who waited for which mutex, who owned it, at which priorities; and what bounds the wait. A wait of
   a thread for a lower one at a NONE mutex is not bounded: any thread between them can make it longer
   the NONE mutexes at which that happened, with the place where each was initialised: these should inherit
@@ -55,8 +61,9 @@ The findings go to standard output, a line each:
 
 Priorities are those of SCHED_FIFO and SCHED_RR; threads of all other policies are below them.
 
-Exit status: 0 nothing is wrong, 1 a wait that is not bounded or a deadlock, 2 any fault: no log, a damaged log, a log
-that contradicts itself (with the record), a file that can't be read or written, out of memory.";
+Exit status: 0 nothing is wrong, 1 a wait that is not bounded, a deadlock, or a thread that ran at another priority, 2
+any fault: no log, a damaged log, a log that contradicts itself (with the record), damaged events of the kernel (with the
+line), a file that can't be read or written, out of memory.";
 
 /// Returns what the arguments ask for. Where they ask for a text, or are wrong, it shows that.
 ///
@@ -80,6 +87,7 @@ pub fn read_arguments(rt: &HostRuntime) -> Result<Asked, Fault> {
         }
     }
     match parsed(alloc, words.as_slice()) {
+        Ok(arguments) if arguments.tolerance == u64::MAX => Err(Fault::Tolerance),
         Ok(arguments) => Ok(Asked::Import(arguments)),
         Err(error) if error.kind() == ErrorKind::OutOfMemory => Err(Fault::Memory),
         Err(error) => {
@@ -100,14 +108,47 @@ fn words_of(rt: &HostRuntime, alloc: Global) -> io::Result<Vec<String>> {
 fn parsed(alloc: Global, words: &[&str]) -> Result<Arguments, Error> {
     let matches = command(alloc)?.try_get_matches_from(words)?;
     Ok(Arguments {
-        log: text_of(alloc, &matches)?,
+        log: text_of(alloc, &matches, "log")?,
         is_all: matches.get_flag("all"),
         is_json: matches.get_flag("json"),
+        kernel: text_of(alloc, &matches, "kernel")?,
+        tolerance: tolerance_of(&matches),
     })
 }
 
-fn text_of(alloc: Global, matches: &ArgMatches) -> Result<String, AllocError> {
-    String::from_str(alloc, matches.get_str("log").unwrap_or(""))
+fn text_of(alloc: Global, matches: &ArgMatches, name: &str) -> Result<String, AllocError> {
+    String::from_str(alloc, matches.get_str(name).unwrap_or(""))
+}
+
+/// Returns the tolerance in nanoseconds: 50 us where none is given, `u64::MAX` where it is no duration.
+fn tolerance_of(matches: &ArgMatches) -> u64 {
+    match matches.get_str("tolerance") {
+        Some(text) => duration_of(text.as_bytes()).unwrap_or(u64::MAX),
+        None => 50_000,
+    }
+}
+
+/// Returns the nanoseconds of a duration: a whole number, in microseconds unless ns, us, ms or s follows.
+fn duration_of(text: &[u8]) -> Option<u64> {
+    let mut number = 0u64;
+    let mut digits = 0usize;
+    for byte in text {
+        if !byte.is_ascii_digit() {
+            break;
+        }
+        let digit = u64::from(byte.saturating_sub(b'0'));
+        number = number.checked_mul(10)?.checked_add(digit)?;
+        digits = digits.saturating_add(1);
+    }
+    let unit = match text.get(digits..)? {
+        _ if digits == 0 => return None,
+        b"ns" => 1u64,
+        b"" | b"us" => 1_000,
+        b"ms" => 1_000_000,
+        b"s" => 1_000_000_000,
+        _ => return None,
+    };
+    number.checked_mul(unit)
 }
 
 /// Returns the program's command line.
@@ -125,6 +166,16 @@ fn command<'a>(alloc: Global) -> Result<Command<'a>, AllocError> {
         .long("json")
         .help("Write the findings as JSON")
         .action(ArgAction::SetTrue);
+    let kernel = Arg::new(alloc, "kernel")
+        .long("kernel")
+        .value_name("FILE")
+        .help("The kernel's events, in place of LOG.kernel")
+        .action(ArgAction::Set);
+    let tolerance = Arg::new(alloc, "tolerance")
+        .long("tolerance")
+        .value_name("TIME")
+        .help("How long a thread may run at another priority: 50us unless set")
+        .action(ArgAction::Set);
     Command::new(alloc, PROGRAM)
         .about(
             "Make a trace of a recorded program, and say who waited for whom, at which priorities",
@@ -133,5 +184,7 @@ fn command<'a>(alloc: Global) -> Result<Command<'a>, AllocError> {
         .after_help(MORE)
         .arg(log)?
         .arg(all)?
-        .arg(json)
+        .arg(json)?
+        .arg(kernel)?
+        .arg(tolerance)
 }

@@ -1,6 +1,7 @@
 //! Why a log isn't imported.
 
 use pim_import::ImportFault;
+use pim_kernel::TextFault;
 use pim_log::LogFault;
 use std::alloc::AllocError;
 use thiserror::Error;
@@ -20,6 +21,12 @@ pub enum Fault {
     /// The log can't be told as a trace.
     #[error("{0}")]
     Import(ImportFault),
+    /// The kernel's events can't be read.
+    #[error("{0}: {1}")]
+    Kernel(String, TextFault),
+    /// The tolerance is no duration.
+    #[error("the tolerance is no time, as 50us or 1ms")]
+    Tolerance,
     /// An argument isn't text.
     #[error("an argument is not UTF-8")]
     Argument,

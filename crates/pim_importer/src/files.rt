@@ -46,6 +46,23 @@ pub fn read_log(rt: &HostRuntime, alloc: Global, path: &str) -> Result<Vec<u8>, 
     Ok(all)
 }
 
+/// Reads a whole file.
+///
+/// # Errors
+///
+/// Returns `Read` if the file can't be read, and `Memory` if out of memory.
+pub fn read_file(rt: &HostRuntime, alloc: Global, path: &str) -> Result<Vec<u8>, Fault> {
+    match fs::read(rt, path) {
+        Ok(bytes) => Ok(bytes),
+        Err(_) => Err(Fault::Read(String::from_str(alloc, path)?)),
+    }
+}
+
+/// Returns whether there is a file.
+pub fn is_file(rt: &HostRuntime, path: &str) -> bool {
+    fs::open(rt, path).is_ok()
+}
+
 /// Reads into the bytes from a place on, until they are full or the file ends.
 fn fill(file: &mut File, bytes: &mut [u8], from: usize) -> io::Result<()> {
     let mut begin = from;

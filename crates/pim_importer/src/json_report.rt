@@ -1,9 +1,11 @@
 //! The findings as JSON.
 
 use crate::fault::Fault;
+use crate::kernel::{Kernel, put_reason};
 use crate::labels::Labels;
 use crate::words::{Told, family_of, found_of, mutexes, put_place};
 use json::Writer;
+use pim_comparison::Found;
 use pim_import::{FoundMutex, FoundWait, Imported, LeftOut, blocker_of};
 use pim_log::Log;
 use std::alloc::{AllocError, Global};
@@ -19,6 +21,7 @@ pub fn json_of(
     log: &Log,
     imported: &Imported,
     labels: &Labels,
+    kernel: Option<&Kernel>,
 ) -> Result<String, Fault> {
     let told = Told {
         imported,
@@ -26,7 +29,7 @@ pub fn json_of(
         began: log.header().began,
     };
     let mut out = Writer::new(Vec::new(alloc));
-    put_all(alloc, &mut out, &told, log)?;
+    put_all(alloc, &mut out, &told, log, kernel)?;
     let mut text = match String::from_utf8(out.into_inner()) {
         Ok(text) => text,
         Err(_) => return Err(Fault::Memory),
@@ -40,11 +43,15 @@ fn put_all(
     out: &mut Writer<Global>,
     told: &Told,
     log: &Log,
+    kernel: Option<&Kernel>,
 ) -> Result<(), AllocError> {
     let performed = &told.imported.performed;
     out.begin_object()?;
     put_number(out, "began", log.header().began)?;
     put_number(out, "ended", told.imported.ended)?;
+    if let Some(kernel) = kernel {
+        put_kernel(alloc, out, told, kernel)?;
+    }
     put_number(out, "waits", performed.findings.waits)?;
     out.key("longest_waits")?;
     out.begin_array()?;
@@ -63,6 +70,46 @@ fn put_all(
     out.end_array()?;
     put_deadlocks(alloc, out, told)?;
     put_left_out(out, told, log)?;
+    out.end_object()
+}
+
+/// Writes where threads ran at another priority, the longest difference first.
+fn put_kernel(
+    alloc: Global,
+    out: &mut Writer<Global>,
+    told: &Told,
+    kernel: &Kernel,
+) -> Result<(), AllocError> {
+    out.key("differences")?;
+    out.begin_array()?;
+    for found in &kernel.compared.found {
+        put_found(alloc, out, told, found)?;
+    }
+    out.end_array()?;
+    put_number(out, "threads_compared", kernel.compared.threads)?;
+    put_number(out, "waits_not_in_the_log", kernel.compared.unknown)?;
+    put_number(out, "kernel_events_lost", kernel.lost)?;
+    put_bool(out, "kernel_events_whole", kernel.is_whole)
+}
+
+fn put_found(
+    alloc: Global,
+    out: &mut Writer<Global>,
+    told: &Told,
+    found: &Found,
+) -> Result<(), AllocError> {
+    out.begin_object()?;
+    put_thread(alloc, out, told, "thread", found.thread)?;
+    put_number(out, "ran_at", found.difference.level as u64)?;
+    put_number(out, "priority", found.level as u64)?;
+    let mut reason = String::new(alloc);
+    put_reason(&mut reason, found.reason)?;
+    put_string(out, "reason", reason.as_str())?;
+    put_number(out, "began", found.difference.begin)?;
+    put_number(out, "ended", found.difference.end)?;
+    put_number(out, "ran", found.difference.ran)?;
+    put_number(out, "first_line", found.difference.first_line)?;
+    put_number(out, "last_line", found.difference.last_line)?;
     out.end_object()
 }
 

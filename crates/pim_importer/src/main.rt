@@ -9,6 +9,7 @@ mod arguments;
 mod fault;
 mod files;
 mod json_report;
+mod kernel;
 mod labels;
 mod names;
 mod report;
@@ -18,16 +19,17 @@ use crate::arguments::{Arguments, Asked, read_arguments};
 use crate::fault::Fault;
 use crate::files::{read_log, write_names, write_traces};
 use crate::json_report::json_of;
+use crate::kernel::{Kernel, kernel_of};
 use crate::labels::Labels;
 use crate::report::report_of;
-use pim_import::import_log;
+use pim_import::{Imported, import_log};
 use pim_log::Log;
 use std::alloc::Global;
 use std::io;
 use std::process::ExitCode;
 use std::rt::Files;
 
-/// The exit status where a wait that nothing bounds was found, or a deadlock.
+/// The exit status where a wait that nothing bounds was found, a deadlock, or a thread that ran at another priority.
 const FOUND: u8 = 1;
 
 /// The exit status for a fault, and for a wrong command line.
@@ -58,21 +60,31 @@ fn import(rt: &HostRuntime, alloc: Global, arguments: &Arguments) -> Result<u8, 
     let log = Log::read(alloc, &bytes)?;
     let imported = import_log(alloc, &log, arguments.is_all)?;
     let labels = Labels::of(alloc, &log, &imported.sources.subjects)?;
+    let kernel = kernel_of(rt, alloc, arguments, &log, &imported)?;
     write_traces(rt, alloc, arguments.log.as_str(), &imported)?;
     write_names(rt, alloc, arguments.log.as_str(), &imported, &labels)?;
     let text = if arguments.is_json {
-        json_of(alloc, &log, &imported, &labels)?
+        json_of(alloc, &log, &imported, &labels, kernel.as_ref())?
     } else {
-        report_of(alloc, &log, &imported, &labels)?
+        report_of(alloc, &log, &imported, &labels, kernel.as_ref())?
     };
     if print(rt, &text).is_err() {
         return Err(Fault::Write);
     }
-    Ok(if imported.performed.findings.is_bad() {
+    Ok(status_of(&imported, kernel.as_ref()))
+}
+
+/// Returns the exit status of an import.
+fn status_of(imported: &Imported, kernel: Option<&Kernel>) -> u8 {
+    let differs = match kernel {
+        Some(kernel) => !kernel.compared.found.is_empty(),
+        None => false,
+    };
+    if differs || imported.performed.findings.is_bad() {
         FOUND
     } else {
         0
-    })
+    }
 }
 
 /// Writes a text to standard output.

@@ -1,5 +1,6 @@
 //! The findings as lines of text.
 
+use crate::kernel::{Kernel, put_compared, put_differences};
 use crate::labels::Labels;
 use crate::words::{
     Told, family_of, found_of, mutexes, put_duration, put_level, put_moment, put_mutex, put_place,
@@ -14,8 +15,13 @@ const UNKNOWN: &str = "\
 not known: locks other than POSIX mutexes, waits at the end of a condition wait, and what the kernel did
 ";
 
-/// Returns the findings, a line each: the longest waits, the mutexes to convert, hand-overs out of order, the longest
-/// ownerships, deadlocks, what was left out, and what the trace has.
+/// What it can't know that the kernel's events don't show either.
+const STILL_UNKNOWN: &str = "\
+not known: locks other than POSIX mutexes, and who owned the mutex of a wait that the log lacks
+";
+
+/// Returns the findings, a line each: where the kernel's events differ, the longest waits, the mutexes to convert,
+/// hand-overs out of order, the longest ownerships, deadlocks, what was left out, and what the trace has.
 ///
 /// # Errors
 ///
@@ -25,6 +31,7 @@ pub fn report_of(
     log: &Log,
     imported: &Imported,
     labels: &Labels,
+    kernel: Option<&Kernel>,
 ) -> Result<String, AllocError> {
     let told = Told {
         imported,
@@ -32,12 +39,16 @@ pub fn report_of(
         began: log.header().began,
     };
     let mut out = String::new(alloc);
+    if let Some(kernel) = kernel {
+        put_differences(&mut out, &told, kernel)?;
+    }
     put_waits(&mut out, &told)?;
     put_conversions(&mut out, &told)?;
     put_hand_overs(&mut out, &told)?;
     put_ownerships(&mut out, &told)?;
     put_deadlocks(&mut out, &told)?;
     put_left_out(&mut out, &told, log)?;
+    put_unknown(&mut out, kernel)?;
     put_summary(&mut out, &told, log)?;
     Ok(out)
 }
@@ -219,7 +230,18 @@ fn put_left_out(out: &mut String, told: &Told, log: &Log) -> Result<(), AllocErr
             Count(header.left_out, "call")
         )?;
     }
-    out.push_str(UNKNOWN)
+    Ok(())
+}
+
+/// Writes what isn't known, and how much of the kernel's events was compared.
+fn put_unknown(out: &mut String, kernel: Option<&Kernel>) -> Result<(), AllocError> {
+    match kernel {
+        Some(kernel) => {
+            put_compared(out, kernel)?;
+            out.push_str(STILL_UNKNOWN)
+        }
+        None => out.push_str(UNKNOWN),
+    }
 }
 
 /// Writes what the trace has.

@@ -1,0 +1,161 @@
+//! The kernel's events next to a log, and where they differ from the trace.
+
+use crate::arguments::Arguments;
+use crate::fault::Fault;
+use crate::files::{is_file, read_file};
+use crate::words::{Told, put_duration, put_level, put_moment, put_thread};
+use pim_base::Reason;
+use pim_comparison::{Compared, Found, compare};
+use pim_import::Imported;
+use pim_kernel::{Recording, TextFault, line_at};
+use pim_log::Log;
+use std::alloc::{AllocError, Global};
+
+/// How many differences the text lists.
+const LONGEST: usize = 10;
+
+/// What the kernel's events show.
+#[derive(Drop)]
+pub struct Kernel {
+    /// The file's bytes.
+    bytes: Vec<u8>,
+    pub compared: Compared,
+    /// How many events were lost.
+    pub lost: u64,
+    /// Whether the file has its last line.
+    pub is_whole: bool,
+}
+
+/// Compares the kernel's events, if there are any, with the trace.
+///
+/// # Errors
+///
+/// Returns `Read` if the file can't be read, `Kernel` if it is damaged, and `Memory` if out of memory.
+pub fn kernel_of(
+    rt: &HostRuntime,
+    alloc: Global,
+    arguments: &Arguments,
+    log: &Log,
+    imported: &Imported,
+) -> Result<Option<Kernel>, Fault> {
+    let path = path_of(alloc, arguments)?;
+    if arguments.kernel.is_empty() && !is_file(rt, path.as_str()) {
+        return Ok(None);
+    }
+    let bytes = read_file(rt, alloc, path.as_str())?;
+    let recording = match Recording::read(alloc, &bytes) {
+        Ok(recording) => recording,
+        Err(TextFault::Memory) => return Err(Fault::Memory),
+        Err(fault) => return Err(Fault::Kernel(path, fault)),
+    };
+    let compared = compare(alloc, log, imported, &recording, arguments.tolerance)?;
+    Ok(Some(Kernel {
+        bytes,
+        compared,
+        lost: recording.lost,
+        is_whole: recording.is_whole,
+    }))
+}
+
+fn path_of(alloc: Global, arguments: &Arguments) -> Result<String, AllocError> {
+    if arguments.kernel.is_empty() {
+        let log = arguments.log.as_str();
+        format!(in alloc; "{log}.kernel")
+    } else {
+        String::from_str(alloc, arguments.kernel.as_str())
+    }
+}
+
+/// Writes the longest differences, the longest first, each with the lines that show it.
+pub fn put_differences(out: &mut String, told: &Told, kernel: &Kernel) -> Result<(), AllocError> {
+    let found = kernel.compared.found.as_slice();
+    for place in 0..found.len().min(LONGEST) {
+        put_difference(out, told, &found[place])?;
+        put_lines(out, kernel, &found[place])?;
+    }
+    if found.len() > LONGEST {
+        let others = found.len() - LONGEST;
+        let word = if others == 1 {
+            "difference"
+        } else {
+            "differences"
+        };
+        writeln!(out, "and {others} {word}, none of them longer")?;
+    }
+    Ok(())
+}
+
+fn put_difference(out: &mut String, told: &Told, found: &Found) -> Result<(), AllocError> {
+    put_thread(out, told, found.thread)?;
+    out.push_str(" ran at ")?;
+    put_level(out, found.difference.level)?;
+    out.push_str(" for ")?;
+    put_duration(out, found.difference.ran)?;
+    out.push_str(" from ")?;
+    put_moment(out, told, found.difference.begin)?;
+    out.push_str(" on, POSIX gives ")?;
+    put_level(out, found.level)?;
+    out.push_str(" (")?;
+    put_reason(out, found.reason)?;
+    out.push_str(")\n")
+}
+
+/// Writes why a thread should have its priority, as a report of `pim` does.
+pub fn put_reason(out: &mut String, reason: Reason) -> Result<(), AllocError> {
+    match reason {
+        Reason::Base => out.push_str("base"),
+        Reason::Ceiling(mutex) => write!(out, "ceiling mutex {}", mutex.get()),
+        Reason::Waiter(task, mutex) => write!(out, "waiter {} mutex {}", task.get(), mutex.get()),
+    }
+}
+
+/// Writes the lines of the file that show when a difference began and ended.
+fn put_lines(out: &mut String, kernel: &Kernel, found: &Found) -> Result<(), AllocError> {
+    put_line(out, kernel, found.difference.first_line)?;
+    if found.difference.last_line != found.difference.first_line {
+        put_line(out, kernel, found.difference.last_line)?;
+    }
+    Ok(())
+}
+
+fn put_line(out: &mut String, kernel: &Kernel, number: u64) -> Result<(), AllocError> {
+    write!(out, "    line {number}: ")?;
+    if let Ok(text) = std::str::from_utf8(line_at(&kernel.bytes, number)) {
+        out.push_str(text)?;
+    }
+    out.push_str("\n")
+}
+
+/// Writes how much was compared.
+pub fn put_compared(out: &mut String, kernel: &Kernel) -> Result<(), AllocError> {
+    let compared = &kernel.compared;
+    let word = if compared.threads == 1 {
+        "thread"
+    } else {
+        "threads"
+    };
+    write!(out, "kernel: {} {word} compared", compared.threads)?;
+    if compared.unknown > 0 {
+        write!(out, "; waits that the log lacks: {}", compared.unknown)?;
+    }
+    if !kernel.is_whole {
+        out.push_str("; the events aren't whole")?;
+    }
+    out.push_str("\n")?;
+    put_lost(out, kernel)
+}
+
+fn put_lost(out: &mut String, kernel: &Kernel) -> Result<(), AllocError> {
+    if kernel.lost == 0 {
+        return Ok(());
+    }
+    write!(
+        out,
+        "lost: {} events of the kernel; left out are ",
+        kernel.lost
+    )?;
+    put_duration(out, kernel.compared.lost_time)?;
+    let count = kernel.compared.losses;
+    let word = if count == 1 { "stretch" } else { "stretches" };
+    writeln!(out, " in {count} {word}")
+}
