@@ -1,5 +1,6 @@
 """What a Trace Event file of pim-picture says of each task, and the rules of the format."""
 import collections
+import decimal
 import json
 
 STEP = 1000  # microseconds
@@ -19,9 +20,13 @@ def event_fault(it):
     wanted = {"ph", "pid", "tid", "name"} | FIELDS.get(it.get("ph"), set())
     if set(it) != wanted:
         return f"fields {sorted(it)}"
-    numbers = [it[key] for key in ("pid", "tid", "ts", "dur", "id") if key in it]
-    if not all(type(number) is int and number >= 0 for number in numbers):
+    numbers = [it[key] for key in ("pid", "tid", "id") if key in it]
+    times = [it[key] for key in ("ts", "dur") if key in it]
+    are_numbers = all(type(number) is int for number in numbers)
+    if not are_numbers or not all(type(time) in (int, decimal.Decimal) for time in times):
         return "a number"
+    if min(numbers + times) < 0:
+        return "a number below 0"
     if it["ph"] == "M" and list(it["args"]) != [NAMES.get(it["name"])]:
         return "metadata"
     if it["ph"] == "C" and not all(type(value) is int for value in it["args"].values()):
@@ -62,7 +67,7 @@ class Tracks:
     """The events of a file, by their kind and track."""
 
     def __init__(self, drawn):
-        file = json.loads(drawn)
+        file = json.loads(drawn, parse_float=decimal.Decimal)
         self.events = file["traceEvents"]
         self.unit = file["displayTimeUnit"]
         self.slices, self.flows = collections.defaultdict(list), collections.defaultdict(list)
@@ -114,7 +119,7 @@ class Tracks:
             for it in slices:
                 prios = [value for ts, value in self.counters[pid] if ts <= it["ts"]]
                 owner = pid if it["name"].startswith("owns ") else awaited.get((pid, tid, it["ts"]))
-                is_boost = it["name"].startswith("task ")
+                is_boost = "base" in it["args"]
                 wrong = not it["args"]["base"] < prios[-1] if is_boost else it["args"]["owner"] != owner
                 faults += [f"{it['name']} with {it['args']}"] if wrong else []
         return faults
@@ -140,3 +145,13 @@ class Tracks:
         """Returns each flow as its step, the task that waits and the owner."""
         ends = [sorted(ends, key=lambda it: it["ph"] == "f") for ends in self.flows.values()]
         return sorted((a["ts"] // STEP, a["pid"], b["pid"]) for a, b in ends)
+
+    def spans(self):
+        """Returns each slice as its task, its name, and the nanoseconds at which it begins and ends."""
+        found = [(pid, it) for (pid, _), slices in self.slices.items() for it in slices]
+        return sorted((pid, it["name"], it["ts"] * 1000, (it["ts"] + it["dur"]) * 1000) for pid, it in found)
+
+    def groups(self):
+        """Returns what the groups are called, by their tasks."""
+        called = {pid: named["name"] for (what, pid, _), named in self.called.items() if what == "process_name"}
+        return [called[pid] for pid in sorted(called)]

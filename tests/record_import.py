@@ -12,6 +12,7 @@ from checks import ROOT, check, difference, own_program, skip
 
 PROGRAMS, SECONDS, SKIPPED = ROOT / "record/out/programs", 600, 77
 IMPORTER, PIM = ROOT / "crates/pim_importer/out/pim_importer", ROOT / "crates/pim/out/pim"
+PICTURE = ROOT / "crates/pim_picture/out/pim_picture"
 DURATION, MOMENT = r"\d+\.\d{3} (?:s|ms|us)", r"\d+\.\d{6} s"
 
 # Of each program what its findings have: the status, lines in order (expressions over the whole line, of which further
@@ -106,13 +107,17 @@ class Import:
         return None if used + left == numbers else f"{used} used and {left} left out of {numbers}"
 
     def rejected(self):
-        """Returns why a piece isn't accepted."""
-        for piece in self.pieces():
+        """Returns why a piece isn't accepted, or isn't drawn with its names."""
+        for number, piece in enumerate(self.pieces(), 1):
             with open(piece, "rb") as text:
                 done = run(PIM, stdin=text)
             if done.returncode:
                 last = (done.stdout.splitlines() or [b""])[-1].decode()
                 return f"{piece.name}: {last} {done.stderr.decode()}"
+            with open(piece, "rb") as text:
+                done = run(PICTURE, "--perfetto", "--names", f"{self.log}.names", "--piece", number, stdin=text)
+            if done.returncode:
+                return f"{piece.name} isn't drawn: {done.stderr.decode()}"
         return None
 
 
@@ -351,6 +356,7 @@ def command_line(folder):
 def built():
     """Builds the programs that are older than the code, however long that takes. Returns whether they are there."""
     own_program()
+    own_program("pim-picture", "pim_picture")
     without_log = subprocess.run([str(ROOT / "pim-import")], capture_output=True)
     return b"Usage: pim-import" in without_log.stderr
 

@@ -17,11 +17,15 @@ pub enum Form {
 
 /// What the program is asked for.
 #[derive(Clone, Copy)]
-pub struct Asked {
+pub struct Asked<'a> {
     /// What is drawn.
     pub form: Form,
     /// The steps to draw.
     pub window: Window,
+    /// The path of a file of names.
+    pub names: Option<&'a str>,
+    /// The piece of a recording that the trace is, from 1 on.
+    pub piece: u32,
 }
 
 /// The text below the options in `--help`.
@@ -49,19 +53,24 @@ With --perfetto it draws tracks as Trace Event JSON, which ui.perfetto.dev opens
 of what boosts it, what it owns and what it waits for, with a flow to the owner. A step takes a millisecond there: a
 trace doesn't say when its steps were made.
 
+With --names it draws a trace of pim-import with what LOG.names says: tasks have the names of their threads, and with
+--perfetto each step has its time, and mutexes say where they were initialised. Threads' times can be a little out of
+order: a step that isn't later than the one before is drawn a nanosecond behind it. LOG.2.pim is --piece 2. The file must
+have as many steps as the trace.
+
 COLUMNS is how wide a table may be: 80 if it isn't set. On a terminal boosts are bold, unless NO_COLOR is set.
 
 Input is standard input, results go to standard output, faults to standard error.
 Exit status: 0 accepted, 1 rejected, 2 any fault: 'pim-picture: line <n>' where line n is the first that is invalid,
-'pim-picture: read' or 'pim-picture: write' where that failed, 'pim-picture: memory' when out of memory; or a wrong
-command line.";
+'pim-picture: read' or 'pim-picture: write' where that failed, 'pim-picture: memory' when out of memory;
+'pim-picture: FILE: line <n>' of a file of names, or how it doesn't fit the trace; or a wrong command line.";
 
 /// Returns what the arguments ask for. The first argument is the program's name.
 ///
 /// # Errors
 ///
 /// The error has the text to show: help, the version, or what is wrong. It is out of memory if an allocation failed.
-pub fn command<'a>(alloc: Global, words: &'a [&'a str]) -> Result<Asked, Error> {
+pub fn command<'a>(alloc: Global, words: &'a [&'a str]) -> Result<Asked<'a>, Error> {
     let matches = pim_picture(alloc)?.try_get_matches_from(words)?;
     let first = matches.get_one::<u32>("from").unwrap_or(0);
     let last = matches.get_one::<u32>("to").unwrap_or(u32::MAX);
@@ -75,6 +84,8 @@ pub fn command<'a>(alloc: Global, words: &'a [&'a str]) -> Result<Asked, Error> 
     Ok(Asked {
         form,
         window: Window { first, last },
+        names: matches.get_str("names"),
+        piece: matches.get_one::<u32>("piece").unwrap_or(1),
     })
 }
 
@@ -84,6 +95,8 @@ fn pim_picture<'a>(alloc: Global) -> Result<Command<'a>, AllocError> {
     let perfetto = "Draw tracks over the steps, as Trace Event JSON for ui.perfetto.dev";
     let from = "The first step to draw; 0 is the state before the first step";
     let to = "The last step to draw";
+    let names = "What pim-import says of the threads, mutexes and times: LOG.names";
+    let piece = "The piece of the recording that the trace is: 1 unless given";
     Command::new(alloc, "pim-picture")
         .override_usage("pim-picture [OPTIONS] < TRACE")
         .about("Draw a trace: who executes at which priority after each step, and why")
@@ -91,8 +104,10 @@ fn pim_picture<'a>(alloc: Global) -> Result<Command<'a>, AllocError> {
         .after_help(MORE)
         .arg(flag(alloc, "svg", svg))?
         .arg(flag(alloc, "perfetto", perfetto).conflicts_with("svg")?)?
-        .arg(step(alloc, "from", from))?
-        .arg(step(alloc, "to", to))
+        .arg(number(alloc, "from", "STEP", from))?
+        .arg(number(alloc, "to", "STEP", to))?
+        .arg(file(alloc, "names", names))?
+        .arg(number(alloc, "piece", "N", piece).requires_arg("names")?)
 }
 
 /// Returns an option without a value.
@@ -103,11 +118,20 @@ fn flag<'a>(alloc: Global, name: &'a str, help: &'a str) -> Arg<'a> {
         .action(ArgAction::SetTrue)
 }
 
-/// Returns an option whose value is the number of a step.
-fn step<'a>(alloc: Global, name: &'a str, help: &'a str) -> Arg<'a> {
+/// Returns an option whose value is the path of a file.
+fn file<'a>(alloc: Global, name: &'a str, help: &'a str) -> Arg<'a> {
     Arg::new(alloc, name)
         .long(name)
-        .value_name("STEP")
+        .value_name("FILE")
+        .help(help)
+        .action(ArgAction::Set)
+}
+
+/// Returns an option whose value is a number.
+fn number<'a>(alloc: Global, name: &'a str, value: &'a str, help: &'a str) -> Arg<'a> {
+    Arg::new(alloc, name)
+        .long(name)
+        .value_name(value)
         .help(help)
         .value_parser(value_parser!(u32))
 }

@@ -1,10 +1,12 @@
 //! A trace that is read and drawn.
-ghost use Rattle.std.specs.Prelude.{◌≡◌, ℕ, [], Some, IfOk, IfErr, IfSome, Err};
+ghost use Rattle.std.specs.Prelude.{◌≡◌, ℕ, [], Some, IfOk, IfErr, IfSome, Ok, Err};
 ghost use Rattle.pim_base.specs.Texts.{Trace, lines_of, Spells, IsWithinLimits, FirstBadLine};
 ghost use Rattle.pim_base.specs.Reports.{verdict_of};
 ghost use Rattle.pim_text.specs.Reading.{trace_of};
 ghost use Rattle.pim_judge.specs.Ends.{Happened};
 ghost use Rattle.pim_judge.specs.Faults.{IsWorkerless};
+ghost use Rattle.pim_drawing.specs.Faults.{IsOfOutput};
+ghost use Rattle.pim_drawing.specs.Naming.{IsNamedPicture};
 
 use crate::command_line::Form;
 use crate::perfetto::draw_perfetto;
@@ -13,6 +15,7 @@ use crate::table::draw_table;
 use crate::walking::Window;
 use pim_base::Verdict;
 use pim_judge::{Fault, Sink, Source, Text, parse, read_all};
+use pim_names::Piece;
 use std::alloc::Global;
 
 /// How a trace is drawn.
@@ -64,10 +67,80 @@ pub fn picture<R: Source, W: Sink>(
     ensures others { IfErr result IsWorkerless }
 {
     let text = read_text(alloc, reader)?;
+    draw(alloc, writer, &text, style, None)
+}
+
+/// What there is after a trace was to be drawn with names.
+#[derive(Clone, Copy, Debug, PartialEq, Eq)]
+pub enum Named {
+    /// A picture, and the verdict of the trace's report.
+    Drawn(Verdict),
+    /// No picture: the trace has this many steps, and the names are of another number of steps.
+    OtherSteps(usize),
+}
+
+/// Reads a trace to its end, and draws it with names and times. If they are of another number of steps, nothing is
+/// written.
+///
+/// # Errors
+///
+/// The errors of [`picture`].
+pub fn named_picture<R: Source, W: Sink>(
+    alloc: Global,
+    reader: &mut R,
+    writer: &mut W,
+    style: &Style,
+    names: &Piece,
+) -> Result<Named, Fault>
+    // The bytes are a trace, and the verdict is that of its report, or the trace has so many steps.
+    ensures ok { IfOk result (λ named. IfSome (R.remaining reader.old) (λ bytes.
+        (t : Trace) × Spells (lines_of bytes) t × IsNamedPicture t named)) }
+
+    // Without a picture nothing was written.
+    ensures ok_unwritten { (n : ℕ) → result ≡ Ok (Named.OtherSteps n)
+        → (W.told writer.new).contents ≡ (W.told writer.old).contents }
+
+    // The reader is at its end.
+    ensures end { IfOk result (λ _. IfSome (R.remaining reader.old) (λ _. R.remaining reader.new ≡ Some [])) }
+
+    // Line n is the first invalid one, and nothing was written.
+    ensures line { (n : ℕ) → result ≡ Err (Fault.Line n)
+        → IfSome (R.remaining reader.old) (λ bytes. FirstBadLine (lines_of bytes) n) }
+    ensures line_unwritten { (n : ℕ) → result ≡ Err (Fault.Line n)
+        → (W.told writer.new).contents ≡ (W.told writer.old).contents }
+
+    // A read failed in this call, and nothing was written.
+    ensures read { result ≡ Err Fault.Read → Happened (R.failures reader.old) (R.failures reader.new) }
+    ensures read_unwritten { result ≡ Err Fault.Read → (W.told writer.new).contents ≡ (W.told writer.old).contents }
+
+    // There is no other fault.
+    ensures others { IfErr result IsWorkerless }
+{
+    let text = read_text(alloc, reader)?;
+    let steps = text.lines.len();
+    if steps != names.times.as_slice().len() {
+        return Ok(Named::OtherSteps(steps));
+    }
+    let verdict = draw(alloc, writer, &text, style, Some(*names))?;
+    Ok(Named::Drawn(verdict))
+}
+
+/// Draws a trace, and returns the verdict of its report.
+fn draw<W: Sink>(
+    alloc: Global,
+    writer: &mut W,
+    text: &Text,
+    style: &Style,
+    names: Option<Piece<'_>>,
+) -> Result<Verdict, Fault>
+    requires limits { IsWithinLimits (trace_of text.now) }
+    ensures verdict { IfOk result (λ verdict. verdict ≡ verdict_of (trace_of text.now)) }
+    ensures err { IfErr result IsOfOutput }
+{
     match style.form {
-        Form::Table => draw_table(alloc, writer, &text, style),
-        Form::Svg => draw_svg(alloc, writer, &text, style.window),
-        Form::Perfetto => draw_perfetto(alloc, writer, &text, style.window),
+        Form::Table => draw_table(alloc, writer, text, style, names),
+        Form::Svg => draw_svg(alloc, writer, text, style.window, names),
+        Form::Perfetto => draw_perfetto(alloc, writer, text, style.window, names),
     }
 }
 

@@ -1,11 +1,13 @@
 //! The events of a Trace Event file, written as JSON.
 
-use json::Writer;
+use crate::paper::set_text;
+use json::{Writer, is_number};
 use pim_base::TaskNo;
+use pim_names::Piece;
 use std::alloc::{AllocError, Global};
 
-/// The microseconds that a step takes. A trace doesn't say when its steps were made.
-const STEP: u64 = 1000;
+/// The nanoseconds that a step takes, unless there are times. A trace doesn't say when its steps were made.
+const STEP: u64 = 1_000_000;
 
 /// More than the tracks of a task.
 const TRACKS: u64 = 1000;
@@ -31,6 +33,8 @@ impl Track {
 enum Value<'a> {
     Text(&'a str),
     Number(u64),
+    /// Nanoseconds, which are written as microseconds.
+    Time(u64),
 }
 
 /// A field of an event, or of its arguments.
@@ -56,16 +60,38 @@ impl<'a> Field<'a> {
             value: Value::Number(number),
         }
     }
+}
+
+/// When steps are: as names say, or a millisecond after each other.
+#[derive(Clone, Copy)]
+pub(crate) struct Clock<'a> {
+    pub names: Option<Piece<'a>>,
+}
+
+impl Clock<'_> {
+    /// Returns the nanoseconds at a step.
+    fn time(&self, step: u32) -> u64 {
+        match self.names {
+            Some(names) => names.times.at(step),
+            None => u64::from(step).saturating_mul(STEP),
+        }
+    }
 
     /// Returns when an event is.
-    pub fn at(step: u32) -> Field<'a> {
-        Field::number("ts", u64::from(step).saturating_mul(STEP))
+    pub fn at(&self, step: u32) -> Field<'static> {
+        Field {
+            key: "ts",
+            value: Value::Time(self.time(step)),
+        }
     }
 
     /// Returns how long an event takes, to the step before another.
-    pub fn until(from: u32, past: u32) -> Field<'a> {
-        let steps = u64::from(past.saturating_sub(from));
-        Field::number("dur", steps.saturating_mul(STEP))
+    pub fn until(&self, from: u32, past: u32) -> Field<'static> {
+        let duration = self.time(past).saturating_sub(self.time(from));
+        Field {
+            key: "dur",
+            value: Value::Time(duration),
+        }
     }
 }
 
@@ -73,6 +99,7 @@ impl<'a> Field<'a> {
 #[derive(Drop)]
 pub(crate) struct Events {
     json: Writer<Global>,
+    scratch: String,
 }
 
 impl Events {
@@ -80,6 +107,7 @@ impl Events {
     pub fn new(alloc: Global) -> Result<Events, AllocError> {
         let mut events = Events {
             json: Writer::new(Vec::new(alloc)),
+            scratch: String::new(alloc),
         };
         events.json.begin_object()?;
         events.put(&[Field::text("displayTimeUnit", "ms")])?;
@@ -122,9 +150,21 @@ impl Events {
             match field.value {
                 Value::Text(text) => self.json.string(text)?,
                 Value::Number(number) => self.json.u64(number)?,
+                Value::Time(time) => self.put_time(time)?,
             }
         }
         Ok(())
+    }
+
+    /// Adds nanoseconds as microseconds, with three digits behind the point if they aren't whole.
+    fn put_time(&mut self, time: u64) -> Result<(), AllocError> {
+        let (whole, rest) = (time / 1000, time % 1000);
+        set_text(&mut self.scratch, format_args!("{whole}.{rest:03}"))?;
+        if rest != 0 && is_number(self.scratch.as_str()) {
+            self.json.number(self.scratch.as_str())
+        } else {
+            self.json.u64(whole)
+        }
     }
 
     /// Adds what a group or a track is called: an event of this name.
@@ -139,7 +179,7 @@ impl Events {
 
     /// Returns the bytes of the file.
     pub fn into_bytes(self) -> Result<Vec<u8>, AllocError> {
-        let Events { mut json } = self;
+        let Events { mut json, .. } = self;
         json.end_array()?;
         json.end_object()?;
         Ok(json.into_inner())

@@ -5,17 +5,19 @@ ghost use Rattle.pim_base.specs.Reports.{verdict_of};
 ghost use Rattle.pim_text.specs.Reading.{trace_of};
 ghost use Rattle.pim_drawing.specs.Faults.{IsOfOutput};
 
-use crate::events::{Events, Field, Track};
+use crate::events::{Clock, Events, Field, Track};
 use crate::paper::{set_text, write_all};
 use crate::rows::Rows;
 use crate::spans::{Bar, Level, Spans, spans_of};
 use crate::walking::Window;
-use crate::words::{BarWords, Why};
+use crate::words::{BarWords, Called, Heading, Thread, Why};
 use pim_base::{Reason, TaskNo, Verdict};
 use pim_judge::{Fault, Sink, Text};
+use pim_names::Piece;
 use std::alloc::{AllocError, Global};
 
-/// Draws a trace as Trace Event JSON. A step takes a millisecond. Returns the verdict of its report.
+/// Draws a trace as Trace Event JSON. A step takes a millisecond, unless names say when it was made. Returns the verdict
+/// of its report.
 ///
 /// # Errors
 ///
@@ -25,13 +27,14 @@ pub fn draw_perfetto<W: Sink>(
     writer: &mut W,
     text: &Text,
     window: Window,
+    names: Option<Piece<'_>>,
 ) -> Result<Verdict, Fault>
     requires limits { IsWithinLimits (trace_of text.now) }
     ensures verdict { IfOk result (λ verdict. verdict ≡ verdict_of (trace_of text.now)) }
     ensures err { IfErr result IsOfOutput }
 {
     let (spans, verdict) = spans_of(alloc, text, window)?;
-    let bytes = events_of(alloc, &spans, spans.past(&verdict))?;
+    let bytes = events_of(alloc, &spans, spans.past(&verdict), names)?;
     write_all(writer, &bytes)?;
     Ok(verdict)
 }
@@ -45,8 +48,10 @@ const OWNS: u64 = 3;
 
 /// The file that is made, and the rows of the tracks.
 #[derive(Drop)]
-struct Drawn {
+struct Drawn<'a> {
     events: Events,
+    names: Option<Piece<'a>>,
+    clock: Clock<'a>,
     /// The first step that isn't drawn.
     past: u32,
     /// The name of the last event.
@@ -59,9 +64,16 @@ struct Drawn {
 }
 
 /// Returns the file of these spans, which end before the step `past`.
-fn events_of(alloc: Global, spans: &Spans, past: u32) -> Result<Vec<u8>, AllocError> {
+fn events_of(
+    alloc: Global,
+    spans: &Spans,
+    past: u32,
+    names: Option<Piece<'_>>,
+) -> Result<Vec<u8>, AllocError> {
     let mut drawn = Drawn {
         events: Events::new(alloc)?,
+        names,
+        clock: Clock { names },
         past,
         name: String::new(alloc),
         boosts: Rows::new(alloc),
@@ -74,7 +86,7 @@ fn events_of(alloc: Global, spans: &Spans, past: u32) -> Result<Vec<u8>, AllocEr
     events.into_bytes()
 }
 
-impl Drawn {
+impl Drawn<'_> {
     /// Adds the spans, and the names of the tasks and their tracks.
     fn all(&mut self, spans: &Spans) -> Result<(), AllocError> {
         for level in spans.levels.iter() {
@@ -99,15 +111,16 @@ impl Drawn {
             task: level.task,
             row: BOOSTED,
         };
-        let at = Field::at(level.from);
+        let at = self.clock.at(level.from);
         let prio = Field::number("priority", u64::from(level.prio.get()));
         self.events.add("C", &track, "priority", &[at], &[prio])?;
         if level.reason == Reason::Base {
             return Ok(());
         }
         self.boosts.place(level.task, level.from, past)?;
-        set_text(&mut self.name, Why(level))?;
-        let times = [at, Field::until(level.from, past)];
+        let called = Called::at(self.names, level.from);
+        set_text(&mut self.name, Why { level, called })?;
+        let times = [at, self.clock.until(level.from, past)];
         let base = Field::number("base", u64::from(level.base.get()));
         self.events
             .add("X", &track, self.name.as_str(), &times, &[base])
@@ -116,9 +129,10 @@ impl Drawn {
     /// Adds what a task owns or waits for.
     fn bar(&mut self, bar: &Bar) -> Result<(), AllocError> {
         let track = self.track_of(bar)?;
-        set_text(&mut self.name, BarWords(bar))?;
+        let called = Called::at(self.names, bar.from);
+        set_text(&mut self.name, BarWords { bar, called })?;
         let past = bar.past.min(self.past);
-        let times = [Field::at(bar.from), Field::until(bar.from, past)];
+        let times = [self.clock.at(bar.from), self.clock.until(bar.from, past)];
         let owner = Field::number("owner", u64::from(bar.owner.get()));
         self.events
             .add("X", &track, self.name.as_str(), &times, &[owner])?;
@@ -156,7 +170,7 @@ impl Drawn {
             return Ok(());
         };
         let owner = *owner;
-        let (at, id) = (Field::at(bar.from), Field::number("id", number));
+        let (at, id) = (self.clock.at(bar.from), Field::number("id", number));
         let (cat, bp) = (Field::text("cat", "waits"), Field::text("bp", "e"));
         self.events
             .add("s", &track, "waits for", &[at, cat, id], &[])?;
@@ -171,7 +185,8 @@ impl Drawn {
         let waits = self.waits.count(task);
         let owns = self.owns.count(task);
         let track = Track { task, row: BOOSTED };
-        set_text(&mut self.name, format_args!("task {number}"))?;
+        let thread = Thread::of(self.names, task);
+        set_text(&mut self.name, Heading { task, thread })?;
         self.events
             .call("process_name", &track, self.name.as_str())?;
         self.events

@@ -6,8 +6,11 @@ use pim_base::{Prio, TaskNo, Verdict};
 use std::alloc::{AllocError, Global};
 use std::fmt;
 
-/// The pixels left of the first column, for the names of the tasks.
-const SIDE: u64 = 96;
+/// The pixels left of the first column, for the numbers of the tasks.
+pub(crate) const SIDE: u64 = 96;
+
+/// These pixels if the tasks have the names of threads.
+pub(crate) const NAMED_SIDE: u64 = 176;
 
 /// The pixels above the first lane, for the numbers of the steps.
 const TOP: u64 = 32;
@@ -116,6 +119,8 @@ pub(crate) struct Plan {
     pub first: u32,
     /// The first step behind those that are drawn.
     pub past: u32,
+    /// The pixels left of the first column.
+    pub side: u64,
     /// The width of a step.
     pub column: u64,
     pub width: u64,
@@ -126,8 +131,13 @@ pub(crate) struct Plan {
 }
 
 impl Plan {
-    /// Returns where everything is in a picture of these spans.
-    pub fn new(alloc: Global, spans: &Spans, verdict: &Verdict) -> Result<Plan, AllocError> {
+    /// Returns where everything is in a picture of these spans, with so many pixels left of the first column.
+    pub fn new(
+        alloc: Global,
+        spans: &Spans,
+        verdict: &Verdict,
+        side: u64,
+    ) -> Result<Plan, AllocError> {
         let past = spans.past(verdict);
         let first = spans.window.first.min(past);
         let count = u64::from(past - first).max(1);
@@ -152,8 +162,12 @@ impl Plan {
         Ok(Plan {
             first,
             past,
+            side,
             column,
-            width: count.saturating_mul(column).saturating_add(SIDE + 16),
+            width: count
+                .saturating_mul(column)
+                .saturating_add(side)
+                .saturating_add(16),
             height: top.saturating_add(32),
             lanes,
             rows: rows_of_bars,
@@ -169,6 +183,8 @@ impl Plan {
     pub fn x(&self, number: u32) -> u64 {
         let number = number.min(self.past);
         let columns = u64::from(number.saturating_sub(self.first));
-        columns.saturating_mul(self.column).saturating_add(SIDE)
+        columns
+            .saturating_mul(self.column)
+            .saturating_add(self.side)
     }
 }

@@ -6,12 +6,13 @@ ghost use Rattle.pim_text.specs.Reading.{trace_of};
 ghost use Rattle.pim_drawing.specs.Faults.{IsOfOutput};
 
 use crate::paper::Paper;
-use crate::plan::{Lane, Plan};
+use crate::plan::{Lane, NAMED_SIDE, Plan, SIDE};
 use crate::spans::{Bar, Level, Made, Spans, spans_of};
 use crate::walking::Window;
-use crate::words::{BarWords, Why};
+use crate::words::{BarWords, Called, Thread, Why};
 use pim_base::{MutexNo, Reason, Verdict};
 use pim_judge::{Fault, Sink, Text};
+use pim_names::Piece;
 use std::alloc::{AllocError, Global};
 use std::fmt::{self, Display, Write};
 
@@ -37,15 +38,18 @@ pub fn draw_svg<W: Sink>(
     writer: &mut W,
     text: &Text,
     window: Window,
+    names: Option<Piece<'_>>,
 ) -> Result<Verdict, Fault>
     requires limits { IsWithinLimits (trace_of text.now) }
     ensures verdict { IfOk result (λ verdict. verdict ≡ verdict_of (trace_of text.now)) }
     ensures err { IfErr result IsOfOutput }
 {
     let (spans, verdict) = spans_of(alloc, text, window)?;
-    let plan = Plan::new(alloc, &spans, &verdict)?;
+    let side = if names.is_some() { NAMED_SIDE } else { SIDE };
+    let plan = Plan::new(alloc, &spans, &verdict, side)?;
     let mut picture = Svg {
         paper: Paper::new(alloc, writer),
+        names,
     };
     picture.head(&plan)?;
     for lane in plan.lanes.iter() {
@@ -110,6 +114,7 @@ impl fmt::Display for Giver {
 #[derive(Drop)]
 struct Svg<'a, W> {
     paper: Paper<'a, W>,
+    names: Option<Piece<'a>>,
 }
 
 impl<'a, W: Sink> Svg<'a, W> {
@@ -128,6 +133,9 @@ impl<'a, W: Sink> Svg<'a, W> {
         ensures { IfErr result IsOfOutput }
     {
         put_name(&mut self.paper.text, plan, lane)?;
+        if let Some(thread) = Thread::of(self.names, lane.task) {
+            put_thread(&mut self.paper.text, lane, thread)?;
+        }
         for level in spans.levels.iter() {
             if level.task == lane.task {
                 put_area(&mut self.paper.text, plan, lane, level)?;
@@ -269,6 +277,31 @@ fn put_name(text: &mut String, plan: &Plan, lane: &Lane) -> Result<(), AllocErro
     )
 }
 
+/// Adds the thread that a task is, below its base.
+fn put_thread(text: &mut String, lane: &Lane, thread: Thread<'_>) -> Result<(), AllocError> {
+    let style = "font-size=\"11\" fill=\"#59616c\"";
+    let below = lane.top.saturating_add(60);
+    put_words(text, 12, below, style, Escaped(thread))
+}
+
+/// A thread as XML has it.
+#[derive(Clone, Copy)]
+struct Escaped<'a>(Thread<'a>);
+
+impl fmt::Display for Escaped<'_> {
+    fn fmt<W: fmt::Write>(&self, f: &mut fmt::Formatter<W>) -> fmt::Result {
+        for sign in self.0.name.chars() {
+            match sign {
+                '&' => f.write_str("&amp;")?,
+                '<' => f.write_str("&lt;")?,
+                '>' => f.write_str("&gt;")?,
+                other => write!(f, "{other}")?,
+            }
+        }
+        f.write_str(self.0.more())
+    }
+}
+
 /// Adds a level line.
 fn put_rule(
     text: &mut String,
@@ -296,7 +329,10 @@ fn put_area(text: &mut String, plan: &Plan, lane: &Lane, level: &Level) -> Resul
     writeln!(
         text,
         " fill-opacity=\"0.27\"><title>{}</title></rect>",
-        Why(level)
+        Why {
+            level,
+            called: Called::at(None, level.from)
+        }
     )?;
     put_rule(
         text,
@@ -371,7 +407,8 @@ fn put_bar(
     let left = plan.x(bar.from).saturating_add(1);
     let width = plan.x(bar.past).saturating_sub(left).saturating_sub(1);
     let top = lane.bar(row);
-    let (task, hue, words) = (bar.task.get(), hue_of(bar.mutex), BarWords(bar));
+    let called = Called::at(None, bar.from);
+    let (task, hue, words) = (bar.task.get(), hue_of(bar.mutex), BarWords { bar, called });
     write!(
         text,
         "<rect x=\"{left}\" y=\"{top}\" width=\"{width}\" height=\"13\" rx=\"3\" fill=\""

@@ -10,10 +10,11 @@ use crate::drawing::Style;
 use crate::paper::{Paper, set_text};
 use crate::standing::Standing;
 use crate::walking::{Watcher, Window, walk};
-use crate::words::{ReplyWords, RequestWords};
+use crate::words::{Heading, ReplyWords, RequestWords, Thread};
 use pim_base::{Reply, StepLine, TaskNo, Verdict};
 use pim_judge::{Fault, Sink, Text, manager_of};
 use pim_manager::Manager;
+use pim_names::Piece;
 use std::alloc::{AllocError, Global};
 use std::fmt::{Display, Write};
 
@@ -46,16 +47,18 @@ pub fn draw_table<W: Sink>(
     writer: &mut W,
     text: &Text,
     style: &Style,
+    names: Option<Piece<'_>>,
 ) -> Result<Verdict, Fault>
     requires limits { IsWithinLimits (trace_of text.now) }
     ensures verdict { IfOk result (λ verdict. verdict ≡ verdict_of (trace_of text.now)) }
     ensures err { IfErr result IsOfOutput }
 {
-    let (widths, verdict) = measured(alloc, text, style.window)?;
+    let (widths, verdict) = measured(alloc, text, style.window, names)?;
     let blocks = widths.blocks(alloc, style.width)?;
     let mut rows = Rows {
         widths,
         style: *style,
+        names,
         block: Block { first: 1, past: 1 },
         owned: Owned::new(alloc, text.bases.len())?,
         row: String::new(alloc),
@@ -70,13 +73,18 @@ pub fn draw_table<W: Sink>(
 }
 
 /// Returns how wide the columns are, and the verdict of the report.
-fn measured(alloc: Global, text: &Text, window: Window) -> Result<(Widths, Verdict), Fault>
+fn measured(
+    alloc: Global,
+    text: &Text,
+    window: Window,
+    names: Option<Piece<'_>>,
+) -> Result<(Widths, Verdict), Fault>
     requires limits { IsWithinLimits (trace_of text.now) }
     ensures verdict { IfOk result (λ measured. measured.1 ≡ verdict_of (trace_of text.now)) }
     ensures err { IfErr result IsOfOutput }
 {
     let mut manager = manager_of(alloc, text)?;
-    let mut widths = Widths::new(alloc, window, &manager)?;
+    let mut widths = Widths::new(alloc, window, &manager, names)?;
     let verdict = walk(&mut manager, &text.lines, &mut widths)?;
     Ok((widths, verdict))
 }
@@ -124,11 +132,18 @@ struct Widths {
 
 impl Widths {
     /// Returns the widths of the titles.
-    fn new(alloc: Global, window: Window, manager: &Manager) -> Result<Widths, AllocError> {
+    fn new(
+        alloc: Global,
+        window: Window,
+        manager: &Manager,
+        names: Option<Piece<'_>>,
+    ) -> Result<Widths, AllocError> {
         let mut cells = Vec::new(alloc);
         let mut scratch = String::new(alloc);
-        for task in 1..=manager.tasks() {
-            cells.push(length_of(&mut scratch, format_args!("task {task}"))?)?;
+        for number in 1..=manager.tasks() {
+            let task = TaskNo(number);
+            let thread = Thread::of(names, task);
+            cells.push(length_of(&mut scratch, Heading { task, thread })?)?;
         }
         Ok(Widths {
             window,
@@ -250,6 +265,7 @@ fn put_spaces(row: &mut String, length: usize, width: usize) -> Result<(), Alloc
 struct Rows<'a, W> {
     widths: Widths,
     style: Style,
+    names: Option<Piece<'a>>,
     block: Block,
     owned: Owned,
     row: String,
@@ -274,9 +290,11 @@ impl<'a, W: Sink> Rows<'a, W> {
         ensures { IfErr result IsOfOutput }
     {
         self.put_left(STEP, REQUEST, REPLY)?;
-        for task in self.block.first..self.block.past {
-            set_text(&mut self.cell, format_args!("task {task}"))?;
-            let width = self.widths.of(task);
+        for number in self.block.first..self.block.past {
+            let task = TaskNo(number);
+            let thread = Thread::of(self.names, task);
+            set_text(&mut self.cell, Heading { task, thread })?;
+            let width = self.widths.of(number);
             self.put_cell(width, false)?;
         }
         self.end_row()

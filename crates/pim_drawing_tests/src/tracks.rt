@@ -1,7 +1,8 @@
 //! Tracks of a small trace, with times by hand.
 
-use pim_drawing::{Form, Style, Window, picture};
+use pim_drawing::{Form, Named, Style, Window, named_picture, picture};
 use pim_judge::{MemoryReader, MemoryWriter, Verdict};
+use pim_names::{Names, NamesFault};
 use std::test::Fail;
 
 const WINDOW: Style = Style {
@@ -46,5 +47,67 @@ fn window_has_a_boost_a_wait_and_a_flow(rt: HostRuntime) -> Result<(), Fail> {
     assert_eq!(rt; verdict, Verdict::Accepted(2));
     let drawn = writer.into_bytes();
     assert_eq!(rt; std::str::from_utf8(drawn.as_slice())?, TRACKS);
+    Ok(())
+}
+
+/// Task 1 is another thread behind the last step.
+const NAMES: &str = "\
+piece 1 0
+task 1 7/8 low
+mutex 1 inherit 0x5f0 7 app+0x1a
+step 1 1000500
+task 2 7/9 high
+step 2 2000750
+task 1 7/10 next
+";
+
+const NAMED_TRACKS: &str = "{\"displayTimeUnit\":\"ms\",\"traceEvents\":[\
+{\"ph\":\"C\",\"pid\":1,\"tid\":1001,\"name\":\"priority\",\"ts\":1000.500,\"args\":{\"priority\":10}},\
+{\"ph\":\"C\",\"pid\":2,\"tid\":2001,\"name\":\"priority\",\"ts\":1000.500,\"args\":{\"priority\":50}},\
+{\"ph\":\"C\",\"pid\":1,\"tid\":1001,\"name\":\"priority\",\"ts\":2000.750,\"args\":{\"priority\":50}},\
+{\"ph\":\"X\",\"pid\":1,\"tid\":1001,\"name\":\"low[8] at 50: high[9] waits for mutex 1 from app+0x1a\",\
+\"ts\":2000.750,\"dur\":1000,\"args\":{\"base\":10}},\
+{\"ph\":\"X\",\"pid\":1,\"tid\":1003,\"name\":\"owns mutex 1 from app+0x1a\",\
+\"ts\":1000.500,\"dur\":2000.250,\"args\":{\"owner\":1}},\
+{\"ph\":\"X\",\"pid\":2,\"tid\":2002,\"name\":\"waits for mutex 1 from app+0x1a\",\
+\"ts\":2000.750,\"dur\":1000,\"args\":{\"owner\":1}},\
+{\"ph\":\"s\",\"pid\":2,\"tid\":2002,\"name\":\"waits for\",\"ts\":2000.750,\"cat\":\"waits\",\"id\":1},\
+{\"ph\":\"f\",\"pid\":1,\"tid\":1003,\"name\":\"waits for\",\"ts\":2000.750,\
+\"bp\":\"e\",\"cat\":\"waits\",\"id\":1},\
+{\"ph\":\"M\",\"pid\":1,\"tid\":1001,\"name\":\"process_name\",\"args\":{\"name\":\"task 1: low[8] ..\"}},\
+{\"ph\":\"M\",\"pid\":1,\"tid\":1001,\"name\":\"process_sort_index\",\"args\":{\"sort_index\":1}},\
+{\"ph\":\"M\",\"pid\":1,\"tid\":1001,\"name\":\"thread_name\",\"args\":{\"name\":\"boosted\"}},\
+{\"ph\":\"M\",\"pid\":1,\"tid\":1001,\"name\":\"thread_sort_index\",\"args\":{\"sort_index\":1}},\
+{\"ph\":\"M\",\"pid\":1,\"tid\":1003,\"name\":\"thread_name\",\"args\":{\"name\":\"owns\"}},\
+{\"ph\":\"M\",\"pid\":1,\"tid\":1003,\"name\":\"thread_sort_index\",\"args\":{\"sort_index\":3}},\
+{\"ph\":\"M\",\"pid\":2,\"tid\":2001,\"name\":\"process_name\",\"args\":{\"name\":\"task 2: high[9]\"}},\
+{\"ph\":\"M\",\"pid\":2,\"tid\":2001,\"name\":\"process_sort_index\",\"args\":{\"sort_index\":2}},\
+{\"ph\":\"M\",\"pid\":2,\"tid\":2002,\"name\":\"thread_name\",\"args\":{\"name\":\"waits\"}},\
+{\"ph\":\"M\",\"pid\":2,\"tid\":2002,\"name\":\"thread_sort_index\",\"args\":{\"sort_index\":2}}]}";
+
+#[test]
+fn names_give_times_threads_and_places(rt: HostRuntime) -> Result<(), Fail> {
+    let alloc = rt.alloc();
+    let names = Names::read(alloc, NAMES.as_bytes())?;
+    let piece = names.piece(1).ok_or(NamesFault::Line(0))?;
+    let mut reader = MemoryReader::new(BOOSTED.as_bytes());
+    let mut writer = MemoryWriter::new(alloc);
+    let named = named_picture(alloc, &mut reader, &mut writer, &WINDOW, &piece)?;
+    assert_eq!(rt; named, Named::Drawn(Verdict::Accepted(2)));
+    let drawn = writer.into_bytes();
+    assert_eq!(rt; std::str::from_utf8(drawn.as_slice())?, NAMED_TRACKS);
+    Ok(())
+}
+
+#[test]
+fn names_of_other_steps_are_refused(rt: HostRuntime) -> Result<(), Fail> {
+    let alloc = rt.alloc();
+    let names = Names::read(alloc, b"piece 1 0\nstep 1 1000500\n")?;
+    let piece = names.piece(1).ok_or(NamesFault::Line(0))?;
+    let mut reader = MemoryReader::new(BOOSTED.as_bytes());
+    let mut writer = MemoryWriter::new(alloc);
+    let named = named_picture(alloc, &mut reader, &mut writer, &WINDOW, &piece)?;
+    assert_eq!(rt; named, Named::OtherSteps(2));
+    assert!(rt; writer.into_bytes().is_empty());
     Ok(())
 }

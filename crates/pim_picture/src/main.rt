@@ -1,16 +1,20 @@
 //! The program `pim-picture`: draws traces of mutexes with the POSIX protocols.
 //!
 //! It parses its arguments with `pim_drawing::command`, and passes standard input and output to `pim_drawing::picture`.
-//! It turns the answer into a line on standard error and an exit status. What is drawn is decided in `pim_drawing`. This
-//! crate has only what no contract can say: the streams, the terminal and the process.
+//! If it is given a file of names it reads that first, and calls `pim_drawing::named_picture`. It turns the answer into
+//! a line on standard error and an exit status. What is drawn is decided in `pim_drawing`. This crate has only what no
+//! contract can say: the streams, the file, the terminal and the process.
 #![tactic(auto)]
 
 use clap::error::ErrorKind;
-use pim_drawing::{Asked, Style, command, picture};
-use pim_judge::{Fault, Input, Output, Verdict, status};
-use std::env;
+use pim_drawing::{Asked, Named, Style, command, named_picture, picture};
+use pim_judge::{Fault, Input, Output, Verdict, read_all, status};
+use pim_names::{Names, NamesFault, Piece};
+use std::fmt::Display;
 use std::io::{self, IsTerminal};
 use std::process::ExitCode;
+use std::rt::Files;
+use std::{env, fs};
 
 /// The exit status for a fault, and for a wrong command line.
 const FAULT: u8 = 2;
@@ -19,17 +23,7 @@ const FAULT: u8 = 2;
 const COLUMNS: u16 = 80;
 
 fn main(rt: HostRuntime) -> ExitCode {
-    let ended = match asked(&rt) {
-        Ok(Ok(asked)) => {
-            let mut reader = Input::new(rt.reader());
-            let mut writer = Output::new(io::writer(&rt));
-            let answer = picture(rt.alloc(), &mut reader, &mut writer, &style(&rt, &asked));
-            told(&rt, &answer)
-        }
-        Ok(Err(status)) => Ok(status),
-        Err(error) => Err(error),
-    };
-    match ended {
+    match work(&rt) {
         Ok(status) => status,
         Err(error) => {
             // If not even this line can be written, the status reports the fault.
@@ -45,27 +39,77 @@ fn main(rt: HostRuntime) -> ExitCode {
     }
 }
 
-/// Returns what the arguments ask for. If they ask for no picture it shows a text, and returns the exit status.
+/// Does what the arguments ask for: draws a picture, or shows a text. Returns the exit status.
 ///
 /// # Errors
 ///
 /// An error if out of memory for the arguments, or if a standard stream can't be written.
-fn asked(rt: &HostRuntime) -> io::Result<Result<Asked, ExitCode>> {
+fn work(rt: &HostRuntime) -> io::Result<ExitCode> {
     let alloc = rt.alloc();
     let arguments: Vec<String> = env::args(rt)?.collect(alloc)?;
     let words: Vec<&str> = arguments.iter().map(|word| word.as_str()).collect(alloc)?;
     match command(alloc, words.as_slice()) {
-        Ok(asked) => Ok(Ok(asked)),
-        Err(error) if error.kind() == ErrorKind::OutOfMemory => {
-            eprintln!(rt; "pim-picture: {}", Fault::Memory)?;
-            Ok(Err(ExitCode::from(FAULT)))
-        }
+        Ok(asked) => match asked.names {
+            None => draw(rt, &asked),
+            Some(path) => draw_with_names(rt, &asked, path),
+        },
+        Err(error) if error.kind() == ErrorKind::OutOfMemory => report(rt, Fault::Memory),
         Err(error) => {
             error.print(rt)?;
             let status = if error.use_stderr() { FAULT } else { 0 };
-            Ok(Err(ExitCode::from(status)))
+            Ok(ExitCode::from(status))
         }
     }
+}
+
+/// Draws standard input.
+fn draw(rt: &HostRuntime, asked: &Asked) -> io::Result<ExitCode> {
+    let mut reader = Input::new(rt.reader());
+    let mut writer = Output::new(io::writer(rt));
+    let answer = picture(rt.alloc(), &mut reader, &mut writer, &style(rt, asked));
+    told(rt, &answer)
+}
+
+/// Draws standard input with the names in a file.
+fn draw_with_names(rt: &HostRuntime, asked: &Asked, path: &str) -> io::Result<ExitCode> {
+    let bytes = match bytes_of(rt, path) {
+        Ok(bytes) => bytes,
+        Err(Fault::Memory) => return report(rt, Fault::Memory),
+        Err(_) => return report(rt, format_args!("{path}: it can't be read")),
+    };
+    let names = match Names::read(rt.alloc(), &bytes) {
+        Ok(names) => names,
+        Err(NamesFault::Memory) => return report(rt, Fault::Memory),
+        Err(fault) => return report(rt, format_args!("{path}: {fault}")),
+    };
+    match names.piece(asked.piece) {
+        Some(piece) => draw_piece(rt, asked, path, &piece),
+        None => report(rt, format_args!("{path}: it has no piece {}", asked.piece)),
+    }
+}
+
+/// Draws standard input with the names of a piece.
+fn draw_piece(rt: &HostRuntime, asked: &Asked, path: &str, piece: &Piece) -> io::Result<ExitCode> {
+    let style = style(rt, asked);
+    let mut reader = Input::new(rt.reader());
+    let mut writer = Output::new(io::writer(rt));
+    match named_picture(rt.alloc(), &mut reader, &mut writer, &style, piece) {
+        Ok(Named::Drawn(verdict)) => told(rt, &Ok(verdict)),
+        Ok(Named::OtherSteps(steps)) => {
+            let (number, own) = (asked.piece, piece.times.as_slice().len());
+            let why = format_args!("piece {number} has {own} steps, the trace has {steps}");
+            report(rt, format_args!("{path}: {why}"))
+        }
+        Err(fault) => report(rt, fault),
+    }
+}
+
+/// Returns the bytes of a file.
+fn bytes_of(rt: &HostRuntime, path: &str) -> Result<Vec<u8>, Fault> {
+    let Ok(file) = fs::open(rt, path) else {
+        return Err(Fault::Read);
+    };
+    read_all(rt.alloc(), &mut Input::new(file))
 }
 
 /// Returns how the picture is drawn: as wide as `COLUMNS` says, and with bold text on a terminal, unless `NO_COLOR` is
@@ -89,4 +133,10 @@ fn told(rt: &HostRuntime, answer: &Result<Verdict, Fault>) -> io::Result<ExitCod
         eprintln!(rt; "pim-picture: {fault}")?;
     }
     Ok(ExitCode::from(status(answer)))
+}
+
+/// Writes a fault to standard error, and returns the exit status for it.
+fn report(rt: &HostRuntime, fault: impl Display + Drop) -> io::Result<ExitCode> {
+    eprintln!(rt; "pim-picture: {fault}")?;
+    Ok(ExitCode::from(FAULT))
 }
