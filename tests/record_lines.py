@@ -46,7 +46,8 @@ TEXTS = {b"plain": '"plain"', b'a "word"': r'"a \"word\""', b"a\\b": r'"a\\b"',
 REFUSED = {"a lost number beyond the end": {"lost": 1, "first": 9},
            "the next number lost": {"lost": 1, "first": 3},
            "as many lost as there are": {"lost": 3, "first": 1}, "no next number": {"numbers": 0}}
-HEADS = {"a field that is 0": (24, 1), "thread 0": (16, 0), "the thread behind the last": (16, 3)}
+HEADS = {"a field that is 0": (24, 1), "thread 0": (16, 0), "the thread behind the last": (16, 3),
+         "half a mark": (0, 0)}
 BEGIN = [(1, 1, 0x77, 0, 1 | 30 << 8, 0), (2, 1, 0x88, 0, 0, 0)]
 
 
@@ -98,10 +99,16 @@ def chunks(reader, written):
     cut = reader.Log(bytes(written(BEGIN)[:2 * 16384]))
     check("the file may end within a chunk",
           difference((cut.faults[:1],), (["the file ends within chunk 1 of 2"],)))
+    begun = written(BEGIN[:1])
+    struct.pack_into("<IIII", begun, 4096 + 16384 + 8, 100, 101, 2, 0)
+    check("the mark of a killed thread's chunk may be missing", reader.Log(begun).faults or None)
+    struct.pack_into("<Q", begun, 4096, 0)
+    damaged = {"records without a mark": begun}
     for name, (at, value) in HEADS.items():
-        damaged = written(BEGIN)
-        struct.pack_into("<I", damaged, 4096 + at, value)
-        faults, wanted = reader.Log(damaged).faults, ["the chunk at byte 4096 has no whole head"]
+        damaged[name] = written(BEGIN)
+        struct.pack_into("<I", damaged[name], 4096 + at, value)
+    for name, data in damaged.items():
+        faults, wanted = reader.Log(data).faults, ["the chunk at byte 4096 has no whole head"]
         check(f"a chunk's head: {name}", difference((faults,), (wanted,)))
 
 
