@@ -111,7 +111,7 @@ export class Page {
 
   /** Returns what the browser did while `work` ran, as it traces it. */
   async traced(work) {
-    const traceConfig = { includedCategories: ['toplevel', 'blink.user_timing'] }
+    const traceConfig = { includedCategories: ['toplevel', 'blink.user_timing', 'devtools.timeline'] }
     await this.pipe.call('Tracing.start', { traceConfig, transferMode: 'ReportEvents' })
     await work()
     await this.pipe.call('Tracing.end')

@@ -218,13 +218,13 @@ const FILLS = `(() => { ${input.fill}
   const inBoth = (one, other) => { const rest = [...other]
     return one.filter(key => rest.includes(key) && rest.splice(rest.indexOf(key), 1)).length }
   for (let round = 0, keys = []; round < 3000; round++) {
-    const old = keys, before = [...to.children], most = [Infinity, 20, 16, 1][draw(4)]
+    const old = keys, before = [...to.children], most = [Infinity, 95, 76, 1][draw(4)]
     keys = draw(3) ? edited(old) : some()
     let whole = fill(to, keys.map(textOf), most, keys), rounds = 1
     const made = [...to.children].filter(it => !before.includes(it)).length, stay = to.childElementCount - made
     if (stay !== inBoth(old, keys)) return ['stay', old, keys, stay]
-    // An element has 8 characters: of 16 there are two, and of 20 three.
-    const wanted = Math.min(keys.length - stay, Math.ceil(most / 8))
+    // An element has 8 characters, and is as much as 38: of 76 there are two, and of 95 three.
+    const wanted = Math.min(keys.length - stay, Math.ceil(most / 38))
     if (made !== wanted || whole !== (made + stay === keys.length)) return ['made', old, keys, most, made, whole]
     for (; !whole; rounds++) whole = fill(to, keys.map(textOf), most, keys)
     if (said() !== keys.join() || to.keys.join() !== keys.join()) return ['said', old, keys, said()]
@@ -532,6 +532,9 @@ async function longEditor() {
     await page.evaluate(`(async () => { const it = document.getElementById('editor')
       it.scrollTop -= ${lines} * parseFloat(getComputedStyle(document.getElementById('text')).lineHeight)
       await ${TWO_FRAMES} })()`)
+    await page.key('Control')
+    await page.evaluate(TWO_FRAMES)
+    show(`full size, Control ${lines} lines above the caret`, await isInView(40_017))
     await page.key('Backspace')
     await page.evaluate(TWO_FRAMES)
     show(`full size, a key ${lines} lines above the caret`, await isInView(40_017))
@@ -570,7 +573,13 @@ async function edits() {
 
 /** Undoes by keys and by the menu, and makes nothing again that another change took the place of. */
 async function undoing() {
-  const said = [], keep = async () => said.push(await page.evaluate(`document.getElementById('text').value`))
+  const said = [], below = []
+  const keep = async () => {
+    await page.evaluate(TWO_FRAMES)
+    await settled()
+    said.push(await page.evaluate(`document.getElementById('text').value`))
+    below.push((await all('#lines > div', 'it.textContent')).join('\n'))
+  }
   const menu = async type => page.evaluate(`document.getElementById('text').dispatchEvent(
     new InputEvent('beforeinput', { inputType: '${type}', cancelable: true, bubbles: true }))`)
   await typed('pim 1')
@@ -579,8 +588,39 @@ async function undoing() {
   await page.type('\n')
   for (const key of [['y', 2], ['z', 2], ['y', 2]]) { await page.key(...key); await keep() }
   for (const type of ['historyUndo', 'historyRedo']) { await menu(type); await keep() }
-  await settled()
   show('undone', said)
+  show('undone, below the text area', below)
+}
+
+/** Types three characters into a line above another one, undoes them, makes them again, and undoes one in the other. */
+async function undoingInLine() {
+  await typed('pim 1\ntask 1 10\ntask 2 20')
+  await page.evaluate(`document.getElementById('text').setSelectionRange(13, 13)`)
+  for (const key of '234') await page.key(key)
+  const seen = () => page.evaluate(`{ const it = document.getElementById('text'); [it.value, it.selectionStart] }`)
+  const said = [await seen()]
+  for (const key of 'zy') { await page.key(key, 2); said.push(await seen()) }
+  await page.evaluate(`{ const it = document.getElementById('text'); it.setSelectionRange(it.value.length, it.value.length) }`)
+  await page.key('5')
+  await page.key('z', 2)
+  said.push(await seen())
+  show('undone in a line', said)
+}
+
+/** Shows where the editor is scrolled to by a step below the view, one in it and one above, and by another text. */
+async function places() {
+  const top = () => page.evaluate(`document.getElementById('editor').scrollTop`)
+  await typed(input.long)
+  const high = await page.evaluate(`document.getElementById('editor').clientHeight`), seen = []
+  for (const step of [150, 149, 40]) {
+    await page.evaluate(`{ const it = document.getElementById('slider'); it.value = ${step}; it.oninput() }`)
+    await settled()
+    seen.push(await top() + (step > 40 ? high : 0))
+  }
+  await page.evaluate(`(${drop})('none\\n'.repeat(300))`)
+  await verdict(/line 1 is invalid/)
+  await settled()
+  show('places of the editor', [...seen, await top()])
 }
 
 /** Cuts, presses Enter and composes where all of a long text is selected, and types where it no longer is. */
@@ -696,16 +736,21 @@ async function keys() {
   show('a key: milliseconds', times.sort((a, b) => a - b)[times.length >> 1])
 }
 
-/** Counts the elements that the page puts in between two frames: the most, and all. */
-const COUNTING = `{ const made = window.made = { most: 0, all: 0 }; let frame = 0
-  const elements = node => node.nodeType === 1 ? 1 + node.querySelectorAll('*').length : 0
+/** Counts the elements that the page puts in: all, the most of a frame, and the most characters of a frame outside of the
+ * editor, where an element is as much as 30 more. */
+const COUNTING = `{ const none = { most: 0, all: 0, painted: 0 }, made = window.made = { ...none }
+  let frame = 0, elements = 0, painted = 0
+  window.countAnew = () => { elements = painted = 0; Object.assign(made, none) }
   new MutationObserver(records => {
-    for (const { addedNodes } of records) for (const node of addedNodes) frame += elements(node)
-  }).observe(document.body, { childList: true, subtree: true })
-  const next = () => {
-    made.most = Math.max(made.most, frame); made.all += frame; frame = 0; requestAnimationFrame(next)
-  }
-  requestAnimationFrame(next) }`
+    const now = document.timeline.currentTime
+    if (now !== frame) { frame = now; elements = painted = 0 }
+    for (const { target, addedNodes } of records) for (const node of addedNodes) {
+      const count = node.nodeType === 1 ? 1 + node.querySelectorAll('*').length : 0
+      elements += count; made.all += count
+      if (count && !target.closest('#editor')) painted += 30 * count + node.outerHTML.length
+    }
+    made.most = Math.max(made.most, elements); made.painted = Math.max(made.painted, painted)
+  }).observe(document.body, { childList: true, subtree: true }) }`
 
 /** What this machine takes to make a thousand elements: a task that the keys are compared with. */
 const MAKING = `{ const box = document.createElement('pre'); box.style.position = 'fixed'; document.body.append(box)
@@ -716,7 +761,7 @@ async function watched(names) {
   const made = []
   const events = await page.traced(async () => {
     for (const name of names) {
-      await page.evaluate(`performance.mark('key'); window.made.most = window.made.all = 0
+      await page.evaluate(`performance.mark('key'); window.countAnew()
         window.drawn = new Promise(done => addEventListener('keydown', ({ timeStamp }) => { const wait = () =>
           document.getElementById('main').getAttribute('aria-busy') === 'false'
             ? done(performance.now() - timeStamp) : requestAnimationFrame(wait)
@@ -731,14 +776,27 @@ async function watched(names) {
     }
     await page.evaluate(`performance.mark('end')`)
   })
-  const marks = events.filter(it => it.cat === 'blink.user_timing').sort((a, b) => a.ts - b.ts)
-  const tasks = events.filter(it => it.ph === 'X' && it.tid === marks[0].tid && it.pid === marks[0].pid)
-  const longest = (name, i) => {
-    const here = tasks.filter(it => it.ts >= marks[i].ts && it.ts < marks[i + 1].ts)
-    return marks[i].name === name ? [Math.max(...here.map(it => it.tdur ?? 0)) / 1000] : []
+  return { made, ...heldBy(events) }
+}
+
+/** Returns from traced events, of each key and of what was made behind it, the longest task; and of each key the most
+ * elements that one task restyles, objects that it lays out, and layouts that it makes. */
+function heldBy(events) {
+  const marks = events.filter(it => ['key', 'making', 'end'].includes(it.name)).sort((a, b) => a.ts - b.ts)
+  const mine = events.filter(it => it.ph === 'X' && it.tid === marks[0].tid && it.pid === marks[0].pid)
+  const tasks = mine.filter(it => it.cat.includes('toplevel')), parts = mine.filter(it => !it.cat.includes('toplevel'))
+  const between = i => tasks.filter(it => it.ts >= marks[i].ts && it.ts < marks[i + 1].ts)
+  const inside = (task, name) => parts.filter(it => it.name === name && it.ts >= task.ts && it.ts < task.ts + task.dur)
+  const sum = (found, of) => found.reduce((all, it) => all + (of(it) ?? 0), 0)
+  const most = (i, of) => Math.max(...between(i).map(of))
+  const over = (name, of) => marks.slice(0, -1).flatMap((it, i) => it.name === name ? [most(i, of)] : [])
+  const longest = name => over(name, it => it.tdur ?? 0).map(it => it / 1000)
+  return {
+    held: longest('key'), making: longest('making'),
+    restyled: over('key', it => sum(inside(it, 'UpdateLayoutTree'), ({ args }) => args.elementCount)),
+    laid: over('key', it => sum(inside(it, 'Layout'), ({ args }) => args.beginData?.dirtyObjects)),
+    layouts: over('key', it => inside(it, 'Layout').length),
   }
-  const [held, making] = ['key', 'making'].map(name => marks.slice(0, -1).flatMap((_, i) => longest(name, i)))
-  return { made, held, making }
 }
 
 /** Counts the words of the lanes that are hidden and don't begin left of the view, or aren't and do. */
@@ -749,6 +807,7 @@ const WRONGLY_HIDDEN = `(() => {
 
 /** Types a line into texts of 200 lines, at the end and in the middle. */
 async function keysOfLines() {
+  await page.evaluate(COUNTING)
   for (const [name, { whole, line, wide, keys: names }] of Object.entries(input.keys)) {
     await page.size(wide, 0.6 * wide, false)
     await typed(whole)
@@ -756,7 +815,6 @@ async function keysOfLines() {
       const place = lines.slice(0, ${line}).join('\\n').length
       it.setSelectionRange(place, place); it.onclick(); document.getElementById('editor').scrollTop = 21 * ${line} - 200 }`)
     await settled()
-    await page.evaluate(COUNTING)
     show(`keys, ${name}`, await watched(names))
     show(`words wrongly hidden, ${name}`, await page.evaluate(WRONGLY_HIDDEN))
   }
@@ -836,7 +894,7 @@ async function spoken() {
 }
 
 try {
-  for (const part of [firstVisit, failures, examples, graphs, details, typing, fills, leftEdge, stepping, files, full, longEditor, edits, undoing, overAll, lastWins, folds, keys, keysOfLines, narrowReplies, byKeyboard, spoken, looks]) await part()
+  for (const part of [firstVisit, failures, examples, graphs, details, typing, fills, leftEdge, stepping, files, full, longEditor, edits, undoing, undoingInLine, places, overAll, lastWins, folds, keys, keysOfLines, narrowReplies, byKeyboard, spoken, looks]) await part()
   const asked = page.heard.filter(it => it.method === 'Network.requestWillBeSent').map(it => it.params.request.url)
   show('requests', asked.filter(url => !/^(data|blob):/.test(url) && url.split('#')[0] !== address))
   const errors = page.heard.filter(it => FAILURES.includes(it.method)).map(it => JSON.stringify(it.params))

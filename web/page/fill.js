@@ -1,6 +1,7 @@
 // ---- elements: those stay that say the same, and no frame makes too many -----------------
-// Work is counted in characters. To look at a text is as much as to make an element of eight.
-const MOST_WORK = 7_000, LOOKING = 8, REMOVING = 40
+// Work is counted in characters of elements. An element is as much as so many more, since the browser
+// styles it, places it and paints it: to make one, to look at one that stays, and to remove one.
+const MOST_WORK = 6_500, MAKING = 30, LOOKING = 8, REMOVING = 40
 let work = { frame: 0, done: 0 }
 
 /** Returns how much work this frame may still do. */
@@ -38,17 +39,17 @@ function made(to, found) {
   return range.createContextualFragment(found.map(({ text }) => text).join(''))
 }
 
-const lengthOf = found => found.reduce((sum, { text }) => sum + text.length, 0)
+const costOf = ({ text }) => MAKING + text.length
 
-/** Returns the first of these, as many as have so many characters and one more. */
+/** Returns the first of these, as many as cost so much and one more. */
 function firstOf(found, most) {
   let count = 0
-  for (let room = most; count < found.length && room > 0; count++) room -= found[count].text.length
+  for (let room = most; count < found.length && room > 0; count++) room -= costOf(found[count])
   return found.slice(0, count)
 }
 
 /** Gives an element one element for each of these texts. One that it has already, by its key,
- * stays. No more than so many characters of elements are made. Returns whether all are there. */
+ * stays. No more elements are made than so much work. Returns whether all are there. */
 function fill(to, texts, most = Infinity, keys = texts) {
   const had = to.keys ?? [], { begin, end } = sharedEnds(had, keys), past = keys.length - end
   const old = elementsOf(to, had, begin, had.length - end)
@@ -56,7 +57,8 @@ function fill(to, texts, most = Infinity, keys = texts) {
     .map((key, i) => ({ text: texts[begin + i], key, it: old.get(key)?.pop() }))
   const missing = firstOf(found.filter(({ it }) => !it), most), begun = new Set(missing)
   const shown = found.filter(one => one.it || begun.has(one)), gone = [...old.values()].flat()
-  worked(LOOKING * texts.length + REMOVING * gone.length + lengthOf(missing))
+  const making = missing.reduce((sum, it) => sum + costOf(it), 0)
+  worked(LOOKING * texts.length + REMOVING * gone.length + making)
   to.keys = [...keys.slice(0, begin), ...shown.map(({ key }) => key), ...keys.slice(past)]
   if (gone.length === to.childElementCount) {
     to.replaceChildren(made(to, missing))
@@ -98,7 +100,7 @@ function setStyle({ style }, pixels) {
 /** Waits for the next animation frame. */
 const nextFrame = () => new Promise(done => { requestAnimationFrame(done) })
 
-/** Fills elements one after the other, over some frames if there is much to make. */
+/** Fills elements one after the other from the next frame on, over some frames if there is much to make. */
 class Painter {
   /** Takes what is called when it begins and when all is filled. */
   constructor(changed) {
@@ -118,6 +120,7 @@ class Painter {
     this.isPainting = true
     this.changed()
     try {
+      await nextFrame()
       while (this.waiting.size) await this.fillFirst()
     } finally {
       this.isPainting = false

@@ -159,7 +159,7 @@ function drawMutex({ m, x, y }, mutex, { mutex: { w, h } }) {
 /** Returns a picture of who owns and who waits. */
 function drawGraph(state, room) {
   const layout = new Layout(state, room), { w, h } = layout.task
-  const width = Math.max(room.width, ...layout.nodes.map(it => it.x + w + 2))
+  const width = Math.max(room.width, ...layout.nodes.map(it => it.x + w))
   const height = Math.max(0, ...layout.nodes.map(it => it.y + h)) + 6
   const edges = layout.edges.sort((a, b) => (a.why > b.why) - (a.why < b.why))
   const arrows = () => ['plain', 'waiter', 'ceiling'].map(why => arrow(why, inkOf(why)))

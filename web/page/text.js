@@ -50,18 +50,35 @@ function fillLines(to, lines, texts) {
   fill(to, texts, Infinity, keys)
 }
 
+/** Gives the elements of some lines their classes, which change more often than what is in them. */
+function classifyLines(to, kinds) {
+  [...to.children].forEach((it, i) => {
+    if (it.className === kinds[i]) return
+    it.className = kinds[i]
+    worked(MAKING)
+  })
+}
+
+/** Gives the elements of some lines their numbers. */
+function numberLines(to, first) {
+  [...to.children].forEach(({ dataset }, i) => {
+    if (dataset.line === String(first + i + 1)) return
+    dataset.line = first + i + 1
+    worked(MAKING)
+  })
+}
+
 /** Draws the copy of the lines in view below the text area, and what is said behind them. */
 function drawText(view, now, editor, { lines: to, said }) {
   const { first, past } = editor.near(AROUND), lines = editor.lines.slice(first, past)
   const kinds = lines.map((_, i) => kindOf(view, now, first + i + 1))
-  fillLines(to, lines, lines.map((line, i) => `<div class="${kinds[i]}">${coloured(line)}</div>`))
-  ;[...to.children].forEach(({ dataset }, i) => {
-    if (dataset.line !== String(first + i + 1)) dataset.line = first + i + 1
-  })
+  fillLines(to, lines, lines.map(line => `<div>${coloured(line)}</div>`))
+  numberLines(to, first)
   fillLines(said, lines, lines.map((_, i) => {
     const reply = remark(view, editor, first + i + 1)
-    return `<div class="${kinds[i]}">${reply && `<span>${escape(reply)}</span>`}</div>`
+    return `<div>${reply && `<span>${escape(reply)}</span>`}</div>`
   }))
+  for (const it of [to, said]) classifyLines(it, kinds)
   for (const it of [to, said]) it.style.marginTop = `${first * editor.line}px`
   // The browser scrolls the caret to where the reply doesn't cover it.
   const covered = LETTER_OF_REPLY * remark(view, editor, editor.caret).length + AROUND_REPLY
