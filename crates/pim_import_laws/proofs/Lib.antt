@@ -1,0 +1,5 @@
+mod Unawaited
+mod Beside
+mod Leaving
+mod Renaming
+mod RenamedRuns

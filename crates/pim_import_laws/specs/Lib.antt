@@ -1,0 +1,2 @@
+pub mod LeavingOut
+pub mod Renaming
