@@ -26,6 +26,8 @@ pub struct Asked<'a> {
     pub names: Option<&'a str>,
     /// The piece of a recording that the trace is, from 1 on.
     pub piece: u32,
+    /// The path of a file of the kernel's events.
+    pub kernel: Option<&'a str>,
 }
 
 /// The text below the options in `--help`.
@@ -58,12 +60,18 @@ With --names it draws a trace of pim-import with what LOG.names says: tasks have
 order: a step that isn't later than the one before is drawn a nanosecond behind it. LOG.2.pim is --piece 2. The file must
 have as many steps as the trace.
 
+With --kernel, --perfetto and --names it also draws a track for each CPU, by the events that pim-record --kernel recorded:
+which thread of LOG.names ran there, with its task and its level. The level is the priority in force, for the kernel, at
+the end of a slice: 1 to 99 of SCHED_FIFO and SCHED_RR, 0 of the policies below, 100 of SCHED_DEADLINE. Other threads
+aren't drawn, nor those of which two had the same number in the kernel. Where events were lost, nothing is drawn.
+
 COLUMNS is how wide a table may be: 80 if it isn't set. On a terminal boosts are bold, unless NO_COLOR is set.
 
 Input is standard input, results go to standard output, faults to standard error.
 Exit status: 0 accepted, 1 rejected, 2 any fault: 'pim-picture: line <n>' where line n is the first that is invalid,
 'pim-picture: read' or 'pim-picture: write' where that failed, 'pim-picture: memory' when out of memory;
-'pim-picture: FILE: line <n>' of a file of names, or how it doesn't fit the trace; or a wrong command line.";
+'pim-picture: FILE: line <n>' of a file of names or of the kernel's events, or how the names don't fit the trace;
+or a wrong command line.";
 
 /// Returns what the arguments ask for. The first argument is the program's name.
 ///
@@ -86,6 +94,7 @@ pub fn command<'a>(alloc: Global, words: &'a [&'a str]) -> Result<Asked<'a>, Err
         window: Window { first, last },
         names: matches.get_str("names"),
         piece: matches.get_one::<u32>("piece").unwrap_or(1),
+        kernel: matches.get_str("kernel"),
     })
 }
 
@@ -107,7 +116,16 @@ fn pim_picture<'a>(alloc: Global) -> Result<Command<'a>, AllocError> {
         .arg(number(alloc, "from", "STEP", from))?
         .arg(number(alloc, "to", "STEP", to))?
         .arg(file(alloc, "names", names))?
-        .arg(number(alloc, "piece", "N", piece).requires_arg("names")?)
+        .arg(number(alloc, "piece", "N", piece).requires_arg("names")?)?
+        .arg(kernel_of(alloc)?)
+}
+
+/// Returns the option of the kernel's events, which have the times of the names and are drawn as tracks alone.
+fn kernel_of<'a>(alloc: Global) -> Result<Arg<'a>, AllocError> {
+    let help = "What the kernel did, to draw with --perfetto: LOG.kernel";
+    file(alloc, "kernel", help)
+        .requires_arg("names")?
+        .requires_arg("perfetto")
 }
 
 /// Returns an option without a value.

@@ -3,7 +3,7 @@ ghost use Rattle.std.specs.Prelude.{◌≡◌, ℕ, [], Some, IfOk, IfErr, IfSom
 ghost use Rattle.pim_base.specs.Texts.{Trace, lines_of, Spells, IsWithinLimits, FirstBadLine};
 ghost use Rattle.pim_base.specs.Reports.{verdict_of};
 ghost use Rattle.pim_text.specs.Reading.{trace_of};
-ghost use Rattle.pim_judge.specs.Ends.{Happened};
+ghost use Rattle.pim_page.specs.Ends.{Happened};
 ghost use Rattle.pim_judge.specs.Faults.{IsWorkerless};
 ghost use Rattle.pim_drawing.specs.Faults.{IsOfOutput};
 ghost use Rattle.pim_drawing.specs.Naming.{IsNamedPicture};
@@ -15,6 +15,7 @@ use crate::table::draw_table;
 use crate::walking::Window;
 use pim_base::Verdict;
 use pim_judge::{Fault, Sink, Source, Text, parse, read_all};
+use pim_kernel::Tracks;
 use pim_names::Piece;
 use std::alloc::Global;
 
@@ -70,6 +71,15 @@ pub fn picture<R: Source, W: Sink>(
     draw(alloc, writer, &text, style, None)
 }
 
+/// What is known of a recorded program beside its trace.
+#[derive(Clone, Copy)]
+pub struct Recorded<'a> {
+    /// Its threads, and when the steps were made.
+    pub names: Piece<'a>,
+    /// When each thread ran on which CPU, if the kernel's events were recorded. Only tracks show it.
+    pub tracks: Option<&'a Tracks>,
+}
+
 /// What there is after a trace was to be drawn with names.
 #[derive(Clone, Copy, Debug, PartialEq, Eq)]
 pub enum Named {
@@ -79,8 +89,8 @@ pub enum Named {
     OtherSteps(usize),
 }
 
-/// Reads a trace to its end, and draws it with names and times. If they are of another number of steps, nothing is
-/// written.
+/// Reads a trace to its end, and draws it with what is known of the recorded program. If the names are of another number
+/// of steps, nothing is written.
 ///
 /// # Errors
 ///
@@ -90,7 +100,7 @@ pub fn named_picture<R: Source, W: Sink>(
     reader: &mut R,
     writer: &mut W,
     style: &Style,
-    names: &Piece,
+    recorded: &Recorded,
 ) -> Result<Named, Fault>
     // The bytes are a trace, and the verdict is that of its report, or the trace has so many steps.
     ensures ok { IfOk result (λ named. IfSome (R.remaining reader.old) (λ bytes.
@@ -118,10 +128,10 @@ pub fn named_picture<R: Source, W: Sink>(
 {
     let text = read_text(alloc, reader)?;
     let steps = text.lines.len();
-    if steps != names.times.as_slice().len() {
+    if steps != recorded.names.times.as_slice().len() {
         return Ok(Named::OtherSteps(steps));
     }
-    let verdict = draw(alloc, writer, &text, style, Some(*names))?;
+    let verdict = draw(alloc, writer, &text, style, Some(recorded))?;
     Ok(Named::Drawn(verdict))
 }
 
@@ -131,16 +141,20 @@ fn draw<W: Sink>(
     writer: &mut W,
     text: &Text,
     style: &Style,
-    names: Option<Piece<'_>>,
+    recorded: Option<&Recorded<'_>>,
 ) -> Result<Verdict, Fault>
     requires limits { IsWithinLimits (trace_of text.now) }
     ensures verdict { IfOk result (λ verdict. verdict ≡ verdict_of (trace_of text.now)) }
     ensures err { IfErr result IsOfOutput }
 {
+    let names = match recorded {
+        Some(recorded) => Some(recorded.names),
+        None => None,
+    };
     match style.form {
         Form::Table => draw_table(alloc, writer, text, style, names),
         Form::Svg => draw_svg(alloc, writer, text, style.window, names),
-        Form::Perfetto => draw_perfetto(alloc, writer, text, style.window, names),
+        Form::Perfetto => draw_perfetto(alloc, writer, text, style.window, recorded),
     }
 }
 

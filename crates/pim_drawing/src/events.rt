@@ -12,19 +12,36 @@ const STEP: u64 = 1_000_000;
 /// More than the tracks of a task.
 const TRACKS: u64 = 1000;
 
-/// A track in the group of a task.
+/// The group of the CPUs. That of a task has the task's number, which is lower.
+const CPUS: u64 = 1000;
+
+/// A track in the group of a task or of the CPUs.
 #[derive(Clone, Copy)]
 pub(crate) struct Track {
-    pub task: TaskNo,
+    group: u64,
     pub row: u64,
 }
 
 impl Track {
-    /// Returns the number that the track has among those of all tasks.
+    /// Returns a track of a task.
+    pub fn of_task(task: TaskNo, row: u64) -> Track {
+        Track {
+            group: u64::from(task.get()),
+            row,
+        }
+    }
+
+    /// Returns the track of a CPU. That of CPU 0 has row 1.
+    pub fn of_cpu(cpu: u32) -> Track {
+        Track {
+            group: CPUS,
+            row: u64::from(cpu).saturating_add(1),
+        }
+    }
+
+    /// Returns the number that the track has among those of all groups.
     fn number(&self) -> u64 {
-        u64::from(self.task.get())
-            .saturating_mul(TRACKS)
-            .saturating_add(self.row)
+        self.group.saturating_mul(TRACKS).saturating_add(self.row)
     }
 }
 
@@ -60,6 +77,14 @@ impl<'a> Field<'a> {
             value: Value::Number(number),
         }
     }
+
+    /// Returns a field that is a time in nanoseconds.
+    pub fn time(key: &'a str, time: u64) -> Field<'a> {
+        Field {
+            key,
+            value: Value::Time(time),
+        }
+    }
 }
 
 /// When steps are: as names say, or a millisecond after each other.
@@ -70,7 +95,7 @@ pub(crate) struct Clock<'a> {
 
 impl Clock<'_> {
     /// Returns the nanoseconds at a step.
-    fn time(&self, step: u32) -> u64 {
+    pub fn time(&self, step: u32) -> u64 {
         match self.names {
             Some(names) => names.times.at(step),
             None => u64::from(step).saturating_mul(STEP),
@@ -79,19 +104,12 @@ impl Clock<'_> {
 
     /// Returns when an event is.
     pub fn at(&self, step: u32) -> Field<'static> {
-        Field {
-            key: "ts",
-            value: Value::Time(self.time(step)),
-        }
+        Field::time("ts", self.time(step))
     }
 
     /// Returns how long an event takes, to the step before another.
     pub fn until(&self, from: u32, past: u32) -> Field<'static> {
-        let duration = self.time(past).saturating_sub(self.time(from));
-        Field {
-            key: "dur",
-            value: Value::Time(duration),
-        }
+        Field::time("dur", self.time(past).saturating_sub(self.time(from)))
     }
 }
 
@@ -125,11 +143,10 @@ impl Events {
         fields: &[Field<'_>],
         arguments: &[Field<'_>],
     ) -> Result<(), AllocError> {
-        let pid = u64::from(track.task.get());
         self.json.begin_object()?;
         self.put(&[
             Field::text("ph", kind),
-            Field::number("pid", pid),
+            Field::number("pid", track.group),
             Field::number("tid", track.number()),
             Field::text("name", name),
         ])?;

@@ -1,8 +1,8 @@
 //! Pictures of traces: who executes at which priority after each step, what it owns and what it waits for.
 //!
 //! [`picture`] reads a trace and draws it: as a table, as lanes in SVG, or as tracks in Trace Event JSON.
-//! [`named_picture`] draws it with the names and times of a recording. [`command`] parses the arguments of the command
-//! line. All that is drawn comes from a `pim_manager::Manager`, which makes the
+//! [`named_picture`] draws it with the names and times of a recording, and with who ran on which CPU. [`command`] parses
+//! the arguments of the command line. All else that is drawn comes from a `pim_manager::Manager`, which makes the
 //! steps of the text; `walk` shows the state after each of them to a `Watcher`.
 //!
 //! ```text
@@ -15,6 +15,7 @@
 
 mod cells;
 mod command_line;
+mod cpus;
 mod drawing;
 mod events;
 mod paper;
@@ -29,5 +30,5 @@ mod walking;
 mod words;
 
 pub use command_line::{Asked, Form, command};
-pub use drawing::{Named, Style, named_picture, picture};
+pub use drawing::{Named, Recorded, Style, named_picture, picture};
 pub use walking::Window;

@@ -5,6 +5,8 @@ ghost use Rattle.pim_base.specs.Reports.{verdict_of};
 ghost use Rattle.pim_text.specs.Reading.{trace_of};
 ghost use Rattle.pim_drawing.specs.Faults.{IsOfOutput};
 
+use crate::cpus::put_cpus;
+use crate::drawing::Recorded;
 use crate::events::{Clock, Events, Field, Track};
 use crate::paper::{set_text, write_all};
 use crate::rows::Rows;
@@ -16,8 +18,8 @@ use pim_judge::{Fault, Sink, Text};
 use pim_names::Piece;
 use std::alloc::{AllocError, Global};
 
-/// Draws a trace as Trace Event JSON. A step takes a millisecond, unless names say when it was made. Returns the verdict
-/// of its report.
+/// Draws a trace as Trace Event JSON. A step takes a millisecond, unless names say when it was made. The CPUs have tracks
+/// if it is known who ran there. Returns the verdict of the trace's report.
 ///
 /// # Errors
 ///
@@ -27,14 +29,14 @@ pub fn draw_perfetto<W: Sink>(
     writer: &mut W,
     text: &Text,
     window: Window,
-    names: Option<Piece<'_>>,
+    recorded: Option<&Recorded<'_>>,
 ) -> Result<Verdict, Fault>
     requires limits { IsWithinLimits (trace_of text.now) }
     ensures verdict { IfOk result (λ verdict. verdict ≡ verdict_of (trace_of text.now)) }
     ensures err { IfErr result IsOfOutput }
 {
     let (spans, verdict) = spans_of(alloc, text, window)?;
-    let bytes = events_of(alloc, &spans, spans.past(&verdict), names)?;
+    let bytes = events_of(alloc, &spans, spans.past(&verdict), recorded)?;
     write_all(writer, &bytes)?;
     Ok(verdict)
 }
@@ -68,8 +70,12 @@ fn events_of(
     alloc: Global,
     spans: &Spans,
     past: u32,
-    names: Option<Piece<'_>>,
+    recorded: Option<&Recorded<'_>>,
 ) -> Result<Vec<u8>, AllocError> {
+    let names = match recorded {
+        Some(recorded) => Some(recorded.names),
+        None => None,
+    };
     let mut drawn = Drawn {
         events: Events::new(alloc)?,
         names,
@@ -82,7 +88,15 @@ fn events_of(
         tracks: Vec::new(alloc),
     };
     drawn.all(spans)?;
-    let Drawn { events, .. } = drawn;
+    let Drawn {
+        mut events,
+        clock,
+        ..
+    } = drawn;
+    if let Some(recorded) = recorded {
+        let (from, until) = (clock.time(spans.window.first), clock.time(past));
+        put_cpus(&mut events, alloc, recorded, from, until)?;
+    }
     events.into_bytes()
 }
 
@@ -107,10 +121,7 @@ impl Drawn<'_> {
     /// Adds a priority: its counter and, if it is boosted, why.
     fn level(&mut self, level: &Level) -> Result<(), AllocError> {
         let past = level.past.min(self.past);
-        let track = Track {
-            task: level.task,
-            row: BOOSTED,
-        };
+        let track = Track::of_task(level.task, BOOSTED);
         let at = self.clock.at(level.from);
         let prio = Field::number("priority", u64::from(level.prio.get()));
         self.events.add("C", &track, "priority", &[at], &[prio])?;
@@ -151,10 +162,7 @@ impl Drawn<'_> {
                 .place(bar.task, bar.from, bar.past)?
                 .saturating_add(WAITS)
         };
-        Ok(Track {
-            task: bar.task,
-            row,
-        })
+        Ok(Track::of_task(bar.task, row))
     }
 
     /// Adds the flow from the last bar to that of the owner, if it is a wait.
@@ -184,7 +192,7 @@ impl Drawn<'_> {
         let boosts = self.boosts.count(task);
         let waits = self.waits.count(task);
         let owns = self.owns.count(task);
-        let track = Track { task, row: BOOSTED };
+        let track = Track::of_task(task, BOOSTED);
         let thread = Thread::of(self.names, task);
         set_text(&mut self.name, Heading { task, thread })?;
         self.events
@@ -205,7 +213,7 @@ impl Drawn<'_> {
         name: &str,
     ) -> Result<(), AllocError> {
         for row in first..first.saturating_add(count) {
-            let track = Track { task, row };
+            let track = Track::of_task(task, row);
             self.events.call("thread_name", &track, name)?;
             self.events.sort("thread_sort_index", &track, track.row)?;
         }

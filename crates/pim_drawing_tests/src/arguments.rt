@@ -32,3 +32,24 @@ fn wrong_step_is_an_error(rt: HostRuntime) {
     let asked = command(rt.alloc(), &["pim-picture", "--from", "x"]);
     assert!(rt; asked.is_err_and(|error| error.kind() == ErrorKind::ValueValidation));
 }
+
+#[test]
+fn kernel_events_are_asked_for_with_names_and_tracks(rt: HostRuntime) {
+    let words = [
+        "pim-picture",
+        "--perfetto",
+        "--names",
+        "run.names",
+        "--kernel=run.kernel",
+    ];
+    let asked = command(rt.alloc(), &words);
+    assert!(rt; asked.is_ok_and(|asked| asked.kernel == Some("run.kernel")));
+}
+
+#[test]
+fn kernel_events_without_names_or_tracks_are_an_error(rt: HostRuntime) {
+    let asked = command(rt.alloc(), &["pim-picture", "--perfetto", "--kernel=x"]);
+    assert!(rt; asked.is_err_and(|error| error.kind() == ErrorKind::MissingRequiredArgument));
+    let asked = command(rt.alloc(), &["pim-picture", "--names=y", "--kernel=x"]);
+    assert!(rt; asked.is_err_and(|error| error.kind() == ErrorKind::MissingRequiredArgument));
+}

@@ -56,6 +56,7 @@ pub struct Event {
     pub line: u64,
     /// CLOCK_MONOTONIC in nanoseconds.
     pub time: u64,
+    pub cpu: u32,
     /// The task that ran on the CPU. Of `Lost` it is 0.
     pub task: u32,
     pub what: What,

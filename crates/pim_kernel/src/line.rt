@@ -31,7 +31,7 @@ pub fn read_line(line: &[u8], number: u64) -> Option<Line> {
         return read_end(&mut words);
     }
     let time = number_of(first)?;
-    let _cpu = words.small()?;
+    let cpu = words.small()?;
     let task = words.small()?;
     let kind = words.next()?;
     if kind == b"name".as_slice() {
@@ -44,6 +44,7 @@ pub fn read_line(line: &[u8], number: u64) -> Option<Line> {
     Some(Line::Event(Event {
         line: number,
         time,
+        cpu,
         task,
         what,
     }))

@@ -19,11 +19,12 @@ pub struct Call {
     pub end: u64,
 }
 
-/// A line and its time.
+/// A line, its time, and the CPU on which its task ran.
 #[derive(Clone, Copy, Debug, PartialEq, Eq)]
 pub struct Sign {
     pub line: u64,
     pub time: u64,
+    pub cpu: u32,
 }
 
 /// What a task did. Only of recorded tasks it is all that they did.
@@ -65,9 +66,9 @@ impl Track {
         self.level = None;
     }
 
-    /// The task runs. If no line shows since when, a thread may have set its level since it stopped.
+    /// The task runs. If no line shows since when it runs on this CPU, a thread may have set its level since it stopped.
     pub(crate) fn see(&mut self, sign: Sign) {
-        if self.since.is_none() {
+        if !self.is_on(sign.cpu) {
             self.since = Some(sign);
             self.is_shown = false;
         }
@@ -80,14 +81,25 @@ impl Track {
         self.is_shown = true;
     }
 
-    /// The task stops, at this level.
+    /// Returns whether a line shows that the task runs now, on this CPU.
+    fn is_on(&self, cpu: u32) -> bool {
+        match self.since {
+            Some(since) => since.cpu == cpu,
+            None => false,
+        }
+    }
+
+    /// The task stops, at this level. If the last line showed it on another CPU, it isn't known since when it ran on
+    /// this one.
     pub(crate) fn leave(
         &mut self,
         sign: Sign,
         level: u8,
         is_asleep: bool,
     ) -> Result<(), AllocError> {
-        self.end_stretch(sign, level)?;
+        if self.is_on(sign.cpu) {
+            self.end_stretch(sign, level)?;
+        }
         self.since = None;
         self.level = Some(level);
         if is_asleep {
@@ -98,11 +110,14 @@ impl Track {
         }
     }
 
-    /// The level of the task changes.
+    /// The level of the task changes, by a line of the task that boosts it, which may run on another CPU.
     pub(crate) fn change(&mut self, sign: Sign, before: u8, after: u8) -> Result<(), AllocError> {
         self.end_stretch(sign, before)?;
-        if self.since.is_some() {
-            self.since = Some(sign);
+        if let Some(since) = self.since {
+            self.since = Some(Sign {
+                cpu: since.cpu,
+                ..sign
+            });
         }
         self.level = Some(after);
         self.is_shown = true;
@@ -115,6 +130,7 @@ impl Track {
             (Some(since), Some(before)) => self.stretches.add(Stretch {
                 begin: since.time,
                 end: sign.time,
+                cpu: since.cpu,
                 first_line: since.line,
                 last_line: sign.line,
                 before,

@@ -54,6 +54,12 @@ impl Tracks {
         Ok(tracks)
     }
 
+    /// Returns what each task did, in the order in which the recording first has them. A task that is only switched to or
+    /// boosted is one of them, and so is the idle task, 0.
+    pub fn as_slice(&self) -> &[Track] {
+        self.list.as_slice()
+    }
+
     /// Returns what a task did, or `None` if the recording doesn't have it.
     pub fn of_task(&self, task: u32) -> Option<&Track> {
         self.list.get(*self.places.get(&task)?)
@@ -72,6 +78,7 @@ impl Tracks {
         let sign = Sign {
             line: event.line,
             time: event.time,
+            cpu: event.cpu,
         };
         match event.what {
             What::Switch(switch) => {

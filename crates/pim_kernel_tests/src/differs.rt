@@ -25,6 +25,7 @@ fn compare(
         let stretch = Stretch {
             begin: *begin,
             end: *end,
+            cpu: 0,
             first_line: line,
             last_line: line.saturating_add(1),
             before: *before,

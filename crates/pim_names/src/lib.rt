@@ -20,5 +20,5 @@ mod times;
 mod words;
 
 pub use fault::NamesFault;
-pub use names::{Names, Piece};
+pub use names::{Names, Piece, Thread};
 pub use times::Times;

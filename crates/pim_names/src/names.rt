@@ -18,6 +18,19 @@ pub struct Names {
     pieces: Vec<Times>,
     tasks: Labels,
     mutexes: Labels,
+    /// In the order of their lines.
+    threads: Vec<Thread>,
+}
+
+/// A thread that is a task of the trace.
+#[derive(Debug, PartialEq, Eq, Drop)]
+pub struct Thread {
+    /// The number of the task.
+    pub task: u16,
+    /// The thread's number in the kernel.
+    pub kernel: u64,
+    /// Its name and that number: `low[30321]`.
+    pub name: String,
 }
 
 impl Names {
@@ -54,6 +67,7 @@ impl Names {
             pieces: Vec::new(alloc),
             tasks: Labels::new(alloc),
             mutexes: Labels::new(alloc),
+            threads: Vec::new(alloc),
         }
     }
 
@@ -128,6 +142,14 @@ impl Names {
         }
         let mut label = text_of(alloc, name)?;
         write!(label, "[{kernel}]")?;
+        let thread = Thread {
+            task: number,
+            kernel,
+            name: label.clone()?,
+        };
+        if self.threads.push(thread).is_err() {
+            return Err(AllocError);
+        }
         self.tasks.add(alloc, number, from, label)?;
         Ok(true)
     }
@@ -160,6 +182,11 @@ impl<'a> Piece<'a> {
     /// Returns the thread that a task is after a step, as its name and its number in the kernel: `low[30321]`.
     pub fn task(&self, task: u16, step: u32) -> Option<&'a str> {
         self.names.tasks.at(task, self.moment(step))
+    }
+
+    /// Returns the threads that are tasks of the trace in some piece, in the order in which they come into it.
+    pub fn threads(&self) -> &'a [Thread] {
+        self.names.threads.as_slice()
     }
 
     /// Returns whether a task is more than one thread in this piece, one after the other.

@@ -83,6 +83,24 @@ fn task_of_two_threads_is_shared(rt: HostRuntime) -> Result<(), Fail> {
 }
 
 #[test]
+fn threads_of_all_pieces_are_listed_once(rt: HostRuntime) -> Result<(), Fail> {
+    let names = Names::read(rt.alloc(), TEXT.as_bytes())?;
+    let piece = names.piece(1).ok_or(NO_PIECE)?;
+    let wanted = [
+        (1, 71, "low[71]"),
+        (2, 72, "high[72]"),
+        (1, 73, "next[73]"),
+        (1, 74, "[74]"),
+    ];
+    assert!(rt; piece.threads().len() == wanted.len());
+    for (thread, (task, kernel, name)) in piece.threads().iter().zip(wanted) {
+        assert!(rt; (thread.task, thread.kernel) == (task, kernel));
+        assert!(rt; thread.name.as_str() == name);
+    }
+    Ok(())
+}
+
+#[test]
 fn pieces_are_counted_from_1(rt: HostRuntime) -> Result<(), Fail> {
     let names = Names::read(rt.alloc(), TEXT.as_bytes())?;
     assert!(rt; names.piece(0).is_none() && names.piece(3).is_none());

@@ -1,14 +1,16 @@
 //! The program `pim-picture`: draws traces of mutexes with the POSIX protocols.
 //!
 //! It parses its arguments with `pim_drawing::command`, and passes standard input and output to `pim_drawing::picture`.
-//! If it is given a file of names it reads that first, and calls `pim_drawing::named_picture`. It turns the answer into
-//! a line on standard error and an exit status. What is drawn is decided in `pim_drawing`. This crate has only what no
-//! contract can say: the streams, the file, the terminal and the process.
+//! If it is given a file of names it reads that first, and that of the kernel's events if there is one, and calls
+//! `pim_drawing::named_picture`. It turns the answer into a line on standard error and an exit status. What is drawn is
+//! decided in `pim_drawing`. This crate has only what no contract can say: the streams, the files, the terminal and the
+//! process.
 #![tactic(auto)]
 
 use clap::error::ErrorKind;
-use pim_drawing::{Asked, Named, Style, command, named_picture, picture};
+use pim_drawing::{Asked, Named, Recorded, Style, command, named_picture, picture};
 use pim_judge::{Fault, Input, Output, Verdict, read_all, status};
+use pim_kernel::{Recording, TextFault, Tracks};
 use pim_names::{Names, NamesFault, Piece};
 use std::fmt::Display;
 use std::io::{self, IsTerminal};
@@ -72,10 +74,8 @@ fn draw(rt: &HostRuntime, asked: &Asked) -> io::Result<ExitCode> {
 
 /// Draws standard input with the names in a file.
 fn draw_with_names(rt: &HostRuntime, asked: &Asked, path: &str) -> io::Result<ExitCode> {
-    let bytes = match bytes_of(rt, path) {
-        Ok(bytes) => bytes,
-        Err(Fault::Memory) => return report(rt, Fault::Memory),
-        Err(_) => return report(rt, format_args!("{path}: it can't be read")),
+    let Some(bytes) = bytes_of(rt, path)? else {
+        return Ok(ExitCode::from(FAULT));
     };
     let names = match Names::read(rt.alloc(), &bytes) {
         Ok(names) => names,
@@ -83,20 +83,48 @@ fn draw_with_names(rt: &HostRuntime, asked: &Asked, path: &str) -> io::Result<Ex
         Err(fault) => return report(rt, format_args!("{path}: {fault}")),
     };
     match names.piece(asked.piece) {
-        Some(piece) => draw_piece(rt, asked, path, &piece),
+        Some(piece) => draw_piece(rt, asked, path, piece),
         None => report(rt, format_args!("{path}: it has no piece {}", asked.piece)),
     }
 }
 
-/// Draws standard input with the names of a piece.
-fn draw_piece(rt: &HostRuntime, asked: &Asked, path: &str, piece: &Piece) -> io::Result<ExitCode> {
+/// Draws standard input with the names of a piece, and with the kernel's events if they are asked for.
+fn draw_piece(rt: &HostRuntime, asked: &Asked, path: &str, names: Piece) -> io::Result<ExitCode> {
+    let Some(kernel) = asked.kernel else {
+        let tracks = None;
+        return draw_recorded(rt, asked, path, &Recorded { names, tracks });
+    };
+    let Some(bytes) = bytes_of(rt, kernel)? else {
+        return Ok(ExitCode::from(FAULT));
+    };
+    let recording = match Recording::read(rt.alloc(), &bytes) {
+        Ok(recording) => recording,
+        Err(TextFault::Memory) => return report(rt, Fault::Memory),
+        Err(fault) => return report(rt, format_args!("{kernel}: {fault}")),
+    };
+    match Tracks::of(rt.alloc(), &recording) {
+        Ok(tracks) => {
+            let tracks = Some(&tracks);
+            draw_recorded(rt, asked, path, &Recorded { names, tracks })
+        }
+        Err(_) => report(rt, Fault::Memory),
+    }
+}
+
+/// Draws standard input with what is known of the recorded program, whose names are in the file at this path.
+fn draw_recorded(
+    rt: &HostRuntime,
+    asked: &Asked,
+    path: &str,
+    recorded: &Recorded,
+) -> io::Result<ExitCode> {
     let style = style(rt, asked);
     let mut reader = Input::new(rt.reader());
     let mut writer = Output::new(io::writer(rt));
-    match named_picture(rt.alloc(), &mut reader, &mut writer, &style, piece) {
+    match named_picture(rt.alloc(), &mut reader, &mut writer, &style, recorded) {
         Ok(Named::Drawn(verdict)) => told(rt, &Ok(verdict)),
         Ok(Named::OtherSteps(steps)) => {
-            let (number, own) = (asked.piece, piece.times.as_slice().len());
+            let (number, own) = (asked.piece, recorded.names.times.as_slice().len());
             let why = format_args!("piece {number} has {own} steps, the trace has {steps}");
             report(rt, format_args!("{path}: {why}"))
         }
@@ -104,8 +132,18 @@ fn draw_piece(rt: &HostRuntime, asked: &Asked, path: &str, piece: &Piece) -> io:
     }
 }
 
+/// Returns the bytes of a file, or `None` after writing why there are none to standard error.
+fn bytes_of(rt: &HostRuntime, path: &str) -> io::Result<Option<Vec<u8>>> {
+    match read_file(rt, path) {
+        Ok(bytes) => return Ok(Some(bytes)),
+        Err(Fault::Memory) => report(rt, Fault::Memory)?,
+        Err(_) => report(rt, format_args!("{path}: it can't be read"))?,
+    };
+    Ok(None)
+}
+
 /// Returns the bytes of a file.
-fn bytes_of(rt: &HostRuntime, path: &str) -> Result<Vec<u8>, Fault> {
+fn read_file(rt: &HostRuntime, path: &str) -> Result<Vec<u8>, Fault> {
     let Ok(file) = fs::open(rt, path) else {
         return Err(Fault::Read);
     };
