@@ -9,6 +9,8 @@ import struct
 import subprocess
 
 from checks import ROOT, check, difference, own_program, skip
+from picture_cpus import cut, plainly
+from picture_tracks import Tracks
 
 PROGRAMS, SECONDS, SKIPPED = ROOT / "record/out/programs", 600, 77
 IMPORTER, PIM = ROOT / "crates/pim_importer/out/pim_importer", ROOT / "crates/pim/out/pim"
@@ -50,6 +52,7 @@ FINDINGS = {
     "condition": (0, [
         "left out: 1 record of releases that the system refused"],
         ["not bounded", "deadlock", "left out: 1 record of releases by"]),
+    "relock": (0, ["no thread waited for a mutex"], ["added", "deadlock"]),
     "forks": (0, ["no thread waited for a mutex"], ["deadlock"]),
     "aborts": (0, [
         rf"aborts\[\d+\], at SCHED_OTHER, waits {DURATION} from {MOMENT} to the end for mutex 1 \(none\) of "
@@ -60,16 +63,21 @@ FINDINGS = {
         ["not bounded"]),
     "many": (0, [r"trace: .*; priorities as they are, SCHED_OTHER at 1"], ["not bounded", "deadlock"]),
 }
-# Recordings that are kept with the kernel's events: their status, their first lines, and what each must have. In lost_boost
-# of conform/programs the owner's boost to 40 is lost as its base is set to 20. By lines 376 and 377 of its events the owner,
-# 855, runs at 20 (79 of the kernel's) from 4204640730200 on, and unlocks at 4204645748165, 5.017965 ms later, while the
-# third task of the trace, at 40, waits. The log began at 4203879842099. The boosts of chain are those of POSIX.
+# Recordings that are kept with the kernel's events: their status, their first lines, how many differences and threads each
+# must have. In lost_boost of conform/programs the owner's boost to 40 is lost as its base is set to 20. By lines 376 and 377
+# of its events the owner, 855, runs at 20 (79 of the kernel's) from 4204640730200 on, and unlocks at 4204645748165, 5.017965
+# ms later, while the third task of the trace, at 40, waits. The log began at 4203879842099. The boosts of chain are those of
+# POSIX. In relock, 30687 sleeps in the FUTEX_LOCK_PI of its relock from 3057318320920 on, and has the mutex at
+# 3057338375905. The log began at 3057312124803.
 KERNEL = {
     "kernel_lost_boost": (1, [
         "lost_boost[855] ran at 20 for 5.017 ms from 0.760888 s on, POSIX gives 40 (waiter 3 mutex 1)",
         "    line 376: 4204640730200 3 910 switch 69 X 855 79",
-        "    line 379: 4204645769181 3 855 switch 79 R 859 59"], 1),
-    "kernel_chain": (0, [], 0),
+        "    line 379: 4204645769181 3 855 switch 79 R 859 59"], 1, 3),
+    "kernel_chain": (0, [], 0, 3),
+    "kernel_relock": (0, [
+        "high[30687], at 30, waited 20.054 ms from 0.006196 s on for mutex 1 (inherit) of low[30688], at 10: bounded by "
+        "inheritance"], 0, 2),
 }
 # Recordings that are kept, of the programs above.
 STORED = {"chain": "chain", "ceiling": "ceiling", "recursive": "recursive", "condition": "condition",
@@ -179,15 +187,57 @@ def stored(folder):
 
 def kernel(folder):
     """Where the kernel's events differ from the trace, by recordings that are kept; and the options for that."""
-    for name, (status, first, count) in KERNEL.items():
+    for name, (status, first, count, threads) in KERNEL.items():
         log = pathlib.Path(shutil.copy(ROOT / f"record/recorded/{name}.log", folder))
         events = pathlib.Path(shutil.copy(ROOT / f"record/recorded/{name}.log.kernel", folder))
         found = Import(log)
         ran = [line for line in found.lines if " ran at " in line]
         why = difference([found.status, found.lines[:len(first)], len(ran)], [status, first, count])
-        check(f"what differs in {name}", why or missing(found.lines, ["kernel: 3 threads compared"], []) or found.rejected())
+        compared = [f"kernel: {threads} threads compared"]
+        check(f"what differs in {name}", why or missing(found.lines, compared, []) or found.rejected())
+        check(f"who ran on which CPU in {name}", ran_otherwise(log, events))
         if count:
             kernel_options(log, events)
+        if name == "kernel_relock":
+            added(log, events)
+
+
+def reported(piece):
+    """Returns what pim reports of a piece."""
+    with open(piece, "rb") as text:
+        return run(PIM, stdin=text).stdout.decode().splitlines()
+
+
+def added(log, events):
+    """Only the kernel's events show who waits at the end of a condition wait, and so that the owner is boosted."""
+    found, boost = Import(log), "  task 2 at 30 waiter 1 mutex 1"
+    line = "added: 1 request that the log lacks, 1 by the kernel's calls"
+    check("a request that the kernel's calls show is added",
+          difference([line in found.lines, boost in reported(found.pieces()[0])], [True, True]))
+    keys = ("requests_added", "requests_added_by_the_kernel", "waits_not_in_the_trace")
+    told = json.loads(Import(log, "--json").text)
+    check("--json counts the requests that are added", difference([told[key] for key in keys], [1, 1, 0]))
+    events.unlink()
+    alone = Import(log)
+    check("without the kernel's events it isn't",
+          difference([any(one.startswith("added") for one in alone.lines), reported(alone.pieces()[0])], [False, ["accepted 0"]]))
+
+
+def ran_otherwise(log, events):
+    """Returns how the CPUs that are drawn differ from a plain reading of the kernel's events."""
+    lines = [line.split() for line in pathlib.Path(f"{log}.names").read_text().splitlines()]
+    numbers = [(int(it[2].split("/")[1]), it[3], int(it[1])) for it in lines if it[0] == "task"]
+    threads = {number: (f"{name}[{number}]", task) for number, name, task in numbers}
+    times = [int(it[2]) for it in lines if it[0] == "step"]
+    wanted = cut(plainly(events.read_text(), threads), times[0] - 1000, times[-1] + 1_000_000)
+    with open(f"{log}.pim", "rb") as trace:
+        words = ("--perfetto", "--names", f"{log}.names", "--kernel", events)
+        done = run(PICTURE, *words, stdin=trace)
+    if done.returncode:
+        return done.stderr.decode()
+    shows = Tracks(done.stdout)
+    ran = shows.ran()
+    return difference((shows.fault(), len(ran), *ran), (None, len(wanted), *wanted))
 
 
 def kernel_options(log, events):

@@ -31,7 +31,8 @@ pub struct Compared {
     pub found: Vec<Found>,
     /// How many threads were compared.
     pub threads: u64,
-    /// How many waits the log doesn't have as requests: within them no boost is found to be too high.
+    /// How many waits aren't in the trace, since the log doesn't say whose mutex that was: within them no boost is found to
+    /// be too high.
     pub unknown: u64,
     /// How many stretches were left out since the kernel's events of them were lost.
     pub losses: u64,

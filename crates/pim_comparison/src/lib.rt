@@ -6,10 +6,12 @@
 //!
 //! ```text
 //! let recording = Recording::read(alloc, &bytes)?;
+//! let imported = import_log(alloc, &log, false, &waits_of(alloc, &recording)?)?;
 //! let compared = compare(alloc, &log, &imported, &recording, 50_000)?;
 //! compared.found.first(); // Some: a thread that ran at another priority, and for how long
 //! ```
 //!
+//! `waits.rt` has the waits that the kernel's events show, so that the trace has those that the log lacks.
 //! `timing.rt` has when each step was done: a release at FUTEX_UNLOCK_PI, a grant at the return of FUTEX_LOCK_PI, where the
 //! kernel's events have these calls, else a grant at some time in its call. `courses.rt` has the priority of each thread
 //! after each step. It is proved that the longest difference comes first; that each one is right is tested.
@@ -19,5 +21,7 @@ mod comparing;
 mod courses;
 mod lists;
 mod timing;
+mod waits;
 
 pub use comparing::{Compared, Found, compare};
+pub use waits::waits_of;

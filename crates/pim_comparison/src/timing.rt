@@ -12,9 +12,9 @@ use std::collections::HashMap;
 pub struct Timing {
     /// By the time of a step in the trace: the earliest and the latest at which it was done.
     bounds: HashMap<u64, (u64, u64)>,
-    /// By task and begin the calls that the log has as requests.
+    /// By task and begin the calls whose requests the log has, or the trace.
     known: HashMap<(u32, u64), bool>,
-    /// From when to when a thread waited in a call that the log has not as a request, in the order of the begins.
+    /// From when to when a thread waited in a call whose request neither has, in the order of the begins.
     pub unknown: Vec<(u64, u64)>,
 }
 
@@ -37,6 +37,7 @@ impl Timing {
         };
         timing.take_times(imported)?;
         timing.take_records(alloc, log, imported, tracks)?;
+        timing.take_added(imported, tracks)?;
         timing.take_unknown(imported, tracks)?;
         Ok(timing)
     }
@@ -150,7 +151,27 @@ impl Timing {
         put(&mut self.bounds, time, joined)
     }
 
-    /// Finds the waits that the log doesn't have as requests.
+    /// Learns from the requests that were added by the kernel's calls, as far as they are in the trace.
+    fn take_added(&mut self, imported: &Imported, tracks: &Tracks) -> Result<(), AllocError> {
+        for request in &imported.sources.requests.list {
+            if self.bounds.get(&request.time).is_none() {
+                continue;
+            }
+            let threads = &imported.sources.subjects.threads;
+            let Some(thread) = threads.get(request.thread as usize) else {
+                continue;
+            };
+            if let Some(track) = tracks.of_task(thread.task) {
+                if let Some(call) = call_asleep(track, request.time) {
+                    put(&mut self.known, (track.task, call.begin), true)?;
+                    self.put(request.time, (call.begin, call.slept))?;
+                }
+            }
+        }
+        Ok(())
+    }
+
+    /// Finds the waits whose requests neither the log nor the trace has.
     fn take_unknown(&mut self, imported: &Imported, tracks: &Tracks) -> Result<(), AllocError> {
         for thread in &imported.sources.subjects.threads {
             if let Some(track) = tracks.of_task(thread.task) {
@@ -180,6 +201,14 @@ fn call_between(track: &Track, is_unlock: bool, address: u64, from: u64, to: u64
         }
     }
     None
+}
+
+/// Returns the call in which the task first slept at this time.
+fn call_asleep(track: &Track, time: u64) -> Option<Call> {
+    let calls = track.calls.as_slice();
+    let place = first_from(calls, time).checked_sub(1)?;
+    let call = *calls.get(place)?;
+    if call.slept == time { Some(call) } else { None }
 }
 
 /// Returns when the call began that a record of a grant ends, or 0 if the record doesn't say.

@@ -5,6 +5,8 @@
 #![tactic(auto)]
 
 #[cfg(test)]
+mod added;
+#[cfg(test)]
 mod ceilings;
 #[cfg(test)]
 mod inheritance;

@@ -2,7 +2,7 @@
 
 use crate::logs::{Row, log_of};
 use pim_base::Reason;
-use pim_comparison::{Compared, Found, compare};
+use pim_comparison::{Compared, Found, compare, waits_of};
 use pim_import::import_log;
 use pim_kernel::{Difference, Recording};
 use pim_log::Log;
@@ -31,10 +31,11 @@ pub fn compared(
     let Ok(log) = Log::read(alloc, &bytes) else {
         return Ok(None);
     };
-    let Ok(imported) = import_log(alloc, &log, false) else {
+    let Ok(recording) = Recording::read(alloc, text.as_bytes()) else {
         return Ok(None);
     };
-    let Ok(recording) = Recording::read(alloc, text.as_bytes()) else {
+    let waits = waits_of(alloc, &recording)?;
+    let Ok(imported) = import_log(alloc, &log, false, &waits) else {
         return Ok(None);
     };
     let compared = compare(alloc, &log, &imported, &recording, tolerance)?;

@@ -2,3 +2,4 @@ pub mod Sharing
 pub mod Replays
 pub mod Tallies
 pub mod Priorities
+pub mod Requests

@@ -52,7 +52,7 @@ impl Cast {
             let _moment = walk.read(log, sources, number);
             cast.look(&walk, episodes, number);
             for _request in 0..walk.lacking(sources, number) {
-                walk.add(sources);
+                let _time = walk.add(sources);
                 cast.look(&walk, episodes, number);
             }
         }

@@ -16,6 +16,7 @@ use crate::requests::Requests;
 use crate::stage::{Entrance, Now, Scene, Stage};
 use crate::subjects::Subjects;
 use crate::tally::Tally;
+use crate::waits::Wait;
 use crate::walk::Walk;
 use pim_log::Log;
 use std::alloc::Global;
@@ -49,17 +50,24 @@ pub struct Imported {
 }
 
 /// Makes a trace of a log, and finds what it shows. Where `is_all` isn't set, the ownerships for which nobody waited are
-/// left out, but those of PROTECT mutexes.
+/// left out, but those of PROTECT mutexes. The waits are those that the kernel's events show, in any order. If the log
+/// lacks the request of one, and it shows whose mutex that was, the request is added.
 ///
 /// # Errors
 ///
-/// Returns `Contradiction` with the number of the first record that contradicts those before it, `TooManyThreads` or
-/// `Crowded` if there are more threads or mutexes than can be told apart, `TooManyPriorities` if the threads and ceilings
-/// have more than 99 of them, and `Memory` if out of memory.
-pub fn import_log(alloc: Global, log: &Log, is_all: bool) -> Result<Imported, ImportFault>
+/// Returns `Contradiction` with the number of the first record that contradicts those before it, `TooManyThreads` with the
+/// number of the first record of a thread above [`MAX_THREADS`](crate::MAX_THREADS), `Crowded` if more threads or mutexes
+/// take part at one time than a trace has numbers for, `TooManyPriorities` if the threads and ceilings have more than 99 of
+/// them, and `Memory` if out of memory.
+pub fn import_log(
+    alloc: Global,
+    log: &Log,
+    is_all: bool,
+    waits: &[Wait],
+) -> Result<Imported, ImportFault>
     ensures counted { IfOk result (λ imported. total imported.performed.tally ≡ end_of (header_of log.now) - 1) }
 {
-    let sources = sources_of(alloc, log)?;
+    let sources = sources_of(alloc, log, waits)?;
     let episodes = Episodes::of(alloc, log, &sources, is_all)?;
     let Some(priorities) = Priorities::of(&sources.subjects.levels) else {
         return Err(ImportFault::TooManyPriorities);
@@ -96,15 +104,16 @@ pub fn blocker_of(imported: &Imported, thread: u32) -> (u32, u32) {
 }
 
 /// Returns what is known of a log before its course is followed.
-fn sources_of(alloc: Global, log: &Log) -> Result<Sources, ImportFault> {
+fn sources_of(alloc: Global, log: &Log, waits: &[Wait]) -> Result<Sources, ImportFault> {
     let subjects = Subjects::of(alloc, log)?;
     let following = Following::of(alloc, log, &subjects)?;
-    let requests = Requests::of(alloc, log, &subjects)?;
-    Ok(Sources {
+    let mut sources = Sources {
         subjects,
         following,
-        requests,
-    })
+        requests: Requests::none(alloc),
+    };
+    sources.requests = Requests::of(alloc, log, &sources, waits)?;
+    Ok(sources)
 }
 
 /// Makes the steps.
@@ -182,8 +191,12 @@ fn add_requests(
     now: &Now,
 ) -> Result<(), ImportFault> {
     for _request in 0..walk.lacking(scene.sources, now.number) {
-        walk.add(scene.sources);
-        let _is_used = show(scene, episodes, walk, stage, findings, now)?;
+        let time = walk.add(scene.sources);
+        let then = Now {
+            number: now.number,
+            time: if time == 0 { now.time } else { time },
+        };
+        let _is_used = show(scene, episodes, walk, stage, findings, &then)?;
     }
     Ok(())
 }

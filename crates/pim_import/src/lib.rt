@@ -5,7 +5,7 @@
 //!
 //! ```text
 //! let log = Log::read(alloc, &bytes)?;
-//! let imported = import_log(alloc, &log, false)?;
+//! let imported = import_log(alloc, &log, false, &[])?;
 //! imported.performed.pieces[0].replay.entries(); // the steps, each with the model's reply
 //! ```
 //!
@@ -61,6 +61,7 @@ mod span;
 mod stage;
 mod subjects;
 mod tally;
+mod waits;
 mod walk;
 
 pub use course::{Course, Sources};
@@ -79,3 +80,4 @@ pub use span::Span;
 pub use stage::Entrance;
 pub use subjects::{LoggedMutex, LoggedThread, MAX_THREADS, Subjects};
 pub use tally::Tally;
+pub use waits::Wait;

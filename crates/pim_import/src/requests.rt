@@ -1,26 +1,36 @@
 //! The requests that a log lacks.
 //!
 //! A call that finds its mutex free puts no REQUEST. Where another thread was quicker the call waits all the same, which
-//! shows as a call that lasts while another is granted the mutex.
+//! shows as a call that lasts while another is granted the mutex. The kernel's events show more: see `waits.rt`.
+ghost use Rattle.std.specs.Prelude.{◌≡◌, IfOk};
+ghost use Rattle.pim_import.specs.Requests.{IsInOrder};
 
+use crate::course::Sources;
 use crate::lists::push;
 use crate::subjects::Subjects;
+use crate::waits::{Asked, Wait, asked_in};
 use pim_log::{Event, Log, Record};
 use std::alloc::{AllocError, Global};
 
 /// A request that the log lacks.
 #[derive(Clone, Copy, Debug, PartialEq, Eq, PartialOrd, Ord)]
 pub struct Request {
-    /// The number of the record behind which it belongs: the first grant of the mutex to another since the call began.
+    /// The number of the record behind which it belongs. If no wait shows the request, that is the first grant of the mutex
+    /// to another since the call began.
     pub after: u64,
+    /// When the thread began to wait, by a wait that shows it. 0: when that record was put.
+    pub time: u64,
     pub thread: u32,
     pub mutex: u32,
 }
 
-/// The requests that a log lacks, in the order of the records behind which they belong.
+/// The requests that a log lacks.
 #[derive(Drop)]
 pub struct Requests {
+    /// In the order of the records behind which they belong.
     pub list: Vec<Request>,
+    /// How many of them waits show.
+    pub of_waits: u64,
 }
 
 /// The grants of each mutex, in order.
@@ -44,39 +54,84 @@ const TRYLOCK: u8 = 1;
 const CONDITION: u8 = 4;
 
 impl Requests {
-    /// Returns the requests that the log lacks. If it lacks some, that takes eight bytes a grant until it returns.
+    /// Returns no request.
+    pub fn none(alloc: Global) -> Requests
+        ensures ordered { IsInOrder result.list.items }
+    {
+        Requests {
+            list: Vec::new(alloc),
+            of_waits: 0,
+        }
+    }
+
+    /// Returns the requests that the log lacks: those that the waits show, and those of calls that lasted while another was
+    /// granted the mutex, if no wait shows them. If there are some of these, that takes eight bytes a grant until it
+    /// returns.
     ///
     /// # Errors
     ///
     /// Returns `AllocError` if out of memory.
-    pub fn of(alloc: Global, log: &Log, subjects: &Subjects) -> Result<Requests, AllocError> {
-        let mut list = Vec::new(alloc);
-        if !lacks_some(alloc, log, subjects)? {
-            return Ok(Requests { list });
+    pub fn of(
+        alloc: Global,
+        log: &Log,
+        sources: &Sources,
+        waits: &[Wait],
+    ) -> Result<Requests, AllocError>
+        ensures ordered { IfOk result (λ requests. IsInOrder requests.list.items) }
+    {
+        let mut asked = if waits.is_empty() {
+            Asked::none(alloc)
+        } else {
+            asked_in(alloc, log, sources, waits)?
+        };
+        let of_waits = asked.list.len() as u64;
+        if lacks_some(alloc, log, &sources.subjects)? {
+            add_silent(alloc, log, &sources.subjects, &mut asked)?;
         }
-        let mut grants = Grants::of(alloc, log, subjects)?;
-        let mut asked = vec![in alloc; 0; subjects.threads.len()]?;
-        for number in 1..log.header().end() {
-            if let Some(record) = log.record(number) {
-                let mutex = subjects.of_record(number);
-                if lacks_request(&mut asked, &record, mutex) {
-                    if let Some(after) = grants.first_since(log, &record, mutex) {
-                        push(
-                            &mut list,
-                            Request {
-                                after,
-                                thread: record.thread,
-                                mutex,
-                            },
-                        )?;
-                    }
-                }
-                grants.pass(&record, mutex);
-            }
-        }
-        list.sort_unstable();
-        Ok(Requests { list })
+        let Asked { mut list, .. } = asked;
+        sort(&mut list)?;
+        Ok(Requests { list, of_waits })
     }
+}
+
+/// Puts the requests into the order of the records behind which they belong.
+fn sort(list: &mut Vec<Request>) -> Result<(), AllocError>
+    ensures { IfOk result (λ _. IsInOrder list.new.items) }
+{
+    list.sort_by_key(|request| request.after)?;
+    Ok(())
+}
+
+/// Adds the requests of calls that lasted while another was granted the mutex, but those that end where a wait does.
+fn add_silent(
+    alloc: Global,
+    log: &Log,
+    subjects: &Subjects,
+    to: &mut Asked,
+) -> Result<(), AllocError> {
+    let mut grants = Grants::of(alloc, log, subjects)?;
+    let mut asked = vec![in alloc; 0; subjects.threads.len()]?;
+    for number in 1..log.header().end() {
+        if let Some(record) = log.record(number) {
+            let mutex = subjects.of_record(number);
+            let is_lacking = lacks_request(&mut asked, &record, mutex);
+            if is_lacking && to.ends.binary_search(&number).is_err() {
+                if let Some(after) = grants.first_since(log, &record, mutex) {
+                    push(
+                        &mut to.list,
+                        Request {
+                            after,
+                            time: 0,
+                            thread: record.thread,
+                            mutex,
+                        },
+                    )?;
+                }
+            }
+            grants.pass(&record, mutex);
+        }
+    }
+    Ok(())
 }
 
 /// Returns whether a call that put no REQUEST lasted while its mutex was granted.

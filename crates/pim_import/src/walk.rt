@@ -68,12 +68,14 @@ impl Walk {
         list.len().saturating_sub(self.added)
     }
 
-    /// Goes on by the next request that the log lacks.
-    pub fn add(&mut self, sources: &Sources) {
+    /// Goes on by the next request that the log lacks. Returns when it was made, or 0 if nothing says it.
+    pub fn add(&mut self, sources: &Sources) -> u64 {
         self.course.shown.clear();
-        if let Some(request) = sources.requests.list.get(self.added) {
-            self.added = self.added.saturating_add(1);
-            self.course.add_request(request.thread, request.mutex);
-        }
+        let Some(request) = sources.requests.list.get(self.added) else {
+            return 0;
+        };
+        self.added = self.added.saturating_add(1);
+        self.course.add_request(request.thread, request.mutex);
+        request.time
     }
 }

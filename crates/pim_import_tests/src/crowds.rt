@@ -41,7 +41,7 @@ fn relay(alloc: Global) -> Result<Vec<Row>, AllocError> {
 fn come_of(alloc: Global, rows: &[Row]) -> Result<Result<Imported, ImportFault>, Fail> {
     let bytes = log_of(alloc, rows)?;
     match Log::read(alloc, &bytes) {
-        Ok(log) => Ok(import_log(alloc, &log, false)),
+        Ok(log) => Ok(import_log(alloc, &log, false, &[])),
         Err(_) => Err(Fail::from("it isn't a log")),
     }
 }

@@ -26,7 +26,7 @@ fn come_of(alloc: Global, rows: &[Row], is_all: bool) -> Result<Come, AllocError
         imported: None,
     };
     if let Ok(log) = Log::read(alloc, &bytes) {
-        match import_log(alloc, &log, is_all) {
+        match import_log(alloc, &log, is_all, &[]) {
             Ok(imported) => come.imported = Some(imported),
             Err(fault) => come.fault = Some(fault),
         }

@@ -15,3 +15,5 @@ mod priorities;
 mod replays;
 #[cfg(test)]
 mod sharing;
+#[cfg(test)]
+mod waits;

@@ -10,6 +10,10 @@ pub const THREAD: u8 = 1;
 
 pub const PRIORITY: u8 = 5;
 
+pub const INIT: u8 = 16;
+
+pub const DESTROY: u8 = 17;
+
 pub const CEILING: u8 = 19;
 
 pub const REQUEST: u8 = 20;
@@ -21,6 +25,11 @@ pub const FAILED: u8 = 22;
 pub const RELEASE: u8 = 23;
 
 pub const RELEASE_FAILED: u8 = 24;
+
+pub const CONDITION: u8 = 25;
+
+/// How a wait at a condition variable releases and relocks.
+pub const BY_CONDITION: u8 = 4;
 
 /// The detail of a NONE mutex.
 pub const NONE: u16 = 4;

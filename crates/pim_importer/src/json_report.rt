@@ -87,7 +87,7 @@ fn put_kernel(
     }
     out.end_array()?;
     put_number(out, "threads_compared", kernel.compared.threads)?;
-    put_number(out, "waits_not_in_the_log", kernel.compared.unknown)?;
+    put_number(out, "waits_not_in_the_trace", kernel.compared.unknown)?;
     put_number(out, "kernel_events_lost", kernel.lost)?;
     put_bool(out, "kernel_events_whole", kernel.is_whole)
 }
@@ -247,6 +247,9 @@ fn put_left_out(out: &mut Writer<Global>, told: &Told, log: &Log) -> Result<(), 
         )?;
     }
     out.end_object()?;
+    let requests = &told.imported.sources.requests;
+    put_number(out, "requests_added", requests.list.len() as u64)?;
+    put_number(out, "requests_added_by_the_kernel", requests.of_waits)?;
     put_number(out, "records_lost", log.header().lost)?;
     put_number(out, "pieces", told.imported.performed.pieces.len() as u64)
 }

@@ -5,14 +5,22 @@ use crate::fault::Fault;
 use crate::files::{is_file, read_file};
 use crate::words::{Told, put_duration, put_level, put_moment, put_thread};
 use pim_base::Reason;
-use pim_comparison::{Compared, Found, compare};
-use pim_import::Imported;
+use pim_comparison::{Compared, Found, compare, waits_of};
+use pim_import::{Imported, Wait};
 use pim_kernel::{Recording, TextFault, line_at};
 use pim_log::Log;
 use std::alloc::{AllocError, Global};
 
 /// How many differences the text lists.
 const LONGEST: usize = 10;
+
+/// The kernel's events.
+#[derive(Drop)]
+pub struct Events {
+    /// The file's bytes.
+    bytes: Vec<u8>,
+    recording: Recording,
+}
 
 /// What the kernel's events show.
 #[derive(Drop)]
@@ -26,27 +34,54 @@ pub struct Kernel {
     pub is_whole: bool,
 }
 
-/// Compares the kernel's events, if there are any, with the trace.
+/// Reads the kernel's events, if there are any.
 ///
 /// # Errors
 ///
 /// Returns `Read` if the file can't be read, `Kernel` if it is damaged, and `Memory` if out of memory.
-pub fn kernel_of(
+pub fn events_of(
     rt: &HostRuntime,
     alloc: Global,
     arguments: &Arguments,
-    log: &Log,
-    imported: &Imported,
-) -> Result<Option<Kernel>, Fault> {
+) -> Result<Option<Events>, Fault> {
     let path = path_of(alloc, arguments)?;
     if arguments.kernel.is_empty() && !is_file(rt, path.as_str()) {
         return Ok(None);
     }
     let bytes = read_file(rt, alloc, path.as_str())?;
-    let recording = match Recording::read(alloc, &bytes) {
-        Ok(recording) => recording,
-        Err(TextFault::Memory) => return Err(Fault::Memory),
-        Err(fault) => return Err(Fault::Kernel(path, fault)),
+    match Recording::read(alloc, &bytes) {
+        Ok(recording) => Ok(Some(Events { bytes, recording })),
+        Err(TextFault::Memory) => Err(Fault::Memory),
+        Err(fault) => Err(Fault::Kernel(path, fault)),
+    }
+}
+
+/// Returns the waits that the kernel's events show. Without events there are none.
+///
+/// # Errors
+///
+/// Returns `AllocError` if out of memory.
+pub fn waits_in(alloc: Global, events: Option<&Events>) -> Result<Vec<Wait>, AllocError> {
+    match events {
+        Some(events) => waits_of(alloc, &events.recording),
+        None => Ok(Vec::new(alloc)),
+    }
+}
+
+/// Compares the kernel's events, if there are any, with the trace.
+///
+/// # Errors
+///
+/// Returns `AllocError` if out of memory.
+pub fn kernel_of(
+    alloc: Global,
+    arguments: &Arguments,
+    log: &Log,
+    imported: &Imported,
+    events: Option<Events>,
+) -> Result<Option<Kernel>, AllocError> {
+    let Some(Events { bytes, recording }) = events else {
+        return Ok(None);
     };
     let compared = compare(alloc, log, imported, &recording, arguments.tolerance)?;
     Ok(Some(Kernel {
@@ -57,7 +92,8 @@ pub fn kernel_of(
     }))
 }
 
-fn path_of(alloc: Global, arguments: &Arguments) -> Result<String, AllocError> {
+/// Returns the path of the kernel's events: the one that is named, or LOG.kernel.
+pub fn path_of(alloc: Global, arguments: &Arguments) -> Result<String, AllocError> {
     if arguments.kernel.is_empty() {
         let log = arguments.log.as_str();
         format!(in alloc; "{log}.kernel")
@@ -136,26 +172,22 @@ pub fn put_compared(out: &mut String, kernel: &Kernel) -> Result<(), AllocError>
     };
     write!(out, "kernel: {} {word} compared", compared.threads)?;
     if compared.unknown > 0 {
-        write!(out, "; waits that the log lacks: {}", compared.unknown)?;
+        write!(out, "; waits whose owner isn't known: {}", compared.unknown)?;
     }
     if !kernel.is_whole {
         out.push_str("; the events aren't whole")?;
     }
     out.push_str("\n")?;
-    put_lost(out, kernel)
+    put_lost(out, kernel.lost, compared.losses, compared.lost_time)
 }
 
-fn put_lost(out: &mut String, kernel: &Kernel) -> Result<(), AllocError> {
-    if kernel.lost == 0 {
+/// Writes how many events were lost, in so many stretches of this time in all.
+pub fn put_lost(out: &mut String, lost: u64, count: u64, time: u64) -> Result<(), AllocError> {
+    if lost == 0 {
         return Ok(());
     }
-    write!(
-        out,
-        "lost: {} events of the kernel; left out are ",
-        kernel.lost
-    )?;
-    put_duration(out, kernel.compared.lost_time)?;
-    let count = kernel.compared.losses;
+    write!(out, "lost: {lost} events of the kernel; left out are ")?;
+    put_duration(out, time)?;
     let word = if count == 1 { "stretch" } else { "stretches" };
     writeln!(out, " in {count} {word}")
 }

@@ -19,7 +19,7 @@ use crate::arguments::{Arguments, Asked, read_arguments};
 use crate::fault::Fault;
 use crate::files::{read_log, write_names, write_traces};
 use crate::json_report::json_of;
-use crate::kernel::{Kernel, kernel_of};
+use crate::kernel::{Kernel, events_of, kernel_of, waits_in};
 use crate::labels::Labels;
 use crate::report::report_of;
 use pim_import::{Imported, import_log};
@@ -58,9 +58,11 @@ fn work(rt: &HostRuntime) -> Result<u8, Fault> {
 fn import(rt: &HostRuntime, alloc: Global, arguments: &Arguments) -> Result<u8, Fault> {
     let bytes = read_log(rt, alloc, arguments.log.as_str())?;
     let log = Log::read(alloc, &bytes)?;
-    let imported = import_log(alloc, &log, arguments.is_all)?;
+    let events = events_of(rt, alloc, arguments)?;
+    let waits = waits_in(alloc, events.as_ref())?;
+    let imported = import_log(alloc, &log, arguments.is_all, &waits)?;
     let labels = Labels::of(alloc, &log, &imported.sources.subjects)?;
-    let kernel = kernel_of(rt, alloc, arguments, &log, &imported)?;
+    let kernel = kernel_of(alloc, arguments, &log, &imported, events)?;
     write_traces(rt, alloc, arguments.log.as_str(), &imported)?;
     write_names(rt, alloc, arguments.log.as_str(), &imported, &labels)?;
     let text = if arguments.is_json {

@@ -17,7 +17,7 @@ not known: locks other than POSIX mutexes, waits at the end of a condition wait,
 
 /// What it can't know that the kernel's events don't show either.
 const STILL_UNKNOWN: &str = "\
-not known: locks other than POSIX mutexes, and who owned the mutex of a wait that the log lacks
+not known: locks other than POSIX mutexes, and waits for NONE and PROTECT mutexes at the end of a condition wait
 ";
 
 /// Returns the findings, a line each: where the kernel's events differ, the longest waits, the mutexes to convert,
@@ -48,6 +48,7 @@ pub fn report_of(
     put_ownerships(&mut out, &told)?;
     put_deadlocks(&mut out, &told)?;
     put_left_out(&mut out, &told, log)?;
+    put_added(&mut out, &told)?;
     put_unknown(&mut out, kernel)?;
     put_summary(&mut out, &told, log)?;
     Ok(out)
@@ -231,6 +232,20 @@ fn put_left_out(out: &mut String, told: &Told, log: &Log) -> Result<(), AllocErr
         )?;
     }
     Ok(())
+}
+
+/// Writes how many requests were added that the log lacks.
+fn put_added(out: &mut String, told: &Told) -> Result<(), AllocError> {
+    let requests = &told.imported.sources.requests;
+    let count = requests.list.len() as u64;
+    if count == 0 {
+        return Ok(());
+    }
+    write!(out, "added: {} that the log lacks", Count(count, "request"))?;
+    if requests.of_waits > 0 {
+        write!(out, ", {} by the kernel's calls", requests.of_waits)?;
+    }
+    out.push_str("\n")
 }
 
 /// Writes what isn't known, and how much of the kernel's events was compared.

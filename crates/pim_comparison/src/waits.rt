@@ -1,0 +1,50 @@
+//! The waits that the kernel's events show.
+
+use crate::lists::push;
+use pim_import::Wait;
+use pim_kernel::{Recording, Track, Tracks, What};
+use std::alloc::{AllocError, Global};
+use std::collections::HashMap;
+
+/// Returns the waits for INHERIT mutexes that the kernel's events show, for [`import_log`](pim_import::import_log): the
+/// calls of FUTEX_LOCK_PI in which a task slept.
+///
+/// # Errors
+///
+/// Returns `AllocError` if out of memory.
+pub fn waits_of(alloc: Global, recording: &Recording) -> Result<Vec<Wait>, AllocError> {
+    let tracks = Tracks::of(alloc, recording)?;
+    let mut seen: HashMap<u32, bool> = HashMap::new(alloc);
+    let mut waits = Vec::new(alloc);
+    for event in &recording.events {
+        if let What::Lock(_) = event.what {
+            if seen.get(&event.task).is_some() {
+                continue;
+            }
+            if seen.insert(event.task, true).is_err() {
+                return Err(AllocError);
+            }
+            if let Some(track) = tracks.of_task(event.task) {
+                take(&mut waits, track)?;
+            }
+        }
+    }
+    Ok(waits)
+}
+
+/// Adds the waits of a task.
+fn take(waits: &mut Vec<Wait>, track: &Track) -> Result<(), AllocError> {
+    for call in &track.calls {
+        if !call.is_unlock && call.slept != 0 {
+            push(
+                waits,
+                Wait {
+                    from: call.slept,
+                    task: track.task,
+                    address: call.address,
+                },
+            )?;
+        }
+    }
+    Ok(())
+}
