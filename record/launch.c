@@ -1,6 +1,7 @@
 /* pim-launch LIBRARY PROGRAM [ARGUMENT..]: runs the program with the library preloaded, or says in
- * one line why it can't be recorded, and runs nothing. pim-record calls it. With PIM_KERNEL, the name
- * of a file, it stays, and records the kernel's events there until the program ends. */
+ * one line why it can't be recorded, and runs nothing. pim-record calls it. With PIM_KERNEL, the
+ * name of a file, it stays, and records the kernel's events there until the program ends: without
+ * the library where the program can't have it, or where PIM_RECORD names no log. */
 #define _GNU_SOURCE
 #include <dlfcn.h>
 #include <elf.h>
@@ -87,19 +88,20 @@ static bool is_same_file(const char *path, const char *other) {
 
 /* ---- what can't be recorded ---- */
 
-/* The loader preloads nothing into a program that gains rights by its file. */
-static void refuse_rights(const char *program, int file) {
+/* Returns by what a file gains rights, so that the loader preloads nothing into it, or NULL. */
+static const char *rights_of(const char *program, int file) {
     struct stat found;
     if (fstat(file, &found) != 0) refuse(FAULT, program, strerror(errno));
     bool is_setuid = found.st_mode & S_ISUID && found.st_uid != getuid();
     bool is_setgid = found.st_mode & S_ISGID && found.st_gid != getgid();
-    if (is_setuid || is_setgid)
-        refuse(FAULT, program, "it is setuid or setgid, and can't be recorded");
+    if (is_setuid || is_setgid) return "setuid or setgid";
     if (getuid() != 0 && fgetxattr(file, "security.capability", NULL, 0) > 0)
-        refuse(FAULT, program, "its file has capabilities, and it can't be recorded");
+        return "a program with capabilities";
+    return NULL;
 }
 
-static void refuse_binary(const char *program, int file) {
+/* Returns what a binary is if the recorder's loader doesn't load it, or NULL. */
+static const char *kind_of(const char *program, int file) {
     char loader[PATH_MAX], own_loader[PATH_MAX];
     unsigned char own[EI_NIDENT + 4], its[EI_NIDENT + 4]; /* with the type and the machine */
     int self = open("/proc/self/exe", O_RDONLY | O_CLOEXEC);
@@ -111,10 +113,9 @@ static void refuse_binary(const char *program, int file) {
                     memcmp(own_machine, its + offsetof(ElfW(Ehdr), e_machine), 2) == 0;
     if (!is_alike)
         refuse(FAULT, program, "it is of another machine than the recorder, and can't be recorded");
-    if (!read_loader(file, loader)) refuse(FAULT, program, "it is static, and can't be recorded");
-    if (!is_same_file(loader, own_loader))
-        refuse(FAULT, program, "it has another C library than the recorder, and can't be recorded");
     close(self);
+    if (!read_loader(file, loader)) return "static";
+    return is_same_file(loader, own_loader) ? NULL : "of another C library than the recorder";
 }
 
 /* Puts the interpreter of a script's first line. */
@@ -123,9 +124,9 @@ static void read_interpreter(const char *line, char path[PATH_MAX]) {
     snprintf(path, PATH_MAX, "%.*s", (int)strcspn(line, " \t\n"), line);
 }
 
-/* Ends the process where the program, or the interpreter of a script, can't be recorded. What is
- * neither a binary nor a script is the shell's. */
-static void refuse_unrecordable(const char *program, char path[PATH_MAX]) {
+/* Returns what the program, or the interpreter of a script, is if the library can't record it, or
+ * NULL. Puts the path of that binary. What is neither a binary nor a script is the shell's. */
+static const char *unlogged(const char *program, char path[PATH_MAX]) {
     char line[LINE_BYTES];
     for (int scripts = 0; scripts <= MOST_SCRIPTS; scripts++) { /* the kernel takes no more */
         int file = open(path, O_RDONLY | O_CLOEXEC);
@@ -134,10 +135,10 @@ static void refuse_unrecordable(const char *program, char path[PATH_MAX]) {
         size_t length = read_at(file, line, sizeof line - 1, 0);
         line[length] = '\0';
         bool is_binary = length >= SELFMAG && memcmp(line, ELFMAG, SELFMAG) == 0;
-        if (is_binary) refuse_rights(program, file);
-        if (is_binary) refuse_binary(program, file);
+        const char *what = is_binary ? rights_of(program, file) : NULL;
+        if (is_binary && !what) what = kind_of(program, file);
         close(file);
-        if (is_binary) return;
+        if (is_binary) return what;
         if (memcmp(line, "#!", 2) == 0)
             read_interpreter(line, path);
         else
@@ -146,11 +147,17 @@ static void refuse_unrecordable(const char *program, char path[PATH_MAX]) {
     refuse(NOT_RUNNABLE, program, "too many interpreters, one of the other");
 }
 
+static _Noreturn void refuse_unlogged(const char *path, const char *what) {
+    fprintf(stderr,
+            "pim-record: %s is %s: its calls can't be recorded; with --kernel, as root, the"
+            " kernel's events are; nothing was run\n", path, what);
+    exit(FAULT);
+}
+
 /* ---- main ---- */
 
 /* Loads the library once here, where it does nothing: the same loader loads it in the program. */
 static void refuse_library(const char *library) {
-    unsetenv("PIM_RECORD");
     if (strpbrk(library, " :"))
         refuse(FAULT, library, "the loader takes no path with a space or a colon");
     if (dlopen(library, RTLD_NOW)) return;
@@ -178,22 +185,30 @@ static char *take_variable(const char *name) {
 
 int main(int count, char **arguments) {
     char path[PATH_MAX];
-    const char *log = getenv("PIM_RECORD");
+    const char *what = NULL;
+    const char *log = take_variable("PIM_RECORD");
     const char *kernel = take_variable("PIM_KERNEL");
     const char *kilobytes = take_variable("PIM_KERNEL_KB");
-    if (count < 3 || !log) {
+    bool is_with_kernel = kernel && kilobytes;
+    if (count < 3 || !(log || is_with_kernel)) {
         fprintf(stderr, "pim-launch: pim-record calls it\n");
         return FAULT;
     }
-    char *name = strdup(log);
-    if (!name) return FAULT;
-    refuse_library(arguments[1]);
     look_up(arguments[2], path);
-    refuse_unrecordable(arguments[2], path);
-    preload(arguments[1], name);
-    if (kernel && kilobytes) record_kernel(kernel, name, kilobytes);
+    if (log) what = unlogged(arguments[2], path);
+    if (what && !is_with_kernel) refuse_unlogged(path, what);
+    if (what) log = NULL;
+    if (log) refuse_library(arguments[1]);
+    if (log)
+        preload(arguments[1], log);
+    else
+        unsetenv("PIM_RECORD_BYTES");
+    if (is_with_kernel) record_kernel(kernel, log, kilobytes);
+    if (what)
+        fprintf(stderr, "pim-record: %s is %s: only the kernel's events are recorded\n", path,
+                what);
     execvp(arguments[2], arguments + 2);
     int error = errno;
-    if (kernel && kilobytes) withdraw_recording();
+    if (is_with_kernel) withdraw_recording();
     refuse(error == ENOENT ? NOT_FOUND : NOT_RUNNABLE, arguments[2], strerror(error));
 }

@@ -79,6 +79,51 @@ KERNEL = {
         "high[30687], at 30, waited 20.054 ms from 0.006196 s on for mutex 1 (inherit) of low[30688], at 10: bounded by "
         "inheritance"], 0, 2),
 }
+# What the kernel's events of recordings that are kept say alone, by their lines. In inversion.kernel the thread high calls
+# FUTEX_LOCK_PI 13,972,990 ns after the begin, and returns 40,054,636 ns later; low runs at 30 (69 of the kernel's) for
+# 4,984,306 and 34,924,111 ns. In chain.kernel low sleeps through its boost to 20. In lost_boost the boost to 40 is missing.
+ALONE = {
+    "inversion.kernel": [
+        "high[18379], at 30, waited 40.054 ms from 0.013972 s on for the mutex at 0x55ee3a61e140; "
+        "low[18378] was boosted from 10 to 30",
+        "boosted: low[18378] ran at 30 in place of 10: 1 time, 39.908 ms in all, 39.908 ms at most",
+        "kernel: 4 futex calls of 3 threads and 1 boost in 181.409 ms on 4 CPUs"],
+    "chain.kernel": [
+        "chain[18402], at 20, waited 10.189 ms from 0.009935 s on for the mutex at 0x564c1773c180; "
+        "chain[18401] was boosted from 10 to 20",
+        "chain[18403], at 30, waited 5.030 ms from 0.015104 s on for the mutex at 0x564c1773c140; "
+        "chain[18402] was boosted from 20 to 30; chain[18401] was boosted from 20 to 30",
+        "boosted: chain[18401] ran at 30 in place of 10: 1 time, 10.285 us in all, 10.285 us at most",
+        "boosted: chain[18402] ran at 30 in place of 20: 1 time, 7.394 us in all, 7.394 us at most",
+        "kernel: 7 futex calls of 4 threads and 3 boosts in 20.581 ms on 4 CPUs"],
+    "kernel_lost_boost.log.kernel": [
+        "lost_boost[859], at 40, waited 725.246 ms from 0.046976 s on for the mutex at 0x5572f5c30100",
+        "lost_boost[855], at 50, waited 179.894 ms from 0.026855 s on for the mutex at 0x5572f5c30100; "
+        "lost_boost[854] was boosted from 10 to 50",
+        "boosted: lost_boost[854] ran at 50 in place of 10: 1 time, 25.375 us in all, 25.375 us at most",
+        "kernel: 6 futex calls of 4 threads and 1 boost in 772.803 ms on 4 CPUs"],
+}
+NOT_KNOWN = [
+    "not known: NONE and PROTECT mutexes, locks that nobody waits for, who owned a mutex at first, and priorities that the "
+    "program sets",
+    "so nothing is compared with what POSIX gives, and no trace is written"]
+# Eleven waits of the thread a, of 10 us to 20 us, of which that of 15 us boosts b, of SCHED_OTHER; one in which 4 events
+# were lost; one of c, which is killed after 30 us, and one of d, to the end, of 70 us.
+MANY_BEGIN = "pim-kernel 1\nkernel 6.18.44 x86_64\nclock mono\nprocess 11\nbegan 1000\ncpus 1\n" \
+             "1000 0 9 name 11 a\n1000 0 9 name 12 b\n1000 0 9 name 13 c\n1000 0 9 switch 120 R 11 69\n"
+MANY_END = "500000 0 11 lock 0x600 private\n501000 0 11 switch 69 S 9 120\n503000 0 0 lost 4 502000\n" \
+           "509000 0 9 switch 120 R 11 69\n510000 0 11 return 0\n" \
+           "600000 0 13 lock 0x700 private\n601000 0 13 switch 99 S 9 120\n630000 0 13 switch 99 X 9 120\n" \
+           "700000 0 14 lock 0x700 private\n701000 0 14 switch -1 S 9 120\nend 770000 99 4\n"
+MANY = [
+    "[14], at SCHED_DEADLINE, waits 70.000 us from 0.000699 s to the end for the mutex at 0x700",
+    "c[13], at SCHED_OTHER, waited 30.000 us from 0.000599 s to its own end for the mutex at 0x700",
+    *(f"a[11], at 30, waited {us}.000 us from 0.000{(us - 9) * 30:03} s on for the mutex at 0x5f0"
+      + ("; b[12] was boosted from SCHED_OTHER to 30" if us == 15 else "") for us in range(20, 12, -1)),
+    "and 3 waits, none of them longer",
+    "kernel: 14 futex calls of 3 threads and 1 boost in 769.000 us on 1 CPU",
+    "lost: 4 events of the kernel; left out are 1.000 us in 1 stretch",
+    "left out: 1 wait during which events were lost"]
 # Recordings that are kept, of the programs above.
 STORED = {"chain": "chain", "ceiling": "ceiling", "recursive": "recursive", "condition": "condition",
           "forks": "forks", "aborts": "aborts", "deadlock": "deadlock", "inversion inherit 2000": "inversion_inherit"}
@@ -264,6 +309,100 @@ def kernel_options(log, events):
           difference([early.status, "the events aren't whole" in early.text], [0, True]))
 
 
+# ---- the kernel's events alone
+
+def many():
+    """Returns the text of `MANY`."""
+    text = MANY_BEGIN
+    for us in range(10, 21):
+        began = 1000 + (us - 9) * 30_000
+        boost = f"{began + 500} 0 11 setprio 12 120 69\n" if us == 15 else ""
+        text += f"{began} 0 11 lock 0x5f0 private\n{boost}{began + 1000} 0 11 switch 69 S 9 120\n" \
+                f"{began + us * 1000} 0 11 return 0\n"
+    return text + MANY_END
+
+
+def told_alone(*words):
+    """Returns the status, the lines and the faults of an import without a log."""
+    done = run(IMPORTER, *words)
+    return done.returncode, done.stdout.decode().splitlines(), done.stderr.decode()
+
+
+def alone(folder):
+    """What the kernel's events say where there is no log, by recordings that are kept."""
+    log, events = pathlib.Path(folder, "alone"), pathlib.Path(folder, "alone.kernel")
+    for name, lines in ALONE.items():
+        shutil.copy(ROOT / "record/recorded" / name, events)
+        wanted = (0, lines + NOT_KNOWN, "")
+        check(f"{name} alone", difference(told_alone(log), wanted))
+        check(f"{name} by --kernel", difference(told_alone("--kernel", events), wanted))
+    written = sorted(path.name for path in pathlib.Path(folder).glob("alone*"))
+    check("no file is written without a log", difference((written,), (["alone.kernel"],)))
+    shutil.copy(ROOT / "record/recorded/chain.kernel", events)
+    alone_json(log)
+    alone_damaged(log, events)
+
+
+def alone_json(log):
+    """--json has what the lines have of chain.kernel."""
+    status, lines, _ = told_alone("--json", log)
+    found = json.loads("".join(lines))
+    waits = [(wait["thread"], wait["priority"], wait["began"], wait["lasted"], wait["returned"], wait["mutex"],
+              [(boost["thread"]["task"], boost["from"], boost["to"]) for boost in wait["boosts"]])
+             for wait in found["longest_waits"]]
+    wanted = [({"name": "chain", "task": 18402}, 20, 4248544628289, 10189907, True, "0x564c1773c180", [(18401, 10, 20)]),
+              ({"name": "chain", "task": 18403}, 30, 4248549797144, 5030801, True, "0x564c1773c140",
+               [(18402, 20, 30), (18401, 20, 30)])]
+    check("--json has the waits", difference([status, found["waits"], *waits], [0, 2, *wanted]))
+    boosted = [(one["thread"]["task"], one["ran_at"], one["in_place_of"], one["times"], one["ran"], one["longest"])
+               for one in found["boosted"]]
+    wanted = [(18401, 30, 10, 1, 10285, 10285), (18402, 30, 20, 1, 7394, 7394)]
+    check("--json has the boosted threads", difference([boosted], [wanted]))
+    counts = {"began": 4248534693029, "ended": 4248555274231, "process": 18400, "futex_calls": 7,
+              "threads_with_futex_calls": 4, "boosts": 3, "cpus": 4, "waits_left_out": 0, "stretches_left_out": 0,
+              "time_left_out": 0, "kernel_events_lost": 0, "kernel_events_whole": True}
+    check("--json has the counts", difference([{key: found[key] for key in counts}], [counts]))
+
+
+def alone_damaged(log, events):
+    """Files that are damaged, cut, lossy or missing, and a log that is named and isn't there."""
+    lines = events.read_text().splitlines(keepends=True)
+    events.write_text("".join(lines[:40] + ["no event\n"] + lines[41:]))
+    wanted = (2, [], f"pim-import: {events}: line 41: it has no form of version 1\n")
+    check("a wrong line is named without a log", difference(told_alone(log), wanted))
+    events.write_text("".join(lines[:50]))
+    status, cut, said = told_alone(log)
+    wanted = (0, 1, "")
+    check("events without their end", difference((status, sum("; the events aren't whole" in it for it in cut), said), wanted))
+    events.write_text(many())
+    check("events with many waits", difference(told_alone(log), (0, MANY + NOT_KNOWN, "")))
+    events.write_text("".join(lines[:6] + ["end 4248555274231 0 0\n"]))
+    nothing = ["no thread waited for an INHERIT mutex", "kernel: 0 futex calls of 0 threads and 0 boosts in 20.581 ms on 4 CPUs"]
+    check("events without a call", difference(told_alone(log), (0, nothing + NOT_KNOWN, "")))
+    wanted = (2, [], f"pim-import: {log}: it can't be read\n")
+    check("--kernel and a log that isn't there", difference(told_alone("--kernel", events, log), wanted))
+    events.unlink()
+    check("neither a log nor events", difference(told_alone(log), wanted))
+
+
+def static(folder):
+    """A static program is recorded with --kernel, and high waits for low, which is boosted to 30, for the 40 ms of low."""
+    program, log = pathlib.Path(folder, "static"), pathlib.Path(folder, "run")
+    source = ROOT / "record/programs/inversion.c"
+    if run("cc", "-O2", "-pthread", "-static", source, "-o", program).returncode:
+        return skip("the findings of a static program", "there is no static C library")
+    done = run(ROOT / "record/pim-record", "--kernel", "-o", log, program, "inherit")
+    if done.returncode == SKIPPED:
+        return skip("the findings of a static program", "no rights, no tracefs or no SCHED_FIFO")
+    status, lines, said = told_alone(log)
+    took = r"(?:[3-9]\d|\d{3})\.\d{3} ms"
+    wanted = [rf"high\[\d+\], at 30, waited {took} from {MOMENT} on for the mutex at 0x[0-9a-f]+; "
+              r"low\[\d+\] was boosted from 10 to 30",
+              rf"boosted: low\[\d+\] ran at 30 in place of 10: 1 time, {took} in all, {took} at most",
+              rf"kernel: \d+ futex calls of \d threads and 1 boost in {DURATION} on \d+ CPUs?", *NOT_KNOWN]
+    return check("the findings of a static program", said or missing(lines, wanted, ["lost"]) or difference([status], [0]))
+
+
 def options(plain):
     """--all writes the ownerships for which nobody waited, and --json has the findings of the text."""
     every = Import(plain.log, "--all")
@@ -414,6 +553,6 @@ def built():
 def imports(folder):
     if not built():
         return check("the importer is built", "it isn't")
-    for part in (programs, stored, kernel, real, long, damaged, command_line):
+    for part in (programs, stored, kernel, alone, static, real, long, damaged, command_line):
         part(folder)
     return None

@@ -2,6 +2,7 @@
 import fcntl
 import os
 import pathlib
+import re
 import resource
 import shutil
 import signal
@@ -136,6 +137,100 @@ def order(reader, log, told):
     check("medium doesn't run meanwhile", "it does" if "medium" in ran else None)
     task = request.chunk.task
     check("the kernel's tasks are the log's", difference((asked.task, raised.task), (task, task)))
+
+
+# ---- programs without a log
+
+SAYS_ITS_VARIABLES = """\
+#include <stdio.h>
+#include <string.h>
+int main(int count, char **arguments, char **variables) {
+    for (; *variables; variables++)
+        if (strncmp(*variables, "PIM_", 4) == 0 || strstr(*variables, "libpim_record")) puts(*variables);
+    return count == 1 && arguments ? 2 : 1;
+}
+"""
+OTHERS = "pim-record: {path} is {what}: only the kernel's events are recorded\n"
+
+
+def compiled(folder, name, source, *flags):
+    """Returns a program of this source, or None if it can't be made."""
+    path = pathlib.Path(folder, name)
+    return None if run("cc", "-O2", "-pthread", source, *flags, "-o", path).returncode else path
+
+
+def without_log(name, recording, wanted):
+    """The program ran, there is no log, the events keep the laws, and standard error has what is wanted."""
+    got = (recording.log, recording.done.stderr, recording.fault(recording.status))
+    return check(f"without a log: {name}", difference(got, (None, wanted, None)))
+
+
+def static_programs(reader, folder):
+    """A static program has no log, also where an earlier recording of the name has one."""
+    source = RECORD / "programs/inversion.c"
+    static = compiled(folder, "static", source, "-static")
+    if not static:
+        return skip("a static program with --kernel", "there is no static C library")
+    Recording(reader, folder, "true")
+    said = OTHERS.format(path=static, what="static")
+    recording = Recording(reader, folder, static, "inherit")
+    without_log("a static program", recording, said)
+    boosts = Told(recording.data).boosts() if recording.data else None
+    check("the boosts are those of POSIX: a static program", difference((recording.status, boosts),
+                                                                        (0, BOOSTS["inversion inherit"])))
+    only = Recording(reader, folder, static, "none", options=["--kernel-only"])
+    without_log("a static program with --kernel-only", only, "")
+    script = pathlib.Path(folder, "script")
+    script.write_text(f"#! {static} -x\n")
+    script.chmod(0o755)
+    without_log("a script of a static program", Recording(reader, folder, script), said)
+    two = pathlib.Path(folder, "two.c")
+    two.write_text(SAYS_ITS_VARIABLES)
+    recording = Recording(reader, folder, compiled(folder, "two", two, "-static"))
+    without_log("a static program with status 2", recording, OTHERS.format(path=f"{folder}/two", what="static"))
+    got = (recording.status, recording.done.stdout)
+    check("its status, and its environment", difference(got, (2, "")))
+    os.chmod(folder, 0o777)
+    user = lambda: os.setuid(65534)
+    if run(RECORD / "pim-record", "--help", preexec_fn=user).returncode:
+        return skip("a static program without the rights", "another user doesn't reach the recorder")
+    pathlib.Path(folder, "run.kernel").unlink()
+    recording = Recording(reader, folder, static, preexec_fn=user)
+    return nothing(recording, "a static program without the rights", 77, "needs root")
+
+
+def other_programs(reader, folder):
+    """Programs that are setuid or of another C library, and --kernel-only."""
+    source = RECORD / "programs/inversion.c"
+    setuid = compiled(folder, "setuid", source)
+    os.chown(setuid, 65534, 65534)
+    os.chmod(setuid, 0o4755)
+    what = "setuid or setgid"
+    without_log("a setuid program", Recording(reader, folder, setuid, "none"), OTHERS.format(path=setuid, what=what))
+    loader = pathlib.Path(folder, "loader")
+    name = re.search(r"interpreter: (.*)\]", run("readelf", "-l", PROGRAMS / "inversion").stdout)[1]
+    shutil.copy(name, loader)
+    other = compiled(folder, "other", source, f"-Wl,--dynamic-linker={loader}")
+    what = "of another C library than the recorder"
+    without_log("a program of another C library", Recording(reader, folder, other, "none"),
+                OTHERS.format(path=other, what=what))
+    Recording(reader, folder, "true")
+    only = ["--kernel-only"]
+    recording = Recording(reader, folder, PROGRAMS / "inversion", "inherit", options=only)
+    without_log("a program with --kernel-only", recording, "")
+    boosts = Told(recording.data).boosts() if recording.data else None
+    check("the boosts are those of POSIX: --kernel-only", difference((boosts,), (BOOSTS["inversion inherit"],)))
+    text = "echo [$LD_PRELOAD$PIM_RECORD$PIM_RECORD_BYTES$PIM_KERNEL$PIM_KERNEL_KB]; exit 2"
+    own = {**os.environ, "PIM_RECORD": f"{folder}/foreign", "PIM_RECORD_BYTES": "1"}
+    own.pop("LD_PRELOAD", None)
+    recording = Recording(reader, folder, "sh", "-c", text, options=only, env=own)
+    without_log("a program that ends with status 2", recording, "")
+    got = (recording.status, recording.done.stdout, pathlib.Path(folder, "foreign").exists())
+    check("its environment is the caller's", difference(got, (2, "[]\n", False)))
+    nothing(Recording(reader, folder, "./nowhere", options=only), "--kernel-only of no program", 127, "it isn't there")
+    done = run(RECORD / "pim-record", "--kernel-only", "-o", f"{folder}/only", "true")
+    left = sorted(path.name for path in pathlib.Path(folder).glob("only*"))
+    check("--kernel-only is enough", difference((done.returncode, left), (0, ["only.kernel"])))
 
 
 def random_program(reader, folder):
@@ -878,7 +973,8 @@ def kernel(reader, folder):
     try:
         if tracefs.missing:
             return skip("--kernel", tracefs.missing)
-        parts = ((boosts, reader, folder), (random_program, reader, folder), (ends, reader, folder, tracefs),
+        parts = ((boosts, reader, folder), (static_programs, reader, folder), (other_programs, reader, folder),
+                 (random_program, reader, folder), (ends, reader, folder, tracefs),
                  (signals, folder, tracefs), (killed, reader, folder, tracefs), (guards, folder, tracefs),
                  (streams, folder, tracefs), (adopted, folder), (settings, folder, tracefs), (inherited, folder),
                  (no_room, reader, folder), (containers, reader, folder), (mounted, folder), (lost, reader, folder))

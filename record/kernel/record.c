@@ -32,7 +32,7 @@ static const uint64_t HELD_BACK = 1000000000;
 static const char INITIAL_PID_NAMESPACE[] = "pid:[4026531836]";
 
 static struct recording {
-    const char *path, *log;
+    const char *path, *log; /* the log is NULL where none is made */
     struct instance instance;
     struct layouts layouts;
     struct text text;
@@ -224,7 +224,7 @@ static bool is_run(int status, int channel) {
     char none;
     if (recv(channel, &none, 1, MSG_DONTWAIT) == 1) return false; /* withdraw_recording sent it */
     bool is_refused = WIFEXITED(status) && WEXITSTATUS(status) == FAULT;
-    return !is_refused || access(recording.log, F_OK) == 0;
+    return !is_refused || !recording.log || access(recording.log, F_OK) == 0;
 }
 
 static void say_lost(void) {

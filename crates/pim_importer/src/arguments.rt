@@ -9,7 +9,7 @@ use std::io;
 /// What is to be imported.
 #[derive(Drop)]
 pub struct Arguments {
-    /// The path of the log.
+    /// The path of the log. Empty: only the kernel's events are to be read.
     pub log: String,
     /// Whether ownerships are written for which nobody waited.
     pub is_all: bool,
@@ -59,11 +59,21 @@ The findings go to standard output, a line each:
   deadlocks that stood at the end
   what was left out of the trace, and why
 
+A static program has no log. If LOG isn't there, but LOG.kernel is, the kernel's events are read alone, and FILE if no
+LOG is given. The findings then are the longest waits for INHERIT mutexes, with the boosts that each began; the threads
+that ran at the priority of a boost, how often and for how long; and what these events can't know. No file is written:
+
+    # record/pim-record --kernel -o run ./static-controller
+    $ ./pim-import run
+    high[4711], at 80, waited 2.000 s from 0.100 s on for the mutex at 0x4c8f40; low[4710] was boosted from 10 to 80
+    boosted: low[4710] ran at 80 in place of 10: 1 time, 1.999 s in all, 1.999 s at most
+    ...
+
 Priorities are those of SCHED_FIFO and SCHED_RR; threads of all other policies are below them.
 
-Exit status: 0 nothing is wrong, 1 a wait that is not bounded, a deadlock, or a thread that ran at another priority, 2
-any fault: no log, a damaged log, a log that contradicts itself (with the record), damaged events of the kernel (with the
-line), a file that can't be read or written, out of memory.";
+Exit status: 0 nothing is wrong, or there is no log; 1 a wait that is not bounded, a deadlock, or a thread that ran at
+another priority; 2 any fault: no log, a damaged log, a log that contradicts itself (with the record), damaged events of
+the kernel (with the line), a file that can't be read or written, out of memory.";
 
 /// Returns what the arguments ask for. Where they ask for a text, or are wrong, it shows that.
 ///
@@ -154,10 +164,10 @@ fn duration_of(text: &[u8]) -> Option<u64> {
 /// Returns the program's command line.
 fn command<'a>(alloc: Global) -> Result<Command<'a>, AllocError> {
     let log = Arg::new(alloc, "log")
-        .required(true)
         .value_name("LOG")
         .help("What pim-record wrote")
-        .action(ArgAction::Set);
+        .action(ArgAction::Set)
+        .required_unless_present("kernel")?;
     let all = Arg::new(alloc, "all")
         .long("all")
         .help("Write all ownerships, also those for which nobody waited")
@@ -169,7 +179,7 @@ fn command<'a>(alloc: Global) -> Result<Command<'a>, AllocError> {
     let kernel = Arg::new(alloc, "kernel")
         .long("kernel")
         .value_name("FILE")
-        .help("The kernel's events, in place of LOG.kernel")
+        .help("The kernel's events, in place of LOG.kernel. Without LOG they are read alone")
         .action(ArgAction::Set);
     let tolerance = Arg::new(alloc, "tolerance")
         .long("tolerance")

@@ -63,6 +63,14 @@ pub fn is_file(rt: &HostRuntime, path: &str) -> bool {
     fs::open(rt, path).is_ok()
 }
 
+/// Returns whether there is no file, nor anything else, at a path.
+pub fn is_missing(rt: &HostRuntime, path: &str) -> bool {
+    match fs::exists(rt, path) {
+        Ok(is_there) => !is_there,
+        Err(_) => false,
+    }
+}
+
 /// Reads into the bytes from a place on, until they are full or the file ends.
 fn fill(file: &mut File, bytes: &mut [u8], from: usize) -> io::Result<()> {
     let mut begin = from;

@@ -113,18 +113,20 @@ fn put_found(
     out.end_object()
 }
 
-fn put_number(out: &mut Writer<Global>, key: &str, number: u64) -> Result<(), AllocError> {
+/// Writes a number.
+pub fn put_number(out: &mut Writer<Global>, key: &str, number: u64) -> Result<(), AllocError> {
     out.key(key)?;
     out.u64(number)
 }
 
-fn put_string(out: &mut Writer<Global>, key: &str, text: &str) -> Result<(), AllocError> {
+/// Writes a text.
+pub fn put_string(out: &mut Writer<Global>, key: &str, text: &str) -> Result<(), AllocError> {
     out.key(key)?;
     out.string(text)
 }
 
 /// Writes a truth value.
-fn put_bool(out: &mut Writer<Global>, key: &str, is_true: bool) -> Result<(), AllocError> {
+pub fn put_bool(out: &mut Writer<Global>, key: &str, is_true: bool) -> Result<(), AllocError> {
     out.key(key)?;
     out.token(json::Token::Bool(is_true))
 }

@@ -1,10 +1,12 @@
 //! The program `pim-import`: makes a trace of a log of pim-record, and says what is found in it.
 //!
 //! It reads the log, passes it to `pim_import::import_log`, and writes the trace, the names and the findings. All
-//! decisions about the log are in `pim_import`, and are proved there. This crate has what no contract can say: the files,
-//! the texts and the process.
+//! decisions about the log are in `pim_import`, and are proved there. Of the kernel's events without a log it writes what
+//! `pim_waits` finds. This crate has what no contract can say: the files, the texts and the process.
 #![tactic(auto)]
 
+mod alone;
+mod alone_json;
 mod arguments;
 mod fault;
 mod files;
@@ -15,6 +17,8 @@ mod names;
 mod report;
 mod words;
 
+use crate::alone::{alone_of, path_alone, report_alone};
+use crate::alone_json::json_alone;
 use crate::arguments::{Arguments, Asked, read_arguments};
 use crate::fault::Fault;
 use crate::files::{read_log, write_names, write_traces};
@@ -49,7 +53,10 @@ fn main(rt: HostRuntime) -> ExitCode {
 /// Does what the arguments ask for, and returns the exit status.
 fn work(rt: &HostRuntime) -> Result<u8, Fault> {
     match read_arguments(rt)? {
-        Asked::Import(arguments) => import(rt, rt.alloc(), &arguments),
+        Asked::Import(arguments) => match path_alone(rt, rt.alloc(), &arguments)? {
+            Some(path) => tell_alone(rt, rt.alloc(), path.as_str(), arguments.is_json),
+            None => import(rt, rt.alloc(), &arguments),
+        },
         Asked::Shown(status) => Ok(status),
     }
 }
@@ -74,6 +81,20 @@ fn import(rt: &HostRuntime, alloc: Global, arguments: &Arguments) -> Result<u8, 
         return Err(Fault::Write);
     }
     Ok(status_of(&imported, kernel.as_ref()))
+}
+
+/// Writes what the kernel's events alone say, and returns the exit status: nothing is judged.
+fn tell_alone(rt: &HostRuntime, alloc: Global, path: &str, is_json: bool) -> Result<u8, Fault> {
+    let alone = alone_of(rt, alloc, path)?;
+    let text = if is_json {
+        json_alone(alloc, &alone)?
+    } else {
+        report_alone(alloc, &alone)?
+    };
+    if print(rt, &text).is_err() {
+        return Err(Fault::Write);
+    }
+    Ok(0)
 }
 
 /// Returns the exit status of an import.

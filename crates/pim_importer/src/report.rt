@@ -290,7 +290,7 @@ fn put_summary(out: &mut String, told: &Told, log: &Log) -> Result<(), AllocErro
 
 /// So many of something.
 #[derive(Clone, Copy)]
-struct Count(u64, &'static str);
+pub struct Count(pub u64, pub &'static str);
 
 impl std::fmt::Display for Count {
     fn fmt<W: std::fmt::Write>(&self, f: &mut std::fmt::Formatter<W>) -> std::fmt::Result {

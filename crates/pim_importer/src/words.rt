@@ -63,7 +63,12 @@ pub fn put_level(out: &mut String, level: u8) -> Result<(), AllocError> {
 
 /// Writes a time in seconds from the begin of the log on, to a microsecond.
 pub fn put_moment(out: &mut String, told: &Told, time: u64) -> Result<(), AllocError> {
-    let since = time.saturating_sub(told.began);
+    put_since(out, told.began, time)
+}
+
+/// Writes how many seconds a time is after another, to a microsecond.
+pub fn put_since(out: &mut String, began: u64, time: u64) -> Result<(), AllocError> {
+    let since = time.saturating_sub(began);
     write!(
         out,
         "{}.{:06} s",

@@ -1,0 +1,194 @@
+//! The kernel's events without a log: what they say alone, as lines of text.
+
+use crate::arguments::Arguments;
+use crate::fault::Fault;
+use crate::files::{is_file, is_missing, read_file};
+use crate::kernel::{path_of, put_lost};
+use crate::report::Count;
+use crate::words::{put_duration, put_level, put_since};
+use pim_kernel::{Boost, Recording, TextFault, line_at};
+use pim_waits::{Boosted, Findings, Tasks, Wait, boosts_by};
+use std::alloc::{AllocError, Global};
+
+/// How many waits are listed.
+pub const LONGEST: usize = 10;
+
+/// What the kernel's events alone can't know.
+const UNKNOWN: &str = "\
+not known: NONE and PROTECT mutexes, locks that nobody waits for, who owned a mutex at first, and priorities that the program sets
+so nothing is compared with what POSIX gives, and no trace is written
+";
+
+/// The kernel's events of a program that has no log, and what is found in them.
+#[derive(Drop)]
+pub struct Alone {
+    pub recording: Recording,
+    pub tasks: Tasks,
+    pub findings: Findings,
+    /// A number above that of each CPU.
+    pub cpus: u64,
+}
+
+/// Returns the path of the kernel's events if these are to be read alone: no log is named, or the one that is named isn't
+/// there, and LOG.kernel is.
+///
+/// # Errors
+///
+/// Returns `Memory` if out of memory.
+pub fn path_alone(
+    rt: &HostRuntime,
+    alloc: Global,
+    arguments: &Arguments,
+) -> Result<Option<String>, Fault> {
+    let path = path_of(alloc, arguments)?;
+    let is_next_to_nothing = arguments.kernel.is_empty()
+        && is_missing(rt, arguments.log.as_str())
+        && is_file(rt, path.as_str());
+    let is_alone = arguments.log.is_empty() || is_next_to_nothing;
+    Ok(if is_alone { Some(path) } else { None })
+}
+
+/// Reads the kernel's events, and finds what they say alone.
+///
+/// # Errors
+///
+/// Returns `Read` if the file can't be read, `Kernel` if it is damaged, and `Memory` if out of memory.
+pub fn alone_of(rt: &HostRuntime, alloc: Global, path: &str) -> Result<Alone, Fault> {
+    let bytes = read_file(rt, alloc, path)?;
+    let recording = match Recording::read(alloc, &bytes) {
+        Ok(recording) => recording,
+        Err(TextFault::Memory) => return Err(Fault::Memory),
+        Err(fault) => return Err(Fault::Kernel(String::from_str(alloc, path)?, fault)),
+    };
+    let tasks = Tasks::of(alloc, &bytes)?;
+    let findings = Findings::of(alloc, &recording, &tasks)?;
+    Ok(Alone {
+        recording,
+        tasks,
+        findings,
+        cpus: cpus_in(&bytes),
+    })
+}
+
+/// Returns the number in the sixth line, `cpus 4`.
+fn cpus_in(bytes: &[u8]) -> u64 {
+    let mut number = 0u64;
+    for byte in line_at(bytes, 6) {
+        if byte.is_ascii_digit() {
+            let digit = u64::from(byte.saturating_sub(b'0'));
+            number = number.saturating_mul(10).saturating_add(digit);
+        }
+    }
+    number
+}
+
+/// Returns what the kernel's events alone say, a line each: the longest waits, the threads that ran at the priority of
+/// a boost, and what isn't known.
+///
+/// # Errors
+///
+/// Returns `AllocError` if out of memory.
+pub fn report_alone(alloc: Global, alone: &Alone) -> Result<String, AllocError> {
+    let mut out = String::new(alloc);
+    let waits = alone.findings.waits.as_slice();
+    for place in 0..waits.len().min(LONGEST) {
+        put_wait(alloc, &mut out, alone, &waits[place])?;
+    }
+    if waits.is_empty() {
+        writeln!(out, "no thread waited for an INHERIT mutex")?;
+    } else if waits.len() > LONGEST {
+        let others = waits.len() - LONGEST;
+        writeln!(
+            out,
+            "and {}, none of them longer",
+            Count(others as u64, "wait")
+        )?;
+    }
+    for boosted in &alone.findings.boosted {
+        put_boosted(&mut out, alone, boosted)?;
+    }
+    put_summary(&mut out, alone)?;
+    out.push_str(UNKNOWN)?;
+    Ok(out)
+}
+
+fn put_task(out: &mut String, alone: &Alone, task: u32) -> Result<(), AllocError> {
+    let name = alone.tasks.name_of(task);
+    write!(out, "{name}[{task}]")
+}
+
+/// Writes a wait, and the boosts that it began.
+fn put_wait(alloc: Global, out: &mut String, alone: &Alone, wait: &Wait) -> Result<(), AllocError> {
+    put_task(out, alone, wait.task)?;
+    out.push_str(", at ")?;
+    put_level(out, wait.level)?;
+    let end = wait.began.saturating_add(wait.lasted);
+    let is_to_the_end = wait.is_open && end >= alone.recording.ended;
+    out.push_str(if is_to_the_end {
+        ", waits "
+    } else {
+        ", waited "
+    })?;
+    put_duration(out, wait.lasted)?;
+    out.push_str(" from ")?;
+    put_since(out, alone.recording.began, wait.began)?;
+    out.push_str(match (is_to_the_end, wait.is_open) {
+        (true, _) => " to the end",
+        (false, true) => " to its own end",
+        (false, false) => " on",
+    })?;
+    write!(out, " for the mutex at 0x{:x}", wait.address)?;
+    for boost in &boosts_by(alloc, &alone.recording, wait)? {
+        put_boost(out, alone, boost)?;
+    }
+    out.push_str("\n")
+}
+
+fn put_boost(out: &mut String, alone: &Alone, boost: &Boost) -> Result<(), AllocError> {
+    out.push_str("; ")?;
+    put_task(out, alone, boost.task)?;
+    out.push_str(" was boosted from ")?;
+    put_level(out, boost.before)?;
+    out.push_str(" to ")?;
+    put_level(out, boost.after)
+}
+
+/// Writes how often and for how long a thread ran at the priority of a boost.
+fn put_boosted(out: &mut String, alone: &Alone, boosted: &Boosted) -> Result<(), AllocError> {
+    out.push_str("boosted: ")?;
+    put_task(out, alone, boosted.task)?;
+    out.push_str(" ran at ")?;
+    put_level(out, boosted.level)?;
+    out.push_str(" in place of ")?;
+    put_level(out, boosted.own)?;
+    write!(out, ": {}, ", Count(boosted.times.len() as u64, "time"))?;
+    put_duration(out, boosted.ran)?;
+    out.push_str(" in all, ")?;
+    put_duration(out, boosted.longest)?;
+    out.push_str(" at most\n")
+}
+
+/// Writes how much the events have, and what was left out.
+fn put_summary(out: &mut String, alone: &Alone) -> Result<(), AllocError> {
+    let findings = &alone.findings;
+    write!(
+        out,
+        "kernel: {} of {} and {} in ",
+        Count(findings.calls, "futex call"),
+        Count(findings.callers, "thread"),
+        Count(findings.boosts, "boost")
+    )?;
+    let recording = &alone.recording;
+    put_duration(out, recording.ended.saturating_sub(recording.began))?;
+    write!(out, " on {}", Count(alone.cpus, "CPU"))?;
+    if !recording.is_whole {
+        out.push_str("; the events aren't whole")?;
+    }
+    out.push_str("\n")?;
+    put_lost(out, recording.lost, findings.losses, findings.lost_time)?;
+    if findings.left_out > 0 {
+        let waits = Count(findings.left_out, "wait");
+        writeln!(out, "left out: {waits} during which events were lost")?;
+    }
+    Ok(())
+}

@@ -1,0 +1,66 @@
+//! Waits for INHERIT mutexes.
+
+use crate::lists::first_from;
+use crate::tasks::Tasks;
+use pim_kernel::{Call, Event, Recording, What};
+
+/// A thread waited for an INHERIT mutex.
+#[derive(Clone, Copy, Debug, PartialEq, Eq)]
+pub struct Wait {
+    /// The thread, by the kernel's number.
+    pub task: u32,
+    /// Its level as it went to sleep.
+    pub level: u8,
+    /// The mutex.
+    pub address: u64,
+    /// When it asked for the mutex: CLOCK_MONOTONIC in nanoseconds.
+    pub began: u64,
+    /// When it went to sleep.
+    pub slept: u64,
+    /// How long its call lasted, in nanoseconds. If no event shows the return, that is up to the end of the thread or of
+    /// the recording.
+    pub lasted: u64,
+    /// Whether the call had not returned by then.
+    pub is_open: bool,
+}
+
+/// Returns the wait of a call, or `None` if its thread didn't sleep within it.
+pub fn wait_of(recording: &Recording, tasks: &Tasks, task: u32, call: &Call) -> Option<Wait> {
+    if call.is_unlock || call.slept == 0 {
+        return None;
+    }
+    let is_open = call.end == u64::MAX;
+    let end = if is_open {
+        match tasks.end_of(task) {
+            Some(end) if end >= call.slept => end,
+            _ => recording.ended,
+        }
+    } else {
+        call.end
+    };
+    Some(Wait {
+        task,
+        level: level_at(recording.events.as_slice(), task, call.slept)?,
+        address: call.address,
+        began: call.begin,
+        slept: call.slept,
+        lasted: end.saturating_sub(call.begin),
+        is_open,
+    })
+}
+
+/// Returns the level of a task as it stopped at a time, or `None` if it didn't.
+fn level_at(events: &[Event], task: u32, time: u64) -> Option<u8> {
+    for place in first_from(events, time)..events.len() {
+        let event = events[place];
+        if event.time > time {
+            break;
+        }
+        if let What::Switch(switch) = event.what {
+            if event.task == task {
+                return Some(switch.level);
+            }
+        }
+    }
+    None
+}
