@@ -3,7 +3,7 @@ use Rattle.std.proofs.Common.{◌≡◌, ℕ, false, cond, None, Some, [], ap, a
 use Rattle.std.proofs.lemmas.Bool.Decides.{nat_tests}
 use Rattle.pim_base.specs.Checks.{unknown_task}
 use Rattle.pim_base.specs.State.{State, IsTask}
-use Rattle.pim_chain.specs.Work.{Work, noted_of}
+use Rattle.pim_sets.specs.Work.{Work, noted_of}
 use Rattle.pim_manager.specs.Changed.{changed_task, noted_changes}
 use Rattle.pim_manager.specs.Known.{of_task}
 use Rattle.pim_manager.proofs.Listing.{unnoted_changes}

@@ -7,7 +7,7 @@ use Rattle.std.specs.List.{range_with_len}
 use Rattle.pim_base.specs.Lists.{numbers}
 use Rattle.pim_base.specs.Counts.{count}
 use Rattle.pim_base.proofs.Counting.{count-length}
-use Rattle.pim_chain.proofs.Members.{filter_same}
+use Rattle.pim_sets.proofs.Members.{filter_same}
 use Rattle.pim_chain.proofs.Walking.{count_none, count_either}
 
 -- no more pass than there are

@@ -1,7 +1,7 @@
 -- What the fields of the tables show.
 use Rattle.std.specs.Prelude.{length}
 use Rattle.pim_chain.specs.Views.{View, Ready}
-use Rattle.pim_chain.specs.Sets.{AreOwned}
+use Rattle.pim_sets.specs.Sets.{AreOwned}
 use Rattle.pim_chain.specs.declared.tables.Tables.TheInside.{Inside}
 
 abbrev pub shown : Inside → View

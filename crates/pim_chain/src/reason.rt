@@ -9,9 +9,9 @@ ghost use Rattle.pim_chain.specs.Views.{stored_at};
 ghost use Rattle.pim_chain.specs.Settled.{SettledBut};
 ghost use Rattle.pim_chain.specs.Owned.{donates_now, first_reason, owned_reason};
 
-use crate::owned::Owned;
 use crate::tables::Tables;
 use pim_base::{MutexNo, Reason, TaskNo};
+use pim_sets::Owned;
 
 impl Tables {
     /// Returns why the known task has its effective priority. The stored priorities must be settled.

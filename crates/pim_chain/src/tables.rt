@@ -11,19 +11,14 @@ ghost use Rattle.pim_base.specs.Checks.{not_protect};
 ghost use Rattle.pim_base.specs.Priorities.{ceiling};
 ghost use Rattle.pim_base.specs.declared.steps.Wait.{Wait};
 ghost use Rattle.pim_chain.specs.Views.{Ready, fresh, with_state, queue_at, stored_at, waiter_at};
-ghost use Rattle.pim_chain.specs.Work.{has_changed};
-ghost use Rattle.pim_chain.specs.Numbers.{members};
+ghost use Rattle.pim_sets.specs.Work.{has_changed};
+ghost use Rattle.pim_sets.specs.Numbers.{members};
 ghost use Rattle.pim_chain.specs.Settled.{Calm, Unsettles, joined, left};
 
-use crate::changed::Changed;
-use crate::number_set::NumberSet;
-use crate::numbered::{filled, put};
-use crate::owned::Owned;
-use crate::owned_sets::OwnedSets;
 use crate::queues::Queues;
-use crate::visits::Visits;
 use pim_base::{MutexNo, Prio, Protocol, TaskNo, Wait, Waiter, nth};
 use pim_queue::Queue;
+use pim_sets::{Changed, NumberSet, Owned, OwnedSets, Visits, filled, put};
 use std::alloc::{AllocError, Global};
 use std::marker::Model;
 

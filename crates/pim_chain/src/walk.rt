@@ -11,12 +11,11 @@ ghost use Rattle.pim_base.specs.declared.steps.Wait.{Wait};
 ghost use Rattle.pim_chain.specs.Views.{Ready, stored_at, queue_at, first_prio};
 ghost use Rattle.pim_chain.specs.Owned.{worth, worth_to, donated_by};
 ghost use Rattle.pim_chain.specs.Settled.{SettledBut, Visited, next_of, changed};
-ghost use Rattle.pim_chain.specs.Work.{Tells, VisitedOnce};
+ghost use Rattle.pim_sets.specs.Work.{Tells, VisitedOnce};
 
-use crate::numbered::put;
 use crate::tables::Tables;
-use crate::visits::Visits;
 use pim_base::{MutexNo, Prio, Protocol, TaskNo, Waiter, higher};
+use pim_sets::{Visits, put};
 
 impl Tables {
     // Returns the priority of the first waiter for the known mutex.

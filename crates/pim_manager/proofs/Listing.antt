@@ -11,8 +11,8 @@ use Rattle.pim_base.specs.declared.steps.Step.{Step}
 use Rattle.pim_base.proofs.Kept.{kept_by_step}
 use Rattle.pim_base.proofs.Places.{length-put}
 use Rattle.pim_chain.specs.Views.{View, stored_at}
-use Rattle.pim_chain.specs.Work.{Work, noted_of, has_changed}
-use Rattle.pim_chain.proofs.Members.{filter_none, filter_same}
+use Rattle.pim_sets.specs.Work.{Work, noted_of, has_changed}
+use Rattle.pim_sets.proofs.Members.{filter_none, filter_same}
 use Rattle.pim_chain.proofs.Walking.{settled_effective}
 use Rattle.pim_manager.specs.declared.changed_tasks.ChangedTask.{ChangedTask}
 use Rattle.pim_manager.specs.Changed.{changed_task, noted_changes}

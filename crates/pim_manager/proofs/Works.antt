@@ -6,7 +6,7 @@ use Rattle.pim_base.specs.Counts.{differing, changed_task_count}
 use Rattle.pim_base.specs.Steady.{IsSteady}
 use Rattle.pim_chain.specs.Views.{View, Ready, stored_at, stored_in}
 use Rattle.pim_chain.specs.Settled.{Calm, SettledBut, changed}
-use Rattle.pim_chain.specs.Work.{Work, Tells}
+use Rattle.pim_sets.specs.Work.{Work, Tells}
 use Rattle.pim_chain.proofs.Walking.{settled_effective, differing_same}
 use Rattle.pim_chain.proofs.Told.{tells-refl, tells-same, tells-trans}
 use Rattle.pim_manager.specs.Settled.{IsSettled, Worked}

@@ -4,7 +4,7 @@ use Rattle.std.specs.List.{filter}
 use Rattle.pim_base.specs.State.{State, task_numbers}
 use Rattle.pim_base.specs.Priorities.{effective_priority}
 use Rattle.pim_base.specs.Reasons.{reason_of}
-use Rattle.pim_chain.specs.Work.{Work, has_changed}
+use Rattle.pim_sets.specs.Work.{Work, has_changed}
 use Rattle.pim_manager.specs.declared.changed_tasks.ChangedTask.{ChangedTask}
 
 -- the task with its effective priority in this state and the reason for it

@@ -5,7 +5,7 @@ use Rattle.pim_base.specs.Priorities.{effective_priority}
 use Rattle.pim_base.specs.Steady.{IsSteady}
 use Rattle.pim_chain.specs.Views.{View}
 use Rattle.pim_chain.specs.Settled.{Calm}
-use Rattle.pim_chain.specs.Work.{Work, Tells}
+use Rattle.pim_sets.specs.Work.{Work, Tells}
 
 -- the stored priorities are the effective ones, each queue is in order, and the state is steady
 pub record IsSettled (v : View) : Type 0 where

@@ -1,0 +1,30 @@
+//! Sets of the numbers of tasks or mutexes, and notes of the priorities that tasks had.
+//!
+//! A [`NumberSet`] has a bit for each number. [`OwnedSets`] keeps the mutexes that each task owns, and [`Visits`] counts
+//! the visits of a walk and, on request, notes the tasks whose stored priority it wrote. [`Changed`] goes through those
+//! that have another one now. No set allocates after it is made.
+//!
+//! ```text
+//! let mut set = NumberSet::new();
+//! set.insert(300);
+//! set.insert(2);
+//! // set.iter() gives 2 and 300
+//! ```
+#![tactic(auto)]
+
+mod bits;
+mod changed;
+mod notes;
+mod number_set;
+mod numbered;
+mod owned;
+mod owned_sets;
+mod visits;
+
+pub use changed::Changed;
+pub use notes::Notes;
+pub use number_set::{NumberSet, Numbers};
+pub use numbered::{filled, put};
+pub use owned::Owned;
+pub use owned_sets::OwnedSets;
+pub use visits::Visits;
