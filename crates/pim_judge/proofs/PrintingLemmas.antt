@@ -5,7 +5,8 @@ use Rattle.std.proofs.lemmas.List.{append-nil}
 use Rattle.std.specs.Result.{IsErrAnd}
 use Rattle.pim_judge.specs.declared.fault.Fault.{Fault}
 use Rattle.pim_judge.specs.declared.fault.Fault.TheVariants as faults
-use Rattle.pim_judge.specs.Ends.{Told, Puts, Stops, Prints, Appends, AppendsBut, AppendsFront, Fails, Happened}
+use Rattle.pim_judge.specs.Prints.{Stops, Prints}
+use Rattle.pim_page.specs.Ends.{Told, Puts, Appends, AppendsBut, AppendsFront, Fails, Happened}
 
 -- whole is what is written in the end, and rest is what comes after these bytes
 but_more :

@@ -12,8 +12,9 @@ use Rattle.pim_base.specs.declared.steps.Reply.{Reply}
 use Rattle.pim_base.specs.declared.lines.StepLine.{StepLine}
 use Rattle.pim_base.specs.declared.lines.Verdict.{Verdict}
 use Rattle.pim_base.specs.declared.lines.Verdict.TheVariants as verdicts
-use Rattle.pim_judge.specs.Ends.{Told}
-use Rattle.pim_judge.specs.Printed.{changed_line, line_of, shown_lines}
+use Rattle.pim_page.specs.Ends.{Told}
+use Rattle.pim_page.specs.Printed.{changed_line}
+use Rattle.pim_judge.specs.Printed.{line_of, shown_lines}
 use Rattle.pim_judge.specs.Taken.{Takes}
 use Rattle.pim_judge.specs.declared.fault.Fault.{Fault}
 use Rattle.pim_judge.specs.declared.printer.Printer.{Printer}

@@ -4,9 +4,9 @@ pub use Rattle.pim_base.specs.Scripts
 pub use Rattle.pim_text.specs.Reading
 pub use Rattle.pim_base.specs.Reports
 pub use Rattle.pim_base.specs.Recordings
+pub use Rattle.pim_page.specs.Ends
 pub mod Faults
-pub mod Ends
 pub mod Printed
-pub mod Numerals
+pub mod Prints
 pub mod Taken
 pub mod Status

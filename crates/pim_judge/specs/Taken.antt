@@ -1,6 +1,7 @@
 -- What a printer does with the bytes that it is given.
 use Rattle.std.specs.Prelude.{◌≡◌, List, ℕ, ◌++◌, Result}
-use Rattle.pim_judge.specs.Ends.{Told, Prints}
+use Rattle.pim_page.specs.Ends.{Told}
+use Rattle.pim_judge.specs.Prints.{Prints}
 use Rattle.pim_judge.specs.declared.printer.Printer.{Printer}
 use Rattle.pim_judge.specs.declared.fault.Fault.{Fault}
 

@@ -2,15 +2,14 @@
 ghost use Rattle.std.specs.Prelude.{◌≡◌, ◌<◌, ◌^◌, [], length, map, Some};
 ghost use Rattle.pim_base.specs.Reports.{agrees, verdict_from};
 ghost use Rattle.pim_base.specs.Recordings.{entry_line};
-ghost use Rattle.pim_judge.specs.Ends.{Prints};
 ghost use Rattle.pim_judge.specs.Printed.{verdict_line};
+ghost use Rattle.pim_judge.specs.Prints.{Prints};
 
-use crate::ends::Sink;
 use crate::fault::Fault;
-use crate::page::Page;
 use crate::printer::Printer;
 use pim_base::{Entry, Reply, Verdict};
 use pim_manager::Manager;
+use pim_page::{Page, Sink};
 use std::alloc::Global;
 
 /// Makes the steps of the entries, with their replies as the recorded ones, and returns the report's verdict.

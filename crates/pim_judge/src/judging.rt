@@ -4,21 +4,20 @@ ghost use Rattle.pim_base.specs.State.{start};
 ghost use Rattle.pim_base.specs.Steps.{after, reply_of};
 ghost use Rattle.pim_base.specs.Texts.{Trace, lines_of, Spells, IsTrace, IsWithinLimits, FirstBadLine};
 ghost use Rattle.pim_base.specs.Reports.{agrees, step_lines, report_from, report_of, verdict_from, verdict_of};
-ghost use Rattle.pim_judge.specs.Ends.{Happened, Fails, Appends, AppendsFront, Prints};
+ghost use Rattle.pim_page.specs.Ends.{Happened, Fails, Appends, AppendsFront};
 ghost use Rattle.pim_text.specs.Reading.{trace_of};
 ghost use Rattle.pim_judge.specs.Faults.{IsParseFault, IsWorkerless};
+ghost use Rattle.pim_judge.specs.Prints.{Prints};
 ghost use Rattle.pim_judge.specs.Taken.{Takes};
 ghost use Rattle.pim_judge.specs.Status.{status_of};
 
-use crate::ends::{Sink, Source};
 use crate::fault::Fault;
-use crate::memory_ends::MemoryWriter;
-use crate::page::Page;
 use crate::printer::Printer;
 use crate::reading::parse;
 use crate::transfer::read_all;
 use pim_base::{StepLine, Verdict};
 use pim_manager::{ChangedTasks, Manager};
+use pim_page::{MemoryWriter, Page, Sink, Source};
 use pim_text::Text;
 use std::alloc::Global;
 

@@ -18,29 +18,21 @@
 //! ```
 #![tactic(auto)]
 
-mod ends;
 mod entries;
 mod fault;
 mod judging;
-mod memory_ends;
-mod numerals;
-mod page;
 mod printer;
-mod puts;
 mod reading;
 mod report;
-mod streams;
 mod trace;
 mod transfer;
 
-pub use ends::{Failed, Sink, Source};
 pub use entries::{judge_entries, print_verdict};
 pub use fault::Fault;
 pub use judging::{Judged, judge, judge_bytes, manager_of, status};
-pub use memory_ends::{MemoryReader, MemoryWriter, Trouble};
 pub use pim_base::{StepLine, Verdict};
+pub use pim_page::{Failed, Input, MemoryReader, MemoryWriter, Output, Sink, Source, Trouble};
 pub use pim_text::Text;
 pub use reading::{parse, parse_script};
-pub use streams::{Input, Output};
 pub use trace::print_trace;
 pub use transfer::read_all;

@@ -1,11 +1,10 @@
 //! Buffered writing of lines.
 ghost use Rattle.std.specs.Prelude.{◌≡◌, ◌<◌, length, []};
-ghost use Rattle.pim_judge.specs.declared.page.TheConstants.{FULL};
+ghost use Rattle.pim_page.specs.declared.page.TheConstants.{FULL};
 
-use crate::ends::Sink;
 use crate::fault::Fault;
-use crate::page::Page;
 use crate::transfer::write_all;
+use pim_page::{Page, Sink};
 
 /// A buffered writer of lines: a writer, and a page of what is not yet written.
 ///

@@ -1,13 +1,14 @@
 //! The lines of a report, for a printer.
-ghost use Rattle.std.specs.Prelude.{◌≡◌, IfOk};
-ghost use Rattle.pim_base.specs.Reports.{agrees, accepted};
-ghost use Rattle.pim_judge.specs.Printed.{shown_lines};
+ghost use Rattle.std.specs.Prelude.{◌≡◌, ◌++◌, flat_map, IfOk, OnOk};
+ghost use Rattle.pim_base.specs.Reports.{agrees, reply_line, accepted};
+ghost use Rattle.pim_judge.specs.Printed.{line_of, shown_lines};
 
-use crate::ends::Sink;
 use crate::fault::Fault;
 use crate::printer::Printer;
 use pim_base::Reply;
 use pim_manager::ChangedTask;
+use pim_page::{Page, Sink};
+use std::alloc::AllocError;
 
 impl<'a, W: Sink> Printer<'a, W> {
     ghost use Rattle.pim_judge.specs.Taken.{Takes};
@@ -31,7 +32,7 @@ impl<'a, W: Sink> Printer<'a, W> {
                 Ok(false)
             }
             _ => {
-                self.page.answer(number, reply, changed)?;
+                answer(self.page, number, reply, changed)?;
                 self.write_if_full()?;
                 Ok(true)
             }
@@ -46,4 +47,20 @@ impl<'a, W: Sink> Printer<'a, W> {
         self.page.accepted(count)?;
         Ok(())
     }
+}
+
+/// Adds the line of a step's reply, and one for each task whose priority the step changed.
+fn answer(
+    page: &mut Page,
+    number: u32,
+    reply: &Reply,
+    changed: &[ChangedTask],
+) -> Result<(), AllocError>
+    ensures { OnOk result (page.new ≡ page.old ++ (reply_line number reply.now ++ flat_map line_of changed.now)) }
+{
+    page.reply_line(number, reply)?;
+    for task in changed {
+        page.changed_line(task.task, task.prio, task.reason)?;
+    }
+    Ok(())
 }

@@ -1,9 +1,10 @@
 //! Reading to the end of a reader, and writing all bytes of a buffer.
 ghost use Rattle.std.specs.Prelude.{◌≡◌, ◌⊎◌, [], Some, IfOk, IfErr, IfSome, Err};
-ghost use Rattle.pim_judge.specs.Ends.{Happened, ReadsAll, Prints};
+ghost use Rattle.pim_page.specs.Ends.{Happened, ReadsAll};
+ghost use Rattle.pim_judge.specs.Prints.{Prints};
 
-use crate::ends::{Sink, Source};
 use crate::fault::Fault;
+use pim_page::{Sink, Source};
 use std::alloc::Global;
 
 /// How many bytes one read asks for.

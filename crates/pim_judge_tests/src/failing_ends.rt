@@ -1,27 +1,9 @@
 //! Ends of one byte a call, and ends of which each call in turn goes wrong.
 
 use crate::worked::{REPORT, TEXT};
-use pim_judge::{Failed, Fault, MemoryReader, MemoryWriter, Sink, Source, Trouble, Verdict, judge};
+use pim_judge::{Fault, MemoryReader, MemoryWriter, Trouble, Verdict, judge};
 use std::alloc::{AllocGlobal, Global};
 use std::process::Abort;
-
-/// How many bytes a call moves at most, and how many of six it reads and writes then.
-const MOVED: &[(usize, usize, usize)] = &[(0, 1, 0), (1, 1, 1), (3, 3, 3), (9, 6, 6)];
-
-/// Returns how many of six bytes are read by one call, and written by one.
-fn moved(alloc: Global, most: usize) -> (Result<usize, Failed>, Result<usize, Failed>) {
-    let mut reader = MemoryReader::piecewise(b"pim 1\n", most, 0);
-    let mut writer = MemoryWriter::piecewise(alloc, most, Trouble::Fails, 0);
-    (reader.read(&mut [0; 8]), writer.write(b"pim 1\n"))
-}
-
-#[test]
-fn ends_in_memory_move_so_many_bytes_a_call(rt: HostRuntime) {
-    for (most, read, written) in MOVED {
-        let expected = (Ok(*read), Ok(*written));
-        assert_eq!(rt; moved(rt.alloc(), *most), expected, "{most}");
-    }
-}
 
 /// Ends that read and write so many bytes a call. The calls of these numbers, counted from 1, go wrong.
 #[derive(Clone, Copy)]

@@ -16,7 +16,8 @@ use Rattle.pim_base.specs.declared.lines.Verdict.TheVariants as verdicts
 use Rattle.pim_base.proofs.Recorded.{recording_law}
 use Rattle.pim_shared.specs.Gathered.{IsLogOf}
 use Rattle.pim_shared.specs.Logs.{History}
-use Rattle.pim_judge.specs.Ends.{Puts, Stops, Prints, Appends, AppendsFront}
+use Rattle.pim_page.specs.Ends.{Puts, Appends, AppendsFront}
+use Rattle.pim_judge.specs.Prints.{Stops, Prints}
 use Rattle.pim_tool.specs.Running.{IsRunnable, SpellsRunnable, run_length, IsVerdictOfRun}
 use Rattle.pim_tool.specs.Running.{Call, Wrote, WroteFront, StandsAfter}
 use Rattle.pim_judge.specs.declared.fault.Fault.{Fault}

@@ -5,7 +5,7 @@ pub use Rattle.pim_text.specs.Reading
 pub use Rattle.pim_base.specs.Reports
 pub use Rattle.pim_base.specs.Recordings
 pub use Rattle.pim_judge.specs.Faults
-pub use Rattle.pim_judge.specs.Ends
+pub use Rattle.pim_page.specs.Ends
 pub use Rattle.pim_judge.specs.Status
 pub mod Running
 pub mod Words

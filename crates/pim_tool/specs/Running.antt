@@ -8,7 +8,7 @@ use Rattle.pim_base.specs.declared.limits.TheConstants.{MAX_WORKERS}
 use Rattle.pim_base.specs.declared.lines.Verdict.{Verdict}
 use Rattle.pim_base.specs.declared.lines.Verdict.TheVariants as verdicts
 use Rattle.pim_base.specs.declared.steps.Entry.{Entry}
-use Rattle.pim_judge.specs.Ends.{Told, Happened, Fails, Appends, AppendsFront}
+use Rattle.pim_page.specs.Ends.{Told, Happened, Fails, Appends, AppendsFront}
 use Rattle.pim_judge.specs.declared.fault.Fault.{Fault}
 use Rattle.pim_judge.specs.declared.fault.Fault.TheVariants as faults
 

@@ -1,6 +1,6 @@
 use Rattle.std.proofs.Common.{◌≡◌, ◌++◌, ◌+◌, drop}
 use Rattle.pim_base.specs.Reports.{report_from, verdict_from}
-use Rattle.pim_judge.specs.Ends.{Puts}
+use Rattle.pim_page.specs.Ends.{Puts}
 use Rattle.pim_judge.proofs.judging.make_steps.Given as goal
 
 -- all is written but the page and the report of the other lines, and that report has the same verdict

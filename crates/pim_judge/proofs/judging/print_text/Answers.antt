@@ -1,7 +1,7 @@
 use Rattle.std.proofs.Common.{rules, ◌≡◌, refl}
 use Rattle.pim_base.specs.Reports.{report_of}
 use Rattle.pim_text.specs.Reading.{trace_of}
-use Rattle.pim_judge.specs.Ends.{Puts}
+use Rattle.pim_page.specs.Ends.{Puts}
 use Rattle.pim_judge.proofs.PrintingLemmas.{prints_err, stops_memory, puts_none, puts_page, stops_page}
 use Rattle.pim_judge.proofs.judging.print_text.Goals as goal
 

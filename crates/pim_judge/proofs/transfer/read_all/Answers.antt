@@ -1,6 +1,6 @@
 use Rattle.std.proofs.Common.{subst}
-use Rattle.pim_judge.specs.Ends.{Happened}
-use Rattle.pim_judge.proofs.EndsLemmas.{raised}
+use Rattle.pim_page.specs.Ends.{Happened}
+use Rattle.pim_page.proofs.EndsLemmas.{raised}
 use Rattle.pim_judge.proofs.transfer.read_all.Goals as goal
 
 pub returns-in_default-clause-read : goal.returns-in_default-clause-read

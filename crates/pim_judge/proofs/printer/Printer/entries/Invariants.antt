@@ -1,7 +1,7 @@
 use Rattle.std.proofs.Common.{◌≡◌, ◌++◌, drop}
 use Rattle.std.specs.List.{flat_map}
-use Rattle.pim_judge.specs.Ends.{Puts}
-use Rattle.pim_judge.specs.Printed.{entry_text}
+use Rattle.pim_page.specs.Ends.{Puts}
+use Rattle.pim_page.specs.Printed.{entry_text}
 use Rattle.pim_judge.proofs.printer.Printer.entries.Given as goal
 
 -- all is written but the page and the lines of the other entries

@@ -1,0 +1,4 @@
+pub mod EndsLemmas
+pub mod DecimalLemmas
+pub mod PutsLemmas
+pub mod TraceLineLemmas
