@@ -7,12 +7,12 @@ use Rattle.std.proofs.lemmas.Option.{slice_get_past}
 use Rattle.pim_base.specs.State.{IsTask, IsMutex, owner_of, owned as owned_by}
 use Rattle.pim_base.proofs.Places.{nth-put_same, nth-put_other}
 use Rattle.pim_base.proofs.Stored.{holds_from, from_holds}
-use Rattle.pim_chain.specs.declared.number_set.NumberSet.{NumberSet}
-use Rattle.pim_chain.specs.Numbers.{has, members}
-use Rattle.pim_chain.specs.Sets.{words_in, owner_in, AreEmpty, AreOwned}
+use Rattle.pim_sets.specs.declared.number_set.NumberSet.{NumberSet}
+use Rattle.pim_sets.specs.Numbers.{has, members}
+use Rattle.pim_sets.specs.Sets.{words_in, owner_in, AreEmpty, AreOwned}
 use Rattle.pim_chain.specs.Views.{View, Ready}
 use Rattle.pim_chain.proofs.LocalOfOwned.{owned_known}
-use Rattle.pim_chain.proofs.Members.{members_known, no_number}
+use Rattle.pim_sets.proofs.Members.{members_known, no_number}
 use Rattle.pim_chain.proofs.Repeated.{nth-replicate_none}
 
 owner_put : (owners : List (Option ℕ)) (m : ℕ) (o : Option ℕ) → 1 ≤ m → m ≤ length owners → owner_in (put owners m o) m ≡ o

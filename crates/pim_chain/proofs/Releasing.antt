@@ -17,7 +17,7 @@ use Rattle.pim_base.proofs.NoCycle.{unwrap_or-put_same, idle_now}
 use Rattle.pim_base.proofs.Stored.{from_holds}
 use Rattle.pim_chain.specs.Views.{View, Ready, IsQueue, with_state, stored_at, queue_at, queue_in}
 use Rattle.pim_chain.specs.Settled.{SettledBut, Calm, SetRight, left, moved, restored}
-use Rattle.pim_chain.specs.Work.{Work, Tells, VisitedOnce}
+use Rattle.pim_sets.specs.Work.{Work, Tells, VisitedOnce}
 use Rattle.pim_chain.proofs.Local.{Mends, mended_onward, local_priority-same}
 use Rattle.pim_chain.proofs.Changes.{AtMost, wait_other, ready_freed}
 use Rattle.pim_chain.proofs.Unsettled.{bound_unsettles, unbound_unsettles, left_unsettles}

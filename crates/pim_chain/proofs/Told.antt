@@ -5,10 +5,10 @@ use Rattle.std.proofs.lemmas.Bool.{and_right, cases_eq, eq-eqb}
 use Rattle.pim_base.specs.Lists.{nth}
 use Rattle.pim_base.specs.State.{task_numbers}
 use Rattle.pim_base.proofs.Places.{nth-get_or, nth_within}
-use Rattle.pim_chain.specs.Numbers.{has, members}
+use Rattle.pim_sets.specs.Numbers.{has, members}
 use Rattle.pim_chain.specs.Views.{View, Ready, stored_in, stored_at}
-use Rattle.pim_chain.specs.Work.{Work, noted_of, original, has_changed, differs_in, IsNoted, KeepsTelling, VisitedOnce, Tells}
-use Rattle.pim_chain.proofs.Members.{filter_members}
+use Rattle.pim_sets.specs.Work.{Work, noted_of, original, has_changed, differs_in, IsNoted, KeepsTelling, VisitedOnce, Tells}
+use Rattle.pim_sets.proofs.Members.{filter_members}
 use Rattle.pim_chain.proofs.Walking.{differing_none, differing_one, differing_over}
 
 -- ---- the notes

@@ -7,13 +7,11 @@ ghost use Rattle.pim_base.specs.State.{IsTask, owner_of, owned, wait_of};
 ghost use Rattle.pim_base.specs.Steps.{hand_over};
 ghost use Rattle.pim_chain.specs.Views.{Ready, stored_at};
 ghost use Rattle.pim_chain.specs.Settled.{SettledBut, SetRight, HandedAll};
-ghost use Rattle.pim_chain.specs.Work.{Tells, VisitedOnce};
+ghost use Rattle.pim_sets.specs.Work.{Tells, VisitedOnce};
 
-use crate::numbered::put;
-use crate::owned::Owned;
 use crate::tables::Tables;
-use crate::visits::Visits;
 use pim_base::{MutexNo, TaskNo};
+use pim_sets::{Owned, Visits, put};
 
 impl Tables {
     // Stores the local priority of a task that waits for nothing. This is one visit.

@@ -53,7 +53,7 @@ impl Tables {
 
     // Returns the level of this priority, 0 if the mutex gives none.
     #[inline(always)]
-    fn given_level(&self, mutex: MutexNo) -> u16
+    pub(crate) fn given_level(&self, mutex: MutexNo) -> u16
         requires { owner_of self.now.state mutex ≢ None }
         ensures { result ≡ worth self.now mutex }
     {
@@ -73,7 +73,7 @@ impl Tables {
     // Returns the level that a known task donates to the owner of the known mutex that it waits for, or 0 unless that is
     // an INHERIT one.
     #[inline(always)]
-    fn donated_by(&self, task: TaskNo, mutex: MutexNo) -> u16
+    pub(crate) fn donated_by(&self, task: TaskNo, mutex: MutexNo) -> u16
         requires known { IsTask self.now.state task }
         requires mutex { IsMutex self.now.state mutex }
         ensures { result ≡ donated_by self.now task mutex }
@@ -184,125 +184,6 @@ impl Tables {
         let mut next = Some(task);
         while let Some(current) = next {
             next = self.visit(current, visits);
-        }
-    }
-
-    /// Makes the task, which must wait for nothing, the owner of the mutex, which must be free, and restores all
-    /// stored priorities. They must be settled before.
-    ///
-    /// If the mutex gives no higher priority than the task has, a comparison shows that nothing else changes. Else the
-    /// task is visited once.
-    #[inline(always)]
-    pub fn gain(&mut self, mutex: MutexNo, task: TaskNo, visits: &mut Visits)
-        requires settled { SettledBut self.old.state (stored_at self.old) None }
-        requires mutex { IsMutex self.old.state mutex }
-        requires free { owner_of self.old.state mutex ≡ None }
-        requires known { IsTask self.old.state task }
-        requires idle { wait_of self.old.state task ≡ None }
-        requires room { visits.old.count ≤ 2 ^ 32 - 1 - MAX_TASKS }
-        ensures state { self.new.state ≡ with_owner self.old.state mutex (Some task) }
-        ensures settled { SettledBut self.new.state (stored_at self.new) None }
-        ensures ready { Ready self.new }
-        ensures single { visits.new.count ≤ visits.old.count + 1 }
-        ensures skipped { worth_to self.old mutex task ≤ stored_at self.old task → visits.new.count ≡ visits.old.count }
-        ensures once { stored_at self.old task < worth_to self.old mutex task → visits.new.count ≡ visits.old.count + 1 }
-        ensures work { Tells (length self.old.state.base) (stored_at self.old) visits.old (stored_at self.new) visits.new }
-    {
-        // The contract of this call gives the proof the invariant of the tables.
-        let _tasks = self.tasks();
-        self.bind(mutex, task);
-        if !self.gives_no_more(mutex, task) {
-            self.settle_from(task, visits);
-        }
-    }
-
-    /// Makes the mutex free, whose owner must be this task, which must wait for nothing, and restores all stored
-    /// priorities. They must be settled before.
-    ///
-    /// If the mutex gave a lower priority than the owner has, a comparison shows that nothing else changes. Else the
-    /// owner is visited once.
-    #[inline(always)]
-    pub fn lose(&mut self, mutex: MutexNo, owner: TaskNo, visits: &mut Visits)
-        requires settled { SettledBut self.old.state (stored_at self.old) None }
-        requires owned { owner_of self.old.state mutex ≡ Some owner }
-        requires idle { wait_of self.old.state owner ≡ None }
-        requires room { visits.old.count ≤ 2 ^ 32 - 1 - MAX_TASKS }
-        ensures state { self.new.state ≡ with_owner self.old.state mutex None }
-        ensures settled { SettledBut self.new.state (stored_at self.new) None }
-        ensures ready { Ready self.new }
-        ensures single { visits.new.count ≤ visits.old.count + 1 }
-        ensures skipped { worth self.old mutex < stored_at self.old owner → visits.new.count ≡ visits.old.count }
-        ensures once { stored_at self.old owner ≤ worth self.old mutex → visits.new.count ≡ visits.old.count + 1 }
-        ensures work { Tells (length self.old.state.base) (stored_at self.old) visits.old (stored_at self.new) visits.new }
-    {
-        // The contract of this call gives the proof the invariant of the tables.
-        let _tasks = self.tasks();
-        let given = self.given_level(mutex);
-        self.unbind(mutex);
-        if self.known_stored(owner).get() <= given {
-            self.settle_from(owner, visits);
-        }
-    }
-
-    /// Lets the task wait as `join` does, for the mutex that has this owner, and restores all stored priorities. They
-    /// must be settled before.
-    ///
-    /// If the mutex then gives no higher priority than its owner has, a comparison shows that nothing else changes.
-    /// Else a walk begins at the owner.
-    #[inline(always)]
-    pub fn enter(
-        &mut self,
-        task: TaskNo,
-        mutex: MutexNo,
-        owner: TaskNo,
-        ticket: u64,
-        visits: &mut Visits,
-    )
-        requires settled { SettledBut self.old.state (stored_at self.old) None }
-        requires known { IsTask self.old.state task }
-        requires mutex { IsMutex self.old.state mutex }
-        requires owned { owner_of self.old.state mutex ≡ Some owner }
-        requires idle { wait_of self.old.state task ≡ None }
-        requires closes_none { leads_back self.old.state task mutex ≡ false }
-        requires fresh { (u : ℕ) → wait_of self.old.state u ≢ Some (record { mutex = mutex; ticket = ticket }) }
-        requires room { visits.old.count ≤ 2 ^ 32 - 1 - MAX_TASKS }
-        ensures state { self.new.state ≡ with_wait self.old.state task (Some (record { mutex = mutex; ticket = ticket })) }
-        ensures settled { SettledBut self.new.state (stored_at self.new) None }
-        ensures ready { Ready self.new }
-        ensures work { Tells (length self.old.state.base) (stored_at self.old) visits.old (stored_at self.new) visits.new }
-        ensures at_most { visits.new.count ≤ visits.old.count + changed self.old self.new + 1 }
-    {
-        // The contract of this call gives the proof the invariant of the tables.
-        let _tasks = self.tasks();
-        self.join(task, mutex, ticket);
-        if !self.gives_no_more(mutex, owner) {
-            self.settle_from(owner, visits);
-        }
-    }
-
-    /// Lets the task, which waits for this mutex, stop waiting, and restores all stored priorities. They must be
-    /// settled before.
-    ///
-    /// If the task donated a lower priority than the owner has, a comparison shows that nothing else changes. Else a
-    /// walk begins at the owner.
-    #[inline(always)]
-    pub fn exit(&mut self, task: TaskNo, mutex: MutexNo, owner: TaskNo, visits: &mut Visits)
-        requires settled { SettledBut self.old.state (stored_at self.old) None }
-        requires owned { owner_of self.old.state mutex ≡ Some owner }
-        requires waits { option_map (λ (w : Wait). w.mutex) (wait_of self.old.state task) ≡ Some mutex }
-        requires room { visits.old.count ≤ 2 ^ 32 - 1 - MAX_TASKS }
-        ensures state { self.new.state ≡ with_wait self.old.state task None }
-        ensures settled { SettledBut self.new.state (stored_at self.new) None }
-        ensures ready { Ready self.new }
-        ensures work { Tells (length self.old.state.base) (stored_at self.old) visits.old (stored_at self.new) visits.new }
-        ensures at_most { visits.new.count ≤ visits.old.count + changed self.old self.new + 1 }
-    {
-        // The contract of this call gives the proof the invariant of the tables.
-        let _tasks = self.tasks();
-        let donated = self.donated_by(task, mutex);
-        self.leave(task);
-        if self.known_stored(owner).get() <= donated {
-            self.settle_from(owner, visits);
         }
     }
 }

@@ -110,7 +110,7 @@ pub(crate) fn lock(
     match tables.owner(mutex) {
         None => {
             assert!(rt; visits.get() < 1000);
-            tables.gain(mutex, task, visits);
+            tables.grant(mutex, task, visits);
         }
         Some(owner) => {
             assert!(rt; !tables.leads_back(task, mutex));
@@ -131,7 +131,7 @@ fn free(rt: &impl Abort, tables: &mut Tables, mutex: MutexNo, visits: &mut Visit
     if let Some(owner) = owner {
         assert!(rt; tables.waits_for(owner).is_none());
         assert!(rt; visits.get() < 1000);
-        tables.lose(mutex, owner, visits);
+        tables.free(mutex, owner, visits);
     }
 }
 
@@ -148,7 +148,7 @@ fn take(rt: &impl Abort, tables: &mut Tables, mutex: MutexNo, task: TaskNo, visi
     assert!(rt; tables.waits_for(task).is_none());
     assert!(rt; tables.owner(mutex).is_none());
     assert!(rt; visits.get() < 1000);
-    tables.gain(mutex, task, visits);
+    tables.grant(mutex, task, visits);
 }
 
 pub(crate) fn first_waiter(tables: &Tables, mutex: MutexNo) -> Option<Waiter> {

@@ -1,10 +1,10 @@
 //! The calls of the tables, each with values worked out from the definitions.
-ghost use Rattle.std.specs.Prelude.{None, IfOk};
+ghost use Rattle.std.specs.Prelude.{◌≡◌, None, IfOk};
 ghost use Rattle.pim_chain.specs.Views.{stored_at};
 ghost use Rattle.pim_chain.specs.Settled.{SettledBut};
 
 use crate::playing::{Event, INHERIT, Kind, Row, cancel, lock, play, prio, set_base, tables};
-use pim_base::{MutexNo, Prio, Protocol, Reason, TaskNo};
+use pim_base::{MutexNo, Prio, Protocol, Reason, TaskNo, Wait};
 use pim_chain::*;
 use std::alloc::{AllocError, Global};
 use std::process::Abort;
@@ -285,7 +285,7 @@ fn free_mutex_has_count_0(rt: HostRuntime) -> Result<(), Fail> {
 }
 
 /// Task 2 begins to wait for mutex 1 of task 1.
-fn enter(rt: &impl Abort, tables: &mut Tables, visits: &mut Visits)
+fn enqueue(rt: &impl Abort, tables: &mut Tables, visits: &mut Visits)
     requires { SettledBut tables.old.state (stored_at tables.old) None }
     ensures { SettledBut tables.new.state (stored_at tables.new) None }
 {
@@ -296,18 +296,28 @@ fn enter(rt: &impl Abort, tables: &mut Tables, visits: &mut Visits)
     assert!(rt; !tables.leads_back(TaskNo(2), MutexNo(1)));
     assert!(rt; !tables.has_ticket(MutexNo(1), 2));
     assert!(rt; visits.get() < 1000);
-    tables.enter(TaskNo(2), MutexNo(1), TaskNo(1), 2, visits);
+    tables.enqueue(TaskNo(2), MutexNo(1), TaskNo(1), 2, visits);
+}
+
+/// The wait of task 2 for mutex 1 with ticket 2.
+fn second_wait() -> Wait
+    ensures { result ≡ record { mutex = 1; ticket = 2 } }
+{
+    Wait {
+        mutex: MutexNo(1),
+        ticket: 2,
+    }
 }
 
 /// Task 2 stops waiting for mutex 1 of task 1.
-fn exit(rt: &impl Abort, tables: &mut Tables, visits: &mut Visits)
+fn withdraw(rt: &impl Abort, tables: &mut Tables, visits: &mut Visits)
     requires { SettledBut tables.old.state (stored_at tables.old) None }
     ensures { SettledBut tables.new.state (stored_at tables.new) None }
 {
     assert!(rt; tables.owner(MutexNo(1)) == Some(TaskNo(1)));
-    assert!(rt; tables.waits_for(TaskNo(2)).map(|wait| wait.mutex) == Some(MutexNo(1)));
+    assert!(rt; tables.waits_for(TaskNo(2)) == Some(second_wait()));
     assert!(rt; visits.get() < 1000);
-    tables.exit(TaskNo(2), MutexNo(1), TaskNo(1), visits);
+    tables.withdraw(TaskNo(2), second_wait(), TaskNo(1), visits);
 }
 
 fn expect_looks(rt: &impl Abort, tables: &mut Tables, visits: &mut Visits)
@@ -315,9 +325,9 @@ fn expect_looks(rt: &impl Abort, tables: &mut Tables, visits: &mut Visits)
 {
     lock(rt, tables, TaskNo(1), MutexNo(1), 1, visits);
     let locked = (visits.get(), tables.waits_for(TaskNo(2)).is_some());
-    enter(rt, tables, visits);
+    enqueue(rt, tables, visits);
     let entered = (visits.get(), tables.waits_for(TaskNo(2)).is_some());
-    exit(rt, tables, visits);
+    withdraw(rt, tables, visits);
     let left = (visits.get(), tables.waits_for(TaskNo(2)).is_some());
     assert_eq!(rt;
         [locked, entered, left],

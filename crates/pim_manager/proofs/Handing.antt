@@ -1,10 +1,9 @@
 -- A task that ends its wait, and a mutex that goes from its owner to the first waiter.
-use Rattle.std.proofs.Common.{◌≡◌, ℕ, refl, sym, ◌∙◌, ap, subst, Option, Some, None, is_some, length, option_and_then}
+use Rattle.std.proofs.Common.{◌≡◌, ℕ, refl, sym, ◌∙◌, ap, subst, Option, Some, None, length, option_and_then}
 use Rattle.std.proofs.lemmas.Option.{none-some}
 use Rattle.pim_base.specs.Lists.{put, first_item}
 use Rattle.pim_base.specs.State.{State, IsTask, IsMutex, owner_of, wait_of, with_owner, with_wait}
 use Rattle.pim_base.specs.Chains.{blocker}
-use Rattle.pim_base.specs.Checks.{is_waiting}
 use Rattle.pim_base.specs.Steady.{IsSteady}
 use Rattle.pim_base.specs.Queues.{first_of}
 use Rattle.pim_base.specs.Steps.{hand_over, hand_over_to}
@@ -13,7 +12,7 @@ use Rattle.pim_base.specs.declared.steps.Waiter.{Waiter}
 use Rattle.pim_base.proofs.NoCycle.{idle_now}
 use Rattle.pim_chain.specs.Views.{View, Ready, with_state, stored_in, stored_at, queue_at}
 use Rattle.pim_chain.specs.Settled.{SettledBut, Unsettles, left}
-use Rattle.pim_chain.specs.Work.{Work, Tells}
+use Rattle.pim_sets.specs.Work.{Work, Tells}
 use Rattle.pim_chain.proofs.Models.{queue_is}
 use Rattle.pim_chain.proofs.Waiting.{waiting_known}
 use Rattle.pim_chain.proofs.Releasing.{put-put, freed_owner, first_waits}
@@ -36,14 +35,6 @@ has_left v x t waits is = go (wait_of v.state t) refl
     go : (o : Option Wait) → wait_of v.state t ≡ o → HasLeft v x t
     go None e = absurd (waits e)
     go (Some w) e = record { state = ap (λ (y : View). y.state) (is w e); stored = ap (λ (y : View). y.stored) (is w e) }
-
--- if no free mutex has waiters, a waiting task is blocked
-pub is_waiting-blocker : (S : State) (t : ℕ) → IsSteady S → is_waiting S t ≡ is_some (blocker S t)
-is_waiting-blocker S t steady = go (wait_of S t) refl
-  where
-    go : (o : Option Wait) → wait_of S t ≡ o → is_some o ≡ is_some (option_and_then (λ (w : Wait). owner_of S w.mutex) o)
-    go None e = refl
-    go (Some w) e = sym (steady.owned t w e)
 
 -- ---- a mutex that goes to the first waiter
 -- the first of the queue is the first waiter

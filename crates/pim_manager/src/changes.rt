@@ -3,18 +3,18 @@
 ghost use Rattle.std.specs.Prelude.{◌≡◌, ◌≢◌, ◌≤◌, ◌<◌, ◌+◌, ◌-◌, ◌^◌, Some, None, true, false};
 ghost use Rattle.std.specs.Option.{option_map};
 ghost use Rattle.pim_base.specs.State.{IsTask, IsMutex, owner_of, protocol_of, is_recursive, count_of, wait_of, with_owner, with_count, with_wait, with_base, with_ceiling, queued};
-ghost use Rattle.pim_base.specs.Chains.{blocker, leads_back};
+ghost use Rattle.pim_base.specs.Chains.{leads_back};
 ghost use Rattle.pim_base.specs.Checks.{not_protect};
 ghost use Rattle.pim_base.specs.Counts.{changed_task_count, handed_mutex_count};
 ghost use Rattle.pim_base.specs.Queues.{first_of};
 ghost use Rattle.pim_base.specs.Steps.{is_kept, hand_over};
 ghost use Rattle.pim_base.specs.declared.steps.Waiter.{Waiter};
 ghost use Rattle.pim_base.specs.declared.limits.TheConstants.{LAST_TICKET, MAX_COUNT, MAX_TASKS};
-ghost use Rattle.pim_chain.specs.Work.{Work};
+ghost use Rattle.pim_sets.specs.Work.{Work};
 ghost use Rattle.pim_manager.specs.Settled.{Worked};
 
 use crate::manager::Manager;
-use pim_base::{MutexNo, Prio, TaskNo, Waiter};
+use pim_base::{MutexNo, Prio, TaskNo, Wait, Waiter};
 use pim_chain::Visits;
 
 impl Manager {
@@ -30,7 +30,7 @@ impl Manager {
         ensures work { Worked self.old visits.old self.new visits.new }
         ensures most { visits.new.count ≤ visits.old.count + 1 }
     {
-        self.tables.gain(mutex, task, visits);
+        self.tables.grant(mutex, task, visits);
     }
 
     /// Counts one more lock of the recursive mutex, which is owned. No priority changes.
@@ -76,21 +76,20 @@ impl Manager {
     {
         let ticket = self.tables.next_ticket();
         self.tables.put_next_ticket(ticket + 1);
-        self.tables.enter(task, mutex, owner, ticket, visits);
+        self.tables.enqueue(task, mutex, owner, ticket, visits);
     }
 
-    /// Ends the wait of the task, which waits for this owner.
+    /// Ends this wait of the task, for the mutex that has this owner.
     #[inline(always)]
-    pub(crate) fn withdraw(&mut self, task: TaskNo, owner: TaskNo, visits: &mut Visits)
-        requires blocked { blocker self.old task ≡ Some owner }
+    pub(crate) fn withdraw(&mut self, task: TaskNo, wait: Wait, owner: TaskNo, visits: &mut Visits)
+        requires owned { owner_of self.old wait.mutex ≡ Some owner }
+        requires waits { wait_of self.old task ≡ Some wait }
         requires room { visits.old.count ≤ 2 ^ 32 - 1 - MAX_TASKS }
         ensures state { self.new ≡ with_wait self.old task None }
         ensures work { Worked self.old visits.old self.new visits.new }
         ensures most { visits.new.count ≤ visits.old.count + 1 + changed_task_count self.old self.new }
     {
-        if let Some(wait) = self.tables.waits_for(task) {
-            self.tables.exit(task, wait.mutex, owner, visits);
-        }
+        self.tables.withdraw(task, wait, owner, visits);
     }
 
     /// Gives the task this base.
@@ -139,10 +138,10 @@ impl Manager {
         ensures handed { 1 ≤ handed_mutex_count self.old self.new }
     {
         let first = self.first_of(mutex);
-        self.tables.lose(mutex, owner, visits);
+        self.tables.free(mutex, owner, visits);
         if let Some(waiter) = &first {
             self.tables.leave(waiter.task);
-            self.tables.gain(mutex, waiter.task, visits);
+            self.tables.grant(mutex, waiter.task, visits);
             return Some(waiter.task);
         }
         None

@@ -5,7 +5,7 @@ ghost use Rattle.pim_base.specs.State.{IsTask, owner_of, wait_of, relocks};
 ghost use Rattle.pim_base.specs.Checks.{unknown_mutex};
 ghost use Rattle.pim_base.specs.Counts.{changed_task_count, handed_mutex_count};
 ghost use Rattle.pim_base.specs.Steps.{answer, after_reply, reply_of, after};
-ghost use Rattle.pim_chain.specs.Work.{Work};
+ghost use Rattle.pim_sets.specs.Work.{Work};
 ghost use Rattle.pim_manager.specs.Relocks.{relocked};
 ghost use Rattle.pim_manager.specs.Settled.{Worked};
 
@@ -196,11 +196,13 @@ impl Manager {
         if self.tables.is_unknown_task(task) {
             return Reply::Refused(Refusal::NoTask);
         }
-        // A waiting task is blocked by an owner, since no free mutex has waiters.
-        let Some(owner) = self.tables.blocker(task) else {
+        let Some(wait) = self.tables.known_wait(task) else {
             return Reply::Refused(Refusal::NotWaiting);
         };
-        self.withdraw(task, owner, visits);
+        let Some(owner) = self.tables.owner(wait.mutex) else {
+            unreachable!() // no free mutex has waiters
+        };
+        self.withdraw(task, wait, owner, visits);
         Reply::Withdrawn
     }
 

@@ -1,10 +1,10 @@
 use Rattle.std.proofs.Common.{◌∙◌, ap, sym, [], filter, Some, None, Option, if◌then◌else◌}
 use Rattle.std.specs.Option.{option_and_then}
-use Rattle.pim_chain.specs.Numbers.{members}
+use Rattle.pim_sets.specs.Numbers.{members}
 use Rattle.pim_chain.specs.Views.{stored_in}
-use Rattle.pim_chain.specs.Work.{Noted, noted_in, differs_in}
+use Rattle.pim_sets.specs.Work.{Noted, noted_in, differs_in}
 use Rattle.pim_chain.specs.Shown.{shown}
-use Rattle.pim_chain.proofs.Members.{least_none, no_number}
+use Rattle.pim_sets.proofs.Members.{least_none, no_number}
 use Rattle.pim_chain.proofs.Told.{changed_noted}
 use Rattle.pim_chain.proofs.tables.Tables.changed.Goals as goal
 

@@ -1,5 +1,5 @@
 use Rattle.std.proofs.Common.{◌∙◌, ap}
-use Rattle.pim_chain.specs.Numbers.{members}
+use Rattle.pim_sets.specs.Numbers.{members}
 use Rattle.pim_chain.specs.Shown.{shown}
 use Rattle.pim_chain.proofs.Owning.{owned_members}
 use Rattle.pim_chain.proofs.tables.Tables.owned.Goals as goal

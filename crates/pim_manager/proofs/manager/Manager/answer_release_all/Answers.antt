@@ -3,7 +3,7 @@ use Rattle.pim_base.specs.State.{State, owned}
 use Rattle.pim_base.specs.Counts.{handed_mutex_count}
 use Rattle.pim_base.specs.Steps.{hand_over}
 use Rattle.pim_chain.specs.Views.{View, with_state, stored_at}
-use Rattle.pim_chain.specs.Work.{Tells}
+use Rattle.pim_sets.specs.Work.{Tells}
 use Rattle.pim_manager.proofs.Works.{Walked, walked, steady_shown}
 use Rattle.pim_manager.proofs.Releases.{AllReleased, all_released, released-handed}
 use Rattle.pim_manager.proofs.manager.Manager.answer_release_all.Goals as goal

@@ -8,29 +8,29 @@ use Rattle.pim_chain.specs.Views.{View, with_state}
 use Rattle.pim_manager.proofs.Works.{Walked, walked, steady_shown}
 use Rattle.pim_manager.proofs.manager.Manager.enqueue.Goals as goal
 
-pub enter-requires-clause-fresh : goal.enter-requires-clause-fresh
-enter-requires-clause-fresh c u e =
+pub enqueue-requires-clause-fresh : goal.enqueue-requires-clause-fresh
+enqueue-requires-clause-fresh c u e =
     let new : Wait = record { mutex = c.args.mutex; ticket = c.next_ticket-ticket.result } in
     let given = c.self.invariant.steady.tickets.given u new (sym (ap (λ (w : View). wait_of w.state u) c.put_next_ticket.ensures.state) ∙ e) in
     omega (arith, given, c.next_ticket-ticket.ensures)
 
-pub enter-requires-clause-closes_none : goal.enter-requires-clause-closes_none
-enter-requires-clause-closes_none c =
+pub enqueue-requires-clause-closes_none : goal.enqueue-requires-clause-closes_none
+enqueue-requires-clause-closes_none c =
     ap (λ (w : View). leads_back w.state c.args.task c.args.mutex) c.put_next_ticket.ensures.state
     ∙ ap (λ (U : State). leads_back U c.args.task c.args.mutex) c.self.view_is
     ∙ c.requires.closes_none
 
-pub enter-requires-clause-settled : goal.enter-requires-clause-settled
-enter-requires-clause-settled c = c.put_next_ticket.ensures.unsettles c.self.invariant.calm.settled
+pub enqueue-requires-clause-settled : goal.enqueue-requires-clause-settled
+enqueue-requires-clause-settled c = c.put_next_ticket.ensures.unsettles c.self.invariant.calm.settled
 
 -- the tables when the task has just begun to wait
-abbrev waiting : (c : goal.After-enter) → View
+abbrev waiting : (c : goal.After-enqueue) → View
 waiting c =
     let x : View = c.put_next_ticket.new.self in
     with_state x (with_wait x.state c.args.task (Some (record { mutex = c.args.mutex; ticket = c.next_ticket-ticket.result })))
 
 -- the state once the task has joined the queue
-shown : (c : goal.After-enter) → (waiting c).state ≡ queued c.args.self.now c.args.task c.args.mutex
+shown : (c : goal.After-enqueue) → (waiting c).state ≡ queued c.args.self.now c.args.task c.args.mutex
 shown c =
     ap (λ (w : View). with_wait w.state c.args.task (Some (record { mutex = c.args.mutex; ticket = c.next_ticket-ticket.result }))) c.put_next_ticket.ensures.state
     ∙ ap (λ n. record c.self.inside.tables.state { wait = put c.self.inside.tables.state.wait c.args.task (Some (record { mutex = c.args.mutex; ticket = n })); next = n + 1 })
@@ -38,8 +38,8 @@ shown c =
     ∙ ap (λ (U : State). queued U c.args.task c.args.mutex) c.self.view_is
 
 enqueued :
-    (c : goal.After-enter)
-    → Walked c.args.self.now (waiting c) c.enter.new.self c.args.visits.now c.enter.new.visits
+    (c : goal.After-enqueue)
+    → Walked c.args.self.now (waiting c) c.enqueue.new.self c.args.visits.now c.enqueue.new.visits
 enqueued c =
     let S : State = c.args.self.now in
     walked c.self.inside.tables (waiting c) _ S (queued S c.args.task c.args.mutex) _ _ c.self.invariant c.self.view_is
@@ -48,16 +48,16 @@ enqueued c =
     refl
     (shown c)
     (ap (λ (w : View). w.stored) c.put_next_ticket.ensures.state)
-    c.enter.ensures.state c.enter.ensures.settled c.enter.ensures.ready c.enter.ensures.work
+    c.enqueue.ensures.state c.enqueue.ensures.settled c.enqueue.ensures.ready c.enqueue.ensures.work
 
 pub invariant_of-self : goal.invariant_of-self
 invariant_of-self c = (enqueued c).settled
 
 pub returns-clause-state : goal.returns-clause-state
-returns-clause-state c = c.enter.ensures.state ∙ shown c
+returns-clause-state c = c.enqueue.ensures.state ∙ shown c
 
 pub returns-clause-work : goal.returns-clause-work
 returns-clause-work c = (enqueued c).work
 
 pub returns-clause-most : goal.returns-clause-most
-returns-clause-most c = let most = c.enter.ensures.at_most in omega (arith, most, (enqueued c).count)
+returns-clause-most c = let most = c.enqueue.ensures.at_most in omega (arith, most, (enqueued c).count)

@@ -6,19 +6,20 @@ use Rattle.pim_manager.proofs.Works.{Walked, walked, steady_shown}
 use Rattle.pim_manager.proofs.manager.Manager.grant.Goals as goal
 
 -- the tables when the task has just got the mutex
-abbrev bound : (c : goal.After-gain) → View
+abbrev bound : (c : goal.After-grant) → View
 bound c = let v : View = c.self.inside.tables in with_state v (with_owner v.state c.args.mutex (Some c.args.task))
 
-granted : (c : goal.After-gain) → Walked c.args.self.now (bound c) c.gain.new.self c.args.visits.now c.gain.new.visits
+granted : (c : goal.After-grant) → Walked c.args.self.now (bound c) c.grant.new.self c.args.visits.now c.grant.new.visits
 granted c =
     let S : State = c.args.self.now in
-    walked c.self.inside.tables (bound c) c.gain.new.self S (with_owner S c.args.mutex (Some c.args.task)) c.args.visits.now c.gain.new.visits
+    walked c.self.inside.tables (bound c) c.grant.new.self S (with_owner S c.args.mutex (Some c.args.task))
+    c.args.visits.now c.grant.new.visits
     c.self.invariant c.self.view_is
     (steady_kept.grant S c.args.task c.args.mutex (steady_shown c.self.invariant c.self.view_is) c.requires.idle)
     refl
     (ap (λ (U : State). with_owner U c.args.mutex (Some c.args.task)) c.self.view_is)
     refl
-    c.gain.ensures.state c.gain.ensures.settled c.gain.ensures.ready c.gain.ensures.work
+    c.grant.ensures.state c.grant.ensures.settled c.grant.ensures.ready c.grant.ensures.work
 
 pub invariant_of-self : goal.invariant_of-self
 invariant_of-self c = (granted c).settled

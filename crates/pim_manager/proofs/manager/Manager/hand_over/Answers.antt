@@ -19,14 +19,15 @@ unbound v m = with_state v (with_owner v.state m None)
 
 pub leave-requires : goal.leave-requires
 leave-requires c none =
-    none-some _ (sym none ∙ first_blocked (unbound c.self.inside.tables c.args.mutex) c.lose.new.self c.args.mutex c.self.invariant c.self.view_is c.requires.mutex (sym c.first_of-first.ensures ∙ c.in-Some.is) refl c.lose.ensures.state)
+    none-some _ (sym none ∙ first_blocked (unbound c.self.inside.tables c.args.mutex) c.free.new.self c.args.mutex c.self.invariant c.self.view_is c.requires.mutex (sym c.first_of-first.ensures ∙ c.in-Some.is) refl c.free.ensures.state)
 
-pub gain-requires : goal.gain-requires
-gain-requires c =
-    let p : Passed c.args.self.now c.lose.new.self c.leave.new.self c.args.mutex c.in-Some.waiter.task =
+pub grant-requires : goal.grant-requires
+grant-requires c =
+    let p : Passed c.args.self.now c.free.new.self c.leave.new.self c.args.mutex c.in-Some.waiter.task =
     passed (unbound c.self.inside.tables c.args.mutex) _ _ _ c.self.invariant c.self.view_is c.requires.mutex
-    (sym c.first_of-first.ensures ∙ c.in-Some.is) refl c.lose.ensures.state c.lose.ensures.settled c.leave.ensures.left c.leave.ensures.unsettles in
-    let one = c.lose.ensures.single in
+    (sym c.first_of-first.ensures ∙ c.in-Some.is) refl c.free.ensures.state c.free.ensures.settled
+    c.leave.ensures.left c.leave.ensures.unsettles in
+    let one = c.free.ensures.single in
     record {
       settled = p.settled;
       mutex = p.mutex;
@@ -37,10 +38,11 @@ gain-requires c =
     }
 
 -- the mutex has left its owner, and the first waiter its queue
-left : (c : goal.After-result-1) → Passed c.args.self.now c.lose.new.self c.leave.new.self c.args.mutex c.in-Some.waiter.task
+left : (c : goal.After-result-1) → Passed c.args.self.now c.free.new.self c.leave.new.self c.args.mutex c.in-Some.waiter.task
 left c =
     passed (unbound c.self.inside.tables c.args.mutex) _ _ _ c.self.invariant c.self.view_is c.requires.mutex
-    (sym c.first_of-first.ensures ∙ c.in-Some.is) refl c.lose.ensures.state c.lose.ensures.settled c.leave.ensures.left c.leave.ensures.unsettles
+    (sym c.first_of-first.ensures ∙ c.in-Some.is) refl c.free.ensures.state c.free.ensures.settled
+    c.leave.ensures.left c.leave.ensures.unsettles
 
 -- the tables when the first waiter has just got the mutex
 abbrev bound : (c : goal.After-result-1) → View
@@ -52,23 +54,25 @@ handed c = passed_state {y = bound c} (left c) (sym c.first_of-first.ensures ∙
 
 gone :
     (c : goal.After-result-1)
-    → Walked c.args.self.now (record c.self.inside.tables { state = c.gain.new.self.state }) c.gain.new.self c.args.visits.now c.gain.new.visits
+    → Walked c.args.self.now (record c.self.inside.tables { state = c.grant.new.self.state }) c.grant.new.self
+    c.args.visits.now c.grant.new.visits
 gone c =
-    two_walks _ (unbound c.self.inside.tables c.args.mutex) c.lose.new.self _ (bound c) _ _ _ c.args.mutex c.in-Some.waiter.task _ _ _ c.self.invariant c.self.view_is
+    two_walks _ (unbound c.self.inside.tables c.args.mutex) c.free.new.self _ (bound c) _ _ _ c.args.mutex
+    c.in-Some.waiter.task _ _ _ c.self.invariant c.self.view_is
     (steady_kept.hand c.args.self.now c.args.mutex (steady_shown c.self.invariant c.self.view_is))
     (ap length (base-hand_over c.args.self.now c.args.mutex))
-    refl c.lose.ensures.work (left c).stored refl
+    refl c.free.ensures.work (left c).stored refl
     (handed c)
-    c.gain.ensures.state c.gain.ensures.settled c.gain.ensures.ready c.gain.ensures.work
+    c.grant.ensures.state c.grant.ensures.settled c.grant.ensures.ready c.grant.ensures.work
 
 pub invariant_of-self : goal.invariant_of-self
 invariant_of-self c = (gone c).settled
 
 pub returns-in-Some : goal.returns-in-Some
 returns-in-Some c =
-    let one = c.lose.ensures.single in
-    let two = c.gain.ensures.single in
-    let is : c.gain.new.self.state ≡ hand_over c.args.self.now c.args.mutex = c.gain.ensures.state ∙ handed c in
+    let one = c.free.ensures.single in
+    let two = c.grant.ensures.single in
+    let is : c.grant.new.self.state ≡ hand_over c.args.self.now c.args.mutex = c.grant.ensures.state ∙ handed c in
     record {
       first = ap (option_map (λ (w : Waiter). w.task)) (sym c.in-Some.is ∙ c.first_of-first.ensures);
       state = is;
@@ -87,27 +91,28 @@ freed_state c =
 
 freed :
     (c : In_default)
-    → Walked c.args.self.now (unbound c.self.inside.tables c.args.mutex) c.lose.new.self c.args.visits.now c.lose.new.visits
+    → Walked c.args.self.now (unbound c.self.inside.tables c.args.mutex) c.free.new.self c.args.visits.now c.free.new.visits
 freed c =
     let S : State = c.args.self.now in
-    walked c.self.inside.tables (unbound c.self.inside.tables c.args.mutex) _ S (hand_over S c.args.mutex) _ _ c.self.invariant c.self.view_is
+    walked c.self.inside.tables (unbound c.self.inside.tables c.args.mutex) _ S (hand_over S c.args.mutex) _ _
+    c.self.invariant c.self.view_is
     (steady_kept.hand S c.args.mutex (steady_shown c.self.invariant c.self.view_is))
     (ap length (base-hand_over S c.args.mutex))
     (freed_state c) refl
-    c.lose.ensures.state c.lose.ensures.settled c.lose.ensures.ready c.lose.ensures.work
+    c.free.ensures.state c.free.ensures.settled c.free.ensures.ready c.free.ensures.work
 
 pub invariant_of-self-in_default : goal.invariant_of-self-in_default
 invariant_of-self-in_default c = (freed c).settled
 
 pub returns : goal.returns
 returns c =
-    let one = c.lose.ensures.single in
+    let one = c.free.ensures.single in
     record {
       first = ap (option_map (λ (w : Waiter). w.task)) (sym c.in_default.is ∙ c.first_of-first.ensures);
-      state = c.lose.ensures.state ∙ freed_state c;
+      state = c.free.ensures.state ∙ freed_state c;
       work = (freed c).work;
       most = omega (arith, one);
       handed =
-          handed_once c.args.self.now _ c.args.mutex c.args.owner (c.lose.ensures.state ∙ freed_state c)
+          handed_once c.args.self.now _ c.args.mutex c.args.owner (c.free.ensures.state ∙ freed_state c)
           (steady_shown c.self.invariant c.self.view_is) c.requires.mutex c.requires.owned c.requires.idle;
     }

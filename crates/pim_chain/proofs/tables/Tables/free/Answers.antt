@@ -1,10 +1,10 @@
 use Rattle.std.proofs.Common.{subst, sym, arith, length}
 use Rattle.pim_chain.specs.Views.{View, stored_at}
 use Rattle.pim_chain.specs.Settled.{SettledBut}
-use Rattle.pim_chain.specs.Work.{Tells}
+use Rattle.pim_sets.specs.Work.{Tells}
 use Rattle.pim_chain.proofs.NoHigher.{lost_settled}
 use Rattle.pim_chain.proofs.Told.{tells-refl}
-use Rattle.pim_chain.proofs.tables.Tables.lose.Goals as goal
+use Rattle.pim_chain.proofs.tables.Tables.free.Goals as goal
 
 pub returns-else-get-given-clause-settled : goal.returns-else-get-given-clause-settled
 returns-else-get-given-clause-settled c =

@@ -1,9 +1,9 @@
 use Rattle.std.proofs.Common.{subst, sym, length}
 use Rattle.pim_chain.specs.Views.{View, stored_at}
-use Rattle.pim_chain.specs.Work.{Tells}
+use Rattle.pim_sets.specs.Work.{Tells}
 use Rattle.pim_chain.proofs.NoHigher.{gained_settled}
 use Rattle.pim_chain.proofs.Told.{tells-refl}
-use Rattle.pim_chain.proofs.tables.Tables.gain.Goals as goal
+use Rattle.pim_chain.proofs.tables.Tables.grant.Goals as goal
 
 pub returns-else-not-gives_no_more-clause-settled : goal.returns-else-not-gives_no_more-clause-settled
 returns-else-not-gives_no_more-clause-settled c =

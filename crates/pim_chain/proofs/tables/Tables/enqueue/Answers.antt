@@ -1,10 +1,10 @@
 use Rattle.std.proofs.Common.{subst, sym, length, Some}
 use Rattle.pim_chain.specs.Views.{View, stored_at, waiter_at}
 use Rattle.pim_chain.specs.Settled.{SettledBut}
-use Rattle.pim_chain.specs.Work.{Tells}
+use Rattle.pim_sets.specs.Work.{Tells}
 use Rattle.pim_chain.proofs.NoHigher.{joined_settled}
 use Rattle.pim_chain.proofs.Told.{tells-refl}
-use Rattle.pim_chain.proofs.tables.Tables.enter.Goals as goal
+use Rattle.pim_chain.proofs.tables.Tables.enqueue.Goals as goal
 
 pub returns-else-not-gives_no_more-clause-settled : goal.returns-else-not-gives_no_more-clause-settled
 returns-else-not-gives_no_more-clause-settled c =
