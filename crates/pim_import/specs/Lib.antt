@@ -3,3 +3,5 @@ pub mod Replays
 pub mod Tallies
 pub mod Priorities
 pub mod Requests
+pub mod Faults
+pub mod LeftOut

@@ -1,5 +1,5 @@
 -- What is known of a recorded program while a manager does what was observed of it.
-use Rattle.std.specs.Prelude.{◌≡◌, ℕ, ◌==◌, Bool, List, [], ◌∷◌, ◌++◌, length, replicate, Option, Some, None, unwrap_or, if◌then◌else◌}
+use Rattle.std.specs.Prelude.{◌≡◌, ℕ, ◌==◌, nat_lt, ◌&&◌, ◌||◌, Bool, List, [], ◌∷◌, ◌++◌, length, replicate, Option, Some, None, IsSome, IfSome, unwrap_or, if◌then◌else◌}
 use Rattle.std.specs.Bool.{MatchBool}
 use Rattle.std.specs.Option.{option_map, option_or}
 use mathlib.Core.List.{IsPrefix}
@@ -136,6 +136,29 @@ Observes r o s = IsSame (observed (program_of r) o) (program_of s)
 -- nothing was observed
 abbrev pub StaysTheSame : ReplayState → ReplayState → Type 0
 StaysTheSame r s = IsSame (program_of r) (program_of s)
+
+-- t with its wait is before u with its own: the ticket is lower, or the same and t is lower
+abbrev pub is_before : ℕ → Wait → ℕ → Wait → Bool
+is_before t v u w = nat_lt v.ticket w.ticket || (v.ticket == w.ticket) && nat_lt t u
+
+-- if both tasks wait here before and now, the same one is before the other
+abbrev pub StayInOrder : (ℕ → Option Wait) → (ℕ → Option Wait) → ℕ → ℕ → Type 0
+StayInOrder before now t u =
+    IfSome (before t)
+    (λ a. IfSome (before u)
+    (λ b. IfSome (now t)
+    (λ c. IfSome (now u)
+    (λ d. is_before t c u d ≡ is_before t a u b))))
+
+-- a task stays in its queue, and keeps its place before or behind others: those in queues, and those outside
+pub record KeepsPlace (r s : ReplayState) (t : ℕ) : Type 0 where
+  pub queued : IsSome (wait_of r.state t) → IsSome (wait_of s.state t)
+  pub queues : (u : ℕ) → StayInOrder (wait_of r.state) (wait_of s.state) t u
+  pub outside : (u : ℕ) → StayInOrder (outside_of r) (outside_of s) t u
+
+-- each task does
+abbrev pub KeepsOrder : ReplayState → ReplayState → Type 0
+KeepsOrder r s = (t : ℕ) → KeepsPlace r s t
 
 -- why an observation isn't replayed: there is a last entry, whose reply contradicts it, or memory ran out
 abbrev pub IsReplayFault : ReplayState → ReplayFault → Type 0

@@ -1,6 +1,8 @@
 //! The course of a recorded program: who owns and awaits what, record by record.
+ghost use Rattle.std.specs.Prelude.{◌≡◌};
+ghost use Rattle.pim_import.specs.LeftOut.{mutex_in};
 
-use crate::family::{Family, ceiling_in};
+use crate::family::ceiling_in;
 use crate::following::Following;
 use crate::level::level_in;
 use crate::requests::Requests;
@@ -104,7 +106,9 @@ impl Course {
     }
 
     /// Returns a mutex. One that there isn't is free.
-    pub fn mutex(&self, mutex: u32) -> CourseMutex {
+    pub fn mutex(&self, mutex: u32) -> CourseMutex
+        ensures { result ≡ mutex_in self.now mutex }
+    {
         self.mutexes.get(mutex as usize).copied().unwrap_or(FREE)
     }
 
@@ -382,13 +386,5 @@ fn sight(what: What, thread: u32, mutex: u32, episode: u32) -> Sight {
         mutex,
         episode,
         since: 0,
-    }
-}
-
-/// Returns whether ownerships of such mutexes are in a trace even where nobody waits: their ceiling raises the owner.
-pub fn raises_alone(subjects: &Subjects, mutex: u32) -> bool {
-    match subjects.mutex(mutex) {
-        Some(is) => is.family == Family::Protect,
-        None => false,
     }
 }

@@ -1,7 +1,10 @@
 //! Which ownerships are in the trace.
+ghost use Rattle.std.specs.Prelude.{◌↔◌, IsTrue};
+ghost use Rattle.pim_import.specs.LeftOut.{IsKept, Keeps};
 
-use crate::course::{Course, Sources, raises_alone};
-use crate::sight::{Sight, What};
+use crate::course::Sources;
+use crate::left_out::may_be_left_out;
+use crate::sight::Sight;
 use crate::walk::Walk;
 use pim_log::Log;
 use std::alloc::{AllocError, Global};
@@ -37,43 +40,34 @@ impl Episodes {
             let _moment = walk.read(log, sources, number);
             episodes.look(&walk, sources);
             for _request in 0..walk.lacking(sources, number) {
-                walk.add(sources);
+                let _time = walk.add(sources);
                 episodes.look(&walk, sources);
             }
         }
         Ok(episodes)
     }
 
-    /// Keeps each ownership of which it is shown that it can change a priority.
+    /// Keeps each ownership of which a sight may not be left out.
     fn look(&mut self, walk: &Walk, sources: &Sources) {
         for sight in walk.shown() {
             let place = sight.episode as usize;
-            if changes_priority(&walk.course, sources, sight) && place < self.is_kept.len() {
+            if !may_be_left_out(&walk.course, sources, sight) && place < self.is_kept.len() {
                 self.is_kept[place] = true;
             }
         }
     }
 
     /// Returns whether a sight is in the trace, if the threads and mutexes that it names take part.
-    pub fn has(&self, sight: &Sight) -> bool {
+    pub fn has(&self, sight: &Sight) -> bool
+        ensures { IsTrue result ↔ IsKept self.now sight.now }
+    {
         sight.episode == 0 || self.keeps(sight.episode)
     }
 
     /// Returns whether an ownership is in the trace.
-    pub fn keeps(&self, episode: u32) -> bool {
+    pub fn keeps(&self, episode: u32) -> bool
+        ensures { IsTrue result ↔ Keeps self.now episode }
+    {
         self.is_all || self.is_kept.get(episode as usize) == Some(&true)
-    }
-}
-
-/// Returns whether a sight shows that its ownership can change a priority.
-fn changes_priority(course: &Course, sources: &Sources, sight: &Sight) -> bool {
-    let mutex = course.mutex(sight.mutex);
-    match sight.what {
-        What::Waits => mutex.owner != 0,
-        What::Granted => {
-            let waited_before = sight.since != 0 && sight.since != sight.episode;
-            mutex.waiting > 0 || waited_before || raises_alone(&sources.subjects, sight.mutex)
-        }
-        _ => false,
     }
 }

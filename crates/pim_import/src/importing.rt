@@ -1,6 +1,8 @@
 //! From a log to the pieces of a trace.
-ghost use Rattle.std.specs.Prelude.{◌≡◌, ◌-◌, IfOk};
+ghost use Rattle.std.specs.Prelude.{◌≡◌, ◌⊎◌, ◌-◌, IfOk, IfErr, All, false};
 ghost use Rattle.pim_log.specs.Headers.{header_of, end_of};
+ghost use Rattle.pim_import.specs.Faults.{NamesOneOf, NamesOnly};
+ghost use Rattle.pim_import.specs.LeftOut.{IsKept, IsSetting, MayBeLeftOut, shown_in};
 ghost use Rattle.pim_import.specs.Tallies.{total};
 
 use crate::cast::Cast;
@@ -9,10 +11,12 @@ use crate::episodes::Episodes;
 use crate::fault::ImportFault;
 use crate::findings::Findings;
 use crate::following::Following;
+use crate::left_out::may_be_left_out;
 use crate::numbering::Numbering;
 use crate::piece::Piece;
 use crate::priorities::Priorities;
 use crate::requests::Requests;
+use crate::sight::Sight;
 use crate::stage::{Entrance, Now, Scene, Stage};
 use crate::subjects::Subjects;
 use crate::tally::Tally;
@@ -59,6 +63,7 @@ pub struct Imported {
 /// number of the first record of a thread above [`MAX_THREADS`](crate::MAX_THREADS), `Crowded` if more threads or mutexes
 /// take part at one time than a trace has numbers for, `TooManyPriorities` if the threads and ceilings have more than 99 of
 /// them, and `Memory` if out of memory.
+#[tactic(auto, using(crate::proofs::Naming::names_none_of))]
 pub fn import_log(
     alloc: Global,
     log: &Log,
@@ -66,6 +71,7 @@ pub fn import_log(
     waits: &[Wait],
 ) -> Result<Imported, ImportFault>
     ensures counted { IfOk result (λ imported. total imported.performed.tally ≡ end_of (header_of log.now) - 1) }
+    ensures fault { IfErr result (NamesOneOf (end_of (header_of log.now))) }
 {
     let sources = sources_of(alloc, log, waits)?;
     let episodes = Episodes::of(alloc, log, &sources, is_all)?;
@@ -104,7 +110,9 @@ pub fn blocker_of(imported: &Imported, thread: u32) -> (u32, u32) {
 }
 
 /// Returns what is known of a log before its course is followed.
-fn sources_of(alloc: Global, log: &Log, waits: &[Wait]) -> Result<Sources, ImportFault> {
+fn sources_of(alloc: Global, log: &Log, waits: &[Wait]) -> Result<Sources, ImportFault>
+    ensures { IfErr result (NamesOneOf (end_of (header_of log.now))) }
+{
     let subjects = Subjects::of(alloc, log)?;
     let following = Following::of(alloc, log, &subjects)?;
     let mut sources = Sources {
@@ -117,6 +125,7 @@ fn sources_of(alloc: Global, log: &Log, waits: &[Wait]) -> Result<Sources, Impor
 }
 
 /// Makes the steps.
+#[tactic(auto, using(crate::proofs::Naming::names_none_of))]
 fn perform(
     alloc: Global,
     log: &Log,
@@ -125,6 +134,7 @@ fn perform(
     ended: u64,
 ) -> Result<Performed, ImportFault>
     ensures counted { IfOk result (λ performed. total performed.tally ≡ end_of (header_of log.now) - 1) }
+    ensures fault { IfErr result (NamesOneOf (end_of (header_of log.now))) }
 {
     let sources = scene.sources;
     let mut stage = Stage::new(alloc, scene)?;
@@ -166,6 +176,7 @@ fn play(
     end: u64,
 ) -> Result<Tally, ImportFault>
     ensures counted { IfOk result (λ tally. total tally ≡ end - 1) }
+    ensures fault { IfErr result (NamesOneOf end) }
 {
     let mut tally = Tally::new();
     for number in 1..end {
@@ -189,7 +200,9 @@ fn add_requests(
     stage: &mut Stage,
     findings: &mut Findings,
     now: &Now,
-) -> Result<(), ImportFault> {
+) -> Result<(), ImportFault>
+    ensures { IfErr result (NamesOnly now.now.number) }
+{
     for _request in 0..walk.lacking(scene.sources, now.number) {
         let time = walk.add(scene.sources);
         let then = Now {
@@ -201,7 +214,12 @@ fn add_requests(
     Ok(())
 }
 
-/// Makes the steps of a record or a request, and returns whether it is in the trace.
+/// Makes the steps of a record or a request, and returns whether it is in the trace. What isn't kept of what it shows may be
+/// left out. If it isn't in the trace, what is kept of it sets the level or ceiling of those who take no part by then.
+///
+/// # Errors
+///
+/// Returns `Contradiction` if the record contradicts those before it, and `Memory` if out of memory.
 fn show(
     scene: &Scene,
     episodes: &Episodes,
@@ -209,13 +227,50 @@ fn show(
     stage: &mut Stage,
     findings: &mut Findings,
     now: &Now,
-) -> Result<bool, ImportFault> {
+) -> Result<bool, ImportFault>
+    ensures left_out { IfOk result (λ _. All
+        (λ sight. IsKept episodes.now sight ⊎ MayBeLeftOut walk.now.course scene.now.sources.now sight)
+        (shown_in walk.now.course.shown)) }
+    ensures unused { IfOk result (λ is_used. is_used ≡ false → All
+        (λ sight. IsSetting sight.what ⊎ MayBeLeftOut walk.now.course scene.now.sources.now sight)
+        (shown_in walk.now.course.shown)) }
+    ensures fault { IfErr result (NamesOnly now.now.number) }
+{
     let mut is_used = false;
-    for sight in walk.shown() {
-        if episodes.has(sight) {
-            findings.look(scene, &walk.course, stage, sight, now)?;
-            is_used |= stage.perform(scene, sight, now)?;
-        }
+    let shown = walk.shown();
+    for sight in shown {
+        is_used |= show_sight(scene, episodes, walk, stage, findings, sight, now)?;
     }
     Ok(is_used)
+}
+
+/// Makes the steps of a sight, and returns whether it is in the trace. One of an ownership that isn't kept may be left out:
+/// it changes no priority. One that is kept is in the trace, but for a level or a ceiling of those who take no part by then.
+///
+/// # Errors
+///
+/// Returns `Contradiction` if the record contradicts those before it, and `Memory` if out of memory.
+fn show_sight(
+    scene: &Scene,
+    episodes: &Episodes,
+    walk: &Walk,
+    stage: &mut Stage,
+    findings: &mut Findings,
+    sight: &Sight,
+    now: &Now,
+) -> Result<bool, ImportFault>
+    ensures left_out { IfOk result (λ _.
+        IsKept episodes.now sight.now ⊎ MayBeLeftOut walk.now.course scene.now.sources.now sight.now) }
+    ensures unused { IfOk result (λ is_used. is_used ≡ false →
+        IsSetting sight.now.what ⊎ MayBeLeftOut walk.now.course scene.now.sources.now sight.now) }
+    ensures fault { IfErr result (NamesOnly now.now.number) }
+{
+    if episodes.has(sight) {
+        findings.look(scene, &walk.course, stage, sight, now)?;
+        return stage.perform(scene, sight, now);
+    }
+    if !may_be_left_out(&walk.course, scene.sources, sight) {
+        return Err(ImportFault::Contradiction(now.number));
+    }
+    Ok(false)
 }

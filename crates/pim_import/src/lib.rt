@@ -9,10 +9,11 @@
 //! imported.performed.pieces[0].replay.entries(); // the steps, each with the model's reply
 //! ```
 //!
-//! It goes through the log some times. `subjects.rt` has whom each record is about, `following.rt` who owns a mutex after a
-//! release, `requests.rt` the requests that the log lacks. `course.rt` follows the program record by record; `walk.rt` is the
-//! way along it. `episodes.rt` has the ownerships that are kept, `cast.rt` and `numbering.rt` who takes part under which
-//! number. `stage.rt` makes the steps by a replay, and cuts the pieces.
+//! It goes through the log some times. `subjects.rt` has whom each record is about, `following.rt` who owns a mutex
+//! after a release, `requests.rt` the requests that the log lacks, `waits.rt` those of them that the kernel's events
+//! show. `course.rt` follows the program record by record; `walk.rt` is the way along it. `episodes.rt` has the
+//! ownerships that are kept, `left_out.rt` what may be left out, `cast.rt` and `numbering.rt` who takes part under
+//! which number. `stage.rt` makes the steps by a replay, and cuts the pieces.
 //!
 //! A [`Replay`] makes the steps by which a manager does what was observed of a recorded program. Each [`Observation`] says
 //! what a task did, or what happened to it. After it the owners and the waits are those of the program, and each reply is
@@ -44,11 +45,13 @@ mod fault;
 mod findings;
 mod following;
 mod importing;
+mod left_out;
 mod level;
 mod lists;
 mod numbering;
 mod observation;
 mod observing;
+mod order;
 mod piece;
 mod priorities;
 mod replay;

@@ -1,4 +1,7 @@
 //! The numbers that threads and mutexes have in a trace.
+ghost use Rattle.std.specs.Prelude.{◌≡◌, IfErr};
+ghost use Rattle.pim_import.specs.Faults.{NamesNone};
+ghost use Rattle.pim_import.specs.LeftOut.{family_in};
 
 use crate::cast::{Cast, Part};
 use crate::course::Sources;
@@ -35,7 +38,9 @@ impl Numbering {
     /// # Errors
     ///
     /// Returns `Crowded` if more than 256 threads or mutexes take part at one time, and `Memory` if out of memory.
-    pub fn of(alloc: Global, sources: &Sources, cast: &Cast) -> Result<Numbering, ImportFault> {
+    pub fn of(alloc: Global, sources: &Sources, cast: &Cast) -> Result<Numbering, ImportFault>
+        ensures { IfErr result NamesNone }
+    {
         let mut threads = Numbers::new(alloc, cast.threads.len())?;
         let everyone = in_order(alloc, &cast.threads)?;
         threads.give(alloc, &everyone, &cast.threads, MAX_TASKS as usize)?;
@@ -83,7 +88,9 @@ impl Numbers {
         some: &[(u64, u32)],
         parts: &[Part],
         limit: usize,
-    ) -> Result<(), ImportFault> {
+    ) -> Result<(), ImportFault>
+        ensures { IfErr result NamesNone }
+    {
         let given = self.firsts.len();
         let room = limit.saturating_sub(given);
         let numbers = numbers_of(alloc, some, parts, room)?;
@@ -111,7 +118,9 @@ fn numbers_of(
     some: &[(u64, u32)],
     parts: &[Part],
     room: usize,
-) -> Result<Vec<usize>, ImportFault> {
+) -> Result<Vec<usize>, ImportFault>
+    ensures { IfErr result NamesNone }
+{
     let mut spans = Vec::with_capacity(alloc, some.len())?;
     let is_shared = some.len() > room;
     for place in 0..some.len() {
@@ -164,8 +173,10 @@ fn of_family(
 }
 
 /// Returns the protocol of a mutex of the log.
-pub fn family_of(sources: &Sources, mutex: u32) -> Family {
-    match sources.subjects.mutex(mutex) {
+pub fn family_of(sources: &Sources, mutex: u32) -> Family
+    ensures { result ≡ family_in sources.now mutex }
+{
+    match sources.subjects.mutexes.get(mutex as usize) {
         Some(is) => is.family,
         None => Family::None,
     }

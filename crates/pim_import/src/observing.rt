@@ -62,7 +62,7 @@ impl Replay {
         ensures fault { IfErr result (IsReplayFault self.new) }
         ensures continues { Continues self.old self.new }
     {
-        let ticket = self.manager().next_ticket();
+        let ticket = self.ticket_outside();
         let outside = Wait { mutex, ticket };
         if self.is_free(mutex) && self.is_idle(task) {
             self.put_outside(task, Some(outside));

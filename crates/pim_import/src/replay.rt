@@ -1,12 +1,12 @@
 //! The steps by which a manager does what a recorded program did.
 
-ghost use Rattle.std.specs.Prelude.{◌≡◌, length, Some, None, OnErr, IfOk, IfErr, IfSome, IsTrue};
+ghost use Rattle.std.specs.Prelude.{◌≡◌, ℕ, length, Some, None, OnErr, IfOk, IfErr, IfSome, IsTrue};
 ghost use Rattle.pim_base.specs.Reports.{verdict_of};
 ghost use Rattle.pim_base.specs.Runs.{IsRun};
-ghost use Rattle.pim_base.specs.State.{IsState, IsTask, start, owner_of, wait_of};
+ghost use Rattle.pim_base.specs.State.{IsState, IsTask, IsMutex, start, base_of, protocol_of, owner_of, wait_of};
 ghost use Rattle.pim_base.specs.Steps.{reply_of};
 ghost use Rattle.pim_base.specs.declared.lines.Verdict.{Verdict};
-ghost use Rattle.pim_import.specs.Replays.{Continues, trace_of_replay, awaited, mutex_of, outside_of, at_start, with_step, with_outside, IsReplayFault};
+ghost use Rattle.pim_import.specs.Replays.{Continues, trace_of_replay, awaited, mutex_of, outside_of, at_start, with_step, with_outside, StaysTheSame, IsReplayFault};
 
 use crate::fault::ReplayFault;
 use pim_base::{Entry, MutexNo, Prio, Protocol, Reply, Step, TaskNo, Wait, nth};
@@ -203,6 +203,72 @@ impl Replay {
         task
     }
 
+    /// Returns whether each mutex has the owner and the protocol that it has in another replay, and each task its base and
+    /// the mutex that it waits for. Reads each of them once.
+    pub(crate) fn has_program_of(&self, other: &Replay) -> bool
+        ensures { IsTrue result → StaysTheSame other.now self.now }
+    {
+        self.has_mutexes_of(other) && self.has_tasks_of(other)
+    }
+
+    /// Returns whether each mutex has the owner and the protocol that it has in another replay.
+    fn has_mutexes_of(&self, other: &Replay) -> bool
+        ensures owners { IsTrue result → self.now.state.owner ≡ other.now.state.owner }
+        ensures protocols { IsTrue result → self.now.state.protocol ≡ other.now.state.protocol }
+    {
+        // By their contracts the proof knows that the states are steady.
+        let (_own, _others) = (self.manager.tasks(), other.manager.tasks());
+        let count = self.manager.mutexes();
+        if other.manager.mutexes() != count {
+            return false;
+        }
+        for place in 0..count {
+            if !self.has_mutex_of(other, MutexNo(place + 1)) {
+                return false;
+            }
+        }
+        true
+    }
+
+    /// Returns whether the mutex has the owner and the protocol that it has in another replay.
+    fn has_mutex_of(&self, other: &Replay, mutex: MutexNo) -> bool
+        requires own { IsMutex self.now.state mutex }
+        requires others { IsMutex other.now.state mutex }
+        ensures owner { IsTrue result → owner_of self.now.state mutex ≡ owner_of other.now.state mutex }
+        ensures protocol { IsTrue result → protocol_of self.now.state mutex ≡ protocol_of other.now.state mutex }
+    {
+        self.owner(mutex) == other.owner(mutex)
+            && self.manager.protocol(mutex) == other.manager.protocol(mutex)
+    }
+
+    /// Returns whether each task has the base that it has in another replay, and waits for the same mutex.
+    fn has_tasks_of(&self, other: &Replay) -> bool
+        ensures bases { IsTrue result → self.now.state.base ≡ other.now.state.base }
+        ensures waits { IsTrue result → (t : ℕ) → awaited self.now t ≡ awaited other.now t }
+    {
+        let count = self.manager.tasks();
+        if other.manager.tasks() != count {
+            return false;
+        }
+        for place in 0..count {
+            if !self.has_task_of(other, TaskNo(place + 1)) {
+                return false;
+            }
+        }
+        true
+    }
+
+    /// Returns whether the task has the base that it has in another replay, and waits for the same mutex.
+    fn has_task_of(&self, other: &Replay, task: TaskNo) -> bool
+        requires own { IsTask self.now.state task }
+        requires others { IsTask other.now.state task }
+        ensures base { IsTrue result → base_of self.now.state task ≡ base_of other.now.state task }
+        ensures waits { IsTrue result → awaited self.now task ≡ awaited other.now task }
+    {
+        self.manager.base(task) == other.manager.base(task)
+            && self.awaits(task) == other.awaits(task)
+    }
+
     /// Makes the step, and keeps it with its reply.
     ///
     /// # Errors
@@ -244,6 +310,20 @@ impl Replay {
         } else {
             Err(ReplayFault::Contradiction)
         }
+    }
+
+    /// Returns how many tasks there are.
+    pub(crate) fn tasks(&self) -> u16
+        ensures count { result ≡ length self.now.state.base }
+        ensures lists { IsState self.now.state }
+        ensures outside { length self.now.outside ≡ length self.now.state.base }
+    {
+        self.manager.tasks()
+    }
+
+    /// Returns whether a task waits outside of the queues.
+    pub(crate) fn has_outsiders(&self) -> bool {
+        self.outsiders > 0
     }
 
     /// Returns what the task waits for outside of the queues.

@@ -1,5 +1,8 @@
 //! A replay that begins where another one ended.
 
+ghost use Rattle.std.specs.Prelude.{IfOk};
+ghost use Rattle.pim_import.specs.Replays.{StaysTheSame, KeepsOrder};
+
 use crate::fault::ReplayFault;
 use crate::lists::push;
 use crate::observation::Observation;
@@ -8,14 +11,28 @@ use pim_base::{MutexNo, Prio, Protocol, TaskNo};
 use pim_manager::MakeFault;
 use std::alloc::{AllocError, Global};
 
-/// Returns a replay whose first steps restore the state of another one but for the tickets, whose order stays. All tasks
-/// begin at priority 1, so that no ceiling refuses what was granted; the owners lock, then the waiters queue, then each
-/// task has its base, and those that wait outside of the queues come last.
+/// Returns a replay whose first steps restore the state of another one but for the tickets. Their order stays, among the
+/// tasks in queues and among those outside. All tasks begin at priority 1, so that no ceiling refuses what was granted; the
+/// owners lock, then the waiters queue, then each task has its base, and those that wait outside of the queues come last.
 ///
 /// # Errors
 ///
-/// Returns `Contradiction` if the model refuses one of these steps, and `Memory` if out of memory.
-pub fn restored(alloc: Global, replay: &Replay) -> Result<Replay, ReplayFault> {
+/// Returns `Contradiction` if the model refuses one of these steps or they restore another state, and `Memory` if out of
+/// memory.
+pub fn restored(alloc: Global, replay: &Replay) -> Result<Replay, ReplayFault>
+    ensures same { IfOk result (λ next. StaysTheSame replay.now next) }
+    ensures order { IfOk result (λ next. KeepsOrder replay.now next) }
+{
+    let next = begun(alloc, replay)?;
+    if next.has_program_of(replay) && next.has_order_of(replay) {
+        Ok(next)
+    } else {
+        Err(ReplayFault::Contradiction)
+    }
+}
+
+/// Returns a replay of the steps that restore the state of another one.
+fn begun(alloc: Global, replay: &Replay) -> Result<Replay, ReplayFault> {
     let mut next = at_start(alloc, replay)?;
     for number in 1..=replay.manager().mutexes() {
         if let Some(owner) = replay.owner(MutexNo(number)) {

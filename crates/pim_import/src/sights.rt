@@ -1,4 +1,6 @@
 //! What a record shows, in order.
+ghost use Rattle.std.specs.Prelude.{◌≡◌};
+ghost use Rattle.pim_import.specs.LeftOut.{shown_in};
 
 use crate::sight::{Sight, What};
 
@@ -45,7 +47,9 @@ impl Sights {
     }
 
     /// Returns what is shown.
-    pub fn as_slice(&self) -> &[Sight] {
+    pub fn as_slice(&self) -> &[Sight]
+        ensures { result.now ≡ shown_in self.now }
+    {
         &self.list[..self.count.min(MOST_SIGHTS)]
     }
 }

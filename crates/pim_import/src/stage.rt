@@ -1,4 +1,7 @@
 //! The trace as it is made: who has which number at a time, and the pieces.
+ghost use Rattle.std.specs.Prelude.{IfOk, IfErr, ◌≡◌, false};
+ghost use Rattle.pim_import.specs.Faults.{NamesNone, NamesOnly};
+ghost use Rattle.pim_import.specs.LeftOut.{IsSetting};
 
 use crate::cast::{Cast, Part};
 use crate::course::Sources;
@@ -56,7 +59,9 @@ impl Stage {
     /// # Errors
     ///
     /// Returns `Memory` if out of memory.
-    pub fn new(alloc: Global, scene: &Scene) -> Result<Stage, ImportFault> {
+    pub fn new(alloc: Global, scene: &Scene) -> Result<Stage, ImportFault>
+        ensures { IfErr result NamesNone }
+    {
         let bases = bases_of(alloc, scene)?;
         let protocols = protocols_of(alloc, scene)?;
         Ok(Stage {
@@ -82,7 +87,9 @@ impl Stage {
     /// # Errors
     ///
     /// Returns `Memory` if out of memory.
-    pub fn end(self) -> Result<(Vec<Piece>, Vec<Entrance>), ImportFault> {
+    pub fn end(self) -> Result<(Vec<Piece>, Vec<Entrance>), ImportFault>
+        ensures { IfErr result NamesNone }
+    {
         let mut pieces = self.pieces;
         let piece = Piece {
             replay: self.replay,
@@ -101,12 +108,10 @@ impl Stage {
     /// # Errors
     ///
     /// Returns `Contradiction` if the log contradicts itself there, and `Memory` if out of memory.
-    pub fn perform(
-        &mut self,
-        scene: &Scene,
-        sight: &Sight,
-        now: &Now,
-    ) -> Result<bool, ImportFault> {
+    pub fn perform(&mut self, scene: &Scene, sight: &Sight, now: &Now) -> Result<bool, ImportFault>
+        ensures unused { IfOk result (λ is_used. is_used ≡ false → IsSetting sight.now.what) }
+        ensures fault { IfErr result (NamesOnly now.now.number) }
+    {
         self.cut(now)?;
         match sight.what {
             What::Level(level) => {
@@ -133,7 +138,9 @@ impl Stage {
     }
 
     /// Makes the steps of a sight of a thread and a mutex, which appear first if they haven't.
-    fn act(&mut self, scene: &Scene, sight: &Sight, now: &Now) -> Result<(), ImportFault> {
+    fn act(&mut self, scene: &Scene, sight: &Sight, now: &Now) -> Result<(), ImportFault>
+        ensures { IfErr result (NamesOnly now.now.number) }
+    {
         let task = self.enter_thread(scene, sight.thread, now)?;
         let mutex = self.enter_mutex(scene, sight.mutex, now)?;
         let observation = match sight.what {
@@ -178,12 +185,9 @@ impl Stage {
     }
 
     /// Returns the task of a thread. If another had its number, that one leaves: it gives up its wait, and its mutexes.
-    fn enter_thread(
-        &mut self,
-        scene: &Scene,
-        thread: u32,
-        now: &Now,
-    ) -> Result<TaskNo, ImportFault> {
+    fn enter_thread(&mut self, scene: &Scene, thread: u32, now: &Now) -> Result<TaskNo, ImportFault>
+        ensures { IfErr result (NamesOnly now.now.number) }
+    {
         if let Some(task) = self.task_of(scene, thread) {
             return Ok(task);
         }
@@ -203,7 +207,9 @@ impl Stage {
     }
 
     /// Ends the wait of a task, and releases its mutexes.
-    fn leave(&mut self, task: TaskNo, now: &Now) -> Result<(), ImportFault> {
+    fn leave(&mut self, task: TaskNo, now: &Now) -> Result<(), ImportFault>
+        ensures { IfErr result (NamesOnly now.now.number) }
+    {
         if self.replay.awaits(task).is_some() {
             self.observe(&Observation::GaveUp(task), now)?;
         }
@@ -217,12 +223,9 @@ impl Stage {
     }
 
     /// Returns the number in the trace of a mutex of the log. If another had it, that is free and awaited by nobody first.
-    fn enter_mutex(
-        &mut self,
-        scene: &Scene,
-        mutex: u32,
-        now: &Now,
-    ) -> Result<MutexNo, ImportFault> {
+    fn enter_mutex(&mut self, scene: &Scene, mutex: u32, now: &Now) -> Result<MutexNo, ImportFault>
+        ensures { IfErr result (NamesOnly now.now.number) }
+    {
         if let Some(number) = self.mutex_of(scene, mutex) {
             return Ok(number);
         }
@@ -242,7 +245,9 @@ impl Stage {
     }
 
     /// Lets all tasks that wait for a mutex give up, and its owner release it.
-    fn clear(&mut self, mutex: MutexNo, now: &Now) -> Result<(), ImportFault> {
+    fn clear(&mut self, mutex: MutexNo, now: &Now) -> Result<(), ImportFault>
+        ensures { IfErr result (NamesOnly now.now.number) }
+    {
         for number in 1..=self.replay.manager().tasks() {
             if self.replay.awaits(TaskNo(number)) == Some(mutex) {
                 self.observe(&Observation::GaveUp(TaskNo(number)), now)?;
@@ -266,7 +271,9 @@ impl Stage {
     }
 
     /// Makes the steps of an observation, and keeps when they happened.
-    fn observe(&mut self, observation: &Observation, now: &Now) -> Result<(), ImportFault> {
+    fn observe(&mut self, observation: &Observation, now: &Now) -> Result<(), ImportFault>
+        ensures { IfErr result (NamesOnly now.now.number) }
+    {
         match self.replay.observe(observation) {
             Ok(()) => {}
             Err(ReplayFault::Contradiction) => return Err(ImportFault::Contradiction(now.number)),
@@ -280,7 +287,9 @@ impl Stage {
     }
 
     /// Ends the piece if it is nearly full, and begins the next one with the state at its end.
-    fn cut(&mut self, now: &Now) -> Result<(), ImportFault> {
+    fn cut(&mut self, now: &Now) -> Result<(), ImportFault>
+        ensures { IfErr result (NamesOnly now.now.number) }
+    {
         if self.replay.entries().len().saturating_add(ROOM) <= MAX_STEPS as usize {
             return Ok(());
         }
@@ -367,7 +376,9 @@ fn replay_of(
     alloc: Global,
     bases: Vec<Prio>,
     protocols: Vec<Protocol>,
-) -> Result<Replay, ImportFault> {
+) -> Result<Replay, ImportFault>
+    ensures { IfErr result NamesNone }
+{
     match Replay::new(alloc, bases, protocols) {
         Ok(replay) => Ok(replay),
         Err(MakeFault::Memory) => Err(ImportFault::Memory),

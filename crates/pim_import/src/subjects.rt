@@ -1,4 +1,7 @@
 //! Whom each record of a log is about.
+ghost use Rattle.std.specs.Prelude.{IfErr};
+ghost use Rattle.pim_log.specs.Headers.{header_of, end_of};
+ghost use Rattle.pim_import.specs.Faults.{NamesOneOf, NamesOnly};
 
 use crate::family::{Family, ceiling_in, family_in, is_recursive_in, is_shared_in};
 use crate::fault::ImportFault;
@@ -71,7 +74,9 @@ impl Subjects {
     /// # Errors
     ///
     /// Returns `TooManyThreads` if a thread's number is above [`MAX_THREADS`], and `Memory` if out of memory.
-    pub fn of(alloc: Global, log: &Log) -> Result<Subjects, ImportFault> {
+    pub fn of(alloc: Global, log: &Log) -> Result<Subjects, ImportFault>
+        ensures { IfErr result (NamesOneOf (end_of (header_of log.now))) }
+    {
         let mut subjects = Subjects::new(alloc, log)?;
         let mut places = Places {
             mutexes: HashMap::new(alloc),
@@ -130,7 +135,9 @@ impl Subjects {
     }
 
     /// Learns what a record says, and returns whom it is about.
-    fn read(&mut self, places: &mut Places, record: &Record) -> Result<u32, ImportFault> {
+    fn read(&mut self, places: &mut Places, record: &Record) -> Result<u32, ImportFault>
+        ensures { IfErr result (NamesOnly «record».now.number) }
+    {
         self.read_thread(record)?;
         if record.event != Event::Text {
             self.ended = self.ended.max(record.time);
@@ -159,7 +166,9 @@ impl Subjects {
     }
 
     /// Makes room for the thread of a record.
-    fn read_thread(&mut self, record: &Record) -> Result<(), ImportFault> {
+    fn read_thread(&mut self, record: &Record) -> Result<(), ImportFault>
+        ensures { IfErr result (NamesOnly «record».now.number) }
+    {
         if record.thread > MAX_THREADS {
             return Err(ImportFault::TooManyThreads(record.number));
         }
@@ -180,7 +189,9 @@ impl Subjects {
     }
 
     /// Keeps where a thread is found that begins.
-    fn begin_thread(&mut self, places: &mut Places, record: &Record) -> Result<u32, ImportFault> {
+    fn begin_thread(&mut self, places: &mut Places, record: &Record) -> Result<u32, ImportFault>
+        ensures { IfErr result (NamesOnly «record».now.number) }
+    {
         self.keep_level(Some(level_in(record.detail, 1)));
         let place = (record.process, record.object);
         put(&mut places.threads, place, record.thread)?;

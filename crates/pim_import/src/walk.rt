@@ -1,4 +1,6 @@
 //! The way through a log, record by record.
+ghost use Rattle.std.specs.Prelude.{◌≡◌};
+ghost use Rattle.pim_import.specs.LeftOut.{shown_in};
 
 use crate::course::{Course, Sources};
 use crate::sight::{LeftOut, Sight};
@@ -38,7 +40,9 @@ impl Walk {
     }
 
     /// Returns what the record or the request shows by which the way went on last.
-    pub fn shown(&self) -> &[Sight] {
+    pub fn shown(&self) -> &[Sight]
+        ensures { result.now ≡ shown_in self.now.course.shown }
+    {
         self.course.shown.as_slice()
     }
 

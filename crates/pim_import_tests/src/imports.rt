@@ -171,6 +171,53 @@ fn all_ownerships_are_written_if_asked_for(rt: HostRuntime) -> Result<(), Fail> 
     Ok(())
 }
 
+#[test]
+fn wait_for_a_free_mutex_is_left_out(rt: HostRuntime) -> Result<(), Fail> {
+    let rows = [
+        (1, THREAD, 0x10, 0, 0, 0),
+        (1, REQUEST, 0x500, 702, NONE, 0),
+        (1, FAILED, 0x500, 0, NONE, 0),
+    ];
+    let come = come_of(rt.alloc(), &rows, false)?;
+    assert!(rt; has_lines(&come, &[]));
+    let imported = come.imported.ok_or("a trace")?;
+    assert!(rt; imported.performed.tally.left_out(LeftOut::Uncontended) == 2);
+    Ok(())
+}
+
+#[test]
+fn owner_that_waited_before_is_kept(rt: HostRuntime) -> Result<(), Fail> {
+    // Thread 2 waits for the mutex of 1. It has it only after that was free, and then nobody waits.
+    let rows = [
+        (1, THREAD, 0x10, 0, FIFO_10, 0),
+        (2, THREAD, 0x20, 0, FIFO_20, 0),
+        (1, GRANTED, 0x500, 0, NONE, 0),
+        (2, REQUEST, 0x500, 701, NONE, 0),
+        (1, RELEASE, 0x500, 0, NONE, 0),
+        (1, GRANTED, 0x500, 0, NONE, 0),
+        (1, RELEASE, 0x500, 0, NONE, 0),
+        (2, GRANTED, 0x500, 0, NONE, 0),
+        (2, RELEASE, 0x500, 0, NONE, 0),
+        (2, GRANTED, 0x500, 0, NONE, 0),
+        (2, RELEASE, 0x500, 0, NONE, 0),
+    ];
+    let come = come_of(rt.alloc(), &rows, false)?;
+    let lines = [
+        (1, LOCK, Reply::Granted),
+        (2, LOCK, Reply::Queued),
+        (2, Op::Cancel(TaskNo(2)), Reply::Withdrawn),
+        (1, UNLOCK, Reply::Freed),
+        (1, LOCK, Reply::Granted),
+        (2, LOCK, Reply::Queued),
+        (1, UNLOCK, Reply::Handed(TaskNo(2))),
+        (2, UNLOCK, Reply::Freed),
+    ];
+    assert!(rt; has_lines(&come, &lines));
+    let imported = come.imported.ok_or("a trace")?;
+    assert!(rt; imported.performed.tally.left_out(LeftOut::Uncontended) == 2);
+    Ok(())
+}
+
 /// Thread 2 waits for the mutex of 1. Who has it next differs.
 const PASSED_OVER: [Row; 8] = [
     (1, THREAD, 0x10, 0, FIFO_10, 0),

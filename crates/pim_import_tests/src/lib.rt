@@ -10,6 +10,8 @@ mod imports;
 #[cfg(test)]
 mod logs;
 #[cfg(test)]
+mod pieces;
+#[cfg(test)]
 mod priorities;
 #[cfg(test)]
 mod replays;

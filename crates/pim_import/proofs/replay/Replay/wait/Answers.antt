@@ -11,7 +11,7 @@ pub returns-then-not-branch-clause-observed : goal.returns-then-not-branch-claus
 returns-then-not-branch-clause-observed c =
     let r : ReplayState = c.args.self.now in
     let t = c.args.task in
-    let w : Wait = record { mutex = c.args.mutex; ticket = c.next_ticket-ticket.result } in
+    let w : Wait = record { mutex = c.args.mutex; ticket = c.ticket_outside-ticket.result } in
     let queued = c.in_ok-queue.ensures.queued in
     let none : c.in_ok-queue.field-0 ≡ false = search (rules, c.if-not-branch.true) in
     let M : Bool → Type 0 = λ b. MatchBool b (reply_of r.state (lock t w.mutex) ≡ Reply.Queued) (IsRefused r.state t w.mutex) in

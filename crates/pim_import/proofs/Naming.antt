@@ -1,0 +1,13 @@
+-- Which record of a log a fault names.
+use Rattle.std.proofs.Common.{ℕ}
+use Rattle.pim_import.specs.Faults.{NamesNone, NamesOneOf}
+use Rattle.pim_import.specs.declared.fault.ImportFault.{ImportFault}
+use Rattle.pim_import.specs.declared.fault.ImportFault.TheVariants.{Contradiction, TooManyThreads, Crowded, TooManyPriorities, Memory}
+
+-- a fault that names no record names none outside of the log
+pub names_none_of : (end : ℕ) (fault : ImportFault) → NamesNone fault → NamesOneOf end fault
+names_none_of end (Contradiction k) e = absurd e
+names_none_of end (TooManyThreads k) e = absurd e
+names_none_of end Crowded e = tt
+names_none_of end TooManyPriorities e = tt
+names_none_of end Memory e = tt

@@ -1,0 +1,28 @@
+-- Which record of a log a fault of its import names.
+use Rattle.std.specs.Prelude.{◌≡◌, ℕ, ◌≤◌, ◌<◌}
+use Rattle.pim_import.specs.declared.fault.ImportFault.{ImportFault}
+use Rattle.pim_import.specs.declared.fault.ImportFault.TheVariants.{Contradiction, TooManyThreads, Crowded, TooManyPriorities, Memory}
+
+-- the fault names this record, or memory ran out
+abbrev pub NamesOnly : ℕ → ImportFault → Type 0
+NamesOnly number (Contradiction n) = n ≡ number
+NamesOnly number (TooManyThreads n) = n ≡ number
+NamesOnly number Crowded = ⊥
+NamesOnly number TooManyPriorities = ⊥
+NamesOnly number Memory = Unit {0}
+
+-- the fault names no record
+abbrev pub NamesNone : ImportFault → Type 0
+NamesNone (Contradiction n) = ⊥
+NamesNone (TooManyThreads n) = ⊥
+NamesNone Crowded = Unit {0}
+NamesNone TooManyPriorities = Unit {0}
+NamesNone Memory = Unit {0}
+
+-- a record that the fault names has a number of the log, whose numbers are below its end
+abbrev pub NamesOneOf : ℕ → ImportFault → Type 0
+NamesOneOf end (Contradiction n) = (1 ≤ n) × (n < end)
+NamesOneOf end (TooManyThreads n) = (1 ≤ n) × (n < end)
+NamesOneOf end Crowded = Unit {0}
+NamesOneOf end TooManyPriorities = Unit {0}
+NamesOneOf end Memory = Unit {0}
