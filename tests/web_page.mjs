@@ -363,7 +363,7 @@ async function files() {
   await page.load(address + hash)
   await settled()
   show('the address', [hash, await text('verdict'), await page.evaluate(`document.getElementById('text').value`)])
-  await page.call('Browser.setDownloadBehavior', { behavior: 'allow', downloadPath: folder })
+  await page.call('Browser.setDownloadBehavior', { behavior: 'allow', downloadPath: folder, eventsEnabled: true })
   await saved('svg')
   await saved('png')
   await choose('inversion_avoided')
@@ -399,10 +399,12 @@ const PIXELS = `async base64 => {
   const { data } = context.getImageData(0, 0, width, height), pixels = new Uint32Array(data.buffer)
   return [width, height, data[data.length - 1], new Set(pixels).size > 10] }`
 
-/** Saves the picture. A file that is there has all its bytes: the browser renames it at its end. */
+/** Saves the picture. The file has all its bytes once the browser says so: an empty one may be there before. */
 async function saved(kind) {
+  const isEnd = ({ method, params }) => method === 'Browser.downloadProgress' && params.state !== 'inProgress'
+  page.pipe.heard = page.heard.filter(it => !isEnd(it))
   await page.evaluate(`document.getElementById('${kind}').click()`)
-  for (let n = 0; n < 400 && !existsSync(`${folder}/trace.${kind}`); n++) await pause(50)
+  for (let n = 0; n < 1200 && !page.heard.some(isEnd); n++) await pause(50)
 }
 
 /** Returns the milliseconds of CPU time that the page's own thread has taken. */
