@@ -47,7 +47,7 @@ impl Held {
     ///
     /// # Errors
     ///
-    /// Those of `Manager::new`.
+    /// Returns the errors of `Manager::new`.
     pub fn new(
         alloc: Global,
         bases: &[Prio],

@@ -21,8 +21,7 @@ use std::alloc::{AllocError, Global};
 /// Returns `MADE`, or the first of these faults that applies, and then the handle stays as it was: `FAULT_OCCUPIED` if it
 /// has a manager already, `FAULT_TOO_MANY_TASKS` or `FAULT_TOO_MANY_MUTEXES` if there are more than 256, `FAULT_BAD_BASE`
 /// if a base isn't 1 to 99, `FAULT_BAD_PROTOCOL` if the kind of a protocol is unknown or its ceiling isn't 1 to 99,
-/// `FAULT_NO_MEMORY` if out of
-/// memory.
+/// `FAULT_NO_MEMORY` if out of memory.
 #[unsafe(no_mangle)]
 pub extern "C" fn pim_make(
     alloc: Global,

@@ -7,7 +7,7 @@ ghost use Rattle.pim_base.specs.Reports.{refusal_number};
 
 use pim_base::{Refusal, Reply};
 
-// ---- replies to steps
+// ---- Replies to steps
 
 pub const NO_MANAGER: u8 = 0;
 
@@ -29,7 +29,7 @@ pub const REFUSED: u8 = 8;
 
 pub const KEPT: u8 = 9;
 
-// ---- why a step is refused; 0 if it isn't
+// ---- Why a step is refused; 0 if it isn't
 
 pub const REFUSED_NO_TASK: u8 = 1;
 
@@ -55,10 +55,10 @@ pub const REFUSED_NOT_PROTECT: u8 = 11;
 
 pub const REFUSED_AGAIN: u8 = 12;
 
-/// Of `pim_set_protocol` alone.
+/// Only `pim_set_protocol` returns it.
 pub const REFUSED_NO_PROTOCOL: u8 = 13;
 
-// ---- why a task has its effective priority
+// ---- Why a task has its effective priority
 
 pub const OF_NOTHING: u16 = 0;
 
@@ -68,7 +68,7 @@ pub const OF_CEILING: u16 = 2;
 
 pub const OF_WAITER: u16 = 3;
 
-// ---- results of pim_make
+// ---- Results of pim_make
 
 pub const MADE: u32 = 0;
 

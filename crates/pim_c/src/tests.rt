@@ -60,7 +60,8 @@ const NO_WAITER: CWaiter = CWaiter {
     ticket: 0,
 };
 
-// low 10, medium 50 and high 90, an INHERIT mutex and one with ceiling 60; MADE or FAULT_NO_MEMORY
+// Makes a manager of tasks with bases 10, 50 and 90, an INHERIT mutex and one with ceiling 60.
+// Returns MADE or FAULT_NO_MEMORY.
 fn make(alloc: Global, handle: &mut Handle) -> u32 {
     pim_make(
         alloc,

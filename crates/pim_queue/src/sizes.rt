@@ -13,7 +13,8 @@ fn insert(rt: &impl Abort, queue: &mut Queue, number: u16, prio: Prio) {
     queue.insert(Waiter { task, prio, ticket });
 }
 
-/// How many of the waiters are tasks 1, 2, .. in order, with their numbers as tickets; and whether there is room for more.
+/// Returns how many waiters there are, how many of them are tasks 1, 2, .. in order with their
+/// numbers as tickets, and whether there is room for more.
 fn shown(queue: &Queue) -> (usize, usize, bool) {
     let waiters = queue.as_slice();
     let numbered = (1u16..257).zip(waiters);
@@ -23,7 +24,8 @@ fn shown(queue: &Queue) -> (usize, usize, bool) {
     (waiters.len(), in_order.count(), queue.has_room())
 }
 
-/// A queue with room for so many that is filled from the last one on, and a copy of it.
+/// Fills a queue that has room for this many waiters, the last one first. Returns what is shown of it
+/// and of a copy.
 fn filled(
     rt: &impl Abort,
     alloc: Global,

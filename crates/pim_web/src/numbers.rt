@@ -1,8 +1,8 @@
 //! The numbers that the host knows verdicts, faults and operations by.
 
-// ---- verdicts and faults
+// ---- Verdicts and faults
 
-/// No recorded reply differs; of `pim_read`, the text is valid.
+/// No recorded reply differs. If `pim_read` returns it, the text is valid.
 pub const ACCEPTED: u32 = 0;
 
 /// A recorded reply differs.
@@ -14,7 +14,7 @@ pub const INVALID: u32 = 2;
 /// An allocation failed.
 pub const NO_MEMORY: u32 = 3;
 
-// ---- operations
+// ---- Operations
 
 pub const LOCK: u16 = 1;
 

@@ -45,7 +45,7 @@ const NO_STEP: CStep = CStep {
     second: 9,
 };
 
-// kind, number and length of the answer
+// Judges the text, and returns the kind, number and length of the answer.
 fn judged(rt: &HostRuntime, text: &str, report: &mut [u8]) -> (u32, u32, usize) {
     let answer = pim_judge(rt.alloc(), text.as_bytes(), report);
     (answer.kind, answer.number, answer.length)
