@@ -104,16 +104,23 @@ impl Manager {
         self.tables.settle_from(task, visits);
     }
 
-    /// Gives the PROTECT mutex this ceiling.
-    pub(crate) fn set_ceiling(&mut self, mutex: MutexNo, ceiling: Prio, visits: &mut Visits)
+    /// Gives the PROTECT mutex, which has this owner or is free, this ceiling.
+    pub(crate) fn set_ceiling(
+        &mut self,
+        mutex: MutexNo,
+        owner: Option<TaskNo>,
+        ceiling: Prio,
+        visits: &mut Visits,
+    )
         requires protect { not_protect self.old mutex ≡ false }
+        requires owner { owner_of self.old mutex ≡ owner }
         requires room { visits.old.count ≤ 2 ^ 32 - 1 - MAX_TASKS }
         ensures state { self.new ≡ with_ceiling self.old mutex ceiling }
         ensures work { Worked self.old visits.old self.new visits.new }
         ensures most { visits.new.count ≤ visits.old.count + 1 + changed_task_count self.old self.new }
     {
         self.tables.put_ceiling(mutex, ceiling);
-        if let Some(owner) = self.tables.owner(mutex) {
+        if let Some(owner) = owner {
             self.tables.settle_from(owner, visits);
         }
     }

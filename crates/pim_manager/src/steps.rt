@@ -251,16 +251,17 @@ impl Manager {
         if self.tables.is_unknown_mutex(mutex) {
             return Reply::Refused(Refusal::NoMutex);
         }
-        if self.tables.ceiling(mutex).is_none() {
+        if self.tables.known_protocol(mutex).ceiling().is_none() {
             return Reply::Refused(Refusal::NotProtect);
         }
         let Some(ceiling) = Prio::new(level) else {
             return Reply::Refused(Refusal::Priority);
         };
-        if self.tables.is_owned_by_another(actor, mutex) {
+        let owner = self.tables.known_owner(mutex);
+        if owner.is_some() && owner != Some(actor) {
             return Reply::Refused(Refusal::Busy);
         }
-        self.set_ceiling(mutex, ceiling, visits);
+        self.set_ceiling(mutex, owner, ceiling, visits);
         Reply::Set
     }
 }

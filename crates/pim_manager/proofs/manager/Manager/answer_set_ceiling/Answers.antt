@@ -10,5 +10,5 @@ returns-then-is_none-clause-work c = worked_none c.args.self.now c.args.visits.n
 pub returns-in_default-clause-work : goal.returns-in_default-clause-work
 returns-in_default-clause-work c = worked_none c.args.self.now c.args.visits.now
 
-pub returns-then-is_owned_by_another-clause-work : goal.returns-then-is_owned_by_another-clause-work
-returns-then-is_owned_by_another-clause-work c = worked_none c.args.self.now c.args.visits.now
+pub returns-then-ne-clause-work : goal.returns-then-ne-clause-work
+returns-then-ne-clause-work c = worked_none c.args.self.now c.args.visits.now

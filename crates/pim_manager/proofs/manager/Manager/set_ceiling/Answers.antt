@@ -1,4 +1,4 @@
-use Rattle.std.proofs.Common.{◌≡◌, None, refl, sym, ◌∙◌, ap, subst, arith, length}
+use Rattle.std.proofs.Common.{◌≡◌, None, refl, ◌∙◌, ap, subst, arith, length}
 use Rattle.pim_base.specs.State.{State, owner_of, with_ceiling}
 use Rattle.pim_base.proofs.Steady.{steady_kept}
 use Rattle.pim_chain.specs.Views.{View, stored_at}
@@ -32,9 +32,8 @@ returns-in_default-clause-work c =
     let S : State = c.args.self.now in
     let v : View = c.self.inside.tables in
     let w : View = c.put_ceiling.new.self in
-    let kept : owner_of w.state c.args.mutex ≡ owner_of v.state c.args.mutex =
-    ap (λ (x : View). owner_of x.state c.args.mutex) c.put_ceiling.ensures.state in
-    let free : owner_of v.state c.args.mutex ≡ None = sym kept ∙ sym c.owner.ensures ∙ c.in_default.is in
+    let free : owner_of v.state c.args.mutex ≡ None =
+    ap (λ (U : State). owner_of U c.args.mutex) c.self.view_is ∙ c.requires.owner ∙ c.in_default.is in
     let settled : SettledBut w.state (stored_at w) None =
     subst (SettledBut w.state (stored_at w)) free (c.put_ceiling.ensures.unsettles c.self.invariant.calm.settled) in
     (walked v w w S (with_ceiling S c.args.mutex c.args.ceiling) _ _ c.self.invariant c.self.view_is
