@@ -2,12 +2,12 @@
 
 ghost use Rattle.std.specs.Prelude.{◌≡◌, ◌↔◌, IsTrue, ℕ, Some};
 ghost use Rattle.pim_base.specs.Lists.{holds};
-ghost use Rattle.pim_base.specs.State.{IsTask, IsMutex, owner_of, wait_of, protocol_of, is_recursive, relocks};
-ghost use Rattle.pim_base.specs.Checks.{unknown_task, unknown_mutex, owned_by_another, locked_too_often, above_ceiling};
+ghost use Rattle.pim_base.specs.State.{IsTask, IsMutex, owner_of, wait_of, relocks};
+ghost use Rattle.pim_base.specs.Checks.{unknown_task, unknown_mutex, above_ceiling};
 ghost use Rattle.pim_base.specs.Steps.{is_kept};
 
 use crate::tables::Tables;
-use pim_base::{MAX_COUNT, MutexNo, Protocol, TaskNo};
+use pim_base::{MutexNo, Protocol, TaskNo};
 
 impl Tables {
     /// Returns whether no task has this number.
@@ -24,41 +24,12 @@ impl Tables {
         mutex.get() == 0 || self.mutexes() < mutex.get()
     }
 
-    /// Returns whether a task other than this one owns the mutex.
-    pub fn is_owned_by_another(&self, task: TaskNo, mutex: MutexNo) -> bool
-        ensures { result ≡ owned_by_another self.now.state task mutex }
-    {
-        self.owner(mutex).is_some_and(|owner| owner != task)
-    }
-
-    /// Returns whether the task owns the mutex.
-    pub fn owns(&self, task: TaskNo, mutex: MutexNo) -> bool
-        ensures { result ≡ holds (owner_of self.now.state mutex) task }
-    {
-        self.owner(mutex) == Some(task)
-    }
-
     /// Returns whether the task owns the known mutex.
     pub fn known_owns(&self, task: TaskNo, mutex: MutexNo) -> bool
         requires { IsMutex self.now.state mutex }
         ensures { result ≡ holds (owner_of self.now.state mutex) task }
     {
         self.known_owner(mutex) == Some(task)
-    }
-
-    /// Returns whether the owner of the mutex may lock it again.
-    pub fn is_recursive(&self, mutex: MutexNo) -> bool
-        ensures { result ≡ is_recursive (protocol_of self.now.state mutex) }
-    {
-        self.protocol(mutex)
-            .is_some_and(|protocol| protocol.is_recursive())
-    }
-
-    /// Returns whether the task owns the mutex and may lock it again.
-    pub fn relocks(&self, task: TaskNo, mutex: MutexNo) -> bool
-        ensures { result ≡ relocks self.now.state task mutex }
-    {
-        self.is_recursive(mutex) && self.owns(task, mutex)
     }
 
     /// Returns whether the task is this owner of the mutex, and may lock it again.
@@ -69,13 +40,6 @@ impl Tables {
         // The contract of this call gives the proof the invariant of the tables.
         let _tasks = self.tasks();
         self.known_protocol(mutex).is_recursive() && owner == task
-    }
-
-    /// Returns whether the task would lock the mutex once more than can be counted.
-    pub fn is_locked_too_often(&self, task: TaskNo, mutex: MutexNo) -> bool
-        ensures { result ≡ locked_too_often self.now.state task mutex }
-    {
-        self.relocks(task, mutex) && self.count_of(mutex) == MAX_COUNT
     }
 
     /// Returns whether its owner keeps the known mutex when it unlocks it once.

@@ -3,21 +3,12 @@
 ghost use Rattle.std.specs.Prelude.{◌≡◌, IfSome};
 ghost use Rattle.pim_base.specs.Lists.{contains};
 ghost use Rattle.pim_base.specs.State.{IsTask};
-ghost use Rattle.pim_base.specs.Chains.{blocker, waits_chain, leads_back};
+ghost use Rattle.pim_base.specs.Chains.{blocker, waits_chain};
 
 use crate::tables::Tables;
-use pim_base::{MutexNo, TaskNo};
+use pim_base::TaskNo;
 
 impl Tables {
-    /// Returns the owner of the mutex that the task waits for.
-    pub fn blocker(&self, task: TaskNo) -> Option<TaskNo>
-        ensures { result ≡ blocker self.now.state task }
-    {
-        // The contract of this call gives the proof the invariant of the tables.
-        let _tasks = self.tasks();
-        self.known_owner(self.waits_for(task)?.mutex)
-    }
-
     // Returns the owner of the mutex that the known task waits for.
     #[inline(always)]
     fn known_blocker(&self, task: TaskNo) -> Option<TaskNo>
@@ -69,19 +60,5 @@ impl Tables {
             }
         }
         task == at
-    }
-
-    /// Returns whether a wait of the task for the mutex would lead back to it: the mutex is owned, and the task is on
-    /// the chain of its owner.
-    #[inline(always)]
-    pub fn leads_back(&self, task: TaskNo, mutex: MutexNo) -> bool
-        ensures { result ≡ leads_back self.now.state task mutex }
-    {
-        // The contract of this call gives the proof the invariant of the tables.
-        let _tasks = self.tasks();
-        match self.owner(mutex) {
-            Some(owner) => self.known_on_chain(owner, task),
-            None => false,
-        }
     }
 }

@@ -1,5 +1,6 @@
 //! Events over the tables, as plain rows: each has the stored priorities of all tasks and the number of visits after it.
-ghost use Rattle.std.specs.Prelude.{None, IfOk};
+ghost use Rattle.std.specs.Prelude.{◌≡◌, None, IfOk};
+ghost use Rattle.pim_base.specs.Chains.{blocker};
 ghost use Rattle.pim_chain.specs.Views.{stored_at};
 ghost use Rattle.pim_chain.specs.Settled.{SettledBut};
 
@@ -83,6 +84,20 @@ pub(crate) fn tables(
     Tables::new(alloc, &bases, &protocols)
 }
 
+/// Returns the owner of the mutex that the task waits for.
+fn blocker(tables: &Tables, task: TaskNo) -> Option<TaskNo>
+    ensures { result ≡ blocker tables.now.state task }
+{
+    tables.owner(tables.waits_for(task)?.mutex)
+}
+
+/// Returns whether a wait of the task for the mutex would lead back to it.
+pub(crate) fn leads_back(tables: &Tables, task: TaskNo, mutex: MutexNo) -> bool {
+    tables
+        .owner(mutex)
+        .is_some_and(|owner| tables.on_chain(owner, task))
+}
+
 /// Makes the walk from the task.
 fn settle(rt: &impl Abort, tables: &mut Tables, task: TaskNo, visits: &mut Visits)
     requires { SettledBut tables.old.state (stored_at tables.old) (Some task) }
@@ -113,7 +128,7 @@ pub(crate) fn lock(
             tables.grant(mutex, task, visits);
         }
         Some(owner) => {
-            assert!(rt; !tables.leads_back(task, mutex));
+            assert!(rt; !tables.on_chain(owner, task));
             assert!(rt; !tables.has_ticket(mutex, ticket));
             tables.join(task, mutex, ticket);
             settle(rt, tables, owner, visits);
@@ -141,7 +156,7 @@ fn take(rt: &impl Abort, tables: &mut Tables, mutex: MutexNo, task: TaskNo, visi
     ensures { SettledBut tables.new.state (stored_at tables.new) None }
 {
     assert!(rt; tables.waits_for(task).is_some());
-    assert!(rt; tables.blocker(task).is_none());
+    assert!(rt; blocker(tables, task).is_none());
     tables.leave(task);
     assert!(rt; !tables.is_unknown_task(task));
     assert!(rt; !tables.is_unknown_mutex(mutex));
@@ -171,9 +186,9 @@ pub(crate) fn cancel(rt: &impl Abort, tables: &mut Tables, task: TaskNo, visits:
     ensures { SettledBut tables.new.state (stored_at tables.new) None }
 {
     assert!(rt; tables.waits_for(task).is_some());
-    let blocker = tables.blocker(task);
+    let owner = blocker(tables, task);
     tables.leave(task);
-    if let Some(owner) = blocker {
+    if let Some(owner) = owner {
         settle(rt, tables, owner, visits);
     }
 }
@@ -220,7 +235,7 @@ fn happen(rt: &impl Abort, tables: &mut Tables, event: Event, ticket: u64, visit
             lock(rt, tables, TaskNo(task), MutexNo(mutex), ticket, visits)
         }
         Event::Deadlock(task, mutex) => {
-            assert!(rt; tables.leads_back(TaskNo(task), MutexNo(mutex)));
+            assert!(rt; leads_back(tables, TaskNo(task), MutexNo(mutex)));
         }
         Event::Unlock(mutex) => unlock(rt, tables, MutexNo(mutex), visits),
         Event::Cancel(task) => cancel(rt, tables, TaskNo(task), visits),

@@ -16,8 +16,6 @@ enum End {
     First(u16, u16),
     /// The mutex has this ceiling, or none if it is 0.
     Ceiling(u16, u16),
-    /// Whether another task than this one owns the mutex.
-    OwnedByAnother(u16, u16, bool),
 }
 
 /// A scenario: its name, the bases of all tasks, the kinds of all mutexes, the events, and what holds at the end.
@@ -208,12 +206,7 @@ fn another_ceiling_reaches_the_owner_and_its_heir() -> &'static Scene {
         Row(Event::Ceiling(1, 60), 2, &[60, 40, 60]),
         Row(Event::Ceiling(1, 15), 2, &[20, 40, 20]),
     ];
-    const ENDS: &[End] = &[
-        End::Ceiling(1, 15),
-        End::Ceiling(2, 0),
-        End::OwnedByAnother(2, 1, true),
-        End::OwnedByAnother(1, 1, false),
-    ];
+    const ENDS: &[End] = &[End::Ceiling(1, 15), End::Ceiling(2, 0), End::Owner(1, 1)];
     const SCENE: &Scene = &Scene {
         name: "another ceiling reaches the owner and its heir",
         bases: &[20, 40, 10],
@@ -243,10 +236,6 @@ fn expect_end(rt: &impl Abort, tables: &Tables, name: &str, end: End) {
                 Prio::new(level),
                 "{name}: ceiling"
             );
-        }
-        End::OwnedByAnother(task, mutex, expected) => {
-            let is_so = tables.is_owned_by_another(TaskNo(task), MutexNo(mutex));
-            assert_eq!(rt; is_so, expected, "{name}: owned by another than {task}");
         }
     }
 }

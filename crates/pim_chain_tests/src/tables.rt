@@ -1,10 +1,13 @@
 //! The calls of the tables, each with values worked out from the definitions.
 ghost use Rattle.std.specs.Prelude.{◌≡◌, None, IfOk};
+ghost use Rattle.pim_base.specs.State.{relocks};
 ghost use Rattle.pim_chain.specs.Views.{stored_at};
 ghost use Rattle.pim_chain.specs.Settled.{SettledBut};
 
-use crate::playing::{Event, INHERIT, Kind, Row, cancel, lock, play, prio, set_base, tables};
-use pim_base::{MutexNo, Prio, Protocol, Reason, TaskNo, Wait};
+use crate::playing::{
+    Event, INHERIT, Kind, Row, cancel, leads_back, lock, play, prio, set_base, tables,
+};
+use pim_base::{MAX_COUNT, MutexNo, Prio, Protocol, Reason, TaskNo, Wait};
 use pim_chain::*;
 use std::alloc::{AllocError, Global};
 use std::process::Abort;
@@ -168,11 +171,19 @@ fn locked_again(rt: &impl Abort, alloc: Global) -> Result<Tables, AllocError> {
     Ok(tables)
 }
 
+/// Returns whether task 1, which must own the mutex, may lock it again.
+fn first_relocks(rt: &impl Abort, tables: &Tables, mutex: MutexNo) -> bool
+    ensures { result ≡ relocks tables.now.state 1 mutex }
+{
+    assert!(rt; tables.owner(mutex) == Some(TaskNo(1)));
+    tables.known_relocks(TaskNo(1), mutex, TaskNo(1))
+}
+
 /// Counts so many more locks of mutex 1.
 fn count_up(rt: &impl Abort, tables: &mut Tables, times: u16) {
     for _time in 0..times {
-        assert!(rt; tables.relocks(TaskNo(1), MutexNo(1)));
-        assert!(rt; !tables.is_locked_too_often(TaskNo(1), MutexNo(1)));
+        assert!(rt; first_relocks(rt, tables, MutexNo(1)));
+        assert!(rt; tables.count_of(MutexNo(1)) < MAX_COUNT);
         assert!(rt; tables.count(MutexNo(1)).is_some_and(|count| count < 255));
         tables.count_up(MutexNo(1));
     }
@@ -209,7 +220,8 @@ fn recursive_mutex_is_counted_up_to_255(rt: HostRuntime) -> Result<(), Fail> {
     let mut tables = locked_again(&rt, rt.alloc())?;
     count_up(&rt, &mut tables, 254);
     assert_eq!(rt; tables.count(MutexNo(1)), Some(255));
-    assert!(rt; tables.is_locked_too_often(TaskNo(1), MutexNo(1)));
+    assert!(rt; first_relocks(&rt, &tables, MutexNo(1)));
+    assert_eq!(rt; tables.count_of(MutexNo(1)), MAX_COUNT);
     Ok(())
 }
 
@@ -248,15 +260,16 @@ fn expect_no_owner(rt: &impl Abort, tables: &Tables) {
 
 /// A request leads back to its own task, which relocks only a recursive mutex.
 fn expect_cycles(rt: &impl Abort, tables: &Tables) {
-    let recursive = [MutexNo(1), MutexNo(2)].map(|mutex| tables.is_recursive(mutex));
-    assert_eq!(rt; recursive, [true, false]);
     let back = [
-        tables.leads_back(TaskNo(1), MutexNo(1)),
-        tables.leads_back(TaskNo(1), MutexNo(2)),
-        tables.leads_back(TaskNo(2), MutexNo(2)),
+        leads_back(tables, TaskNo(1), MutexNo(1)),
+        leads_back(tables, TaskNo(1), MutexNo(2)),
+        leads_back(tables, TaskNo(2), MutexNo(2)),
     ];
     assert_eq!(rt; back, [true, true, false]);
-    let relocks = [MutexNo(1), MutexNo(2)].map(|mutex| tables.relocks(TaskNo(1), mutex));
+    let relocks = [
+        first_relocks(rt, tables, MutexNo(1)),
+        first_relocks(rt, tables, MutexNo(2)),
+    ];
     assert_eq!(rt; relocks, [true, false]);
 }
 
@@ -293,7 +306,7 @@ fn enqueue(rt: &impl Abort, tables: &mut Tables, visits: &mut Visits)
     assert!(rt; !tables.is_unknown_mutex(MutexNo(1)));
     assert!(rt; tables.waits_for(TaskNo(2)).is_none());
     assert!(rt; tables.owner(MutexNo(1)) == Some(TaskNo(1)));
-    assert!(rt; !tables.leads_back(TaskNo(2), MutexNo(1)));
+    assert!(rt; !tables.on_chain(TaskNo(1), TaskNo(2)));
     assert!(rt; !tables.has_ticket(MutexNo(1), 2));
     assert!(rt; visits.get() < 1000);
     tables.enqueue(TaskNo(2), MutexNo(1), TaskNo(1), 2, visits);
