@@ -1,26 +1,14 @@
 //! The deadlock test.
 
-ghost use Rattle.std.specs.Prelude.{◌≡◌, IfSome};
+ghost use Rattle.std.specs.Prelude.{◌≡◌};
 ghost use Rattle.pim_base.specs.Lists.{contains};
 ghost use Rattle.pim_base.specs.State.{IsTask};
-ghost use Rattle.pim_base.specs.Chains.{blocker, waits_chain};
+ghost use Rattle.pim_base.specs.Chains.{waits_chain};
 
 use crate::tables::Tables;
 use pim_base::TaskNo;
 
 impl Tables {
-    // Returns the owner of the mutex that the known task waits for.
-    #[inline(always)]
-    fn known_blocker(&self, task: TaskNo) -> Option<TaskNo>
-        requires { IsTask self.now.state task }
-        ensures blocker { result ≡ blocker self.now.state task }
-        ensures known { IfSome result (IsTask self.now.state) }
-    {
-        // The contract of this call gives the proof the invariant of the tables.
-        let _tasks = self.tasks();
-        self.known_owner(self.known_wait(task)?.mutex)
-    }
-
     /// Returns whether the task is `from`, or is reached from it by hops to the owner of the mutex that a task waits
     /// for.
     ///
@@ -42,23 +30,25 @@ impl Tables {
     /// Returns whether the task is on the chain of the known task `from`.
     ///
     /// Makes at most as many hops as there are tasks.
-    #[tactic(auto, using(crate::proofs::Hopping::contains_onward))]
+    #[tactic(auto, using(crate::proofs::Hopping::waits_chain_is))]
     #[inline(always)]
     pub fn known_on_chain(&self, from: TaskNo, task: TaskNo) -> bool
         requires { IsTask self.now.state from }
         ensures { result ≡ contains (waits_chain self.now.state from) task }
     {
-        let mut at = from;
-        // No chain without a cycle is longer, and a loop has to end.
-        for _hop in 0..self.tasks() {
-            if task == at {
-                return true;
-            }
-            match self.known_blocker(at) {
-                Some(next) => at = next,
+        // The contract of this call gives the proof the invariant of the tables.
+        let _tasks = self.tasks();
+        if from == task {
+            return true;
+        }
+        let mut waits = self.known_wait(from);
+        while let Some(wait) = waits {
+            match self.known_owner(wait.mutex) {
+                Some(next) if next == task => return true,
+                Some(next) => waits = self.known_wait(next),
                 None => return false,
             }
         }
-        task == at
+        false
     }
 }

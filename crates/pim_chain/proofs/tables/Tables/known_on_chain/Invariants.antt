@@ -1,12 +1,16 @@
-use Rattle.std.proofs.Common.{◌≡◌, ◌-◌, length}
+use Rattle.std.proofs.Common.{◌≡◌, Some, length}
 use Rattle.pim_base.specs.Lists.{contains}
-use Rattle.pim_base.specs.State.{IsTask}
-use Rattle.pim_base.specs.Chains.{chain, blocker, waits_chain}
+use Rattle.pim_base.specs.State.{IsMutex}
+use Rattle.pim_base.specs.Chains.{waits_chain}
+use Rattle.pim_base.specs.declared.steps.Wait.{Wait}
+use Rattle.pim_chain.proofs.Hopping.{rest}
 use Rattle.pim_chain.proofs.tables.Tables.known_on_chain.Given as goal
 
--- the rest of the chain begins with a known task, and has the task exactly if the whole chain has it
-abbrev pub invariant-loop-hop : goal.invariant-loop-hop
-invariant-loop-hop l =
-    (contains (waits_chain l.fn.self.state l.fn.from) l.task
-    ≡ contains (chain (blocker l.self.state) (length l.self.state.base - l._hop) l.at) l.task)
-    × IsTask l.self.state l.at
+-- the rest of the chain has the task exactly if the whole chain has it, and a known mutex leads to it
+abbrev pub invariant-loop-waits : goal.invariant-loop-waits
+invariant-loop-waits l =
+    (contains (waits_chain l.self.state l.fn.from) l.task ≡ contains (rest l.self.state l.waits) l.task)
+    × ((w : Wait) → l.waits ≡ Some w → IsMutex l.self.state w.mutex)
+
+abbrev pub decreases-loop-waits : goal.decreases-loop-waits
+decreases-loop-waits l = length (rest l.self.state l.waits)
