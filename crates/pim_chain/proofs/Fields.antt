@@ -1,7 +1,7 @@
 -- The tables after a field was written, and what the calls on the queues ask for.
 use Rattle.std.proofs.Common.{◌≡◌, ℕ, ◌≤◌, ◌<◌, true, false, ◌⊎◌, inl, inr, sym, ◌∙◌, ap, subst, arith, Option, Some, None, List, [], ◌∷◌, length, unwrap_or}
 use Rattle.pim_base.proofs.Places.{nth_within}
-use Rattle.pim_chain.proofs.Waiting.{room_for}
+use Rattle.pim_chain.proofs.Waiting.{room_for, waiting_known}
 use Rattle.std.specs.List.{list_any, find, AllByRecursion}
 use Rattle.std.proofs.lemmas.Bool.{false_from_ne_true, eqb-true, eq-eqb, or_cases, or_left, or_right}
 use Rattle.std.proofs.lemmas.Option.{none-some, same_Some}
@@ -103,6 +103,24 @@ pub settled_after : {w x : View} {o : Option ℕ} → w ≡ x → SettledBut x.s
 settled_after {o = o} is = subst (λ (y : View). SettledBut y.state (stored_at y) o) (sym is)
 
 -- ---- what the calls on the queues ask for
+-- the numbers of a waiting task and of its mutex have a place in the lists
+pub waiter_fits :
+    {v u : View} {t : ℕ} {w : Wait}
+    → v ≡ u
+    → Ready v
+    → wait_of u.state t ≡ Some w
+    → (1 ≤ t) × (t ≤ length v.state.wait) × (1 ≤ w.mutex) × (w.mutex ≤ length v.queues) × IsTask u.state t
+waiter_fits {v} {u} {t} {w} same ready waits =
+    let here : wait_of v.state t ≡ Some w = subst (λ (x : View). wait_of x.state t ≡ Some w) (sym same) waits in
+    let task : IsTask v.state t = waiting_known v.state ready.sound.lists t w here in
+    let mutex : IsMutex v.state w.mutex = ready.waits.mutexes t w here in (
+      task.0,
+      subst (λ n. t ≤ n) (sym ready.sound.lists.waits) task.1,
+      mutex.0,
+      subst (λ n. w.mutex ≤ n) (sym ready.queues_len) mutex.1,
+      subst (λ (x : View). IsTask x.state t) same task,
+    )
+
 pub join_room :
     (v u : View) (t m : ℕ)
     → v ≡ u

@@ -91,6 +91,22 @@ module _ (v u : View) (same : v ≡ u) (ready : Ready v) (sets : List NumberSet)
       (λ k ne. inserted k ∙ ap (λ b. b || has (words_in sets t) k) (ne_eqb k m ne)) others
       (λ x ne. ap (λ o. holds o x) (subst (λ (x : View). owner_of x.state m ≡ None) (sym same) free) ∙ sym (ne_eqb t x (λ e. ne (sym e)))))
 
+  owner_here : (m t : ℕ) → owner_of u.state m ≡ Some t → owner_of v.state m ≡ Some t
+  owner_here m t = subst (λ (x : View). owner_of x.state m ≡ Some t) (sym same)
+
+  -- the numbers of a mutex and its owner have a place in the lists
+  pub owned_fits : (m t : ℕ) → owner_of u.state m ≡ Some t → (1 ≤ m) × (m ≤ length v.state.owner) × (m < 320) × (1 ≤ t) × (t ≤ length sets)
+  owned_fits m t mine =
+      let here = owner_here m t mine in
+      let mutex : IsMutex v.state m = owned_known v.state ready.sound.lists m t (holds_from (owner_of v.state m) t here) in
+      let task : IsTask v.state t = ready.waits.owners m t here in (
+        mutex.0,
+        subst (λ n. m ≤ n) (sym ready.sound.lists.owners) mutex.1,
+        omega (arith, mutex.1, ready.few_mutexes),
+        task.0,
+        subst (λ n. t ≤ n) (sym owned.len) task.1,
+      )
+
   pub unbound_sets :
       (m t : ℕ) (owners : List (Option ℕ)) (after : List NumberSet)
       → owner_of u.state m ≡ Some t
@@ -100,10 +116,9 @@ module _ (v u : View) (same : v ≡ u) (ready : Ready v) (sets : List NumberSet)
       → ((x : ℕ) → x ≢ t → words_in after x ≡ words_in sets x)
       → AreOwned (length v.state.base) owners after
   unbound_sets m t owners after mine is len removed others =
-      let here : owner_of v.state m ≡ Some t = subst (λ (x : View). owner_of x.state m ≡ Some t) (sym same) mine in
-      let mutex : IsMutex v.state m = owned_known v.state ready.sound.lists m t (holds_from (owner_of v.state m) t here) in
-      let task : IsTask v.state t = ready.waits.owners m t here in
-      rw is (owned_put (length v.state.base) v.state.owner sets after m t None mutex.0 (subst (λ n. m ≤ n) (sym ready.sound.lists.owners) mutex.1) owned len task
+      let here = owner_here m t mine in
+      let fits = owned_fits m t mine in
+      rw is (owned_put (length v.state.base) v.state.owner sets after m t None fits.0 fits.1 owned len (ready.waits.owners m t here)
       (removed m ∙ ap (λ b. not b && has (words_in sets t) m) (eq-eqb m m refl))
       (λ k ne. removed k ∙ ap (λ b. not b && has (words_in sets t) k) (ne_eqb k m ne)) others
       (λ x ne. ap (λ o. holds o x) here ∙ ne_eqb t x (λ e. ne (sym e))))

@@ -65,7 +65,7 @@ impl Tables {
         // The contract of this call gives the proof the invariant of the tables.
         let _tasks = self.tasks();
         let given = self.given_level(mutex);
-        self.unbind(mutex);
+        self.unbind_from(mutex, owner);
         if self.known_stored(owner).get() <= given {
             self.settle_from(owner, visits);
         }

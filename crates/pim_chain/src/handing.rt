@@ -53,7 +53,7 @@ impl Tables {
         // The contract of this call gives the proof the invariant of the tables.
         let _tasks = self.tasks();
         let first = self.known_first(mutex);
-        self.unbind(mutex);
+        self.unbind_from(mutex, owner);
         if let Some(waiter) = &first {
             self.leave(waiter.task);
             self.bind(mutex, waiter.task);

@@ -349,20 +349,30 @@ impl Tables {
     }
 
     /// Makes the mutex, which must be owned, free.
-    #[inline(always)]
     pub fn unbind(&mut self, mutex: MutexNo)
         requires owned { owner_of self.old.state mutex ≢ None }
         ensures state { self.new ≡ with_state self.old (with_owner self.old.state mutex None) }
         ensures unsettles { Unsettles self.old self.new (owner_of self.old.state mutex) }
         ensures ready { Ready self.new }
     {
+        if let Some(owner) = self.owner(mutex) {
+            self.unbind_from(mutex, owner);
+        }
+    }
+
+    /// Makes the mutex, whose owner must be this task, free.
+    #[inline(always)]
+    pub(crate) fn unbind_from(&mut self, mutex: MutexNo, owner: TaskNo)
+        requires { owner_of self.old.state mutex ≡ Some owner }
+        ensures state { self.new ≡ with_state self.old (with_owner self.old.state mutex None) }
+        ensures unsettles { Unsettles self.old self.new (owner_of self.old.state mutex) }
+        ensures ready { Ready self.new }
+    {
         // The contract of this call gives the proof the invariant of the tables.
         let _tasks = self.tasks();
-        if let Some(owner) = self.known_owner(mutex) {
-            put(&mut self.owner, mutex.get(), None);
-            put_first_count(&mut self.count, mutex, None);
-            self.owned.remove(owner, mutex);
-        }
+        put(&mut self.owner, mutex.get(), None);
+        put_first_count(&mut self.count, mutex, None);
+        self.owned.remove(owner, mutex);
     }
 
     /// Counts one more lock of the mutex, which must be recursive, owned and locked less than `MAX_COUNT` times.

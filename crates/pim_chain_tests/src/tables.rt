@@ -297,6 +297,27 @@ fn free_mutex_has_count_0(rt: HostRuntime) -> Result<(), Fail> {
     Ok(())
 }
 
+/// Task 1 becomes the owner of mutex 1, and then the mutex is free again.
+fn bind_and_unbind(rt: &impl Abort, tables: &mut Tables) {
+    assert!(rt; !tables.is_unknown_task(TaskNo(1)));
+    assert!(rt; !tables.is_unknown_mutex(MutexNo(1)));
+    assert!(rt; tables.waits_for(TaskNo(1)).is_none());
+    assert!(rt; tables.owner(MutexNo(1)).is_none());
+    tables.bind(MutexNo(1), TaskNo(1));
+    let bound = (tables.owner(MutexNo(1)), tables.count(MutexNo(1)));
+    assert_eq!(rt; bound, (Some(TaskNo(1)), Some(1)));
+    tables.unbind(MutexNo(1));
+    let free = (tables.owner(MutexNo(1)), tables.count(MutexNo(1)));
+    assert_eq!(rt; free, (None, Some(0)));
+}
+
+#[test]
+fn owner_is_bound_and_unbound(rt: HostRuntime) -> Result<(), Fail> {
+    let mut tables = tables(&rt, rt.alloc(), &[10], &[INHERIT])?;
+    bind_and_unbind(&rt, &mut tables);
+    Ok(())
+}
+
 /// Task 2 begins to wait for mutex 1 of task 1.
 fn enqueue(rt: &impl Abort, tables: &mut Tables, visits: &mut Visits)
     requires { SettledBut tables.old.state (stored_at tables.old) None }

@@ -3,15 +3,29 @@ use Rattle.pim_base.specs.State.{IsState}
 use Rattle.pim_chain.specs.Shown.{shown}
 use Rattle.pim_chain.specs.Views.{View, stored_at}
 use Rattle.pim_chain.proofs.Changes.{ready_left}
-use Rattle.pim_chain.proofs.Fields.{stands_in, ready_after, settled_after}
+use Rattle.pim_chain.proofs.Fields.{waiter_fits, stands_in, ready_after, settled_after}
 use Rattle.pim_chain.proofs.Waiting.{waiting_known}
 use Rattle.pim_chain.proofs.Unsettled.{left_unsettles}
 use Rattle.pim_chain.proofs.tables.Tables.end_wait.Goals as goal
 
-pub remove-requires-clause-waits : goal.remove-requires-clause-waits
-remove-requires-clause-waits c =
-    rw c.waiter-leaver.ensures (stands_in (shown c.self.inside) c.args.self.now c.args.task (record { mutex = c.args.mutex; ticket = c.args.ticket }) c.self.view_is
-    (sym c.requires) c.self.invariant.ready)
+pub put-requires : goal.put-requires
+put-requires c =
+    let fits = waiter_fits c.self.view_is c.self.invariant.ready c.requires in
+    rw c.get.ensures (record {
+      least = fits.0;
+      most = fits.1;
+    })
+
+pub remove-requires : goal.remove-requires
+remove-requires c =
+    let fits = waiter_fits c.self.view_is c.self.invariant.ready c.requires in
+    record {
+      least = fits.2;
+      most = fits.3;
+      waits =
+          rw c.waiter-leaver.ensures (stands_in (shown c.self.inside) c.args.self.now c.args.task (record { mutex = c.args.mutex; ticket = c.args.ticket })
+          c.self.view_is (sym c.requires) c.self.invariant.ready);
+    }
 
 pub returns-clause-left : goal.returns-clause-left
 returns-clause-left c = search rules
