@@ -1,16 +1,16 @@
 //! Why a task has its priority.
 
-ghost use Rattle.std.specs.Prelude.{◌≡◌, ◌==◌, None};
+ghost use Rattle.std.specs.Prelude.{◌≡◌, ◌≤◌, ◌==◌, None};
 ghost use Rattle.std.specs.List.{find, AllByRecursion};
-ghost use Rattle.pim_base.specs.State.{IsTask, IsMutex, owned, protocol_of};
+ghost use Rattle.pim_base.specs.State.{IsTask, IsMutex, owned};
 ghost use Rattle.pim_base.specs.Priorities.{ceiling_of};
-ghost use Rattle.pim_base.specs.Reasons.{is_inherit, reason_of};
+ghost use Rattle.pim_base.specs.Reasons.{reason_of};
 ghost use Rattle.pim_chain.specs.Views.{stored_at};
 ghost use Rattle.pim_chain.specs.Settled.{SettledBut};
 ghost use Rattle.pim_chain.specs.Owned.{donates_now, first_reason, owned_reason};
 
 use crate::tables::Tables;
-use pim_base::{MutexNo, Reason, TaskNo};
+use pim_base::{MutexNo, Protocol, Reason, TaskNo};
 use pim_sets::Owned;
 
 impl Tables {
@@ -54,7 +54,8 @@ impl Tables {
     // The same as `owned_reason`, as a call.
     #[inline(never)]
     fn called_reason(&self, task: TaskNo, level: u16) -> Reason
-        requires { IsTask self.now.state task }
+        requires known { IsTask self.now.state task }
+        requires level { 1 ≤ level }
         ensures { result ≡ owned_reason self.now level (owned self.now.state task) }
     {
         self.owned_reason(task, level)
@@ -64,14 +65,15 @@ impl Tables {
     // mutex whose waiters donate this priority. One pass over the mutexes finds both.
     #[inline(always)]
     fn owned_reason(&self, task: TaskNo, level: u16) -> Reason
-        requires { IsTask self.now.state task }
+        requires known { IsTask self.now.state task }
+        requires level { 1 ≤ level }
         ensures { result ≡ owned_reason self.now level (owned self.now.state task) }
     {
         // The contract of this call gives the proof the invariant of the tables.
         let _tasks = self.tasks();
         let mut owned = self.owned(task);
         while let Some(mutex) = owned.next() {
-            if self.ceiling_level(mutex) == level {
+            if self.has_ceiling(mutex, level) {
                 return Reason::Ceiling(mutex);
             }
             if self.donates(mutex, level) {
@@ -86,11 +88,12 @@ impl Tables {
 
     // Returns the first of these mutexes with this ceiling.
     fn first_ceiling(&self, mutexes: &mut Owned, level: u16) -> Option<MutexNo>
-        requires { AllByRecursion (IsMutex self.now.state) mutexes.old }
+        requires known { AllByRecursion (IsMutex self.now.state) mutexes.old }
+        requires level { 1 ≤ level }
         ensures { result ≡ find (λ m. ceiling_of self.now.state m == level) mutexes.old }
     {
         while let Some(mutex) = mutexes.next() {
-            if self.ceiling_level(mutex) == level {
+            if self.has_ceiling(mutex, level) {
                 return Some(mutex);
             }
         }
@@ -108,26 +111,28 @@ impl Tables {
 
     // Returns whether the mutex is an INHERIT one whose first waiter has this priority.
     fn donates(&self, mutex: MutexNo, level: u16) -> bool
-        requires { IsMutex self.now.state mutex }
+        requires known { IsMutex self.now.state mutex }
+        requires level { 1 ≤ level }
         ensures { result ≡ donates_now self.now level mutex }
     {
-        self.is_inherit(mutex) && self.first_level(mutex) == level
+        match self.known_protocol(mutex) {
+            Protocol::Inherit | Protocol::InheritRecursive => {
+                let first = self.known_first(mutex);
+                first.is_some_and(|first| first.prio.get() == level)
+            }
+            Protocol::None | Protocol::Protect(_) => false,
+        }
     }
 
-    // Returns the level of the mutex's ceiling, 0 if it has none.
-    fn ceiling_level(&self, mutex: MutexNo) -> u16
-        requires { IsMutex self.now.state mutex }
-        ensures { result ≡ ceiling_of self.now.state mutex }
+    // Returns whether the mutex is a PROTECT one with this ceiling.
+    fn has_ceiling(&self, mutex: MutexNo, level: u16) -> bool
+        requires known { IsMutex self.now.state mutex }
+        requires level { 1 ≤ level }
+        ensures { result ≡ (ceiling_of self.now.state mutex == level) }
     {
-        let ceiling = self.known_protocol(mutex).ceiling();
-        ceiling.map_or(0, |prio| prio.get())
-    }
-
-    // Returns whether the mutex is an INHERIT one.
-    fn is_inherit(&self, mutex: MutexNo) -> bool
-        requires { IsMutex self.now.state mutex }
-        ensures { result ≡ is_inherit (protocol_of self.now.state mutex) }
-    {
-        self.known_protocol(mutex).is_inherit()
+        match self.known_protocol(mutex) {
+            Protocol::Protect(ceiling) => ceiling.get() == level,
+            Protocol::None | Protocol::Inherit | Protocol::InheritRecursive => false,
+        }
     }
 }

@@ -14,18 +14,18 @@ loop-mutex-init c =
       mine = subst (AllByRecursion (λ m. owner_of v.state m ≡ Some c.args.task)) (sym all) (owned_all v.state c.args.task);
     }
 
-pub ceiling_level-requires : goal.ceiling_level-requires
-ceiling_level-requires c =
+pub has_ceiling-requires-clause-known : goal.has_ceiling-requires-clause-known
+has_ceiling-requires-clause-known c =
     owned_mutex c.args.self.now.state c.in-Some.mutex c.args.task c.tasks-tasks.ensures.ready.sound.lists
     (next_all _ _ _ _ c.in-Some.ensures.steps c.loop-mutex.invariant.mine).0
 
-pub donates-requires : goal.donates-requires
-donates-requires c =
+pub donates-requires-clause-known : goal.donates-requires-clause-known
+donates-requires-clause-known c =
     owned_mutex c.args.self.now.state c.in-Some.mutex c.args.task c.tasks-tasks.ensures.ready.sound.lists
     (next_all _ _ _ _ c.in-Some.ensures.steps c.loop-mutex.invariant.mine).0
 
-pub first_ceiling-requires : goal.first_ceiling-requires
-first_ceiling-requires c =
+pub first_ceiling-requires-clause-known : goal.first_ceiling-requires-clause-known
+first_ceiling-requires-clause-known c =
     owned_mutexes c.args.self.now.state c.args.task c.next.new.self c.tasks-tasks.ensures.ready.sound.lists
     (next_all _ _ _ _ c.in-Some.ensures.steps c.loop-mutex.invariant.mine).1
 
