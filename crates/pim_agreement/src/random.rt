@@ -5,7 +5,6 @@ ghost use Rattle.std.specs.Prelude.{◌≤◌, ◌<◌};
 use crate::scene::{Both, INHERIT, Kind, NONE, RECURSIVE};
 use Kind::Protect;
 use pim_base::{MutexNo, Op, Prio, Step, TaskNo};
-use pim_manager::ChangedTasks;
 use pim_plain::PlainManager;
 use rand_core::utils::NextWord;
 use rand_pcg::Pcg32;
@@ -95,24 +94,19 @@ fn any_step(random: &mut Pcg32, plain: &PlainManager) -> Step {
 }
 
 /// Every task has the same priority and reason, and is listed with them if its priority changed.
-fn expect_same_tasks(
-    rt: &impl Abort,
-    both: &Both<'_, impl Abort>,
-    before: &[Option<Prio>; 7],
-    changed: &ChangedTasks,
-) {
+fn expect_same_tasks(rt: &impl Abort, both: &Both<'_, impl Abort>, before: &[Option<Prio>; 7]) {
     for number in 1..TASKS + 1 {
         let task = TaskNo(number);
         let prio = both.effective(task);
         let reason = both.reason(task);
-        let listed = changed.as_slice().iter().find(|listed| listed.task == task);
+        let listed = both.tracked.changed().find(|listed| listed.task == task);
         let listed = listed.map(|listed| (Some(listed.prio), Some(listed.reason)));
         let expected = if before[number as usize] == prio {
             None
         } else {
             Some((prio, reason))
         };
-        let shown = (both.manager.base(task), listed);
+        let shown = (both.manager().base(task), listed);
         assert_eq!(rt; shown, (both.plain.base(task), expected), "{task:?}");
     }
 }
@@ -122,9 +116,9 @@ fn expect_same_mutexes(rt: &impl Abort, both: &Both<'_, impl Abort>) -> Result<(
     for number in 1..MUTEXES + 1 {
         let mutex = MutexNo(number);
         let shown = (
-            both.manager.protocol(mutex),
-            both.manager.owner(mutex),
-            both.manager.count(mutex),
+            both.manager().protocol(mutex),
+            both.manager().owner(mutex),
+            both.manager().count(mutex),
         );
         let expected = (
             both.plain.protocol(mutex),
@@ -141,7 +135,6 @@ fn expect_same_mutexes(rt: &impl Abort, both: &Both<'_, impl Abort>) -> Result<(
 fn expect_agreement(
     rt: &impl Abort,
     both: &mut Both<'_, impl Abort>,
-    changed: &mut ChangedTasks,
     seed: u64,
 ) -> Result<(), Fail> {
     let mut random = Pcg32::new(seed, 54);
@@ -151,23 +144,18 @@ fn expect_agreement(
         for number in 1..TASKS + 1 {
             before[number as usize] = both.plain.effective(TaskNo(number));
         }
-        both.step_with_changes(step, changed);
-        expect_same_tasks(rt, both, &before, changed);
+        both.step(step);
+        expect_same_tasks(rt, both, &before);
         expect_same_mutexes(rt, both)?;
     }
     Ok(())
 }
 
 fn expect_same_ticket(rt: &impl Abort, both: &Both<'_, impl Abort>) {
-    assert_eq!(rt; both.manager.next_ticket(), both.plain.next_ticket());
+    assert_eq!(rt; both.manager().next_ticket(), both.plain.next_ticket());
 }
 
-fn agree(
-    rt: &impl Abort,
-    alloc: Global,
-    changed: &mut ChangedTasks,
-    seed: u64,
-) -> Result<(), Fail> {
+fn agree(rt: &impl Abort, alloc: Global, seed: u64) -> Result<(), Fail> {
     const BASES: &[u16] = &[10, 20, 30, 30, 50, 90];
     const KINDS: &[Kind] = &[
         RECURSIVE,
@@ -179,16 +167,15 @@ fn agree(
         Protect(95),
     ];
     let mut both = Both::new(rt, alloc, BASES, KINDS)?;
-    expect_agreement(rt, &mut both, changed, seed)?;
+    expect_agreement(rt, &mut both, seed)?;
     expect_same_ticket(rt, &both);
     Ok(())
 }
 
 #[test]
 fn managers_agree_over_5000_random_steps(rt: HostRuntime) -> Result<(), Fail> {
-    let mut changed = ChangedTasks::new(rt.alloc())?;
     for seed in 1u64..6 {
-        agree(&rt, rt.alloc(), &mut changed, seed)?;
+        agree(&rt, rt.alloc(), seed)?;
     }
     Ok(())
 }

@@ -374,7 +374,7 @@ fn expect_last_ticket(rt: &impl Abort, both: &Both<'_, impl Abort>) -> Result<()
     let first = both.queue(MutexNo(1))?.first().map(|waiter| waiter.ticket);
     let wait = both.plain.wait_of(TaskNo(2)).map(|wait| wait.ticket);
     assert_eq!(rt; [first, wait], [Some(u64::MAX - 1); 2]);
-    let next = [both.manager.next_ticket(), both.plain.next_ticket()];
+    let next = [both.manager().next_ticket(), both.plain.next_ticket()];
     assert_eq!(rt; next, [u64::MAX; 2]);
     Ok(())
 }
@@ -429,7 +429,7 @@ fn lock_255_times(both: &mut Both<'_, impl Abort>) {
 }
 
 fn expect_count_1(rt: &impl Abort, both: &Both<'_, impl Abort>) {
-    assert_eq!(rt; both.manager.count(MutexNo(1)), Some(1));
+    assert_eq!(rt; both.manager().count(MutexNo(1)), Some(1));
 }
 
 #[test]

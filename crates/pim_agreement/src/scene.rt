@@ -6,7 +6,7 @@ use pim_base::{
     MAX_MUTEXES, MAX_TASKS, MutexNo, Op, Prio, Protocol, Reason, Refusal, Reply, Step, TaskNo,
     Waiter,
 };
-use pim_manager::{ChangedTasks, Done, Manager};
+use pim_manager::{Done, Manager, TrackedManager};
 use pim_plain::PlainManager;
 use std::alloc::Global;
 use std::process::Abort;
@@ -174,7 +174,7 @@ fn protocols(alloc: Global, kinds: &[Kind]) -> Result<Vec<Protocol>, Fail> {
 /// The manager and the plain one, which make the same steps. Both must return the same.
 #[derive(Drop)]
 pub struct Both<'a, R> {
-    pub manager: Manager,
+    pub tracked: Box<TrackedManager>,
     pub plain: PlainManager,
     rt: &'a R,
     alloc: Global,
@@ -219,10 +219,10 @@ impl<'a, R: Abort> Both<'a, R> {
         if MAX_TASKS < prios.len() || MAX_MUTEXES < protocols.len() {
             return Err("at most 256 tasks and 256 mutexes")?;
         }
-        let manager = Manager::with_next_ticket(alloc, prios, protocols, next)?;
+        let tracked = TrackedManager::with_next_ticket(alloc, prios, protocols, next)?;
         let plain = PlainManager::new(alloc, prios, protocols, next)?;
         Ok(Both {
-            manager,
+            tracked,
             plain,
             rt,
             alloc,
@@ -231,35 +231,33 @@ impl<'a, R: Abort> Both<'a, R> {
 
     /// Makes the step, to which both must reply the same.
     pub fn step(&mut self, step: Step) -> Done {
-        let done = self.manager.step(step);
+        let done = self.tracked.step(step);
         assert_eq!(self.rt; self.plain.step(step), done.reply, "{step:?}");
         done
     }
 
-    /// Makes the step, and lists the tasks whose effective priority the manager changed.
-    pub fn step_with_changes(&mut self, step: Step, changed: &mut ChangedTasks) -> Done {
-        let done = self.manager.step_with_changes(step, changed);
-        assert_eq!(self.rt; self.plain.step(step), done.reply, "{step:?}");
-        done
+    /// Returns the manager.
+    pub fn manager(&self) -> &Manager {
+        self.tracked.manager()
     }
 
     /// Returns the effective priority of the task.
     pub fn effective(&self, task: TaskNo) -> Option<Prio> {
-        let prio = self.manager.effective(task);
+        let prio = self.manager().effective(task);
         assert_eq!(self.rt; self.plain.effective(task), prio, "{task:?}");
         prio
     }
 
     /// Returns why the task has its effective priority.
     pub fn reason(&self, task: TaskNo) -> Option<Reason> {
-        let reason = self.manager.reason(task);
+        let reason = self.manager().reason(task);
         assert_eq!(self.rt; self.plain.reason(task), reason, "{task:?}");
         reason
     }
 
     /// Returns the waiters of the mutex, in order.
     pub fn queue(&self, mutex: MutexNo) -> Result<&[Waiter], Fail> {
-        let waiters = self.manager.waiters(mutex).ok_or("a known mutex")?;
+        let waiters = self.manager().waiters(mutex).ok_or("a known mutex")?;
         let queue = self.plain.queue_of(self.alloc, mutex)?;
         let is_same = queue.as_slice() == waiters;
         drop(queue);

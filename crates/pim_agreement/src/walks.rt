@@ -6,7 +6,7 @@ use Answer::{Granted, Handed, Queued, Refused, Set, Withdrawn};
 use Refusal::{Deadlock, NoTask};
 use Seen::{Base, Donated};
 use pim_base::{MutexNo, Prio, Reason, Refusal, Reply, TaskNo, Waiter};
-use pim_manager::{ChangedTasks, Done, Manager};
+use pim_manager::{Done, Manager};
 use std::alloc::Global;
 use std::process::Abort;
 use std::test::Fail;
@@ -284,15 +284,10 @@ fn chain_of_all_tasks<'a, R: Abort>(rt: &'a R, alloc: Global) -> Result<Both<'a,
 }
 
 /// Makes the step, which changes as many priorities as it has visits.
-fn expect_walk(
-    rt: &impl Abort,
-    both: &mut Both<'_, impl Abort>,
-    changed: &mut ChangedTasks,
-    row: &Row,
-) {
+fn expect_walk(rt: &impl Abort, both: &mut Both<'_, impl Abort>, row: &Row) {
     let (step, reply, visits) = (row.0.step(), row.1.reply(), row.2);
-    let done = both.step_with_changes(step, changed);
-    let shown = (done, changed.as_slice().len());
+    let done = both.step(step);
+    let shown = (done, both.tracked.changed().count());
     let expected = (Done { reply, visits }, visits as usize);
     assert_eq!(rt; shown, expected, "{step:?}");
 }
@@ -308,7 +303,7 @@ fn expect_donated_by_101(rt: &impl Abort, both: &Both<'_, impl Abort>) {
     assert_eq!(rt; both.reason(TaskNo(100)), donated);
 }
 
-fn raise_and_lower(rt: &impl Abort, both: &mut Both<'_, impl Abort>, changed: &mut ChangedTasks) {
+fn raise_and_lower(rt: &impl Abort, both: &mut Both<'_, impl Abort>) {
     const RAISED: &[Row] = &[
         Row(Lock(256, 255), Queued, 255, &[]),
         Row(Lock(1, 255), Refused(Deadlock), 0, &[]),
@@ -317,11 +312,11 @@ fn raise_and_lower(rt: &impl Abort, both: &mut Both<'_, impl Abort>, changed: &m
     ];
     const LOWERED: Row = Row(SetBase(1, 256, 5), Set, 256, &[]);
     for row in RAISED {
-        expect_walk(rt, both, changed, row);
+        expect_walk(rt, both, row);
     }
     expect_donated_by_101(rt, both);
     expect_ends(rt, both, 99, 99);
-    expect_walk(rt, both, changed, &LOWERED);
+    expect_walk(rt, both, &LOWERED);
     expect_ends(rt, both, 10, 5);
 }
 
@@ -329,8 +324,7 @@ fn raise_and_lower(rt: &impl Abort, both: &mut Both<'_, impl Abort>, changed: &m
 #[test]
 fn chain_of_all_tasks_is_raised_and_lowered(rt: HostRuntime) -> Result<(), Fail> {
     let mut both = chain_of_all_tasks(&rt, rt.alloc())?;
-    let mut changed = ChangedTasks::new(rt.alloc())?;
-    raise_and_lower(&rt, &mut both, &mut changed);
+    raise_and_lower(&rt, &mut both);
     Ok(())
 }
 
@@ -348,7 +342,7 @@ fn expect_lowered(rt: &impl Abort, manager: &Manager, lowered: u16) {
     }
 }
 
-fn cut(rt: &impl Abort, both: &mut Both<'_, impl Abort>, changed: &mut ChangedTasks) {
+fn cut(rt: &impl Abort, both: &mut Both<'_, impl Abort>) {
     const CUTS: &[(Row, u16)] = &[
         (Row(Lock(256, 255), Queued, 255, &[]), 0),
         (Row(Cancel(1, 128), Withdrawn, 127, &[]), 127),
@@ -356,16 +350,15 @@ fn cut(rt: &impl Abort, both: &mut Both<'_, impl Abort>, changed: &mut ChangedTa
         (Row(Cancel(1, 2), Withdrawn, 1, &[]), 1),
     ];
     for (row, lowered) in CUTS {
-        expect_walk(rt, both, changed, row);
-        expect_lowered(rt, &both.manager, *lowered);
+        expect_walk(rt, both, row);
+        expect_lowered(rt, both.manager(), *lowered);
     }
 }
 
 #[test]
 fn withdrawal_from_the_middle_of_all_tasks_cuts_their_chain(rt: HostRuntime) -> Result<(), Fail> {
     let mut both = chain_of_all_tasks(&rt, rt.alloc())?;
-    let mut changed = ChangedTasks::new(rt.alloc())?;
-    cut(&rt, &mut both, &mut changed);
+    cut(&rt, &mut both);
     Ok(())
 }
 
@@ -406,7 +399,7 @@ fn raise_waiters(rt: &impl Abort, both: &mut Both<'_, impl Abort>) -> Result<(),
         let reply = Reply::Set;
         let done = both.step(set_base(1, number, 50));
         assert_eq!(rt; done, Done { reply, visits }, "{number}");
-        expect_donated(rt, &both.manager, number)?;
+        expect_donated(rt, both.manager(), number)?;
     }
     both.queue(MutexNo(1))?;
     Ok(())

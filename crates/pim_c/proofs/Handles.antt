@@ -9,7 +9,8 @@ use base.Logic.{ent, sep, guard, guard_i, via, snd∗}
 use base.Fml.{Lft, GName, Share, Fml, fsep, flft, fobs, fauth, fbor, fobor}
 use contract.Monad.{fact_use}
 use types.Logic.{Logic, sem}
-use types.Kit.{Item, Goal, Soaks, Seq, Step, step, ‵, ◌$◌, ◌∵◌, !, qed, move, drop, fsplit, fsplit3, fjoin, fpick, fpack, feq_i, feq_l, use1, learn, given, rewrite, done}
+use types.Kit.{Item, Goal, Soaks, Seq, Step, step, ‵, ◌$◌, ◌∵◌, !, qed, move, drop, fsplit, fsplit3, fjoin, fpick}
+use types.Kit.{fpack, feq_i, feq_l, use1, learn, given, rewrite, done}
 use types.SemTy.{Body}
 use denote.RattleType.{RattleType, Valss}
 use denote.Builtin.{RawPtr}
@@ -31,7 +32,7 @@ use Rattle.std.proofs.cell.Inside.{Good}
 use Rattle.pim_c.specs.Lending.{with_held}
 use Rattle.pim_c.specs.Ownership.{owns_held}
 use Rattle.pim_c.specs.contracts.handle.Handle as handle
-use Rattle.pim_c.specs.contracts.held.Held as held
+use Rattle.pim_manager.specs.contracts.tracked_manager.TrackedManager as tracked
 use Rattle.pim_c.proofs.RawBoxes.{struct_of_two, memory, memory_in_a_block, allocator}
 
 -- the allocator
@@ -43,7 +44,7 @@ LZ = heap_laws.the_row_laws
 
 -- what a handle leads to
 abbrev pub R : RattleType
-R = held.the_row
+R = tracked.the_row
 
 abbrev pub Handle : RattleType
 Handle = handle.the_row

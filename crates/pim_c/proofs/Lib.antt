@@ -1,4 +1,3 @@
-mod Changes
 mod Copies
 mod Handles
 mod Priorities

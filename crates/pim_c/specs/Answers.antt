@@ -1,12 +1,13 @@
 -- The answer to a step in C.
 use Rattle.std.specs.Prelude.{◌≡◌, ◌≤◌, ◌+◌, ◌*◌, Option, Some, None}
+use Rattle.std.specs.Option.{option_map}
 use Rattle.pim_base.specs.Counts.{changed_task_count, handed_mutex_count}
 use Rattle.pim_base.specs.State.{State}
 use Rattle.pim_base.specs.Steps.{reply_of, after}
 use Rattle.pim_base.specs.declared.steps.Step.{Step}
 use Rattle.pim_c.specs.Numbers.{reply_number, reply_refusal, reply_detail}
 use Rattle.pim_c.specs.declared.numbers.TheConstants.{NO_MANAGER}
-use Rattle.pim_c.specs.Held.{HeldView}
+use Rattle.pim_manager.specs.Changed.{TrackedState, stepped}
 use Rattle.pim_c.specs.declared.answer.CAnswer.{CAnswer}
 
 -- the answer of a handle without a manager
@@ -22,6 +23,10 @@ pub record IsAnswer (S : State) (step : Step) (a : CAnswer) : Type 0 where
   pub most : a.visits ≤ 1 + changed_task_count S (after S step) + 2 * handed_mutex_count S (after S step)
 
 -- the answer to the step, also of a handle without a manager
-abbrev pub IsAnswered : Option HeldView → Step → CAnswer → Type 0
+abbrev pub IsAnswered : Option TrackedState → Step → CAnswer → Type 0
 IsAnswered None step a = a ≡ no_answer
-IsAnswered (Some h) step a = IsAnswer h.manager step a
+IsAnswered (Some h) step a = IsAnswer h.state step a
+
+-- the value behind a handle after the step, or None if it has no manager
+abbrev pub after_step : Option TrackedState → Step → Option TrackedState
+after_step held step = option_map (λ h. stepped h step) held

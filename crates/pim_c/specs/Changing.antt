@@ -5,7 +5,7 @@ use Rattle.pim_base.specs.Reports.{refusal_number}
 use Rattle.pim_base.specs.State.{State, with_protocol}
 use Rattle.pim_manager.specs.Protocols.{protocol_refusal}
 use Rattle.pim_c.specs.Answers.{no_answer}
-use Rattle.pim_c.specs.Held.{HeldView}
+use Rattle.pim_manager.specs.Changed.{TrackedState}
 use Rattle.pim_ffi.specs.Protocols.{protocol_meant}
 use Rattle.pim_c.specs.declared.answer.CAnswer.{CAnswer}
 use Rattle.pim_c.specs.declared.numbers.TheConstants.{SET, REFUSED, REFUSED_NO_PROTOCOL}
@@ -23,17 +23,17 @@ abbrev pub set_or_refused : ℕ → CAnswer
 set_or_refused r = record { kind = if r == 0 then SET else REFUSED; refusal = r; number = 0; visits = 0 }
 
 -- the answer, also of a handle without a manager
-abbrev pub protocol_answer : Option HeldView → ℕ → CProtocol → CAnswer
-protocol_answer held m p = option_map_or (λ (h : HeldView). set_or_refused (c_protocol_refusal h.manager m p)) held no_answer
+abbrev pub protocol_answer : Option TrackedState → ℕ → CProtocol → CAnswer
+protocol_answer held m p = option_map_or (λ (h : TrackedState). set_or_refused (c_protocol_refusal h.state m p)) held no_answer
 
 -- m has the protocol that C means, and no task is listed as changed
-abbrev pub with_meant : HeldView → ℕ → CProtocol → HeldView
-with_meant h m p = option_map_or (λ q. record { manager = with_protocol h.manager m q; changed = [] }) (protocol_meant p) h
+abbrev pub with_meant : TrackedState → ℕ → CProtocol → TrackedState
+with_meant h m p = option_map_or (λ q. record { state = with_protocol h.state m q; changed = [] }) (protocol_meant p) h
 
 -- the value after the change, or what it was if that is refused
-abbrev pub reprotocoled : HeldView → ℕ → CProtocol → HeldView
-reprotocoled h m p = if c_protocol_refusal h.manager m p == 0 then with_meant h m p else h
+abbrev pub reprotocoled : TrackedState → ℕ → CProtocol → TrackedState
+reprotocoled h m p = if c_protocol_refusal h.state m p == 0 then with_meant h m p else h
 
 -- the value behind a handle after the change, or None if it has no manager
-abbrev pub after_protocol : Option HeldView → ℕ → CProtocol → Option HeldView
+abbrev pub after_protocol : Option TrackedState → ℕ → CProtocol → Option TrackedState
 after_protocol held m p = option_map (λ h. reprotocoled h m p) held

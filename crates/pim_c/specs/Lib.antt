@@ -1,7 +1,6 @@
 pub mod Answers
 pub mod Changing
 pub mod Getters
-pub mod Held
 pub mod Lending
 pub mod Lists
 pub mod Making

@@ -6,12 +6,12 @@ use Rattle.pim_base.specs.declared.steps.Waiter.{Waiter}
 use Rattle.pim_manager.specs.Known.{of_mutex}
 use Rattle.pim_manager.specs.declared.changed_tasks.ChangedTask.{ChangedTask}
 use Rattle.pim_c.specs.Getters.{in_manager}
-use Rattle.pim_c.specs.Held.{HeldView}
+use Rattle.pim_manager.specs.Changed.{TrackedState}
 
 -- the waiters of the mutex, or no waiters if the mutex is unknown
-abbrev pub waiters_in : Option HeldView → ℕ → List Waiter
+abbrev pub waiters_in : Option TrackedState → ℕ → List Waiter
 waiters_in held m = in_manager held [] (λ S. unwrap_or (of_mutex S m (queue_of S m)) [])
 
 -- the tasks that the last step changed
-abbrev pub changed_in : Option HeldView → List ChangedTask
-changed_in held = option_map_or (λ (h : HeldView). h.changed) held []
+abbrev pub changed_in : Option TrackedState → List ChangedTask
+changed_in held = option_map_or (λ (h : TrackedState). h.changed) held []

@@ -1,12 +1,14 @@
 //! A change that is no step.
 
 ghost use Rattle.std.specs.Prelude.{◌≡◌};
-ghost use Rattle.pim_c.specs.Changing.{protocol_answer, after_protocol};
+ghost use Rattle.pim_c.specs.Changing.{after_protocol, c_protocol_refusal, protocol_answer, reprotocoled, set_or_refused};
 
 use crate::answer::CAnswer;
 use crate::handle::Handle;
-use pim_base::MutexNo;
+use crate::numbers::REFUSED_NO_PROTOCOL;
+use pim_base::{MutexNo, Reply};
 use pim_ffi::CProtocol;
+use pim_manager::TrackedManager;
 use std::alloc::Global;
 
 /// Gives a free mutex the protocol of this kind, as where a mutex is destroyed and another one is initialized in its
@@ -25,9 +27,23 @@ pub extern "C" fn pim_set_protocol(
     match handle.take(alloc) {
         None => CAnswer::none(),
         Some(mut held) => {
-            let answer = held.set_protocol(MutexNo(mutex), CProtocol { kind, ceiling });
+            let answer = set_protocol(&mut held, MutexNo(mutex), CProtocol { kind, ceiling });
             handle.put(held);
             answer
         }
+    }
+}
+
+/// Gives a free mutex this protocol. Changes nothing if that is refused.
+fn set_protocol(held: &mut TrackedManager, mutex: MutexNo, protocol: CProtocol) -> CAnswer
+    ensures answer { result ≡ set_or_refused (c_protocol_refusal held.old.state mutex protocol) }
+    ensures state { held.new ≡ reprotocoled held.old mutex protocol }
+{
+    let Some(protocol) = protocol.read() else {
+        return CAnswer::refused(REFUSED_NO_PROTOCOL);
+    };
+    match held.set_protocol(mutex, protocol) {
+        Ok(()) => CAnswer::of(Reply::Set, 0),
+        Err(refusal) => CAnswer::of(Reply::Refused(refusal), 0),
     }
 }

@@ -1,7 +1,8 @@
 //! The getters, which change nothing.
 
 ghost use Rattle.std.specs.Prelude.{◌≡◌};
-ghost use Rattle.pim_c.specs.Getters.{base_in, count_in, effective_in, mutex_count, or_zero, owner_in, protocol_in, reason_in, task_count, ticket_in, waits_for_in};
+ghost use Rattle.pim_c.specs.Getters.{base_in, count_in, effective_in, mutex_count, or_zero, owner_in, protocol_in};
+ghost use Rattle.pim_c.specs.Getters.{reason_in, task_count, ticket_in, waits_for_in};
 
 use crate::handle::Handle;
 use crate::reason::CReason;
@@ -68,7 +69,7 @@ pub extern "C" fn pim_base_prio(handle: &mut Handle, task: u16) -> u16
     }
 }
 
-/// Returns why the task has its effective priority. It reads each mutex that the task owns at most twice.
+/// Returns why the task has its effective priority. It reads each mutex that the task owns once.
 #[unsafe(no_mangle)]
 pub extern "C" fn pim_task_reason(handle: &mut Handle, task: u16) -> CReason
     ensures reason { result ≡ reason_in handle.old.held task }

@@ -5,10 +5,10 @@ ghost use Rattle.std.specs.Borrow.{sem};
 ghost use Rattle.std.specs.Option.{option_copied_mut, option_map};
 ghost use Rattle.std.specs.Box.{box_value};
 ghost use Rattle.pim_c.specs.Ownership.{raw_value};
-ghost use Rattle.pim_c.specs.Held.{HeldView};
+ghost use Rattle.pim_manager.specs.Changed.{TrackedState};
 
-use crate::held::Held;
 use crate::raw_box::RawBox;
+use pim_manager::TrackedManager;
 use std::alloc::Global;
 use std::marker::Model;
 use std::mem::{forget, replace};
@@ -22,12 +22,12 @@ use std::ptr::null_mut;
 pub struct Handle {
     at: *mut u8,
     alloc: Global,
-    pub ghost held: { Option HeldView },
+    pub ghost held: { Option TrackedState },
 }
 
 impl Model for Handle {
     ghost use Rattle.pim_c.specs.Ownership.{owns_held};
-    ghost use Rattle.pim_c.specs.Held.{HeldView};
+    ghost use Rattle.pim_manager.specs.Changed.{TrackedState};
 
     ghost also_owns = { λ h. owns_held h.alloc h.held h.at };
 }
@@ -56,7 +56,7 @@ impl Handle {
     /// Puts a manager into an empty handle.
     // A plain assignment would test at run time whether there is a manager to drop. It is proved that there is none.
     #[inline(always)]
-    pub fn put(&mut self, held: Box<Held, Global>)
+    pub fn put(&mut self, held: Box<TrackedManager, Global>)
         requires { self.old.held ≡ None }
         ensures { self.new.held ≡ Some held.value }
     {
@@ -64,7 +64,7 @@ impl Handle {
     }
 
     /// Takes the manager out, if there is one.
-    pub fn take(&mut self, alloc: Global) -> Option<Box<Held, Global>>
+    pub fn take(&mut self, alloc: Global) -> Option<Box<TrackedManager, Global>>
         ensures held { option_map box_value result ≡ self.old.held }
         ensures empty { self.new.held ≡ None }
     {
@@ -75,7 +75,7 @@ impl Handle {
     }
 
     /// Returns the manager, if there is one. It stays in the handle.
-    pub fn get_mut(&mut self) -> Option<&mut Held>
+    pub fn get_mut(&mut self) -> Option<&mut TrackedManager>
         ensures* writes_back { sem 𝓛 (lends_get self.entry result) }
         ensures value { option_copied_mut result ≡ self.old.held }
     {
@@ -96,17 +96,17 @@ impl Handle {
     }
 
     /// Returns the manager. It stays in the handle.
-    fn held_mut(&mut self) -> &mut Held
+    fn held_mut(&mut self) -> &mut TrackedManager
         requires { self.old.held ≢ None }
         ensures* writes_back { sem 𝓛 (lends_held self.entry result) }
         ensures value { Some result.now ≡ self.old.held }
     {
-        let at = self.at as *mut Held;
+        let at = self.at as *mut TrackedManager;
         unsafe { &mut *at }
     }
 
     /// Returns the handle of this manager.
-    fn from_raw(raw: RawBox<Held, Global>) -> Handle
+    fn from_raw(raw: RawBox<TrackedManager, Global>) -> Handle
         ensures { result.held ≡ Some raw.value }
     {
         let RawBox { at, alloc } = raw;
@@ -117,14 +117,14 @@ impl Handle {
     }
 
     /// Returns the manager of this handle, if there is one.
-    fn into_raw(self) -> Option<RawBox<Held, Global>>
+    fn into_raw(self) -> Option<RawBox<TrackedManager, Global>>
         ensures { option_map raw_value result ≡ self.held }
     {
         let Handle { at, alloc } = self;
         if at.is_null() {
             None
         } else {
-            let at = at as *mut Held;
+            let at = at as *mut TrackedManager;
             Some(RawBox { at, alloc })
         }
     }

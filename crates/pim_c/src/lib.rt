@@ -20,7 +20,6 @@ mod changed_task;
 mod changing;
 mod getters;
 mod handle;
-mod held;
 mod lists;
 mod making;
 mod numbers;

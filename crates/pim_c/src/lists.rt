@@ -9,6 +9,7 @@ use crate::changed_task::CChangedTask;
 use crate::handle::Handle;
 use crate::waiter::CWaiter;
 use pim_base::{MutexNo, Waiter};
+use pim_manager::TrackedManager;
 
 /// Copies the waiters for the mutex, the next owner first, as many as there is room for. Returns how many wait, or 0
 /// for an unknown mutex.
@@ -37,7 +38,7 @@ pub extern "C" fn pim_changed(handle: &mut Handle, to: &mut [CChangedTask]) -> u
 {
     match handle.get_mut() {
         None => 0,
-        Some(held) => held.copy_changed(to),
+        Some(held) => copy_changed(held, to),
     }
 }
 
@@ -52,4 +53,20 @@ fn copy_waiters(from: &[Waiter], to: &mut [CWaiter]) -> usize
         to[place] = CWaiter::of(from[place]);
     }
     from.len()
+}
+
+/// Copies the tasks whose effective priority the manager's last step changed, as many as there is room for. Returns how
+/// many there are.
+fn copy_changed(held: &TrackedManager, to: &mut [CChangedTask]) -> usize
+    ensures count { result ≡ length held.now.changed }
+    ensures copied { to.new ≡ copied (map c_changed_task held.now.changed) to.old }
+{
+    let mut count = 0;
+    for changed in held.changed() {
+        if count < to.len() {
+            to[count] = CChangedTask::of(changed);
+        }
+        count += 1;
+    }
+    count
 }

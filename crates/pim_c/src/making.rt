@@ -6,13 +6,13 @@ ghost use Rattle.pim_ffi.specs.Protocols.{is_priority, priority_meant};
 ghost use Rattle.pim_c.specs.Making.{first_fault, is_protocol, made, priorities_meant, protocols_meant};
 
 use crate::handle::Handle;
-use crate::held::Held;
 use crate::numbers::{
     FAULT_BAD_BASE, FAULT_BAD_PROTOCOL, FAULT_NO_MEMORY, FAULT_OCCUPIED, FAULT_TOO_MANY_MUTEXES,
     FAULT_TOO_MANY_TASKS, MADE,
 };
 use pim_base::{MAX_MUTEXES, MAX_TASKS, Prio, Protocol};
 use pim_ffi::CProtocol;
+use pim_manager::TrackedManager;
 use std::alloc::{AllocError, Global};
 
 /// Makes a manager of tasks with these base priorities and of mutexes with these protocols. All mutexes are free, no
@@ -91,13 +91,13 @@ fn hold(
     alloc: Global,
     bases: &[u16],
     protocols: &[CProtocol],
-) -> Result<Box<Held, Global>, AllocError>
+) -> Result<Box<TrackedManager, Global>, AllocError>
     requires { list_all is_priority bases.now ≡ true }
     ensures { IfOk result (λ held. held.value ≡ made bases.now protocols.now) }
 {
     let bases = read_bases(alloc, bases)?;
     let protocols = read_protocols(alloc, protocols)?;
-    match Held::new(alloc, &bases, &protocols) {
+    match TrackedManager::new(alloc, &bases, &protocols) {
         Ok(held) => Ok(held),
         Err(_) => Err(AllocError),
     }

@@ -1,12 +1,12 @@
 //! The steps, a function each.
 
 ghost use Rattle.std.specs.Prelude.{◌≡◌};
-ghost use Rattle.pim_c.specs.Held.{after_step};
-ghost use Rattle.pim_c.specs.Answers.{IsAnswered};
+ghost use Rattle.pim_c.specs.Answers.{IsAnswered, after_step};
 
 use crate::answer::CAnswer;
 use crate::handle::Handle;
 use pim_base::{MutexNo, Op, Step, TaskNo};
+use pim_manager::Done;
 use std::alloc::Global;
 
 /// `pthread_mutex_lock`: the task locks the mutex if it is free, or if the task owns it and it is recursive. Else the
@@ -103,9 +103,9 @@ fn make_step(alloc: Global, handle: &mut Handle, task: u16, op: Op) -> CAnswer
                 actor: TaskNo(task),
                 op,
             };
-            let answer = held.step(step);
+            let Done { reply, visits } = held.step(step);
             handle.put(held);
-            answer
+            CAnswer::of(reply, visits)
         }
     }
 }

@@ -5,7 +5,7 @@ use crate::timing::Timing;
 use pim_base::{Op, Prio, Protocol, Reason, Step, TaskNo};
 use pim_import::{Entrance, Imported, Piece};
 use pim_kernel::Mark;
-use pim_manager::{ChangedTasks, Manager};
+use pim_manager::{Manager, TrackedManager};
 use std::alloc::{AllocError, Global};
 
 /// The priority of a thread from some step on.
@@ -48,9 +48,8 @@ pub fn courses_of(
     timing: &Timing,
 ) -> Result<Vec<Course>, AllocError> {
     let mut walk = Walk::new(alloc, imported)?;
-    let mut changed = ChangedTasks::new(alloc)?;
     for piece in &imported.performed.pieces {
-        walk.follow(alloc, imported, timing, piece, &mut changed)?;
+        walk.follow(alloc, imported, timing, piece)?;
     }
     let Walk { courses, .. } = walk;
     Ok(courses)
@@ -80,10 +79,10 @@ impl Walk {
         imported: &Imported,
         timing: &Timing,
         piece: &Piece,
-        changed: &mut ChangedTasks,
     ) -> Result<(), AllocError> {
         let replay = &piece.replay;
-        let Ok(mut manager) = Manager::new(alloc, replay.bases(), replay.protocols()) else {
+        let made = TrackedManager::new(alloc, replay.bases(), replay.protocols());
+        let Ok(mut tracked) = made else {
             return Err(AllocError);
         };
         let entries = replay.entries();
@@ -91,13 +90,13 @@ impl Walk {
             let time = piece.times.get(place).copied().unwrap_or(0);
             let bounds = timing.of_step(time);
             if place >= piece.restoring {
-                self.enter(imported, &manager, bounds)?;
+                self.enter(imported, tracked.manager(), bounds)?;
                 self.steps = self.steps.saturating_add(1);
             }
             let step = &entries[place].step;
-            let set = set_by(step, &manager);
-            let _done = manager.step_with_changes(*step, changed);
-            for one in changed.as_slice() {
+            let set = set_by(step, tracked.manager());
+            let _done = tracked.step(*step);
+            for one in tracked.changed() {
                 let is_set = one.task == set;
                 self.note(one.task, Some(one.prio), one.reason, bounds, is_set)?;
             }

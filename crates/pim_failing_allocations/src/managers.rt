@@ -2,7 +2,7 @@
 
 use crate::{BEFORE, IN_CALL};
 use pim_base::{MutexNo, Op, Prio, Protocol, Refusal, Reply, Step, TaskNo};
-use pim_manager::{ChangedTasks, MakeFault, Manager};
+use pim_manager::{MakeFault, Manager, TrackedManager};
 use std::alloc::Global;
 use std::process::Abort;
 use std::test::Fail;
@@ -35,8 +35,8 @@ pub fn waited_for(alloc: Global) -> Result<Manager, Fail> {
     Ok(manager)
 }
 
-/// Returns the manager, unless an allocation failed, which must be the fault.
-fn made(rt: &impl Abort, answer: Result<Manager, MakeFault>) -> Result<Manager, Fail> {
+/// Returns what was made, unless an allocation failed, which must be the fault.
+fn made<T: Drop>(rt: &impl Abort, answer: Result<T, MakeFault>) -> Result<T, Fail> {
     match answer {
         Ok(manager) => Ok(manager),
         Err(fault) => {
@@ -110,16 +110,17 @@ fn run_replies_out_of_memory(rt: HostRuntime) -> Result<(), Fail> {
 }
 
 #[test]
-fn changed_tasks_out_of_memory(rt: HostRuntime) -> Result<(), Fail> {
-    let mut changed = ChangedTasks::new(rt.alloc()).map_err(|_error| IN_CALL)?;
-    let mut manager = waited_for(rt.alloc())?;
+fn tracked_manager_out_of_memory(rt: HostRuntime) -> Result<(), Fail> {
+    let answer = TrackedManager::new(rt.alloc(), &bases()?, &PROTOCOLS);
+    let mut tracked = made(&rt, answer)?;
+    tracked.step(lock(1));
+    tracked.step(lock(2));
     let op = Op::SetBase(TaskNo(2), 50);
     let step = Step {
         actor: TaskNo(1),
         op,
     };
-    manager.step_with_changes(step, &mut changed);
-    drop(manager);
-    assert_eq!(rt; changed.as_slice().len(), 2);
+    tracked.step(step);
+    assert_eq!(rt; tracked.changed().count(), 2);
     Ok(())
 }

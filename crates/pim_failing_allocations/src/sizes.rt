@@ -2,7 +2,7 @@
 //! by hand.
 
 use pim_base::{MutexNo, Op, Prio, Protocol, Reason, Reply, Step, TaskNo};
-use pim_manager::{ChangedTask, ChangedTasks, Manager};
+use pim_manager::{Manager, TrackedManager};
 use std::alloc::Global;
 use std::process::Abort;
 use std::test::Fail;
@@ -206,23 +206,23 @@ fn replies_of_every_number_of_steps(rt: HostRuntime) -> Result<(), Fail> {
 }
 
 /// Makes a manager whose tasks are at base 10 and wait for the one before, but the first.
-fn chain(alloc: Global, tasks: Size) -> Result<Manager, Fail> {
+fn chain(alloc: Global, tasks: Size) -> Result<Box<TrackedManager>, Fail> {
     let bases = vec![in alloc; Prio::new(10).ok_or("a priority")?; tasks.count as usize]?;
-    let mut manager = Manager::new(alloc, &bases, &inherit(alloc, tasks)?)?;
-    for number in 1..manager.tasks() + 1 {
-        manager.step(step(number, Op::Lock(MutexNo(number))));
+    let mut tracked = TrackedManager::new(alloc, &bases, &inherit(alloc, tasks)?)?;
+    for number in 1..tracked.manager().tasks() + 1 {
+        tracked.step(step(number, Op::Lock(MutexNo(number))));
     }
-    for number in 1..manager.tasks() {
-        manager.step(step(number + 1, Op::Lock(MutexNo(number))));
+    for number in 1..tracked.manager().tasks() {
+        tracked.step(step(number + 1, Op::Lock(MutexNo(number))));
     }
-    Ok(manager)
+    Ok(tracked)
 }
 
 /// Tests that so many tasks are raised to 50: the last by its base, and each other one by the next.
-fn expect_raised(rt: &impl Abort, changed: &[ChangedTask], count: u16) {
-    assert_eq!(rt; changed.len(), count as usize);
+fn expect_raised(rt: &impl Abort, tracked: &TrackedManager, count: u16) {
+    assert_eq!(rt; tracked.changed().count(), count as usize);
     let numbers = (1u16..257).zip(2u16..258);
-    for ((number, next), listed) in numbers.zip(changed) {
+    for ((number, next), listed) in numbers.zip(tracked.changed()) {
         let reason = if number == count {
             Reason::Base
         } else {
@@ -234,11 +234,10 @@ fn expect_raised(rt: &impl Abort, changed: &[ChangedTask], count: u16) {
 }
 
 fn expect_changed(rt: &impl Abort, alloc: Global, tasks: Size) -> Result<(), Fail> {
-    let mut manager = chain(alloc, tasks)?;
-    let mut changed = ChangedTasks::new(alloc)?;
+    let mut tracked = chain(alloc, tasks)?;
     let raise = step(1, Op::SetBase(TaskNo(tasks.count), 50));
-    let done = manager.step_with_changes(raise, &mut changed);
-    expect_raised(rt, changed.as_slice(), tasks.count);
+    let done = tracked.step(raise);
+    expect_raised(rt, &tracked, tasks.count);
     let visits = u32::from(tasks.count);
     assert_eq!(rt; (done.reply, done.visits), (Reply::Set, visits));
     Ok(())

@@ -18,42 +18,40 @@ use Rattle.pim_judge.specs.Printed.{line_of, shown_lines}
 use Rattle.pim_judge.specs.Taken.{Takes}
 use Rattle.pim_judge.specs.declared.fault.Fault.{Fault}
 use Rattle.pim_judge.specs.declared.printer.Printer.{Printer}
-use Rattle.pim_manager.specs.Changed.{changed_task}
-use Rattle.pim_manager.specs.declared.changed_tasks.ChangedTask.{ChangedTask}
+use Rattle.pim_manager.specs.Changed.{TrackedState, changed_task, listed, stepped}
 
 -- ---- what a step shows
 
 -- what is listed of a task has the line of that task
-lines_are : (S : State) (ts : List ℕ) → flat_map line_of (map (changed_task S) ts) ≡ flat_map (change_line S) ts
+lines_are : (S : State) (ts : List ℕ) → flat_map line_of (listed S ts) ≡ flat_map (change_line S) ts
 unfolding change_line changed_line
 lines_are S ts = flat_map-map line_of (changed_task S) ts
 
 -- with the reply and the changes of a step these are its lines
 shown_is :
-    (k : ℕ) (S T : State) (line : StepLine) (reply : Reply) (cs : List ChangedTask)
-    → reply ≡ reply_of S line.step
-    → T ≡ after S line.step
-    → cs ≡ map (changed_task T) (changed_tasks S T)
-    → shown_lines k reply line.recorded cs ≡ step_lines k S line
+    (k : ℕ) (h g : TrackedState) (line : StepLine) (reply : Reply)
+    → reply ≡ reply_of h.state line.step
+    → g ≡ stepped h line.step
+    → shown_lines k reply line.recorded g.changed ≡ step_lines k h.state line
 unfolding shown_lines
-shown_is k S T line reply cs is next are =
-    let shown : Reply → List ℕ → List ℕ = λ r bytes.
+shown_is k h g line reply is next =
+    let T = after h.state line.step in let changed = changed_tasks h.state T in
+    let shown : List ℕ → Reply → List ℕ = λ bytes r.
     if agrees line.recorded r then reply_line k r ++ bytes else rejection_lines k r line.recorded in
-    let changes : State → List ℕ = λ U. flat_map (change_line U) (changed_tasks S U) in
-    ap (shown reply) (ap (flat_map line_of) are ∙ lines_are T (changed_tasks S T) ∙ ap changes next)
-    ∙ ap (λ (r : Reply). shown r (changes (after S line.step))) is
+    ap (λ (t : TrackedState). shown (flat_map line_of t.changed) reply) next
+    ∙ ap (λ bytes. shown bytes reply) (lines_are T changed)
+    ∙ ap (shown (flat_map (change_line T) changed)) is
 
 -- so the report has what the step shows
 pub takes_step :
-    {W T : Type 0} (told : W → Told) (a b : Printer W) (r : Result T Fault)
-    (k : ℕ) (S U : State) (line : StepLine) (reply : Reply) (cs : List ChangedTask)
-    → Takes told a b (shown_lines k reply line.recorded cs) r
-    → reply ≡ reply_of S line.step
-    → U ≡ after S line.step
-    → cs ≡ map (changed_task U) (changed_tasks S U)
-    → Takes told a b (step_lines k S line) r
-takes_step told a b r k S U line reply cs h is next are =
-    subst (λ bytes. Takes told a b bytes r) (shown_is k S U line reply cs is next are) h
+    {W X : Type 0} (told : W → Told) (a b : Printer W) (r : Result X Fault)
+    (k : ℕ) (h g : TrackedState) (line : StepLine) (reply : Reply)
+    → Takes told a b (shown_lines k reply line.recorded g.changed) r
+    → reply ≡ reply_of h.state line.step
+    → g ≡ stepped h line.step
+    → Takes told a b (step_lines k h.state line) r
+takes_step told a b r k h g line reply takes is next =
+    subst (λ bytes. Takes told a b bytes r) (shown_is k h g line reply is next) takes
 
 -- ---- the lines from one on
 

@@ -16,7 +16,7 @@ use crate::printer::Printer;
 use crate::reading::parse;
 use crate::transfer::read_all;
 use pim_base::{StepLine, Verdict};
-use pim_manager::{ChangedTasks, Manager};
+use pim_manager::{Manager, TrackedManager};
 use pim_page::{MemoryWriter, Page, Sink, Source};
 use pim_text::Text;
 use std::alloc::Global;
@@ -128,10 +128,9 @@ fn print_text<W: Sink>(alloc: Global, writer: &mut W, text: &Text) -> Result<Ver
     ensures verdict { IfOk result (λ verdict. verdict ≡ verdict_of (trace_of text.now)) }
 {
     let mut page = Page::new(alloc)?;
-    let mut manager = manager_of(alloc, text)?;
-    let mut changed = ChangedTasks::new(alloc)?;
+    let mut manager = tracked_manager_of(alloc, text)?;
     let mut report = Printer::new(writer, &mut page);
-    let verdict = make_steps(&mut report, &mut manager, &mut changed, &text.lines)?;
+    let verdict = make_steps(&mut report, &mut manager, &text.lines)?;
     report.write()?;
     Ok(verdict)
 }
@@ -139,17 +138,16 @@ fn print_text<W: Sink>(alloc: Global, writer: &mut W, text: &Text) -> Result<Ver
 /// Makes the steps, and reports on each, up to the first whose recorded reply differs from the model's.
 fn make_steps<W: Sink>(
     report: &mut Printer<'_, W>,
-    manager: &mut Manager,
-    changed: &mut ChangedTasks,
+    manager: &mut TrackedManager,
     lines: &[StepLine],
 ) -> Result<Verdict, Fault>
     requires few { length lines.now < 2 ^ 32 }
-    ensures report { Takes W.told report.old report.new (report_from 1 manager.old lines.now) result }
-    ensures verdict { IfOk result (λ verdict. verdict ≡ verdict_from 1 manager.old lines.now) }
+    ensures report { Takes W.told report.old report.new (report_from 1 manager.old.state lines.now) result }
+    ensures verdict { IfOk result (λ verdict. verdict ≡ verdict_from 1 manager.old.state lines.now) }
 {
     for (index, line) in lines.iter().enumerate() {
         let number = index as u32 + 1;
-        if !make_step(report, manager, changed, number, line)? {
+        if !make_step(report, manager, number, line)? {
             return Ok(Verdict::Rejected(number));
         }
     }
@@ -162,17 +160,30 @@ fn make_steps<W: Sink>(
 #[tactic(auto, using(crate::proofs::ReportLemmas::takes_step))]
 fn make_step<W: Sink>(
     report: &mut Printer<'_, W>,
-    manager: &mut Manager,
-    changed: &mut ChangedTasks,
+    manager: &mut TrackedManager,
     number: u32,
     line: &StepLine,
 ) -> Result<bool, Fault>
-    ensures report { Takes W.told report.old report.new (step_lines number manager.old line.now) result }
-    ensures agrees { IfOk result (λ goes_on. goes_on ≡ agrees line.now.recorded (reply_of manager.old line.now.step)) }
-    ensures after { manager.new ≡ after manager.old line.now.step }
+    ensures report { Takes W.told report.old report.new (step_lines number manager.old.state line.now) result }
+    ensures agrees { IfOk result (λ goes_on. goes_on ≡ agrees line.now.recorded (reply_of manager.old.state line.now.step)) }
+    ensures after { manager.new.state ≡ after manager.old.state line.now.step }
 {
-    let reply = manager.step_with_changes(line.step, changed).reply;
-    report.step(number, &reply, &line.recorded, changed.as_slice())
+    let reply = manager.step(line.step).reply;
+    report.step(number, &reply, &line.recorded, manager)
+}
+
+/// Returns a manager of the tasks and mutexes that a text declares, which keeps what its last step changed. All mutexes
+/// are free.
+fn tracked_manager_of(alloc: Global, text: &Text) -> Result<Box<TrackedManager>, Fault>
+    requires limits { IsWithinLimits (trace_of text.now) }
+    ensures { MatchResult result
+        (λ manager. manager.value.state ≡ start text.now.bases.items text.now.protocols.items 1)
+        (λ fault. fault ≡ Fault.Memory) }
+{
+    match TrackedManager::new(alloc, &text.bases, &text.protocols) {
+        Ok(manager) => Ok(manager),
+        Err(_) => Err(Fault::Memory),
+    }
 }
 
 /// Returns a manager of the tasks and mutexes that a text declares. All mutexes are free.

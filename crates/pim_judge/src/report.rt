@@ -6,24 +6,24 @@ ghost use Rattle.pim_judge.specs.Printed.{line_of, shown_lines};
 use crate::fault::Fault;
 use crate::printer::Printer;
 use pim_base::Reply;
-use pim_manager::ChangedTask;
+use pim_manager::TrackedManager;
 use pim_page::{Page, Sink};
 use std::alloc::AllocError;
 
 impl<'a, W: Sink> Printer<'a, W> {
     ghost use Rattle.pim_judge.specs.Taken.{Takes};
 
-    /// Adds the line of a step's reply, and one for each task whose priority the step changed. If the recorded reply
-    /// differs it adds both lines of the rejection instead. Returns whether the replies agree.
+    /// Adds the line of the reply to the manager's last step, and one for each task whose priority that step changed.
+    /// If the recorded reply differs it adds both lines of the rejection instead. Returns whether the replies agree.
     #[tactic(auto, using(crate::proofs::PrintingLemmas::prints_unwritten), unfolding(crate::specs::Printed::shown_lines))]
     pub fn step(
         &mut self,
         number: u32,
         reply: &Reply,
         recorded: &Option<Reply>,
-        changed: &[ChangedTask],
+        manager: &TrackedManager,
     ) -> Result<bool, Fault>
-        ensures lines { Takes W.told self.old self.new (shown_lines number reply.now recorded.now changed.now) result }
+        ensures lines { Takes W.told self.old self.new (shown_lines number reply.now recorded.now manager.now.changed) result }
         ensures agrees { IfOk result (λ goes_on. goes_on ≡ agrees recorded.now reply.now) }
     {
         match recorded {
@@ -32,7 +32,7 @@ impl<'a, W: Sink> Printer<'a, W> {
                 Ok(false)
             }
             _ => {
-                answer(self.page, number, reply, changed)?;
+                answer(self.page, number, reply, manager)?;
                 self.write_if_full()?;
                 Ok(true)
             }
@@ -49,17 +49,17 @@ impl<'a, W: Sink> Printer<'a, W> {
     }
 }
 
-/// Adds the line of a step's reply, and one for each task whose priority the step changed.
+/// Adds the line of the reply to the manager's last step, and one for each task whose priority that step changed.
 fn answer(
     page: &mut Page,
     number: u32,
     reply: &Reply,
-    changed: &[ChangedTask],
+    manager: &TrackedManager,
 ) -> Result<(), AllocError>
-    ensures { OnOk result (page.new ≡ page.old ++ (reply_line number reply.now ++ flat_map line_of changed.now)) }
+    ensures { OnOk result (page.new ≡ page.old ++ (reply_line number reply.now ++ flat_map line_of manager.now.changed)) }
 {
     page.reply_line(number, reply)?;
-    for task in changed {
+    for task in manager.changed() {
         page.changed_line(task.task, task.prio, task.reason)?;
     }
     Ok(())

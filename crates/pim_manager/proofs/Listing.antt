@@ -1,5 +1,7 @@
 -- The tasks that are listed are those whose priority a step changed.
-use Rattle.std.proofs.Common.{◌≡◌, ◌<◌, ◌≤◌, ◌+◌, ℕ, zero, suc, Bool, true, false, not, cond, eqb, List, [], ◌∷◌, ◌++◌, filter, map, length, length-append, append_assoc, append-nil, unwrap_or, refl, sym, ◌∙◌, ap, subst, arith, None, IsSome}
+use Rattle.std.proofs.Common.{◌≡◌, ◌≤◌, ◌+◌, ap₂, ℕ, zero, suc, Bool, true, false, not, cond, eqb, List, [], ◌∷◌}
+use Rattle.std.proofs.Common.{filter, length, unwrap_or, refl}
+use Rattle.std.proofs.Common.{◌∙◌, ap, arith, None, IsSome}
 use Rattle.std.specs.List.{AllByRecursion, range_with_len}
 use Rattle.std.proofs.lemmas.Bool.{eq-eqb}
 use Rattle.pim_base.specs.Lists.{numbers}
@@ -15,7 +17,7 @@ use Rattle.pim_sets.specs.Work.{Work, noted_of, has_changed}
 use Rattle.pim_sets.proofs.Members.{filter_none, filter_same}
 use Rattle.pim_chain.proofs.Walking.{settled_effective}
 use Rattle.pim_manager.specs.declared.changed_tasks.ChangedTask.{ChangedTask}
-use Rattle.pim_manager.specs.Changed.{changed_task, noted_changes}
+use Rattle.pim_manager.specs.Changed.{TrackedState, listed, noted_changes}
 use Rattle.pim_manager.specs.Settled.{IsSettled, Worked}
 use Rattle.pim_chain.proofs.Filters.{few_pass}
 use Rattle.pim_base.proofs.HandOvers.{base-hand_over}
@@ -49,6 +51,10 @@ noted_changes_of_step S T a b bases work kept none =
     (λ t low high. ap (λ p. not (eqb p (effective_priority T t)))
     (work.noted.1 kept t low (omega (arith, high)) ∙ ap (λ o. unwrap_or o (effective_priority S t)) (none t)))
 
+-- the value of a tracked manager: its state, and the tasks that differ from its notes
+abbrev pub tracked : State → Work → TrackedState
+tracked S w = record { state = S; changed = listed S (noted_changes S w) }
+
 -- if nothing is noted, nothing differs
 pub unnoted_changes : (S : State) (w : Work) → ((t : ℕ) → noted_of w t ≡ None) → noted_changes S w ≡ []
 unnoted_changes S w none =
@@ -69,73 +75,28 @@ noted_changes_shown v S w settled shown =
     (settled_effective v.state (stored_at v) settled.calm.ready.sound settled.calm.settled t (low, omega (arith, high))))
     ∙ ap (λ U. noted_changes U w) shown
 
--- ---- the list, and the tasks that are still to come
-pub record Listing (S : State) (all left : List ℕ) (listed : List ChangedTask) : Type 0 where
-  pub list : listed ++ map (changed_task S) left ≡ map (changed_task S) all
-  pub known : AllByRecursion (IsTask S) left
-  pub few : length listed + length left ≤ length S.base
-
-all_known : (S : State) (p : ℕ → Bool) (a n : ℕ) → 1 ≤ a → a + n ≤ length S.base + 1 → AllByRecursion (IsTask S) (filter p (range_with_len a n))
-all_known S p a zero low high = tt
-all_known S p a (suc n) low high = go (p a) (all_known S p (a + 1) n (omega (arith, low)) (omega (arith, high)))
+-- all that are noted are known
+each_known : (S : State) (p : ℕ → Bool) (a n : ℕ) → 1 ≤ a → a + n ≤ length S.base + 1 → AllByRecursion (IsTask S) (filter p (range_with_len a n))
+each_known S p a zero low high = tt
+each_known S p a (suc n) low high = go (p a) (each_known S p (a + 1) n (omega (arith, low)) (omega (arith, high)))
   where
     go : (b : Bool) → AllByRecursion (IsTask S) (filter p (range_with_len (a + 1) n)) → AllByRecursion (IsTask S) (cond b (a ∷ filter p (range_with_len (a + 1) n)) (filter p (range_with_len (a + 1) n)))
     go true rest = ((low, omega (arith, high)), rest)
     go false rest = rest
 
-pub listing_none :
-    (S : State) (w : Work) (left : List ℕ) (listed : List ChangedTask)
-    → left ≡ noted_changes S w
-    → listed ≡ []
-    → Listing S (noted_changes S w) left listed
-listing_none S w left listed all none = record {
-  list = ap (λ xs. xs ++ map (changed_task S) left) none ∙ ap (map (changed_task S)) all;
-  known =
-      subst (AllByRecursion (IsTask S)) (sym all)
-      (all_known S (has_changed (effective_priority S) w) 1 (length S.base) (omega arith) (omega arith));
-  few = (
-      let few = few_pass (has_changed (effective_priority S) w) 1 (length S.base) in
-      let left = ap length all in
-      let listed = ap length none in
-      omega (arith, few, left, listed)
-      );
-}
+pub noted_known : (S : State) (w : Work) → AllByRecursion (IsTask S) (noted_changes S w)
+noted_known S w = each_known S (has_changed (effective_priority S) w) 1 (length S.base) (omega arith) (omega arith)
 
--- one more is listed
-pub listing_next :
-    (S : State) (all xs ys : List ℕ) (listed : List ChangedTask) (t : ℕ)
-    → Listing S all xs listed
-    → xs ≡ t ∷ ys
-    → Listing S all ys (listed ++ changed_task S t ∷ [])
-listing_next S all xs ys listed t before is = record {
-  list =
-      append_assoc listed (changed_task S t ∷ []) (map (changed_task S) ys) ∙ ap (λ zs. listed ++ map (changed_task S) zs) (sym is)
-      ∙ before.list;
-  known = (subst (AllByRecursion (IsTask S)) is before.known).1;
-  few = (
-      let few = before.few in
-      let left = ap length is in
-      let more = length-append listed (changed_task S t ∷ []) in
-      omega (arith, few, left, more)
-      );
-}
+-- they are as many as there are tasks, or fewer
+pub noted_few : (S : State) (w : Work) → length (noted_changes S w) ≤ length S.base
+noted_few S w = few_pass (has_changed (effective_priority S) w) 1 (length S.base)
 
--- all are listed
-pub listing_all : (S : State) (all left : List ℕ) (listed : List ChangedTask) → Listing S all left listed → left ≡ [] → listed ≡ map (changed_task S) all
-listing_all S all left listed done none =
-    sym (append-nil listed) ∙ ap (λ xs. listed ++ map (changed_task S) xs) (sym none) ∙ done.list
-
--- the next one is known, and there is room for it
-pub record HasNext (S : State) (listed : List ChangedTask) (t : ℕ) : Type 0 where
-  pub known : IsTask S t
-  pub room : length listed < length S.base
-
-pub listing_has_next :
-    (S : State) (all left rest : List ℕ) (listed : List ChangedTask) (t : ℕ)
-    → Listing S all left listed
-    → left ≡ t ∷ rest
-    → HasNext S listed t
-listing_has_next S all left rest listed t now is = record {
-  known = (subst (AllByRecursion (IsTask S)) is now.known).0;
-  room = (let few = now.few in let more = ap length is in omega (arith, few, more));
-}
+-- a tracked manager whose notes are empty lists no task
+pub tracked_unnoted :
+    (S T : State) (w : Work)
+    → S ≡ T
+    → ((t : ℕ) → noted_of w t ≡ None)
+    → tracked S w ≡ record { state = T; changed = [] }
+tracked_unnoted S T w same none =
+    let view : State → List ChangedTask → TrackedState = λ U cs. record { state = U; changed = cs } in
+    ap₂ view same (ap (listed S) (unnoted_changes S w none))

@@ -1,10 +1,12 @@
 //! The tasks whose priority a step changed.
 
-ghost use Rattle.std.specs.Prelude.{◌≡◌, [], IfOk};
+ghost use Rattle.std.specs.Prelude.{◌≡◌};
+ghost use Rattle.std.specs.Iterator.{YieldsFirst, item_count};
+ghost use Rattle.pim_manager.specs.Changed.{listed, noted_changes};
 
-use pim_base::{MAX_TASKS, Prio, Reason, TaskNo};
-use pim_chain::Visits;
-use std::alloc::{AllocError, Global};
+use crate::manager::Manager;
+use pim_base::{Prio, Reason, TaskNo};
+use pim_chain::{Changed, Visits};
 use std::marker::Model;
 
 /// A task whose effective priority a step changed, as it is after the step.
@@ -18,46 +20,55 @@ pub struct ChangedTask {
     pub reason: Reason,
 }
 
-/// The tasks whose effective priority a step changed, in ascending order. It has room for all tasks from the start.
+/// The tasks whose effective priority the last step changed, in ascending order.
 ///
-/// Its value in contracts is the list. It also keeps the notes of the priorities that the tasks had before the step.
+/// Its value in contracts is the list of those that are left. It reads the tasks whose priority was stored and, for
+/// the reason of each that it yields, the mutexes that this task owns.
 #[derive(Drop)]
-pub struct ChangedTasks {
-    pub(crate) tasks: Vec<ChangedTask>,
-    pub(crate) visits: Visits,
+pub struct ChangedTasks<'a> {
+    manager: &'a Manager,
+    // None if nothing is noted, as after most steps: then there is nothing to go through.
+    tasks: Option<Changed<'a>>,
 }
 
-impl Model for ChangedTasks {
-    ghost use Rattle.std.specs.Prelude.{◌≤◌, List, IsSome};
-    ghost use Rattle.std.specs.Vec.{vec_capacity};
-    ghost use Rattle.pim_base.specs.declared.limits.TheConstants.{MAX_TASKS};
+impl<'a> Model for ChangedTasks<'a> {
+    ghost use Rattle.std.specs.Prelude.{List, [], IfSome};
+    ghost use Rattle.std.specs.Option.{option_map_or};
+    ghost use Rattle.std.specs.List.{AllByRecursion};
+    ghost use Rattle.pim_base.specs.State.{IsTask};
+    ghost use Rattle.pim_manager.specs.Changed.{listed};
     ghost use Rattle.pim_manager.specs.declared.changed_tasks.ChangedTask.{ChangedTask};
 
     ghost Value = { List ChangedTask };
 
-    ghost view = { λ c. c.tasks.items };
+    ghost view = { λ c. option_map_or (listed c.manager.now) c.tasks [] };
 
-    ghost invariant = { λ c. (MAX_TASKS ≤ vec_capacity c.tasks) × IsSome c.visits.notes };
+    ghost invariant = { λ c. IfSome c.tasks (AllByRecursion (IsTask c.manager.now)) };
 }
 
-impl ChangedTasks {
-    /// Returns an empty list.
-    ///
-    /// # Errors
-    ///
-    /// Returns `AllocError` if out of memory.
-    pub fn new(alloc: Global) -> Result<ChangedTasks, AllocError>
-        ensures { IfOk result (λ changed. changed ≡ []) }
+impl<'a> ChangedTasks<'a> {
+    /// Returns the tasks whose effective priority isn't the noted one.
+    pub(crate) fn new(manager: &'a Manager, visits: &'a Visits) -> ChangedTasks<'a>
+        ensures { result ≡ listed manager.now (noted_changes manager.now visits.now) }
     {
-        let tasks = Vec::with_capacity(alloc, MAX_TASKS)?;
-        let visits = Visits::with_notes(alloc)?;
-        Ok(ChangedTasks { tasks, visits })
+        let tasks = if visits.is_unnoted() {
+            None
+        } else {
+            Some(manager.noted_changes(visits))
+        };
+        ChangedTasks { manager, tasks }
     }
+}
 
-    /// Returns the tasks, in ascending order.
-    pub fn as_slice(&self) -> &[ChangedTask]
-        ensures { result.now ≡ self.now }
-    {
-        &self.tasks
+impl<'a> Iterator for ChangedTasks<'a> {
+    type Item = ChangedTask;
+
+    ghost next_gives = { YieldsFirst (λ rest. rest) };
+
+    ghost remaining = { item_count (λ rest. rest) };
+
+    fn next(&mut self) -> Option<ChangedTask> {
+        let task = self.tasks.as_mut()?.next()?;
+        Some(self.manager.changed_task(task))
     }
 }

@@ -2,7 +2,8 @@
 
 ghost use Rattle.std.specs.Prelude.{◌≡◌, ◌≢◌, ◌≤◌, ◌<◌, ◌+◌, ◌-◌, ◌^◌, Some, None, true, false};
 ghost use Rattle.std.specs.Option.{option_map};
-ghost use Rattle.pim_base.specs.State.{IsTask, IsMutex, owner_of, protocol_of, is_recursive, count_of, wait_of, with_owner, with_count, with_wait, with_base, with_ceiling, queued};
+ghost use Rattle.pim_base.specs.State.{IsTask, IsMutex, owner_of, protocol_of, is_recursive, count_of, wait_of};
+ghost use Rattle.pim_base.specs.State.{with_owner, with_count, with_wait, with_base, with_ceiling, queued};
 ghost use Rattle.pim_base.specs.Chains.{leads_back};
 ghost use Rattle.pim_base.specs.Checks.{not_protect};
 ghost use Rattle.pim_base.specs.Counts.{changed_task_count, handed_mutex_count};

@@ -3,8 +3,8 @@
 //! A [`Manager`] keeps the owners and the waiters, each queue in order, and the priority at which each task would
 //! execute. [`Manager::step`] answers one request: the reply and the state after it are those of the definitions. It
 //! computes only the priorities that the step may change, and [`Done::visits`] counts them. Steps never allocate, and
-//! between two calls there is never a cycle of waits. [`Manager::step_with_changes`] also lists the tasks whose
-//! priority the step changed, each with its priority and the reason.
+//! between two calls there is never a cycle of waits. A [`TrackedManager`] also lists the tasks whose priority the last
+//! step changed, each with its priority and the reason.
 //!
 //! A low task owns the mutex that a high one requests. So it executes at the high priority, and a medium one can't
 //! delay it:
@@ -26,13 +26,14 @@ mod changes;
 mod done;
 mod make_fault;
 mod manager;
-mod noting;
 mod runs;
 mod shared_fault;
 mod steps;
+mod tracked_manager;
 
 pub use changed_tasks::{ChangedTask, ChangedTasks};
 pub use done::Done;
 pub use make_fault::MakeFault;
 pub use manager::Manager;
 pub use shared_fault::SharedFault;
+pub use tracked_manager::TrackedManager;

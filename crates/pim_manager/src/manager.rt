@@ -1,16 +1,14 @@
 //! The manager of mutexes: how it is made, what it shows, and its step.
 
-ghost use Rattle.std.specs.Prelude.{◌≡◌, ◌≤◌, ◌<◌, ◌+◌, ◌*◌, ◌↔◌, length, map, AllPairs, IfOk, IfErr, IfSome, IsErrOf, IsTrue, Some, None, ℕ};
-ghost use Rattle.std.specs.Vec.{vec_capacity};
+ghost use Rattle.std.specs.Prelude.{◌≡◌, ◌≤◌, ◌<◌, ◌+◌, ◌*◌, ◌↔◌, length, AllPairs, IfOk, IfErr, IfSome, IsErrOf, IsTrue, Some, None, ℕ};
 ghost use Rattle.std.specs.Option.{option_map, option_copied};
-ghost use Rattle.pim_base.specs.State.{start, base_of, protocol_of, owner_of, count_of, wait_of, with_protocol};
+ghost use Rattle.pim_base.specs.State.{IsTask, start, base_of, protocol_of, owner_of, count_of, wait_of, with_protocol};
 ghost use Rattle.pim_base.specs.Chains.{HasCycle};
 ghost use Rattle.pim_base.specs.Queues.{Precedes, queue_of};
 ghost use Rattle.pim_base.specs.Priorities.{effective_priority};
 ghost use Rattle.pim_base.specs.Reasons.{reason_of};
 ghost use Rattle.pim_base.specs.Steady.{IsSteady, IsCountOf};
 ghost use Rattle.pim_base.specs.Counts.{changed_task_count, handed_mutex_count};
-ghost use Rattle.pim_base.specs.Reports.{changed_tasks};
 ghost use Rattle.pim_base.specs.Steps.{reply_of, after};
 ghost use Rattle.pim_base.specs.declared.limits.TheConstants.{MAX_TASKS, MAX_MUTEXES};
 ghost use Rattle.pim_base.specs.declared.steps.Wait.{Wait};
@@ -18,13 +16,13 @@ ghost use Rattle.pim_manager.specs.Changed.{changed_task, noted_changes};
 ghost use Rattle.pim_manager.specs.Known.{of_task, of_mutex};
 ghost use Rattle.pim_manager.specs.Protocols.{protocol_refusal};
 
-use crate::changed_tasks::{ChangedTask, ChangedTasks};
+use crate::changed_tasks::ChangedTask;
 use crate::done::Done;
 use crate::make_fault::MakeFault;
 use pim_base::{
     MAX_MUTEXES, MAX_TASKS, MutexNo, Prio, Protocol, Reason, Refusal, Step, TaskNo, Waiter,
 };
-use pim_chain::{Tables, Visits};
+use pim_chain::{Changed, Tables, Visits};
 use std::alloc::{AllocError, Global};
 use std::marker::Model;
 
@@ -239,21 +237,6 @@ impl Manager {
         }
     }
 
-    /// Makes one step as `step` does, and lists the tasks whose effective priority differs then, in ascending order,
-    /// each with that priority and the reason. It never allocates. Beyond the step it reads each task whose priority
-    /// was stored and, for the reasons, each mutex that a listed task owns.
-    pub fn step_with_changes(&mut self, step: Step, changed: &mut ChangedTasks) -> Done
-        ensures reply { result.reply ≡ reply_of self.old step }
-        ensures state { self.new ≡ after self.old step }
-        ensures least { changed_task_count self.old self.new ≤ result.visits }
-        ensures most { result.visits ≤ 1 + changed_task_count self.old self.new + 2 * handed_mutex_count self.old self.new }
-        ensures changed { changed.new ≡ map (changed_task self.new) (changed_tasks self.old self.new) }
-    {
-        let done = self.step_with_notes(step, &mut changed.visits);
-        self.list_changed(&changed.visits, &mut changed.tasks);
-        done
-    }
-
     /// Gives a free mutex this protocol, as where a mutex is destroyed and another one is initialized in its place.
     /// Nothing else changes, and no effective priority does. It is no step: a trace has no line for it.
     ///
@@ -278,22 +261,21 @@ impl Manager {
         Ok(())
     }
 
-    /// Lists the tasks whose effective priority differs from the noted one, in ascending order.
-    fn list_changed(&self, visits: &Visits, tasks: &mut Vec<ChangedTask>)
-        requires room { MAX_TASKS ≤ vec_capacity tasks.old }
-        ensures listed { tasks.new.items ≡ map (changed_task self.now) (noted_changes self.now visits.now) }
-        ensures room { MAX_TASKS ≤ vec_capacity tasks.new }
+    /// Returns the tasks whose effective priority isn't the noted one, in ascending order. Reads the noted tasks
+    /// alone.
+    pub(crate) fn noted_changes<'a>(&'a self, visits: &'a Visits) -> Changed<'a>
+        ensures { result ≡ noted_changes self.now visits.now }
     {
-        tasks.clear();
-        // Most steps change no priority: then there is nothing to go through.
-        if visits.is_unnoted() {
-            return;
-        }
-        for task in self.tables.changed(visits) {
-            let prio = self.tables.known_stored(task);
-            let reason = self.tables.listed_reason(task);
-            // There is room, since no task is listed twice.
-            tasks.push(ChangedTask { task, prio, reason }).unwrap();
-        }
+        self.tables.changed(visits)
+    }
+
+    /// Returns the task with its effective priority and the reason. Reads the mutexes that the task owns.
+    pub(crate) fn changed_task(&self, task: TaskNo) -> ChangedTask
+        requires { IsTask self.now task }
+        ensures { result ≡ changed_task self.now task }
+    {
+        let prio = self.tables.known_stored(task);
+        let reason = self.tables.listed_reason(task);
+        ChangedTask { task, prio, reason }
     }
 }

@@ -1,13 +1,10 @@
 //! Each public call of the manager once, with values worked out by hand. The scenarios of the steps are in
 //! pim_agreement.
 
-ghost use Rattle.std.specs.Prelude.{IsSome};
-
 use Op::{Cancel, Lock, ReleaseAll, SetBase, SetCeiling, Try, Unlock};
 use Protocol::Inherit;
 use pim_base::{MutexNo, Op, Prio, Protocol, Reason, Refusal, Reply, Step, TaskNo, Waiter};
-use pim_chain::Visits;
-use pim_manager::{ChangedTask, ChangedTasks, Done, MakeFault, Manager};
+use pim_manager::{ChangedTask, Done, MakeFault, Manager, TrackedManager};
 use std::alloc::{AllocError, Global};
 use std::process::Abort;
 use std::test::Fail;
@@ -42,6 +39,16 @@ fn prios(alloc: Global, levels: &[u16]) -> Result<Vec<Prio>, Fail> {
 fn made(alloc: Global, bases: &[u16], protocols: &[Protocol]) -> Result<Manager, Fail> {
     let prios = prios(alloc, bases)?;
     Ok(Manager::new(alloc, &prios, protocols)?)
+}
+
+/// A manager as `made` gives it, that keeps which tasks its last step changed.
+fn tracked(
+    alloc: Global,
+    bases: &[u16],
+    protocols: &[Protocol],
+) -> Result<Box<TrackedManager>, Fail> {
+    let prios = prios(alloc, bases)?;
+    Ok(TrackedManager::new(alloc, &prios, protocols)?)
 }
 
 /// Task 1 locks mutex 1, and task 2 waits for it.
@@ -92,15 +99,6 @@ fn changed_task(rt: &impl Abort, task: u16, level: u16, reason: Reason) -> Chang
     }
 }
 
-fn expect_changed_task(rt: &impl Abort, manager: &Manager) {
-    let boosted = changed_task(rt, 1, 90, reason(2, 1));
-    let shown = [
-        manager.changed_task(TaskNo(1)),
-        manager.changed_task(TaskNo(4)),
-    ];
-    assert_eq!(rt; shown, [Some(boosted), None]);
-}
-
 #[test]
 fn manager_with_a_waiter_is_shown(rt: HostRuntime) -> Result<(), Fail> {
     let manager = contended(rt.alloc())?;
@@ -108,7 +106,6 @@ fn manager_with_a_waiter_is_shown(rt: HostRuntime) -> Result<(), Fail> {
     expect_priorities(&rt, &manager);
     expect_waits(&rt, &manager);
     expect_waiter(&rt, &manager);
-    expect_changed_task(&rt, &manager);
     Ok(())
 }
 
@@ -199,14 +196,18 @@ const CEILINGS: [(u16, Op, Reply, u32, Listed); 10] = [
     (2, Lock(FIRST), Reply::Granted, 1, Some((2, 45, BY_CEILING))),
 ];
 
-fn expect_ceilings(rt: &impl Abort, manager: &mut Manager, changed: &mut ChangedTasks) {
+fn expect_ceilings(rt: &impl Abort, tracked: &mut TrackedManager) {
     for (actor, op, reply, visits, listed) in CEILINGS {
-        let done = manager.step_with_changes(by(actor, op), changed);
-        let shown = changed.as_slice().first();
+        let done = tracked.step(by(actor, op));
+        let mut changed = tracked.changed();
+        let shown = changed.next();
         let shown = shown.map(|one| (one.task.get(), one.prio.get(), one.reason));
-        let is_all = changed.as_slice().len() <= 1;
         let expected = (Done { reply, visits }, listed, true);
-        assert_eq!(rt; (done, shown, is_all), expected, "{actor} {op:?}");
+        assert_eq!(rt;
+            (done, shown, changed.next().is_none()),
+            expected,
+            "{actor} {op:?}"
+        );
     }
 }
 
@@ -215,18 +216,12 @@ fn expect_set_ceiling(rt: &impl Abort, manager: &Manager) {
     assert_eq!(rt; manager.protocol(FIRST), set);
 }
 
-fn play_ceilings(rt: &impl Abort, alloc: Global, manager: &mut Manager) -> Result<(), AllocError> {
-    let mut changed = ChangedTasks::new(alloc)?;
-    expect_ceilings(rt, manager, &mut changed);
-    expect_set_ceiling(rt, manager);
-    Ok(())
-}
-
 #[test]
 fn ceilings_that_change(rt: HostRuntime) -> Result<(), Fail> {
     let protocols = [Protocol::Protect(prio(&rt, 50)), Protocol::None];
-    let mut manager = made(rt.alloc(), &[20, 40], &protocols)?;
-    play_ceilings(&rt, rt.alloc(), &mut manager)?;
+    let mut tracked = tracked(rt.alloc(), &[20, 40], &protocols)?;
+    expect_ceilings(&rt, &mut tracked);
+    expect_set_ceiling(&rt, tracked.manager());
     Ok(())
 }
 
@@ -476,92 +471,78 @@ fn waits_and_tickets_are_of_the_state(rt: HostRuntime) -> Result<(), Fail> {
     Ok(())
 }
 
-// Returns the first two tasks whose priority the last step changed.
-fn first_changed(manager: &Manager, visits: &Visits) -> [Option<TaskNo>; 2] {
-    let mut changed = manager.changed(visits);
-    [changed.next(), changed.next()]
-}
-
-fn expect_noted(rt: &impl Abort, manager: &mut Manager, visits: &mut Visits)
-    requires { IsSome visits.old.notes }
-{
-    manager.step_with_notes(by(1, Lock(FIRST)), visits);
-    let granted = first_changed(manager, visits);
-    let done = manager.step_with_notes(by(3, Lock(FIRST)), visits);
-    let queued = first_changed(manager, visits);
-    manager.step_with_notes(by(2, Lock(FIRST)), visits);
-    let behind = first_changed(manager, visits);
-    assert_eq!(rt; (done.reply, done.visits), (Reply::Queued, 1));
-    assert_eq!(rt; queued, [Some(TaskNo(1)), None]);
-    assert_eq!(rt; [granted, behind], [[None, None], [None, None]]);
-}
-
-fn note_steps(rt: &impl Abort, alloc: Global, manager: &mut Manager) -> Result<(), AllocError> {
-    let mut visits = Visits::with_notes(alloc)?;
-    expect_noted(rt, manager, &mut visits);
-    Ok(())
-}
-
-#[test]
-fn noted_changes_are_those_of_the_last_step(rt: HostRuntime) -> Result<(), Fail> {
-    let mut manager = made(rt.alloc(), &[10, 20, 90], &[Inherit])?;
-    note_steps(&rt, rt.alloc(), &mut manager)?;
-    Ok(())
-}
-
-/// Each of tasks 2, 3 and 4 waits for a mutex of the one before, and the last one's step lists what it changed.
-fn chained(alloc: Global, changed: &mut ChangedTasks) -> Result<Manager, Fail> {
-    let mut manager = made(alloc, &[10, 20, 30, 90], &[Inherit; 3])?;
+/// Each of tasks 2, 3 and 4 waits for a mutex of the one before. The last one's step changes those before it.
+fn chained(alloc: Global) -> Result<Box<TrackedManager>, Fail> {
+    let mut tracked = tracked(alloc, &[10, 20, 30, 90], &[Inherit; 3])?;
     for number in 1..4 {
-        manager.step(by(number, Lock(MutexNo(number))));
+        tracked.step(by(number, Lock(MutexNo(number))));
     }
     for number in 2..5 {
-        let step = by(number, Lock(MutexNo(number - 1)));
-        manager.step_with_changes(step, changed);
+        tracked.step(by(number, Lock(MutexNo(number - 1))));
     }
-    Ok(manager)
+    Ok(tracked)
 }
 
-fn expect_raised(rt: &impl Abort, changed: &ChangedTasks) {
+/// Exactly these are listed, in this order.
+fn expect_changed(rt: &impl Abort, tracked: &TrackedManager, expected: &[ChangedTask]) {
+    let mut changed = tracked.changed();
+    for task in expected {
+        assert_eq!(rt; changed.next(), Some(*task));
+    }
+    assert_eq!(rt; changed.next(), None);
+}
+
+fn expect_raised(rt: &impl Abort, tracked: &TrackedManager) {
     let raised = [
         changed_task(rt, 1, 90, reason(2, 1)),
         changed_task(rt, 2, 90, reason(3, 2)),
         changed_task(rt, 3, 90, reason(4, 3)),
     ];
-    assert!(rt; changed.as_slice() == &raised[..]);
+    expect_changed(rt, tracked, &raised);
 }
 
 /// Task 4 stops waiting.
-fn expect_lowered(rt: &impl Abort, manager: &mut Manager, changed: &mut ChangedTasks) {
-    let done = manager.step_with_changes(by(4, Cancel(TaskNo(4))), changed);
+fn expect_lowered(rt: &impl Abort, tracked: &mut TrackedManager) {
+    let done = tracked.step(by(4, Cancel(TaskNo(4))));
     assert_eq!(rt; done.visits, 3);
     let lowered = [
         changed_task(rt, 1, 30, reason(2, 1)),
         changed_task(rt, 2, 30, reason(3, 2)),
         changed_task(rt, 3, 30, Reason::Base),
     ];
-    assert!(rt; changed.as_slice() == &lowered[..]);
-}
-
-fn expect_none(rt: &impl Abort, changed: &ChangedTasks) {
-    assert!(rt; changed.as_slice().is_empty());
-}
-
-fn expect_chain(rt: &impl Abort, alloc: Global, changed: &mut ChangedTasks) -> Result<(), Fail> {
-    let mut manager = chained(alloc, changed)?;
-    expect_raised(rt, changed);
-    // A step that is refused lists nothing.
-    manager.step_with_changes(by(1, Lock(FIRST)), changed);
-    expect_none(rt, changed);
-    expect_lowered(rt, &mut manager, changed);
-    Ok(())
+    expect_changed(rt, tracked, &lowered);
 }
 
 #[test]
 fn changed_tasks_in_ascending_order(rt: HostRuntime) -> Result<(), Fail> {
-    let mut changed = ChangedTasks::new(rt.alloc())?;
-    expect_none(&rt, &changed);
-    expect_chain(&rt, rt.alloc(), &mut changed)
+    let mut tracked = chained(rt.alloc())?;
+    expect_raised(&rt, &tracked);
+    // A step that is refused lists nothing.
+    tracked.step(by(1, Lock(FIRST)));
+    expect_changed(&rt, &tracked, &[]);
+    expect_lowered(&rt, &mut tracked);
+    Ok(())
+}
+
+/// A protocol that is refused leaves what the last step changed. One that is set leaves nothing.
+fn expect_tracked_protocol(rt: &impl Abort, tracked: &mut TrackedManager) {
+    let raised = [changed_task(rt, 1, 90, reason(2, 1))];
+    let refused = tracked.set_protocol(FIRST, Protocol::None);
+    assert_eq!(rt; refused, Err(Refusal::Busy));
+    expect_changed(rt, tracked, &raised);
+    assert_eq!(rt; tracked.set_protocol(SECOND, Inherit), Ok(()));
+    expect_changed(rt, tracked, &[]);
+    assert_eq!(rt; tracked.manager().protocol(SECOND), Some(Inherit));
+}
+
+#[test]
+fn protocol_of_a_tracked_manager(rt: HostRuntime) -> Result<(), Fail> {
+    let mut tracked = tracked(rt.alloc(), &[10, 90], &[Inherit, Protocol::None])?;
+    expect_changed(&rt, &tracked, &[]);
+    tracked.step(by(1, Lock(FIRST)));
+    tracked.step(by(2, Lock(FIRST)));
+    expect_tracked_protocol(&rt, &mut tracked);
+    Ok(())
 }
 
 fn expect_another_protocol(rt: &impl Abort, manager: &mut Manager) {

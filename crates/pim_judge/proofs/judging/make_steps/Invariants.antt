@@ -8,7 +8,7 @@ abbrev pub invariant-loop-index : goal.invariant-loop-index
 invariant-loop-index g l = record {
   same_writer : l.report.writer.ghost_name ≡ l.fn.report.writer.ghost_name;
   put : Puts (g.W.Sink.told l.fn.report.writer.now) (g.W.Sink.told l.report.writer.now)
-      (l.fn.report.page.now ++ report_from 1 l.fn.manager l.lines)
-      (l.report.page.now ++ report_from (l.index + 1) l.manager (drop l.index l.lines));
-  verdict : verdict_from (l.index + 1) l.manager (drop l.index l.lines) ≡ verdict_from 1 l.fn.manager l.lines;
+      (l.fn.report.page.now ++ report_from 1 l.fn.manager.state l.lines)
+      (l.report.page.now ++ report_from (l.index + 1) l.manager.state (drop l.index l.lines));
+  verdict : verdict_from (l.index + 1) l.manager.state (drop l.index l.lines) ≡ verdict_from 1 l.fn.manager.state l.lines;
 }

@@ -15,11 +15,6 @@ returns-in_err-manager-clause-prints g c =
     prints_err _ _ c.from_residual-in_err-manager.ensures.1
     (stops_memory c.in_err-manager.ensures (puts_none {bytes = report_of (trace_of c.args.text.now)} refl))
 
-pub returns-in_err-changed-clause-prints : goal.returns-in_err-changed-clause-prints
-returns-in_err-changed-clause-prints g c =
-    prints_err _ _ c.from_residual-in_err-changed.ensures.1
-    (stops_memory refl (puts_none {bytes = report_of (trace_of c.args.text.now)} refl))
-
 pub returns-in_err-write-clause-prints : goal.returns-in_err-write-clause-prints
 returns-in_err-write-clause-prints g c =
     let told : g.W.Sink.told c.writer-2-1.given.0 ≡ g.W.Sink.told c.write.new.self.writer.now = search rules in

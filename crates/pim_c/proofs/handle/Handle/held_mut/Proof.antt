@@ -5,7 +5,8 @@ use mir.Val.{Val, vptr}
 use base.Logic.{SProp, id⊢}
 use base.Fml.{GName, ftrue, flft}
 use types.Logic.{sem}
-use types.Kit.{‵, raw, ◌⊛◌, some, later, at_ret, ◌$◌, ◌∵◌, !, qed, done, move, keep, drop, split, split3, join, fsplit, fsplit3, fjoin, fjoin3, use1, pick, await, rewrite, suffices, frame, group}
+use types.Kit.{‵, raw, ◌⊛◌, some, later, at_ret, ◌$◌, ◌∵◌, !, qed, done, move, keep, drop, split, split3, join}
+use types.Kit.{fsplit, fsplit3, fjoin, fjoin3, use1, pick, await, rewrite, suffices, frame, group}
 use types.Run.{stop, fld, load, of_opd, addr, first, blocks, exec, returns, enter}
 use types.ByLocal.{alloc_all, pass_all, free_all, look_at, get, through, sets, sets_last, env}
 use types.Part.{sub, whole, look_in}

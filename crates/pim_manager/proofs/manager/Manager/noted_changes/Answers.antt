@@ -1,6 +1,6 @@
 use Rattle.std.proofs.Common.{◌∙◌}
 use Rattle.pim_manager.proofs.Listing.{noted_changes_shown}
-use Rattle.pim_manager.proofs.manager.Manager.changed.Goals as goal
+use Rattle.pim_manager.proofs.manager.Manager.noted_changes.Goals as goal
 
 pub returns : goal.returns
 returns c =

@@ -1,0 +1,145 @@
+//! A manager that keeps which tasks its last step changed.
+
+ghost use Rattle.std.specs.Prelude.{◌≡◌, ◌↔◌, ◌<◌, ◌≤◌, ◌+◌, ◌*◌, [], length, IfOk, IfErr, IsErrOf, Some, None, ℕ};
+ghost use Rattle.pim_base.specs.Counts.{changed_task_count, handed_mutex_count};
+ghost use Rattle.pim_base.specs.Priorities.{effective_priority};
+ghost use Rattle.pim_base.specs.Reports.{changed_tasks};
+ghost use Rattle.pim_base.specs.State.{start, with_protocol};
+ghost use Rattle.pim_base.specs.Steps.{reply_of, after};
+ghost use Rattle.pim_base.specs.declared.limits.TheConstants.{MAX_MUTEXES, MAX_TASKS};
+ghost use Rattle.pim_manager.specs.Changed.{listed, stepped};
+ghost use Rattle.pim_manager.specs.Protocols.{protocol_refusal};
+
+use crate::changed_tasks::ChangedTasks;
+use crate::done::Done;
+use crate::make_fault::MakeFault;
+use crate::manager::Manager;
+use pim_base::{MutexNo, Prio, Protocol, Refusal, Step};
+use pim_chain::Visits;
+use std::alloc::Global;
+use std::marker::Model;
+
+/// A manager, and the tasks whose effective priority its last step changed.
+///
+/// A step notes each task whose priority it stores, and `changed` reads these notes. Only the constructors allocate.
+///
+/// ```text
+/// let mut tracked = TrackedManager::new(alloc, &[low, high], &[Protocol::Inherit])?;
+/// tracked.step(Step { actor: TaskNo(1), op: Op::Lock(MutexNo(1)) });
+/// tracked.step(Step { actor: TaskNo(2), op: Op::Lock(MutexNo(1)) });
+/// for changed in tracked.changed() {} // task 1, which is at high now: Reason::Waiter(TaskNo(2), MutexNo(1))
+/// ```
+#[derive(Drop)]
+pub struct TrackedManager {
+    manager: Manager,
+    visits: Visits,
+}
+
+impl Model for TrackedManager {
+    ghost use Rattle.std.specs.Prelude.{IsSome};
+    ghost use Rattle.pim_manager.specs.Changed.{TrackedState, listed, noted_changes};
+
+    ghost Value = { TrackedState };
+
+    ghost view = { λ t. record { state = t.manager; changed = listed t.manager (noted_changes t.manager t.visits) } };
+
+    ghost invariant = { λ t. IsSome t.visits.notes };
+}
+
+impl TrackedManager {
+    /// Returns a manager as [`Manager::new`] does, with no task listed as changed. It is on the heap, so that a move of
+    /// it copies one pointer.
+    ///
+    /// # Errors
+    ///
+    /// Returns the errors of `Manager::new`.
+    pub fn new(
+        alloc: Global,
+        bases: &[Prio],
+        protocols: &[Protocol],
+    ) -> Result<Box<TrackedManager>, MakeFault>
+        ensures made { IfOk result (λ tracked. tracked.value ≡ record { state = start bases.now protocols.now 1; changed = [] }) }
+        ensures tasks { IsErrOf result MakeFault.TooManyTasks ↔ (MAX_TASKS < length bases.now) }
+        ensures mutexes { IsErrOf result MakeFault.TooManyMutexes ↔ ((length bases.now ≤ MAX_TASKS) × (MAX_MUTEXES < length protocols.now)) }
+    {
+        TrackedManager::with_next_ticket(alloc, bases, protocols, 1)
+    }
+
+    /// Returns a manager as `new` does, but with this next ticket, which must be at least 1. Above `LAST_TICKET` no
+    /// ticket is left.
+    ///
+    /// # Errors
+    ///
+    /// Returns the errors of `Manager::new`.
+    pub fn with_next_ticket(
+        alloc: Global,
+        bases: &[Prio],
+        protocols: &[Protocol],
+        next: u64,
+    ) -> Result<Box<TrackedManager>, MakeFault>
+        requires { 1 ≤ next }
+        ensures made { IfOk result (λ tracked. tracked.value ≡ record { state = start bases.now protocols.now next; changed = [] }) }
+        ensures tasks { IsErrOf result MakeFault.TooManyTasks ↔ (MAX_TASKS < length bases.now) }
+        ensures mutexes { IsErrOf result MakeFault.TooManyMutexes ↔ ((length bases.now ≤ MAX_TASKS) × (MAX_MUTEXES < length protocols.now)) }
+    {
+        let manager = Manager::with_next_ticket(alloc, bases, protocols, next)?;
+        let visits = Visits::with_notes(alloc)?;
+        match Box::new(alloc, TrackedManager { manager, visits }) {
+            Ok(tracked) => Ok(tracked),
+            Err(_) => Err(MakeFault::Memory),
+        }
+    }
+
+    /// Returns the manager.
+    pub fn manager(&self) -> &Manager
+        ensures { result.now ≡ self.now.state }
+    {
+        &self.manager
+    }
+
+    /// Makes one step as [`Manager::step`] does. `changed` then returns the tasks whose effective priority it changed.
+    // Inlined, as is `reply_to`: if the caller knows the kind of step, only the code of that kind is left.
+    #[inline(always)]
+    pub fn step(&mut self, step: Step) -> Done
+        ensures reply { result.reply ≡ reply_of self.old.state step }
+        ensures state { self.new ≡ stepped self.old step }
+        ensures changed { self.new.changed ≡ listed self.new.state (changed_tasks self.old.state self.new.state) }
+        ensures least { changed_task_count self.old.state (after self.old.state step) ≤ result.visits }
+        ensures most { result.visits ≤ 1 + changed_task_count self.old.state (after self.old.state step)
+            + 2 * handed_mutex_count self.old.state (after self.old.state step) }
+    {
+        self.visits.restart();
+        let reply = self.manager.reply_to(step, &mut self.visits);
+        Done {
+            reply,
+            visits: self.visits.get(),
+        }
+    }
+
+    /// Returns the tasks whose effective priority the last step changed, in ascending order, each as it is after the
+    /// step. There are none before the first step, after a refused one, and once `set_protocol` has set a protocol.
+    pub fn changed(&self) -> ChangedTasks<'_>
+        ensures changed { result ≡ self.now.changed }
+        ensures few { length result ≤ MAX_TASKS }
+    {
+        // The contract of this call gives the proof the greatest number of tasks.
+        let _tasks = self.manager.tasks();
+        ChangedTasks::new(&self.manager, &self.visits)
+    }
+
+    /// Gives a free mutex this protocol as [`Manager::set_protocol`] does. No task is listed as changed then.
+    ///
+    /// # Errors
+    ///
+    /// Returns the errors of `Manager::set_protocol`. Nothing changes then, and the same tasks are listed.
+    pub fn set_protocol(&mut self, mutex: MutexNo, protocol: Protocol) -> Result<(), Refusal>
+        ensures set { IfOk result (λ _. (protocol_refusal self.old.state mutex ≡ None)
+            × (self.new ≡ record { state = with_protocol self.old.state mutex protocol; changed = [] })) }
+        ensures refused { IfErr result (λ refusal. (protocol_refusal self.old.state mutex ≡ Some refusal) × (self.new ≡ self.old)) }
+        ensures priorities { (task : ℕ) → effective_priority self.new.state task ≡ effective_priority self.old.state task }
+    {
+        self.manager.set_protocol(mutex, protocol)?;
+        self.visits.restart();
+        Ok(())
+    }
+}
