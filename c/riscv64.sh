@@ -25,8 +25,10 @@ chmod +x "$out/toolchain/bin/clang"
 # Builds the libraries below pim_c, and then pim_c by that toolchain, for which rt has no flag.
 (cd ../crates/pim_c && rt lib)
 words=(--extern "std=$kit/rlibs/std.rlib" -L "dependency=$kit/rlibs")
-for crate in pim_manager pim_chain pim_base; do words+=(--extern "$crate=$PWD/../crates/$crate/out/rlib/$crate.rlib"); done
-for crate in pim_manager pim_chain pim_queue pim_base; do words+=(-L "dependency=$PWD/../crates/$crate/out/rlib"); done
+for crate in pim_manager pim_ffi pim_base; do words+=(--extern "$crate=$PWD/../crates/$crate/out/rlib/$crate.rlib"); done
+for crate in pim_manager pim_chain pim_sets pim_queue pim_ffi pim_base; do
+    words+=(-L "dependency=$PWD/../crates/$crate/out/rlib")
+done
 (cd ../crates/pim_c && rattle build --crate-name pim_c "${words[@]}" \
     --antt-project "$kit/rattle/logic/antt-project.json" --logic-built "$kit/logic_built" --incremental out/incremental \
     --crate-type staticlib --backend llvm --toolchain "$out/toolchain" -o "$out/x86_64.a" src/lib.rt)
