@@ -1,5 +1,6 @@
 -- What two replays have in common that are compared number by number.
-use Rattle.std.proofs.Common.{◌≡◌, ℕ, zero, suc, ◌+◌, ◌<◌, ◌≤◌, ◌⊎◌, inl, inr, List, length, Option, Some, None, unwrap_or, get_or, slice_get, refl, sym, ◌∙◌, ap, ap₂, arith, rules, eq-or-lt_of_le}
+use Rattle.std.proofs.Common.{◌≡◌, ℕ, zero, suc, ◌+◌, ◌<◌, ◌≤◌, ◌⊎◌, inl, inr, List, length, Option, Some, None}
+use Rattle.std.proofs.Common.{unwrap_or, get_or, slice_get, refl, sym, ◌∙◌, ap, ap₂, arith, rules, eq-or-lt_of_le}
 use Rattle.std.specs.Option.{option_or}
 use Rattle.std.proofs.lemmas.Bool.{cases_lt}
 use Rattle.std.proofs.lemmas.List.{ext_get_or}

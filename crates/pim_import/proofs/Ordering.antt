@@ -1,5 +1,7 @@
 -- What a task waits for in a queue, and the order in which tasks wait.
-use Rattle.std.proofs.Common.{◌≡◌, ◌≢◌, ℕ, zero, suc, ◌+◌, ◌<◌, ◌≤◌, ◌⊎◌, inl, inr, Bool, true, false, cond, List, length, All, Contains, Option, Some, None, IsSome, IfSome, unwrap_or, is_some, refl, sym, ◌∙◌, ap, ap₂, subst, arith, rules, eq-or-lt_of_le}
+use Rattle.std.proofs.Common.{◌≡◌, ◌≢◌, ℕ, zero, suc, ◌+◌, ◌<◌, ◌≤◌, ◌⊎◌, inl, inr, Bool, true, false, cond, List}
+use Rattle.std.proofs.Common.{length, All, Contains, Option, Some, None, IsSome, IfSome, unwrap_or, is_some, refl}
+use Rattle.std.proofs.Common.{sym, ◌∙◌, ap, ap₂, subst, arith, rules, eq-or-lt_of_le}
 use Rattle.std.proofs.lemmas.Bool.{cases_lt}
 use Rattle.std.proofs.lemmas.Bool.Decides.{nat_tests}
 use Rattle.std.proofs.lemmas.List.Elements.{All-contains}

@@ -1,10 +1,13 @@
 -- What the steps of a replay make of the program.
-use Rattle.std.proofs.Common.{All, ◌≡◌, ◌≢◌, ◌≤◌, ◌+◌, ◌⊎◌, arith, ◌&&◌, ℕ, zero, suc, List, ◌++◌, ◌∷◌, [], length, Bool, true, false, not, is_some, cond, eqb, Option, Some, None, unwrap_or, slice_get, set, refl, sym, ◌∙◌, ap, ap₂, subst, inl, inr}
+use Rattle.std.proofs.Common.{All, ◌≡◌, ◌≢◌, ◌≤◌, ◌+◌, ◌⊎◌, arith, ◌&&◌, ℕ, zero, suc, List, ◌++◌, ◌∷◌, [], length}
+use Rattle.std.proofs.Common.{Bool, true, false, not, is_some, cond, eqb, Option, Some, None, unwrap_or, slice_get}
+use Rattle.std.proofs.Common.{set, refl, sym, ◌∙◌, ap, ap₂, subst, inl, inr}
 use Rattle.std.specs.Option.{option_or}
 use Rattle.std.proofs.lemmas.Bool.{cases_eq, eq-eqb, ne_eqb}
 use Rattle.std.proofs.lemmas.Option.{none-some, same_Some}
 use Rattle.pim_base.specs.Lists.{nth, put, holds}
-use Rattle.pim_base.specs.State.{State, IsState, IsTask, owner_of, wait_of, protocol_of, count_of, is_recursive, with_owner, with_count, with_wait, queued}
+use Rattle.pim_base.specs.State.{State, IsState, IsTask, owner_of, wait_of, protocol_of, count_of, is_recursive}
+use Rattle.pim_base.specs.State.{with_owner, with_count, with_wait, queued}
 use Rattle.pim_base.specs.Checks.{unknown_task, unknown_mutex, is_waiting}
 use Rattle.pim_base.specs.Queues.{first_of, queue_of, waiter_of}
 use Rattle.pim_base.specs.Runs.{IsRun}
@@ -23,7 +26,9 @@ use Rattle.pim_base.proofs.NoCycle.{idle_now, unwrap_or-put_same}
 use Rattle.pim_base.proofs.Places.{nth-put_same, nth-put_other}
 use Rattle.pim_base.proofs.Prefixes.{prefix_self, prefix_trans}
 use Rattle.pim_manager.specs.Known.{of_mutex}
-use Rattle.pim_import.specs.Replays.{ReplayState, Program, program_of, IsSame, Continues, lock, unlock, cancel, IsRefused, awaited, outside_of, mutex_of, with_step, with_outside, with_wait_for, given, observed}
+use Rattle.pim_import.specs.Replays.{ReplayState, Program, program_of, IsSame, Continues, lock, unlock, cancel}
+use Rattle.pim_import.specs.Replays.{IsRefused, awaited, outside_of, mutex_of, with_step, with_outside, with_wait_for}
+use Rattle.pim_import.specs.Replays.{given, observed}
 use Rattle.pim_import.specs.declared.observation.Observation.TheVariants.{Base, Ceiling}
 
 -- ---- what a reply says

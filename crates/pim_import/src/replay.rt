@@ -6,7 +6,8 @@ ghost use Rattle.pim_base.specs.Runs.{IsRun};
 ghost use Rattle.pim_base.specs.State.{IsState, IsTask, IsMutex, start, base_of, protocol_of, owner_of, wait_of};
 ghost use Rattle.pim_base.specs.Steps.{reply_of};
 ghost use Rattle.pim_base.specs.declared.lines.Verdict.{Verdict};
-ghost use Rattle.pim_import.specs.Replays.{Continues, trace_of_replay, awaited, mutex_of, outside_of, at_start, with_step, with_outside, StaysTheSame, IsReplayFault};
+ghost use Rattle.pim_import.specs.Replays.{Continues, trace_of_replay, awaited, mutex_of, outside_of, at_start};
+ghost use Rattle.pim_import.specs.Replays.{with_step, with_outside, StaysTheSame, IsReplayFault};
 
 use crate::fault::ReplayFault;
 use pim_base::{Entry, MutexNo, Prio, Protocol, Reply, Step, TaskNo, Wait, nth};
