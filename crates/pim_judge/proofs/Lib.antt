@@ -1,4 +1,2 @@
 pub mod PrintingLemmas
 pub mod ReportLemmas
-pub mod TraceLineLemmas
-pub mod EntryLemmas

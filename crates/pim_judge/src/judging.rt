@@ -186,7 +186,12 @@ fn tracked_manager_of(alloc: Global, text: &Text) -> Result<Box<TrackedManager>,
     }
 }
 
-/// Returns a manager of the tasks and mutexes that a text declares. All mutexes are free.
+/// Returns a manager of the tasks and mutexes that a text declares, which must be within the limits of a text. All
+/// mutexes are free.
+///
+/// # Errors
+///
+/// Returns `Fault::Memory` if out of memory.
 pub fn manager_of(alloc: Global, text: &Text) -> Result<Manager, Fault>
     requires limits { IsWithinLimits (trace_of text.now) }
     ensures { MatchResult result

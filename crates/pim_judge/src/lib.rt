@@ -8,8 +8,7 @@
 //! [`Input`] and [`Output`] are streams over the readers and writers of std. No contract names their contents.
 //! [`MemoryReader`] and [`MemoryWriter`] are streams in memory, and the contracts name their contents.
 //!
-//! A caller that runs a script has what it needs in [`read_all`], [`manager_of`], [`print_trace`], [`judge_entries`] and
-//! [`print_verdict`]. `pim_tool` runs scripts so.
+//! Other crates print with a [`Printer`], read with [`read_all`], and make the manager of a text with [`manager_of`].
 //!
 //! ```text
 //! let text = b"pim 1\ntask 1 10\nmutex 1 protect 40\n1 lock 1\n";
@@ -18,21 +17,18 @@
 //! ```
 #![tactic(auto)]
 
-mod entries;
 mod fault;
 mod judging;
 mod printer;
 mod reading;
 mod report;
-mod trace;
 mod transfer;
 
-pub use entries::{judge_entries, print_verdict};
 pub use fault::Fault;
 pub use judging::{Judged, judge, judge_bytes, manager_of, status};
 pub use pim_base::{StepLine, Verdict};
 pub use pim_page::{Failed, Input, MemoryReader, MemoryWriter, Output, Sink, Source, Trouble};
 pub use pim_text::Text;
+pub use printer::Printer;
 pub use reading::{parse, parse_script};
-pub use trace::print_trace;
 pub use transfer::read_all;

@@ -8,17 +8,18 @@ use pim_page::{Page, Sink};
 
 /// A buffered writer of lines: a writer, and a page of what is not yet written.
 ///
-/// Lines go to the page, and the page goes to the writer whenever it is full. The lines of a report are in `report`,
-/// and the lines of a trace in `trace`.
+/// Lines go to the page, and the page goes to the writer whenever it is full.
 ///
 /// # Errors
 ///
 /// A call fails with `Fault::Write` if a write fails, and with `Fault::Memory` if an allocation fails. What was written
 /// is then a prefix of what was to be printed.
 #[derive(Drop)]
-pub(crate) struct Printer<'a, W> {
-    writer: &'a mut W,
-    pub(crate) page: &'a mut Page,
+pub struct Printer<'a, W> {
+    /// What the page is written to.
+    pub writer: &'a mut W,
+    /// What is not yet written.
+    pub page: &'a mut Page,
 }
 
 impl<'a, W: Sink> Printer<'a, W> {

@@ -16,7 +16,7 @@ impl<'a, W: Sink> Printer<'a, W> {
     /// Adds the line of the reply to the manager's last step, and one for each task whose priority that step changed.
     /// If the recorded reply differs it adds both lines of the rejection instead. Returns whether the replies agree.
     #[tactic(auto, using(crate::proofs::PrintingLemmas::prints_unwritten), unfolding(crate::specs::Printed::shown_lines))]
-    pub fn step(
+    pub(crate) fn step(
         &mut self,
         number: u32,
         reply: &Reply,
@@ -41,7 +41,7 @@ impl<'a, W: Sink> Printer<'a, W> {
 
     /// Adds the last line of a report in which no recorded reply differs.
     #[tactic(auto, using(crate::proofs::PrintingLemmas::prints_unwritten))]
-    pub fn accepted(&mut self, count: u32) -> Result<(), Fault>
+    pub(crate) fn accepted(&mut self, count: u32) -> Result<(), Fault>
         ensures { Takes W.told self.old self.new (accepted count) result }
     {
         self.page.accepted(count)?;

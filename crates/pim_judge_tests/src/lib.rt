@@ -1,5 +1,4 @@
-//! Tests of pim_judge: worked texts with their reports, invalid ones, answers, entries that are judged, and ends that
-//! fail.
+//! Tests of pim_judge: worked texts with their reports, invalid ones, answers, and ends that fail.
 //!
 //! They have a crate of their own, since a crate with tests is proved a second time with them.
 #![tactic(auto)]
@@ -16,8 +15,6 @@ mod failing_ends;
 mod invalid_texts;
 #[cfg(test)]
 mod odd_sizes;
-#[cfg(test)]
-mod pages;
 #[cfg(test)]
 mod parts;
 #[cfg(test)]

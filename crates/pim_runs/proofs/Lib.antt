@@ -1,0 +1,2 @@
+pub mod TraceLineLemmas
+pub mod EntryLemmas

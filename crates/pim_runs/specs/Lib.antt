@@ -1,0 +1,2 @@
+pub use Rattle.pim_base.specs.Recordings
+pub mod Printed
