@@ -4,6 +4,7 @@ import pathlib
 import signal
 import subprocess
 import sys
+import time
 
 ROOT = pathlib.Path(__file__).resolve().parent.parent
 COUNTS = {"ok": 0, "FAIL": 0, "skip": 0}
@@ -69,6 +70,52 @@ def ended(child, seconds=60):
         child.kill()
         child.wait()
         return f"no end within {seconds} s"
+
+
+def until(what, seconds=20):
+    """Waits until what the function returns is true, or so many seconds are over, and returns it."""
+    deadline = time.monotonic() + seconds
+    while not (found := what()) and time.monotonic() < deadline:
+        time.sleep(0.02)
+    return found
+
+
+def proc_text(process, file):
+    """Returns the text of a file that /proc has of a process, or nothing if the process is gone."""
+    try:
+        return pathlib.Path(f"/proc/{process}/{file}").read_text(errors="replace")
+    except ProcessLookupError:
+        return ""
+    except FileNotFoundError:
+        if os.path.exists(f"/proc/{process}"):
+            raise
+        return ""
+
+
+def stat_of(process):
+    """Returns what /proc/PROCESS/stat has behind the name, the state first: nothing if the process is gone."""
+    return proc_text(process, "stat").rpartition(")")[2].split()
+
+
+def is_gone(process):
+    """Returns whether a process has ended, even if nobody waited for it yet.
+
+    A process whose first thread alone has ended counts as gone, too.
+    """
+    return stat_of(process)[:1] in ([], ["Z"], ["X"])
+
+
+def children_of(process):
+    """Returns the processes that a process's first thread started and hasn't waited for."""
+    return {int(word) for word in proc_text(process, f"task/{process}/children").split()}
+
+
+def threads_of(process):
+    """Returns the threads of a process, which has none if it is gone."""
+    try:
+        return {int(name) for name in os.listdir(f"/proc/{process}/task")}
+    except (FileNotFoundError, ProcessLookupError):
+        return set()
 
 
 def program():

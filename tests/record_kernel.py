@@ -11,7 +11,7 @@ import sys
 import tempfile
 import time
 
-from checks import ROOT, check, difference, ended, skip
+from checks import ROOT, check, children_of, difference, ended, is_gone, proc_text, skip, stat_of, until
 
 RECORD = ROOT / "record"
 PROGRAMS = RECORD / "out/programs"
@@ -50,7 +50,7 @@ class Tracefs:
         """Returns the instances of recordings, but for those that were seen while another's process had them."""
         found = [name for name in self.names() if name.startswith("pim-record-")]
         processes = {name: int(name.split("-")[2]) for name in found}
-        self.others |= {name for name in found if not is_gone(processes[name]) and not is_descendant(processes[name])}
+        self.others |= {name for name in found if not is_descendant(processes[name]) and not is_gone(processes[name])}
         return [name for name in found if name not in self.others]
 
     def end(self):
@@ -257,7 +257,7 @@ def random_program(reader, folder):
 
 
 def started(folder, *command, options=(), **how):
-    """Starts a recording, and returns it once its instance is there."""
+    """Starts a recording, and returns its process, which is the shell of pim-record at first."""
     words = [RECORD / "pim-record", "--kernel", "-o", pathlib.Path(folder, "run"), *options, *command]
     pipes = {"stdout": subprocess.PIPE, "stderr": subprocess.PIPE, "text": True}
     return subprocess.Popen([str(word) for word in words], **pipes, **how)
@@ -268,30 +268,14 @@ def first_line(child):
     return child.stdout.readline().strip()
 
 
-def until(what, seconds=20):
-    deadline = time.monotonic() + seconds
-    while not what() and time.monotonic() < deadline:
-        time.sleep(0.02)
-    return what()
-
-
-def is_gone(process):
-    try:
-        return open(f"/proc/{process}/stat").read().rpartition(")")[2].split()[0] in "ZX"
-    except (FileNotFoundError, ProcessLookupError):
-        return True
-
-
 END_MISSING = "the end is missing: the recorder was killed, or goes on"
 SAYS_AND_SLEEPS = "trap 'echo told; exit 5' INT TERM; echo $$; while :; do sleep 0.05; done"
 
 
 def parent_of(process):
     """Returns the number of a process's parent, or 0 if the process is gone."""
-    try:
-        return int(open(f"/proc/{process}/stat").read().rpartition(")")[2].split()[1])
-    except (FileNotFoundError, ProcessLookupError):
-        return 0
+    fields = stat_of(process)
+    return int(fields[1]) if fields else 0
 
 
 def is_descendant(process):
@@ -301,15 +285,23 @@ def is_descendant(process):
     return process != 0
 
 
+def exe_of(process):
+    """Returns the path of the file that a process executes, or nothing if the process is gone."""
+    try:
+        return os.readlink(f"/proc/{process}/exe")
+    except (FileNotFoundError, ProcessLookupError, PermissionError):
+        return ""
+
+
 def program_of(child):
-    """Returns the process in which a recording executed its program, or None if it hasn't yet."""
-    for process in filter(str.isdigit, os.listdir("/proc")):
-        try:
-            if parent_of(process) == child.pid and not os.readlink(f"/proc/{process}/exe").endswith("pim-launch"):
-                return int(process)
-        except FileNotFoundError:
-            continue
-    return None
+    """Returns the process in which a recording executed its program, or None if it hasn't yet.
+
+    Until the shell of pim-record is pim-launch, what it has started are its own helpers.
+    """
+    if not exe_of(child.pid).endswith("pim-launch"):
+        return None
+    files = {process: exe_of(process) for process in children_of(child.pid)}
+    return next((process for process, file in files.items() if file and not file.endswith("pim-launch")), None)
 
 
 def signals(folder, tracefs):
@@ -350,12 +342,12 @@ def killed(reader, folder, tracefs):
 
 def others(reader, folder, tracefs):
     """The next call removes what is left, and no instance of another, nor of a process that is there."""
-    start = open("/proc/self/stat").read().rpartition(")")[2].split()[19]
+    start = stat_of("self")[19]
     gone = subprocess.Popen(["true"])
     gone.wait()
     ended_unseen = subprocess.Popen(["true"])
     until(lambda: is_gone(ended_unseen.pid))
-    its = open(f"/proc/{ended_unseen.pid}/stat").read().rpartition(")")[2].split()[19]
+    its = stat_of(ended_unseen.pid)[19]
     kept = ["somebody", f"pim-record-{os.getpid()}-{start}", f"pim-record-{gone.pid}-1x", f"pim-record-0{gone.pid}-1",
             f"pim-recorder-{gone.pid}-1"]
     removed = [f"pim-record-{gone.pid}-1", f"pim-record-{os.getpid()}-1", f"pim-record-{ended_unseen.pid}-{its}"]
@@ -377,16 +369,14 @@ def others(reader, folder, tracefs):
 
 def guard_of(recorder, program):
     """Returns the second process of a recording, which removes the instance when the recorder is gone."""
-    children = pathlib.Path(f"/proc/{recorder}/task/{recorder}/children").read_text().split()
-    guard, = {int(word) for word in children} - {program}
+    guard, = children_of(recorder) - {program}
     return guard
 
 
 def pauses_of(process):
-    """Returns how often a process has waited, or given up its CPU."""
-    lines = pathlib.Path(f"/proc/{process}/status").read_text().splitlines()
-    count, = [line.split()[1] for line in lines if line.startswith("voluntary_ctxt_switches:")]
-    return int(count)
+    """Returns how often a process has waited, or given up its CPU, and 0 if it is gone."""
+    found = re.search(r"^voluntary_ctxt_switches:\s*(\d+)$", proc_text(process, "status"), re.M)
+    return int(found[1]) if found else 0
 
 
 def guards(folder, tracefs):
@@ -533,7 +523,11 @@ def mounted(folder):
 def lost(reader, folder):
     """A recorder that is held up loses events, and reports when and how many."""
     child = started(folder, PROGRAMS / "random", "1", "4000", options=["--buffer", "8"])
-    until(lambda: program_of(child))
+    name = "a recording with lost events keeps the laws"
+    if not until(lambda: program_of(child)):
+        child.terminate()
+        check(name, f"no program was seen, status {ended(child)}: {child.stderr.read()}")
+        return
     child.send_signal(signal.SIGSTOP)
     time.sleep(0.3)
     child.send_signal(signal.SIGCONT)
@@ -542,7 +536,7 @@ def lost(reader, folder):
     told = text.lost()
     count = sum(event.values[0] for event in told)
     fault = next(iter(kernel_text.Checker(text).run()), None) or (None if count else "nothing is lost")
-    check("a recording with lost events keeps the laws", fault)
+    check(name, fault)
     if not told:
         return
     first, last = min(event.values[1] for event in told), max(event.time for event in told)

@@ -11,8 +11,8 @@ import select
 import signal
 import time
 
-from checks import ROOT, check, difference, skip
-from record_kernel import Tracefs, faults_of, guard_of, is_gone, until
+from checks import ROOT, check, difference, is_gone, skip, stat_of, threads_of, until
+from record_kernel import Tracefs, faults_of, guard_of
 
 SECONDS = 300
 INTERRUPT, QUIT, SUSPEND = b"\x03", b"\x1c", b"\x1a"
@@ -40,14 +40,9 @@ def shell(command, notes, orders):
             os.killpg(job, signal.SIGCONT)
 
 
-def state_of(folder):
-    """Returns the letter that /proc has for a process or a thread."""
-    return (folder / "stat").read_text().rpartition(")")[2].split()[0]
-
-
 def stopped(process):
-    """Returns whether a thread of the process is stopped by a signal."""
-    return "T" in map(state_of, pathlib.Path(f"/proc/{process}/task").iterdir())
+    """Returns whether a thread of the process is stopped by a signal. None is if the process is gone."""
+    return any(stat_of(f"{process}/task/{thread}")[:1] == ["T"] for thread in threads_of(process))
 
 
 class Terminal:
@@ -99,7 +94,7 @@ class Terminal:
 
     def sleeps(self):
         """Returns whether the job waits for what comes, in time: pim-record has told its guard that it goes on."""
-        return until(lambda: state_of(pathlib.Path(f"/proc/{self.job}")) == "S", SECONDS)
+        return until(lambda: stat_of(self.job)[:1] == ["S"], SECONDS)
 
     def end(self):
         """Returns the job's last status by the convention of waitstatus_to_exitcode."""
