@@ -1,7 +1,7 @@
 use Rattle.std.proofs.lemmas.Grind.{common_steps}
-use Rattle.std.proofs.Common.{◌≡◌, ℕ, zero, suc, ◌<◌, ◌≤◌, Bool, true, false, cond, ◌||◌, ◌⊎◌, inl, inr, refl, sym, ◌∙◌, ap, subst, Some, None, List, [], ◌∷◌, take, drop, rules, arith}
+use Rattle.std.proofs.Common.{◌≡◌, ℕ, zero, suc, ◌≤◌, Bool, true, false, cond, ◌||◌, refl, ◌∙◌, ap, subst, Some, None, List, [], ◌∷◌, take, drop, rules, arith}
 use Rattle.std.specs.List.{list_any, find, AllByRecursion}
-use Rattle.std.proofs.lemmas.Bool.{both_ways, eqb-true, or_cases, or_left, or_right, cond_both}
+use Rattle.std.proofs.lemmas.Bool.{both_ways, eqb-true, or_left, cond_both}
 use Rattle.std.proofs.lemmas.Option.{none-some, same_Some}
 use Rattle.pim_base.specs.declared.steps.Waiter.{Waiter}
 use Rattle.pim_base.specs.Lists.{insert_by}
@@ -19,7 +19,12 @@ pub all_both :
 all_both P Q R f [] h k = tt
 all_both P Q R f (x ∷ xs) h k = (f x h.0 k.0, all_both P Q R f xs h.1 k.1)
 
-pub all_each : {X : Type 0} (P R : X → Type 0) → ((x : X) → P x → R x) → (xs : List X) → AllByRecursion P xs → AllByRecursion R xs
+pub all_each :
+    {X : Type 0} (P R : X → Type 0)
+    → ((x : X) → P x → R x)
+    → (xs : List X)
+    → AllByRecursion P xs
+    → AllByRecursion R xs
 all_each P R f xs h = all_both P P R (λ x p _. f x p) xs h h
 
 -- the first that passes, with what holds of it
@@ -29,33 +34,27 @@ pub record Found {X : Type 0} (p : X → Bool) (P : X → Type 0) (xs : List X) 
   pub passes : p one ≡ true
   pub holds : P one
 
-pub found : {X : Type 0} (p : X → Bool) (P : X → Type 0) → (xs : List X) → list_any p xs ≡ true → AllByRecursion P xs → Found p P xs
+pub found :
+    {X : Type 0} (p : X → Bool) (P : X → Type 0)
+    → (xs : List X)
+    → list_any p xs ≡ true
+    → AllByRecursion P xs
+    → Found p P xs
 found p P [] h k = absurd (both_ways false refl h)
 found p P (x ∷ xs) h k = go (p x) refl (λ there. found p P xs there k.1) h
   where
     go : (b : Bool) → p x ≡ b → (list_any p xs ≡ true → Found p P xs) → (b || list_any p xs) ≡ true → Found p P (x ∷ xs)
-    go true here rest e = record { one = x; is = ap (λ b. cond b (Some x) (find p xs)) here; passes = here; holds = k.0 }
+    go true here rest e =
+        record { one = x; is = ap (λ b. cond b (Some x) (find p xs)) here; passes = here; holds = k.0 }
     go false away rest e =
         let it = rest e in
-        record { one = it.one; is = ap (λ b. cond b (Some x) (find p xs)) away ∙ it.is; passes = it.passes; holds = it.holds }
-
--- what is found is there
-pub any_found : {X : Type 0} (p : X → Bool) → (xs : List X) (x : X) → find p xs ≡ Some x → list_any p xs ≡ true
-any_found p [] x h = absurd (none-some x h)
-any_found p (y ∷ ys) x h = go (p y) (any_found p ys x) h
-  where
-    go : (b : Bool) → (find p ys ≡ Some x → list_any p ys ≡ true) → cond b (Some y) (find p ys) ≡ Some x → (b || list_any p ys) ≡ true
-    go true rest e = refl
-    go false rest e = rest e
+        let is = ap (λ b. cond b (Some x) (find p xs)) away ∙ it.is in
+        record { one = it.one; is = is; passes = it.passes; holds = it.holds }
 
 -- if nothing is found, nothing passes
 pub none_found : {X : Type 0} (p : X → Bool) → (xs : List X) → find p xs ≡ None → list_any p xs ≡ false
 none_found p [] h = refl
-none_found p (x ∷ xs) h = go (p x) h (none_found p xs)
-  where
-    go : (b : Bool) → cond b (Some x) (find p xs) ≡ None → (find p xs ≡ None → list_any p xs ≡ false) → (b || list_any p xs) ≡ false
-    go true h rest = absurd (none-some x (sym h))
-    go false h rest = rest h
+none_found p (x ∷ xs) h = grind (arith, none_found p xs)
 
 -- what is found has what all have
 pub found_holds :
@@ -64,17 +63,16 @@ pub found_holds :
     → find p xs ≡ Some x
     → AllByRecursion P xs
     → P x
-found_holds p P xs x h all =
-    let it : Found p P xs = found p P xs (any_found p xs x h) all in
-    subst P (same_Some _ _ (sym it.is ∙ h)) it.holds
+found_holds p P [] x h all = absurd (none-some x h)
+found_holds p P (y ∷ ys) x h all = go (p y) (found_holds p P ys x) h
+  where
+    go : (b : Bool) → (find p ys ≡ Some x → AllByRecursion P ys → P x) → cond b (Some y) (find p ys) ≡ Some x → P x
+    go true rest is = subst P (same_Some y x is) all.0
+    go false rest is = rest is all.1
 
 -- ---- the order
 pub before_prio : (a b : Waiter) → precedes a b ≡ true → b.prio ≤ a.prio
 before_prio a b h = search rules
-
--- the same, as a choice of facts
-abbrev pub Before : Waiter → Waiter → Type 0
-Before a b = (b.prio < a.prio) ⊎ ((a.prio ≡ b.prio) × (a.ticket < b.ticket))
 
 pub before_trans : (a b c : Waiter) → precedes a b ≡ true → precedes b c ≡ true → precedes a c ≡ true
 before_trans a b c h k = search rules
@@ -103,15 +101,22 @@ ordered_drop (suc n) [] h = tt
 ordered_drop (suc n) (w ∷ ws) h = ordered_drop n ws h.1
 
 -- ---- one taken out
-pub all_without : (P : Waiter → Type 0) (task : ℕ) (ws : List Waiter) → AllByRecursion P ws → AllByRecursion P (without task ws)
+pub all_without :
+    (P : Waiter → Type 0) (task : ℕ) (ws : List Waiter)
+    → AllByRecursion P ws
+    → AllByRecursion P (without task ws)
 all_without P task [] h = tt
 all_without P task (v ∷ vs) h =
-    cond_both (is_of task v) vs (v ∷ without task vs) (AllByRecursion P) (λ _. h.1) (λ _. (h.0, all_without P task vs h.1))
+    cond_both (is_of task v) vs (v ∷ without task vs) (AllByRecursion P)
+    (λ _. h.1)
+    (λ _. (h.0, all_without P task vs h.1))
 
 pub ordered_without : (task : ℕ) (ws : List Waiter) → IsOrdered ws → IsOrdered (without task ws)
 ordered_without task [] h = tt
 ordered_without task (v ∷ vs) h =
-    cond_both (is_of task v) vs (v ∷ without task vs) IsOrdered (λ _. h.1) (λ _. (all_without _ task vs h.0, ordered_without task vs h.1))
+    cond_both (is_of task v) vs (v ∷ without task vs) IsOrdered
+    (λ _. h.1)
+    (λ _. (all_without _ task vs h.0, ordered_without task vs h.1))
 
 pub any_without :
     (task u : ℕ) (ws : List Waiter)
@@ -119,20 +124,7 @@ pub any_without :
     → list_any (is_of u) ws ≡ true
     → list_any (is_of u) (without task ws) ≡ true
 any_without task u [] ne h = h
-any_without task u (v ∷ vs) ne h =
-    cond_both (is_of task v) vs (v ∷ without task vs) (λ us. list_any (is_of u) us ≡ true) (λ here. there here (or_cases _ _ h))
-    (λ _. stays (any_without task u vs ne) (or_cases _ _ h))
-  where
-    there : is_of task v ≡ true → (is_of u v ≡ true) ⊎ (list_any (is_of u) vs ≡ true) → list_any (is_of u) vs ≡ true
-    there here (inl e) = absurd (ne (sym (eqb-true v.task u e) ∙ eqb-true v.task task here))
-    there here (inr k) = k
-
-    stays :
-        (list_any (is_of u) vs ≡ true → list_any (is_of u) (without task vs) ≡ true)
-        → (is_of u v ≡ true) ⊎ (list_any (is_of u) vs ≡ true)
-        → list_any (is_of u) (v ∷ without task vs) ≡ true
-    stays rest (inl e) = or_left _ _ e
-    stays rest (inr k) = or_right _ _ (rest k)
+any_without task u (v ∷ vs) ne h = grind (arith, eqb-true, any_without task u vs ne)
 
 -- ---- one put in
 pub all_place :
@@ -156,21 +148,16 @@ ordered_place w (v ∷ vs) h apart =
     (λ first. ((first, all_each _ _ (λ u k. before_trans w v u first k) vs h.0), h))
     (λ later. (all_place _ w vs (before_else w v apart.0 later) h.0, ordered_place w vs h.1 apart.1))
 
-pub any_place_new : (p : Waiter → Bool) (w : Waiter) (ws : List Waiter) → p w ≡ true → list_any p (insert_by precedes ws w) ≡ true
+pub any_place_new :
+    (p : Waiter → Bool) (w : Waiter) (ws : List Waiter)
+    → p w ≡ true
+    → list_any p (insert_by precedes ws w) ≡ true
 any_place_new p w [] h = or_left _ _ h
-any_place_new p w (v ∷ vs) h =
-    cond_both (precedes w v) (w ∷ v ∷ vs) (v ∷ insert_by precedes vs w) (λ us. list_any p us ≡ true) (λ _. or_left _ _ h)
-    (λ _. or_right _ _ (any_place_new p w vs h))
+any_place_new p w (v ∷ vs) h = grind (arith, any_place_new p w vs h)
 
-pub any_place : (p : Waiter → Bool) (w : Waiter) (ws : List Waiter) → list_any p ws ≡ true → list_any p (insert_by precedes ws w) ≡ true
+pub any_place :
+    (p : Waiter → Bool) (w : Waiter) (ws : List Waiter)
+    → list_any p ws ≡ true
+    → list_any p (insert_by precedes ws w) ≡ true
 any_place p w [] h = absurd (both_ways false refl h)
-any_place p w (v ∷ vs) h =
-    cond_both (precedes w v) (w ∷ v ∷ vs) (v ∷ insert_by precedes vs w) (λ us. list_any p us ≡ true) (λ _. or_right _ _ h)
-    (λ _. go (any_place p w vs) (or_cases _ _ h))
-  where
-    go :
-        (list_any p vs ≡ true → list_any p (insert_by precedes vs w) ≡ true)
-        → (p v ≡ true) ⊎ (list_any p vs ≡ true)
-        → list_any p (v ∷ insert_by precedes vs w) ≡ true
-    go rest (inl e) = or_left _ _ e
-    go rest (inr k) = or_right _ _ (rest k)
+any_place p w (v ∷ vs) h = grind (arith, any_place p w vs)

@@ -1,15 +1,14 @@
 -- The place of a waiter in its queue.
 use Rattle.std.proofs.lemmas.Grind.{common_steps}
-use Rattle.std.proofs.Common.{◌≡◌, ℕ, zero, suc, ◌<◌, ◌≤◌, Bool, true, false, not, ◌⊎◌, inl, inr, refl, sym, ◌∙◌, ap, subst, arith, Some, List, [], ◌∷◌, ◌++◌, length, get_or, if◌then◌else◌, ◌+◌, ◌-◌, cond, set, take, drop, rules}
+use Rattle.std.proofs.Common.{◌≡◌, ℕ, zero, suc, ◌<◌, ◌≤◌, Bool, true, false, not, refl, sym, ◌∙◌, ap, subst, arith, Some, List, [], ◌∷◌, ◌++◌, append_assoc, add-one, length, length-append, length-drop, get_or, ◌+◌, ◌-◌, cond, set, take, drop, rules}
 use Rattle.std.specs.List.{AllByRecursion, find, insert, remove, between, copy_within, position_or_len}
 use Rattle.std.specs.List.Sorted.{IsPartitionedBy, IsPartitionPoint}
-use Rattle.std.proofs.lemmas.Bool.{cases_eq, not-true, not-false, cond-true, cond-false}
-use Rattle.std.proofs.lemmas.List.{same_lists, places, length-set, get_or-set_other, length-take, length-take-le}
-use Rattle.std.proofs.lemmas.List.{take-append-drop, take-append-le, take_rest}
-use Rattle.std.proofs.lemmas.List.Edits.{insert-append_left, insert-append_right, remove-append_left, remove-append_right, length-remove}
+use Rattle.std.proofs.lemmas.Bool.{cond_both, not-true, not-false, cond-true, cond-false}
+use Rattle.std.proofs.lemmas.List.{same_lists, places, length-take, length-take-le, take-take, take_at, drop-drop, drop_all, set_split, with_items_is}
+use Rattle.std.proofs.lemmas.List.{take_rest}
+use Rattle.std.proofs.lemmas.List.Elements.{All-from_recursion}
 use Rattle.std.proofs.lemmas.List.Folds.{prefix_len-append}
 use Rattle.std.proofs.lemmas.List.Sums.{prefix_len-le-length, position_or_len_is}
-use Rattle.std.proofs.Math.Seq.{take-append-add}
 use Rattle.std.proofs.lemmas.Option.{none-some, same_Some}
 use Rattle.std.proofs.lemmas.Slice.{between_to_end}
 use Rattle.pim_base.specs.declared.steps.Waiter.{Waiter}
@@ -17,9 +16,6 @@ use Rattle.pim_base.specs.Lists.{insert_by}
 use Rattle.pim_base.specs.Queues.{precedes}
 use Rattle.pim_queue.specs.Waiters.{is_of, without, IsOrdered}
 use Rattle.pim_queue.proofs.Order.{found_holds, before_trans, before_itself, before_not, ordered_take, ordered_drop}
-
-all_at : {X : Type 0} (P : X → Type 0) → (xs : List X) → AllByRecursion P xs → (k : ℕ) (d : X) → k < length xs → P (get_or xs k d)
-all_at P xs h k d low = grind (arith, common_steps)
 
 ordered_at :
     (ws : List Waiter)
@@ -30,7 +26,7 @@ ordered_at :
     → precedes (get_or ws i d) (get_or ws j d) ≡ true
 ordered_at [] h i j d less low = absurd (omega arith)
 ordered_at (w ∷ ws) h i zero d less low = absurd (omega arith)
-ordered_at (w ∷ ws) h zero (suc j) d less low = all_at _ ws h.0 j d (omega arith)
+ordered_at (w ∷ ws) h zero (suc j) d less low = All-from_recursion _ ws h.0 j d (omega arith)
 ordered_at (w ∷ ws) h (suc i) (suc j) d less low = ordered_at ws h.1 i j d (omega arith) (omega arith)
 
 -- the waiters that a waiter doesn't precede are in front of it
@@ -38,19 +34,16 @@ pub partitioned : (w : Waiter) (ws : List Waiter) → IsOrdered ws → IsPartiti
 partitioned w ws ordered i j d le low behind = grind (arith, before_trans, ordered_at)
 
 -- its place is in front of the first that it comes before
-pub insert_by_is : (w : Waiter) (ws : List Waiter) → insert_by precedes ws w ≡ insert ws (position_or_len (precedes w) ws) w
+pub insert_by_is :
+    (w : Waiter) (ws : List Waiter)
+    → insert_by precedes ws w ≡ insert ws (position_or_len (precedes w) ws) w
 insert_by_is w [] = refl
-insert_by_is w (v ∷ vs) = go (precedes w v) (insert_by_is w vs)
-  where
-    go :
-        (b : Bool)
-        → insert_by precedes vs w ≡ insert vs (position_or_len (precedes w) vs) w
-        → (if b then w ∷ v ∷ vs else v ∷ insert_by precedes vs w)
-        ≡ insert (v ∷ vs) (cond (not b) (1 + position_or_len (precedes w) vs) 0) w
-    go true rest = refl
-    go false rest =
-        let next : suc (position_or_len (precedes w) vs) ≡ 1 + position_or_len (precedes w) vs = omega arith in
-        ap (λ us. v ∷ us) rest ∙ ap (λ i. insert (v ∷ vs) i w) next
+insert_by_is w (v ∷ vs) =
+    let next : 1 + position_or_len (precedes w) vs ≡ suc (position_or_len (precedes w) vs) = omega arith in
+    cond_both (precedes w v) (w ∷ v ∷ vs) (v ∷ insert_by precedes vs w)
+    (λ us. us ≡ insert (v ∷ vs) (position_or_len (precedes w) (v ∷ vs)) w)
+    (λ first. rw first)
+    (λ later. rw (later, next, insert_by_is w vs))
 
 pub place_is :
     (w : Waiter) (ws : List Waiter) (i : ℕ)
@@ -69,7 +62,10 @@ record Here (w : Waiter) (ws : List Waiter) : Type 0 where
   out : without w.task ws ≡ remove ws place
 
 -- before all of them
-first_of_all : (w : Waiter) (ws : List Waiter) → AllByRecursion (λ v. precedes w v ≡ true) ws → position_or_len (precedes w) ws ≡ 0
+first_of_all :
+    (w : Waiter) (ws : List Waiter)
+    → AllByRecursion (λ v. precedes w v ≡ true) ws
+    → position_or_len (precedes w) ws ≡ 0
 first_of_all w [] h = refl
 first_of_all w (v ∷ vs) h = ap (λ b. cond (not b) (1 + position_or_len (precedes w) vs) 0) h.0
 
@@ -89,11 +85,10 @@ here w (v ∷ vs) ordered found = go (is_of w.task v) refl found (here w vs orde
         → Here w (v ∷ vs)
     go true its is rest =
         let same : v ≡ w = same_Some v w is in
+        let first = first_of_all w vs (subst (λ u. AllByRecursion (λ x. precedes u x ≡ true) vs) same ordered.0) in
         record {
           place = 0;
-          next =
-              one_more (ap (precedes w) same ∙ before_itself w)
-              ∙ ap (λ n. 1 + n) (first_of_all w vs (subst (λ u. AllByRecursion (λ x. precedes u x ≡ true) vs) same ordered.0));
+          next = one_more (ap (precedes w) same ∙ before_itself w) ∙ ap (λ n. 1 + n) first;
           out = cond-true _ _ _ its;
         }
     go false other is rest =
@@ -105,7 +100,11 @@ here w (v ∷ vs) ordered found = go (is_of w.task v) refl found (here w vs orde
           out = cond-false _ _ _ other ∙ ap (λ us. v ∷ us) it.out;
         }
 
-pub own_place_some : (w : Waiter) (ws : List Waiter) → IsOrdered ws → find (is_of w.task) ws ≡ Some w → 1 ≤ position_or_len (precedes w) ws
+pub own_place_some :
+    (w : Waiter) (ws : List Waiter)
+    → IsOrdered ws
+    → find (is_of w.task) ws ≡ Some w
+    → 1 ≤ position_or_len (precedes w) ws
 own_place_some w ws ordered found = let it : Here w ws = here w ws ordered found in omega (arith, it.next)
 
 pub own_place_out :
@@ -121,7 +120,11 @@ pub found_some : (w : Waiter) (ws : List Waiter) → find (is_of w.task) ws ≡ 
 found_some w [] found = absurd (none-some w found)
 found_some w (v ∷ vs) found = omega arith
 
-pub front_out : (t : ℕ) (ws : List Waiter) (d : Waiter) → 0 < length ws → is_of t (get_or ws 0 d) ≡ true → without t ws ≡ remove ws 0
+pub front_out :
+    (t : ℕ) (ws : List Waiter) (d : Waiter)
+    → 0 < length ws
+    → is_of t (get_or ws 0 d) ≡ true
+    → without t ws ≡ remove ws 0
 front_out t [] d some its = absurd (omega arith)
 front_out t (v ∷ vs) d some its = cond-true _ _ _ its
 
@@ -145,135 +148,78 @@ place_behind p ws from all low = grind (arith, prefix_len-le-length, length-take
 
 pub ruleset among_others = (ordered_take, ordered_drop, place_before, place_behind)
 
--- written at `to`, when each other place has its final waiter
-written :
-    (w : Waiter) (us ws : List Waiter) (from to : ℕ)
-    → from < length ws
-    → to < length ws
-    → length us ≡ length ws
-    → ((k : ℕ) (d : Waiter) → k < length ws → (k ≡ to → ⊥) → get_or us k d ≡ get_or (insert (remove ws from) to w) k d)
-    → set us to w ≡ insert (remove ws from) to w
-written w us ws from to low within long others =
-    same_lists _ _ (search (rules, places)) (λ k d h. go k d (omega (arith, length-set us to w)) (cases_eq k to))
-  where
-    go :
-        (k : ℕ) (d : Waiter)
-        → k < length ws
-        → (k ≡ to) ⊎ (k ≡ to → ⊥)
-        → get_or (set us to w) k d ≡ get_or (insert (remove ws from) to w) k d
-    go k d h (inl is) = search (rules, places)
-    go k d h (inr ne) = get_or-set_other us to k w d ne ∙ others k d h ne
+-- moving all but the last one place back, and writing w in the first place, gives w and all but the last
+pub to_front :
+    (w : Waiter) (ws : List Waiter)
+    → 0 < length ws
+    → set (copy_within ws 0 (length ws - 1) 1) 0 w ≡ w ∷ take (length ws - 1) ws
+to_front w ws some = same_lists _ _ (search (rules, places)) (λ k d h. grind (arith, places))
 
-pub moved_forward :
-    (w : Waiter) (ws : List Waiter) (from to : ℕ)
-    → to < from
-    → from < length ws
-    → set (copy_within ws to from (to + 1)) to w ≡ insert (remove ws from) to w
-moved_forward w ws from to before low =
-    written w (copy_within ws to from (to + 1)) ws from to low (omega arith) (search (rules, places)) (λ k d h ne. grind (arith, places))
-
-pub moved_back :
-    (w : Waiter) (ws : List Waiter) (from to : ℕ)
-    → from < to
-    → to < length ws
-    → set (copy_within ws (from + 1) (to + 1) from) to w ≡ insert (remove ws from) to w
-moved_back w ws from to behind low =
-    written w (copy_within ws (from + 1) (to + 1) from) ws from to (omega arith) low (search (rules, places)) (λ k d h ne. grind (arith, places))
-
-pub all_moved_back :
+-- writing w over the last of ws, where us are in place of all the others, gives us and w
+pub to_end :
     (w : Waiter) (ws us : List Waiter)
-    → 1 < length ws
-    → us ≡ copy_within ws 1 (length ws) 0
-    → set us (length ws - 1) w ≡ insert (remove ws 0) (length ws - 1) w
-all_moved_back w ws us some is =
-    let upto : length ws ≡ length ws - 1 + 1 = omega arith in
-    ap (λ vs. set vs (length ws - 1) w) (is ∙ ap (λ n. copy_within ws 1 n 0) upto)
-    ∙ moved_back w ws 0 (length ws - 1) (omega arith) (omega arith)
+    → length us + 1 ≡ length ws
+    → set (us ++ drop (length ws - 1) ws) (length ws - 1) w ≡ us ++ w ∷ []
+to_end w ws us one = grind (arith, set_split, take_at, drop_all, length-append, length-drop)
 
-pub stayed : (w : Waiter) (ws : List Waiter) (from : ℕ) → from < length ws → set ws from w ≡ insert (remove ws from) from w
-stayed w ws from low = written w ws ws from from low low refl (λ k d h ne. grind (arith, places))
-
-pub ruleset moved = (moved_forward, moved_back, stayed)
-
--- a move within a part of the list
-inside :
-    (w : Waiter) (ls ms rs : List Waiter) (a i j : ℕ)
-    → length ls ≡ a
-    → i < length ms
-    → j < length ms
-    → ls ++ (insert (remove ms i) j w ++ rs) ≡ insert (remove (ls ++ (ms ++ rs)) (a + i)) (a + j) w
-inside w ls ms rs a i j len low within =
-    ap (λ xs. ls ++ xs) (sym (insert-append_left (remove ms i) rs j w (omega (arith, length-remove ms i low)))
-    ∙ ap (λ xs. insert xs j w) (sym (remove-append_left ms rs i low)))
-    ∙ ap (λ n. ls ++ insert (remove (ms ++ rs) i) n w) (omega arith)
-    ∙ sym (insert-append_right ls (remove (ms ++ rs) i) a (a + j) w len (omega arith))
-    ∙ ap (λ n. insert (ls ++ remove (ms ++ rs) n) (a + j) w) (omega arith)
-    ∙ ap (λ xs. insert xs (a + j) w) (sym (remove-append_right ls (ms ++ rs) a (a + i) len (omega arith)))
-
--- a move within the part of n from a on
-moved_inside :
-    (w : Waiter) (ws : List Waiter) (a n i j : ℕ)
-    → a + n ≤ length ws
-    → i < n
-    → j < n
-    → take a ws ++ (insert (remove (take n (drop a ws)) i) j w ++ drop n (drop a ws)) ≡ insert (remove ws (a + i)) (a + j) w
-moved_inside w ws a n i j fits low within =
-    let part : length (take n (drop a ws)) ≡ n = search (rules, places, arith) in
-    inside w (take a ws) (take n (drop a ws)) (drop n (drop a ws)) a i j (length-take-le a ws (omega arith)) (omega (arith, part)) (omega (arith, part))
-    ∙ ap (λ xs. insert (remove xs (a + i)) (a + j) w)
-    (ap (λ xs. take a ws ++ xs) (take-append-drop n (drop a ws)) ∙ take-append-drop a ws)
-
+-- taking the last out of the part from `to` to `from`, and putting w in front of the part, moves w from `from` to `to`
 pub part_forward :
     (w : Waiter) (ws : List Waiter) (from to n : ℕ)
     → to < from
     → from < length ws
     → n ≡ from + 1 - to
-    → take to ws ++ (insert (remove (take n (drop to ws)) (length (take n (drop to ws)) - 1)) 0 w ++ drop n (drop to ws))
+    → take to ws ++ ((w ∷ take (length (take n (drop to ws)) - 1) (take n (drop to ws))) ++ drop n (drop to ws))
     ≡ insert (remove ws from) to w
-part_forward w ws from to n before low is =
-    let part : length (take n (drop to ws)) ≡ n = search (rules, places, arith) in
-    ap (λ k. take to ws ++ (insert (remove (take n (drop to ws)) k) 0 w ++ drop n (drop to ws))) (omega (arith, part))
-    ∙ moved_inside w ws to n (from - to) 0 (omega arith) (omega arith) (omega arith)
-    ∙ ap (λ k. insert (remove ws k) (to + 0) w) (omega arith)
-    ∙ ap (λ k. insert (remove ws from) k w) (omega arith)
+part_forward w [] from to n before low is = absurd (omega arith)
+part_forward w (v ∷ vs) zero to n before low is = absurd (omega arith)
+part_forward w (v ∷ vs) (suc from) zero n before low is =
+    let l : length (take n (v ∷ vs)) - 1 ≡ suc from = omega (arith, length-take-le n (v ∷ vs) (omega arith)) in
+    let e : n ≡ suc (suc from) = omega arith in
+    rw (l, take-take (suc from) n (v ∷ vs) (omega arith), e)
+part_forward w (v ∷ vs) (suc from) (suc to) n before low is =
+    ap (λ us. v ∷ us) (part_forward w vs from to n (omega arith) (omega arith) (omega arith))
 
+-- taking the first out of the part from `from` to `to`, and putting w behind the part, moves w from `from` to `to`
 pub part_back :
     (w : Waiter) (ws : List Waiter) (from to n : ℕ)
     → from < to
     → to < length ws
     → n ≡ to + 1 - from
-    → take from ws ++ (insert (remove (take n (drop from ws)) 0) (length (take n (drop from ws)) - 1) w ++ drop n (drop from ws))
+    → take from ws ++ ((drop 1 (take n (drop from ws)) ++ w ∷ []) ++ drop n (drop from ws))
     ≡ insert (remove ws from) to w
-part_back w ws from to n behind low is =
-    let part : length (take n (drop from ws)) ≡ n = search (rules, places, arith) in
-    ap (λ k. take from ws ++ (insert (remove (take n (drop from ws)) 0) k w ++ drop n (drop from ws))) (omega (arith, part))
-    ∙ moved_inside w ws from n 0 (to - from) (omega arith) (omega arith) (omega arith)
-    ∙ ap (λ k. insert (remove ws k) (from + (to - from)) w) (omega arith)
-    ∙ ap (λ k. insert (remove ws from) k w) (omega arith)
+part_back w [] from to n behind low is = absurd (omega arith)
+part_back w (v ∷ vs) from zero n behind low is = absurd (omega arith)
+part_back w (v ∷ vs) zero (suc to) n behind low is = let e : n ≡ suc (suc to) = omega arith in rw (e, append_assoc)
+part_back w (v ∷ vs) (suc from) (suc to) n behind low is =
+    ap (λ us. v ∷ us) (part_back w vs from to n (omega arith) (omega arith) (omega arith))
 
--- the part of n from a place on, which is all of the rest, without its first, and the last place dropped
+-- writing w over the waiter at a place takes that one out, and puts w in there
+pub stayed : (w : Waiter) (ws : List Waiter) (i : ℕ) → i < length ws → set ws i w ≡ insert (remove ws i) i w
+stayed w [] i low = absurd (omega arith)
+stayed w (v ∷ vs) zero low = refl
+stayed w (v ∷ vs) (suc i) low = ap (λ us. v ∷ us) (stayed w vs i (omega arith))
+
+pub ruleset moved = (part_forward, part_back, stayed)
+
+-- ---- one taken out
+-- moving all behind a place one place to the front, and dropping the last place, takes out the waiter at the place
 pub gap_closed :
     (ws us : List Waiter) (place n : ℕ)
     → place < length ws
     → n ≡ length ws - place
-    → length us ≡ length (take n (drop place ws))
-    → take (length (take n (drop place ws)) - 1) us ≡ remove (take n (drop place ws)) 0
+    → us ≡ drop 1 (take n (drop place ws)) ++ drop (length (take n (drop place ws)) - 1) (take n (drop place ws))
     → take (length ws - 1) (take place ws ++ (us ++ drop n (drop place ws))) ≡ remove ws place
-gap_closed ws us place n low is same moved =
-    let front : length (take place ws) ≡ place = length-take-le place ws (omega arith) in
-    let part : length (take n (drop place ws)) ≡ n = search (rules, places, arith) in
-    let len : length ws - 1 ≡ length (take place ws) + (length (take n (drop place ws)) - 1) = omega (arith, is, front, part) in
-    let none : 0 ≡ place - place = omega arith in
-    ap (λ k. take k (take place ws ++ (us ++ drop n (drop place ws)))) len
-    ∙ take-append-add (take place ws) (us ++ drop n (drop place ws)) (length (take n (drop place ws)) - 1)
-    ∙ ap (λ xs. take place ws ++ xs)
-    (take-append-le _ us (drop n (drop place ws)) (omega (arith, same))
-    ∙ moved
-    ∙ ap (λ xs. remove xs 0) (ap (λ k. take k (drop place ws)) is ∙ take_rest ws place)
-    ∙ ap (remove (drop place ws)) none)
-    ∙ sym (remove-append_right (take place ws) (drop place ws) place place front (omega arith))
-    ∙ ap (λ xs. remove xs place) (take-append-drop place ws)
+gap_closed ws us place n low is moved =
+    let behind : drop 1 (take n (drop place ws)) ≡ drop (suc place) ws =
+    rw (is, take_rest ws place, drop-drop 1 place ws, add-one) in
+    let len : length (take place ws ++ drop (suc place) ws) ≡ length ws - 1 = search (rules, places, arith) in
+    rw (moved, behind) (simp append_assoc (rw (← append_assoc) (take_at _ _ _ len)))
 
--- one more at the end, taken out again
+pub ruleset closed = (gap_closed, with_items_is)
+
+-- ---- one put in
+-- taking out the one that was put in at the end gives what was there before
 pub added : (w : Waiter) (ws : List Waiter) → remove (ws ++ w ∷ []) (length ws) ≡ ws
 added w ws = grind (arith, common_steps)
+
+pub ruleset put = (insert_by_is, added, with_items_is)
