@@ -1,2 +1,2 @@
+mod Left
 pub mod Members
-mod WordsLeft

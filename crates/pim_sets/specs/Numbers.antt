@@ -1,5 +1,5 @@
 -- Sets of numbers below 320, a bit for each.
-use Rattle.std.specs.Prelude.{◌≡◌, ◌≢◌, ◌<◌, ◌≤◌, ◌==◌, ◌/◌, ◌%◌, ℕ, Bool, true, false, not, if◌then◌else◌, List, map, Option, Some, None, set, slice_index}
+use Rattle.std.specs.Prelude.{◌≡◌, ◌≢◌, ◌<◌, ◌≤◌, ◌==◌, ◌/◌, ◌%◌, ◌&&◌, ◌||◌, ℕ, Bool, not, List, length, slice_index}
 use Rattle.std.specs.Int.{bit_at}
 use Rattle.std.specs.List.{filter, range_with_len}
 
@@ -19,28 +19,19 @@ members words = filter (has words) (range_with_len 0 320)
 abbrev pub AreTold : List ℕ → ℕ → Type 0
 AreTold words filled = (i : ℕ) → i < 64 → (bit_at filled i == 1) ≡ not (slice_index words i == 0)
 
--- the least number of the set, or None if the set is empty
-abbrev pub IsLeast : List ℕ → Option ℕ → Type 0
-IsLeast words None = (k : ℕ) → has words k ≡ false
-IsLeast words (Some n) = (n < 320) × (has words n ≡ true) × ((k : ℕ) → k < n → has words k ≡ false)
+-- Each word that the mask has is one of the set's, and isn't empty. While the iteration is in a word, the mask has none
+-- up to it.
+pub record IsUnderWay (words : List ℕ) (filled index word : ℕ) : Type 0 where
+  pub small : (i : ℕ) → i < 64 → bit_at filled i ≡ 1 → i < 5
+  pub inside : (i : ℕ) → i < 64 → bit_at filled i ≡ 1 → i < length words
+  pub nonzero : (i : ℕ) → i < 64 → bit_at filled i ≡ 1 → slice_index words i ≢ 0
+  pub passed : word ≢ 0 → (index < 5) × ((i : ℕ) → i ≤ index → bit_at filled i ≡ 0)
 
--- the first word that has a number, or None if the set is empty
-abbrev pub IsFirstWord : List ℕ → Option ℕ → Type 0
-IsFirstWord words None = (k : ℕ) → has words k ≡ false
-IsFirstWord words (Some i) = (i < 5) × (slice_index words i ≢ 0) × ((j : ℕ) → j < i → slice_index words j ≡ 0)
+-- the number is left: it is in what is left of the word that the iteration is in, or in a word that the mask has
+abbrev pub is_left : List ℕ → ℕ → ℕ → ℕ → ℕ → Bool
+is_left words filled index word n =
+    (n / 64 == index && bit_at word (n % 64) == 1) || (bit_at filled (n / 64) == 1 && has words n)
 
--- the words whose bits of the mask are set, and empty ones in the place of the others
-unfoldable pub words_left : List ℕ → ℕ → List ℕ
-words_left words filled = map (λ i. if bit_at filled i == 1 then slice_index words i else 0) (range_with_len 0 5)
-
--- the words of the numbers that are left, with the word that the iteration is in at its index
-abbrev pub rest_words : List ℕ → ℕ → ℕ → List ℕ
-rest_words words index word = if word == 0 then words else set words index word
-
--- the same of a set's words, of which a mask says which are left
-abbrev pub left_in : List ℕ → ℕ → ℕ → ℕ → List ℕ
-left_in words filled index word = rest_words (words_left words filled) index word
-
--- while the iteration is in a word, the words up to its index are empty
-abbrev pub IsBehind : List ℕ → ℕ → ℕ → Type 0
-IsBehind words index word = word ≢ 0 → (index < 5) × ((j : ℕ) → j ≤ index → slice_index words j ≡ 0)
+-- the numbers that are left, in ascending order
+unfoldable pub left_in : List ℕ → ℕ → ℕ → ℕ → List ℕ
+left_in words filled index word = filter (is_left words filled index word) (range_with_len 0 320)

@@ -1,8 +1,9 @@
 //! Sets of the numbers of tasks or mutexes, and notes of the priorities that tasks had.
 //!
-//! A [`NumberSet`] has a bit for each number. [`OwnedSets`] keeps the mutexes that each task owns, and [`Visits`] counts
-//! the visits of a walk and, on request, notes the tasks whose stored priority it wrote. [`Changed`] goes through those
-//! that have another one now. No set allocates after it is made.
+//! A [`NumberSet`] has a bit for each number. [`OwnedSets`] keeps the mutexes that each task owns, and
+//! [`Visits`] counts the visits of a step and, on request, notes the tasks whose stored priority it wrote.
+//! [`Changed`] goes through those whose stored priority is now another one. No set allocates after it is
+//! made.
 //!
 //! ```text
 //! let mut set = NumberSet::new();

@@ -1,4 +1,4 @@
-//! The work of walks.
+//! The work of a step.
 
 ghost use Rattle.std.specs.Prelude.{◌≡◌, ◌≤◌, ◌<◌, ◌+◌, ◌-◌, ◌^◌, ◌↔◌, IsTrue, ℕ, None, IsSome, is_some, IfOk};
 ghost use Rattle.std.specs.Option.{option_copied};
@@ -10,8 +10,8 @@ use pim_base::{Prio, TaskNo};
 use std::alloc::{AllocError, Global};
 use std::marker::Model;
 
-/// The work of walks: how many visits they made and, on request, a note of each task whose stored priority they wrote,
-/// with the priority that it had at first.
+/// The work of a step: how many visits it made and, on request, a note of each task whose stored priority
+/// it wrote, with the priority that it had at first.
 ///
 /// A visit is one call of `Tables::local`, and nothing else counts as one. A step that lists what it changed uses
 /// visits with notes. Any other step uses visits that only count, and pays nothing for the notes.

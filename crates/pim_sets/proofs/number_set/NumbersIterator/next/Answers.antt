@@ -1,42 +1,45 @@
-use Rattle.std.proofs.Common.{◌≡◌, ◌==◌, ◌&&◌, not, List, ◌∷◌, ℕ, Option, Some, None, IfSome, length, rules, refl, subst, ◌∙◌, ap, arith}
-use Rattle.std.specs.Iterator.{MakesProgress, YieldsFirst, item_count}
-use Rattle.pim_sets.specs.Numbers.{has, members, words_left, rest_words, IsLeast}
-use Rattle.pim_sets.specs.declared.number_set.Rest.{Rest}
-use Rattle.pim_sets.proofs.Members.{least_first, least_none}
+use Rattle.std.proofs.Common.{◌≡◌, ◌≢◌, ◌∙◌, ap, sym, refl, rules, arith, length}
+use Rattle.pim_sets.specs.Numbers.{left_in, IsUnderWay}
+use Rattle.pim_sets.proofs.Left.{left_none, left_same, left_first, still_under_way}
 use Rattle.pim_sets.proofs.number_set.NumbersIterator.next.Goals as goal
+use Rattle.pim_sets.proofs.number_set.NumbersIterator.next.Goals.{then-self-eq0+else-self-eq0-2, else-self-eq0}
 
--- the words of what is left
-abbrev words_of : Rest → List ℕ
-words_of r = rest_words (words_left r.words.now r.filled) r.index r.word
-
-module _ (words after : List ℕ) where
-  steps :
-      (r : Option ℕ)
-      → IsLeast words r
-      → IfSome r (λ n. (k : ℕ) → has after k ≡ (not (k == n) && has words k))
-      → (r ≡ None → after ≡ words)
-      → YieldsFirst {S = List ℕ} {A = ℕ} (λ rest. rest) (members words) r (members after)
-  steps None least _ same = (least_none words least, ap members (same refl) ∙ least_none words least)
-  steps (Some n) least others _ = least_first words after n least others
-
-  goes :
-      (r : Option ℕ)
-      → IsLeast words r
-      → IfSome r (λ n. (k : ℕ) → has after k ≡ (not (k == n) && has words k))
-      → MakesProgress {S = List ℕ} {A = ℕ} (λ _. Unit {0}) (item_count (λ rest. rest)) (members words) r (members after)
-  goes None least _ = search (rules, arith)
-  goes (Some n) least others =
-      let longer : length (members words) ≡ length (n ∷ members after) = ap length (least_first words after n least others) in
-      search (rules, arith)
+pub returns-then-self-eq0-2-clause-steps : goal.returns-then-self-eq0-2-clause-steps
+returns-then-self-eq0-2-clause-steps c =
+    let here = c.self.inside in
+    let empty =
+    sym c.self.view_is
+    ∙ left_none here.words.now here.filled here.index here.word (search rules) (search rules) in
+    (empty, empty)
 
 pub returns-clause-steps : goal.returns-clause-steps
 returns-clause-steps c =
-    let after = words_of c.take_least.new.self in
-    subst (λ s. YieldsFirst {S = List ℕ} {A = ℕ} (λ rest. rest) s c.take_least.result (members after)) c.self.view_is
-    (steps (words_of c.self.inside.left) after c.take_least.result c.take_least.ensures.least c.take_least.ensures.others c.take_least.ensures.none)
+    let was = c.self.inside in
+    let here = c.if-self-eq0.self-inside in
+    let place = c.lowest_bit-place in
+    let rest = c.without_bit-self-inside-2 in
+    let ready :
+    (here.word ≢ 0)
+    × IsUnderWay here.words.now here.filled here.index here.word
+    × (left_in was.words.now was.filled was.index was.word ≡ left_in here.words.now here.filled here.index here.word) =
+    elim c.if-self-eq0.branch [
+      | then-self-eq0+else-self-eq0-2 w ↦
+          let index = w.lowest_bit-self-inside in
+          let after = w.without_bit-self-inside.ensures in
+          rw w.self-inside-is (
+            c.self.invariant.nonzero index.result index.ensures.within index.ensures.is_set,
+            still_under_way was.words.now was.filled index.result _ index.ensures.is_set after.same after.others
+                c.self.invariant index.ensures.within index.ensures.none_below,
+            left_same was.words.now was.filled index.result _ index.ensures.is_set after.same after.others
+                was.index was.word w.if-self-eq0.true,
+          )
+      | else-self-eq0 w ↦ rw w.self-inside-is (search rules, c.self.invariant, refl)
+    ] in
+    sym c.self.view_is ∙ ready.2
+    ∙ left_first here.words.now here.filled here.index here.word rest.result place.result _ ready.1 ready.0
+    place.ensures.within place.ensures.is_set place.ensures.none_below rest.ensures.same rest.ensures.others refl
 
 pub returns-clause-goes : goal.returns-clause-goes
 returns-clause-goes c =
-    let after = words_of c.take_least.new.self in
-    subst (λ s. MakesProgress {S = List ℕ} {A = ℕ} (λ _. Unit {0}) (item_count (λ rest. rest)) s c.take_least.result (members after)) c.self.view_is
-    (goes (words_of c.self.inside.left) after c.take_least.result c.take_least.ensures.least c.take_least.ensures.others)
+    let longer = ap length (returns-clause-steps c) in
+    search (rules, arith)
