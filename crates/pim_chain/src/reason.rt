@@ -18,8 +18,9 @@ impl Tables {
     ///
     /// The reason is the base if that is the priority, else the least owned PROTECT mutex with this ceiling, else the
     /// least owned INHERIT mutex with a waiter of this priority, and its first waiter. Reads each mutex that the task
-    /// owns once.
+    /// owns at most once, and none if the reason is the base.
     #[inline(always)]
+    #[tactic(auto, using(crate::proofs::Reasons::reason_base, crate::proofs::Reasons::reason_at))]
     pub fn reason(&self, task: TaskNo) -> Reason
         requires settled { SettledBut self.now.state (stored_at self.now) None }
         requires known { IsTask self.now.state task }
@@ -34,36 +35,11 @@ impl Tables {
         self.owned_reason(task, level)
     }
 
-    /// Returns the same, for a loop over tasks: the search among the mutexes of a boosted task is a call, so that it
-    /// takes no registers from the loop.
-    #[inline(always)]
-    pub fn listed_reason(&self, task: TaskNo) -> Reason
-        requires settled { SettledBut self.now.state (stored_at self.now) None }
-        requires known { IsTask self.now.state task }
-        ensures { result ≡ reason_of self.now.state task }
-    {
-        // The contract of this call gives the proof the invariant of the tables.
-        let _tasks = self.tasks();
-        let level = self.known_stored(task).get();
-        if level == self.known_base(task).get() {
-            return Reason::Base;
-        }
-        self.called_reason(task, level)
-    }
-
-    // The same as `owned_reason`, as a call.
-    #[inline(never)]
-    fn called_reason(&self, task: TaskNo, level: u16) -> Reason
-        requires known { IsTask self.now.state task }
-        requires level { 1 ≤ level }
-        ensures { result ≡ owned_reason self.now level (owned self.now.state task) }
-    {
-        self.owned_reason(task, level)
-    }
-
     // Returns the least mutex of the task with this ceiling as the reason, else the first waiter for the least INHERIT
-    // mutex whose waiters donate this priority. One pass over the mutexes finds both.
-    #[inline(always)]
+    // mutex whose waiters donate this priority. One pass over the mutexes finds both. Not inlined, so that the search
+    // takes no registers from a loop over tasks.
+    #[inline(never)]
+    #[tactic(auto, using(crate::proofs::Known::owned_mutexes))]
     fn owned_reason(&self, task: TaskNo, level: u16) -> Reason
         requires known { IsTask self.now.state task }
         requires level { 1 ≤ level }

@@ -20,18 +20,6 @@ fn reason(rt: &impl Abort, tables: &Tables, task: u16) -> Reason
     tables.reason(TaskNo(task))
 }
 
-/// Returns the listed reasons of tasks 1 and 2.
-fn listed_reasons(rt: &impl Abort, tables: &Tables) -> [Reason; 2]
-    requires { SettledBut tables.now.state (stored_at tables.now) None }
-{
-    assert!(rt; !tables.is_unknown_task(TaskNo(1)));
-    assert!(rt; !tables.is_unknown_task(TaskNo(2)));
-    [
-        tables.listed_reason(TaskNo(1)),
-        tables.listed_reason(TaskNo(2)),
-    ]
-}
-
 /// Returns tables in which task 1 owns mutexes 1 and 2, the second with ceiling 50, and task 2 waits for the first.
 fn protected(rt: &impl Abort, alloc: Global) -> Result<Tables, AllocError>
     ensures { IfOk result (λ tables. SettledBut tables.state (stored_at tables) None) }
@@ -65,7 +53,6 @@ fn expect_donated(rt: &impl Abort, tables: &Tables)
 {
     let reasons = [reason(rt, tables, 1), reason(rt, tables, 2)];
     assert_eq!(rt; reasons, [by_third(), Reason::Base]);
-    assert_eq!(rt; listed_reasons(rt, tables), [by_third(), Reason::Base]);
 }
 
 /// A ceiling is the reason, and then the first waiter.
