@@ -1,59 +1,41 @@
 -- What a task owns is known.
-use Rattle.std.proofs.Common.{◌≡◌, ℕ, ◌≤◌, ◌==◌, ◌||◌, nat_lt, Bool, true, false, cond, refl, sym, ◌∙◌, ap, subst, arith, Option, Some, None, List, [], ◌∷◌, length, unwrap_or}
+use Rattle.std.proofs.Common.{◌≡◌, ℕ, ◌==◌, ◌||◌, nat_lt, true, ap, subst, arith, Option, Some, None, List, [], ◌∷◌, length, unwrap_or}
 use Rattle.std.specs.List.{AllByRecursion, filter}
-use Rattle.std.proofs.lemmas.Option.{none-some}
-use Rattle.pim_base.specs.Lists.{nth, holds}
-use Rattle.pim_base.specs.State.{State, IsState, IsMutex, owner_of, owned, mutex_numbers}
 use Rattle.std.proofs.lemmas.Bool.Decides.{nat_tests}
-use Rattle.pim_base.proofs.Places.{nth_within}
+use Rattle.pim_base.specs.Lists.{nth, holds}
+use Rattle.pim_base.specs.State.{State, IsState, IsMutex, owner_of, owned, mutex_numbers, with_owner}
+use Rattle.pim_base.proofs.Places.{nth-put_same, nth_within}
 use Rattle.pim_base.proofs.Stored.{from_holds}
+use Rattle.pim_queue.proofs.Order.{all_each}
 
 -- what has an owner, is a known mutex
 pub owned_mutex : (S : State) (m t : ℕ) → IsState S → owner_of S m ≡ Some t → IsMutex S m
-owned_mutex S m t lists owns = go (nth S.owner m) refl
-  where
-    go : (o : Option (Option ℕ)) → nth S.owner m ≡ o → IsMutex S m
-    go None e = absurd (none-some t (sym (ap (λ x. unwrap_or x None) e) ∙ owns))
-    go (Some x) e =
-        let within = nth_within S.owner m x e in
-        (within.0, subst (λ n. m ≤ n) lists.owners within.1)
+owned_mutex S m t lists owns = grind (arith, nth_within S.owner m, lists.owners)
 
--- each mutex that the task owns is known
-pub owned_mutexes :
-    (S : State) (t : ℕ) (ms : List ℕ)
-    → IsState S
-    → AllByRecursion (λ m. owner_of S m ≡ Some t) ms
-    → AllByRecursion (IsMutex S) ms
-owned_mutexes S t [] lists all = tt
-owned_mutexes S t (m ∷ ms) lists all = (owned_mutex S m t lists all.0, owned_mutexes S t ms lists all.1)
+-- and gets the owner that it is given
+pub owner_of-given : (S : State) (m t : ℕ) → IsState S → IsMutex S m → owner_of (with_owner S m (Some t)) m ≡ Some t
+owner_of-given S m t lists mutex =
+    ap (λ o. unwrap_or o None) (nth-put_same S.owner m (Some t) mutex.0 (omega (arith, mutex.1, lists.owners)))
 
 -- an unknown number has no entry
-pub unwrap_or-nth_unknown :
+pub none_at_unknown :
     {X : Type 0} → (xs : List (Option X)) (n k : ℕ)
     → length xs ≡ n
     → (k == 0 || nat_lt n k) ≡ true
     → unwrap_or (nth xs k) None ≡ None
-unwrap_or-nth_unknown {X = X} xs n k len unknown = go (nth xs k) refl
-  where
-    go : (o : Option (Option X)) → nth xs k ≡ o → unwrap_or o None ≡ None
-    go None e = refl
-    go (Some x) e = let within = nth_within xs k x e in grind (arith, nat_tests)
+none_at_unknown xs n k len unknown = grind (arith, nat_tests, nth_within xs k)
 
 -- a task is the owner of each mutex that it owns
+owned_among : (S : State) (t : ℕ) (ms : List ℕ) → AllByRecursion (λ m. owner_of S m ≡ Some t) (filter (λ m. holds (owner_of S m) t) ms)
+owned_among S t [] = tt
+owned_among S t (m ∷ ms) = grind (arith, from_holds, owned_among S t ms)
+
 pub owned_all : (S : State) (t : ℕ) → AllByRecursion (λ m. owner_of S m ≡ Some t) (owned S t)
-owned_all S t = all (mutex_numbers S)
-  where
-    all : (ms : List ℕ) → AllByRecursion (λ m. owner_of S m ≡ Some t) (filter (λ m. holds (owner_of S m) t) ms)
-    all [] = tt
-    all (m ∷ ms) = go (holds (owner_of S m) t) refl (all ms)
-      where
-        go :
-            (b : Bool)
-            → holds (owner_of S m) t ≡ b
-            → AllByRecursion (λ k. owner_of S k ≡ Some t) (filter (λ k. holds (owner_of S k) t) ms)
-            → AllByRecursion (λ k. owner_of S k ≡ Some t) (cond b (m ∷ filter (λ k. holds (owner_of S k) t) ms) (filter (λ k. holds (owner_of S k) t) ms))
-        go true mine rest = (from_holds (owner_of S m) t mine, rest)
-        go false away rest = rest
+owned_all S t = owned_among S t (mutex_numbers S)
+
+-- each mutex that the task owns is known
+pub owned_mutexes : (S : State) (t : ℕ) → IsState S → AllByRecursion (IsMutex S) (owned S t)
+owned_mutexes S t lists = all_each _ _ (λ m owns. owned_mutex S m t lists owns) (owned S t) (owned_all S t)
 
 -- what holds of all that are left, holds of the next and of all behind it
 pub next_all : (P : ℕ → Type 0) (xs ys : List ℕ) (m : ℕ) → xs ≡ m ∷ ys → AllByRecursion P xs → P m × AllByRecursion P ys

@@ -5,7 +5,7 @@ use Rattle.std.proofs.lemmas.Bool.{cases_eq, eqb-true}
 use Rattle.std.proofs.lemmas.Option.{none-some}
 use Rattle.std.proofs.Math.Nat.{le-max_left, le-max_right, max-le}
 use Rattle.pim_base.specs.Lists.{holds, insert_by}
-use Rattle.pim_base.specs.State.{IsTask, IsMutex, base_of, owner_of, protocol_of, wait_of, with_owner, with_wait}
+use Rattle.pim_base.specs.State.{IsMutex, base_of, owner_of, protocol_of, wait_of, with_owner, with_wait}
 use Rattle.pim_base.specs.Queues.{precedes}
 use Rattle.pim_base.specs.declared.steps.Wait.{Wait}
 use Rattle.pim_base.specs.declared.steps.Waiter.{Waiter}
@@ -78,30 +78,25 @@ local_under v w t m b ready after same here bound =
         (le_trans (subst (λ n. others ≤ n) (local_by_owned w t after) (le-max_right _ _)) bound))
 
 -- a free mutex that gives its new owner no higher priority than the owner has
-pub gained_settled :
+pub gained_local :
     (v w : View) (t m : ℕ)
     → Ready v
     → Ready w
     → w ≡ with_state v (with_owner v.state m (Some t))
-    → IsTask v.state t
     → owner_of v.state m ≡ None
-    → SettledBut v.state (stored_at v) None
-    → SettledBut w.state (stored_at w) (Some t)
+    → stored_at v t ≡ local_priority v.state (stored_at v) t
     → worth w m ≤ stored_at w t
-    → SettledBut w.state (stored_at w) None
-gained_settled v w t m ready after is known free before but low =
-    (visited_same w t but (had ∙ right ∙ le_antisymm
+    → stored_at w t ≡ local_priority w.state (stored_at w) t
+gained_local v w t m ready after is free right low =
+    had ∙ right ∙ le_antisymm
     (local_under v w t m _ ready after same (λ mine. absurd (none-some t (sym free ∙ mine))) (omega arith))
-    (local_under w v t m _ after ready (back same) (λ _. subst (λ n. worth w m ≤ n) (had ∙ right) low) (omega arith)))).settled
+    (local_under w v t m _ after ready (back same) (λ _. subst (λ n. worth w m ≤ n) (had ∙ right) low) (omega arith))
   where
     same : Alike v w t m
     same = subst (λ x. Alike v x t m) (sym is) (alike v t m (Some t))
 
     had : stored_at w t ≡ stored_at v t
     had = ap (λ (x : View). stored_at x t) is
-
-    right : stored_at v t ≡ local_priority v.state (stored_at v) t
-    right = before t known (λ e. none-some t e)
 
 -- an owned mutex that gave its owner a lower priority than the owner has
 pub lost_settled :

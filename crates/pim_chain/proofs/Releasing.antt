@@ -1,13 +1,13 @@
--- The release of all mutexes that a task owns: meanwhile its stored priority may be another than its local one.
-use Rattle.std.proofs.Common.{◌≡◌, ◌≤◌, ℕ, zero, suc, ◌+◌, cond, eqb, ◌⊎◌, inl, inr, refl, sym, ◌∙◌, ap, subst, arith, fold, length, List, [], ◌∷◌, filter, set, Option, Some, None, option_and_then}
+-- Mutexes that go to their first waiters. Meanwhile the old owner may have another stored priority than its local one.
+use Rattle.std.proofs.Common.{◌≡◌, ◌≤◌, ℕ, zero, suc, ◌+◌, cond, eqb, ◌⊎◌, inl, inr, refl, sym, ◌∙◌, ap, subst, arith, fold, length, List, [], ◌∷◌, filter, Option, Some, None, option_and_then}
 use Rattle.std.proofs.lemmas.Bool.{cases_eq, eq-eqb, ne_eqb, false_from_ne_true}
+use Rattle.std.proofs.lemmas.List.{set-set}
 use Rattle.std.proofs.lemmas.Option.{none-some, same_Some}
 use Rattle.pim_base.specs.Lists.{put, first_item, holds, numbers}
-use Rattle.pim_base.specs.Laws.{IsSound}
 use Rattle.pim_base.specs.State.{State, IsTask, IsMutex, owned, owner_of, wait_of, with_owner, with_wait}
 use Rattle.pim_base.specs.Chains.{heir, heir_of, blocker}
 use Rattle.pim_base.specs.Priorities.{local_priority}
-use Rattle.pim_base.specs.Queues.{queue_of, first_of}
+use Rattle.pim_base.specs.Queues.{first_of, queue_of}
 use Rattle.pim_base.specs.Steps.{hand_over, hand_over_to}
 use Rattle.pim_base.specs.declared.limits.TheConstants.{MAX_MUTEXES}
 use Rattle.pim_base.specs.declared.steps.Wait.{Wait}
@@ -16,42 +16,27 @@ use Rattle.pim_base.proofs.HandOvers.{owner_of-hand_over_other, protocol-hand_ov
 use Rattle.pim_base.proofs.NoCycle.{unwrap_or-put_same, idle_now}
 use Rattle.pim_base.proofs.Stored.{from_holds}
 use Rattle.pim_chain.specs.Views.{View, Ready, IsQueue, with_state, stored_at, queue_at, queue_in}
-use Rattle.pim_chain.specs.Settled.{SettledBut, Calm, SetRight, left, moved, restored}
-use Rattle.pim_sets.specs.Work.{Work, Tells, VisitedOnce}
-use Rattle.pim_chain.proofs.Local.{Mends, mended_onward, local_priority-same}
-use Rattle.pim_chain.proofs.Changes.{AtMost, wait_other, ready_freed}
+use Rattle.pim_chain.specs.Settled.{SettledBut, Calm, left, moved, restored}
+use Rattle.pim_sets.specs.Work.{Work, Tells}
+use Rattle.pim_chain.proofs.Local.{local_priority-same}
+use Rattle.pim_chain.proofs.Changes.{wait_other}
 use Rattle.pim_chain.proofs.Unsettled.{bound_unsettles, unbound_unsettles, left_unsettles}
-use Rattle.pim_chain.proofs.Visit.{stored_now, stored_else, ready_restored, visited_free}
+use Rattle.pim_chain.proofs.Visit.{ready_restored, visited_free}
 use Rattle.pim_chain.proofs.Known.{owned_mutex}
 use Rattle.pim_chain.proofs.Models.{queue_is}
 use Rattle.pim_chain.proofs.Waiting.{waiting_known}
 use Rattle.pim_chain.proofs.Filters.{few_pass, first_passes, filter-rest}
-use Rattle.pim_chain.proofs.Told.{tells-refl, tells-trans, tells-once}
+use Rattle.pim_chain.proofs.Told.{tells-refl, tells-trans}
 
 -- ---- a task that waits for nothing: no other one's local priority depends on its stored one
 
 -- it hands its priority on to nobody
-no_heir : (S : State) (a : ℕ) → wait_of S a ≡ None → heir S a ≡ None
+pub no_heir : (S : State) (a : ℕ) → wait_of S a ≡ None → heir S a ≡ None
 no_heir S a idle = ap (option_and_then (λ (w : Wait). heir_of S w.mutex)) idle
 
 -- who hands it on is another one
 not_donor : (S : State) (a u t : ℕ) → wait_of S a ≡ None → heir S u ≡ Some t → u ≡ a → ⊥
 not_donor S a u t idle e is = none-some t (sym (no_heir S a idle) ∙ ap (heir S) (sym is) ∙ e)
-
--- who is settled but for it with one stored priority of it, is so with another one
-pub settled_apart :
-    (S : State) (f g : ℕ → ℕ) (a : ℕ) (o : Option ℕ)
-    → wait_of S a ≡ None
-    → AtMost o a
-    → ((u : ℕ) → (u ≡ a → ⊥) → f u ≡ g u)
-    → SettledBut S f o
-    → SettledBut S g (Some a)
-settled_apart S f g a o idle at same settled t known away =
-    sym (same t ne) ∙ settled t known (λ e. ne (at t e))
-    ∙ local_priority-same S f g t (λ u _ e. same u (not_donor S a u t idle e))
-  where
-    ne : t ≡ a → ⊥
-    ne is = away (ap Some (sym is))
 
 -- the priorities with the local one for it
 abbrev right_at : State → (ℕ → ℕ) → ℕ → ℕ → ℕ
@@ -60,82 +45,58 @@ right_at S f a u = cond (eqb u a) (local_priority S f a) (f u)
 right_at-other : (S : State) (f : ℕ → ℕ) (a u : ℕ) → (u ≡ a → ⊥) → right_at S f a u ≡ f u
 right_at-other S f a u ne = ap (λ b. cond b (local_priority S f a) (f u)) (ne_eqb u a ne)
 
-settled_right :
-    (S : State) (f : ℕ → ℕ) (a : ℕ)
-    → IsSound S
-    → IsTask S a
-    → wait_of S a ≡ None
-    → SettledBut S f (Some a)
-    → SettledBut S (right_at S f a) None
-settled_right S f a ok task idle settled t known _ =
-    mended_onward S f (right_at S f a) a ok task settled
-    (record { mended = ap (λ b. cond b (local_priority S f a) (f a)) (eq-eqb a a refl); others = right_at-other S f a })
-    t known (λ e. none-some t (sym (no_heir S a idle) ∙ e))
+settled_right : (S : State) (f : ℕ → ℕ) (a : ℕ) → wait_of S a ≡ None → SettledBut S f (Some a) → SettledBut S (right_at S f a) None
+settled_right S f a idle settled t known _ = go (cases_eq t a)
+  where
+    same : local_priority S f t ≡ local_priority S (right_at S f a) t
+    same = local_priority-same S f (right_at S f a) t (λ u _ e. sym (right_at-other S f a u (not_donor S a u t idle e)))
 
--- a change that unsettles nobody else
-settled_over :
-    (S T : State) (f : ℕ → ℕ) (a : ℕ) (o : Option ℕ)
-    → IsSound S
-    → IsTask S a
+    go : (t ≡ a) ⊎ (t ≡ a → ⊥) → right_at S f a t ≡ local_priority S (right_at S f a) t
+    go (inl is) = ap (λ b. cond b (local_priority S f a) (f t)) (eq-eqb t a is) ∙ ap (local_priority S f) (sym is) ∙ same
+    go (inr ne) = right_at-other S f a t ne ∙ settled t known (λ e. ne (sym (same_Some a t e))) ∙ same
+
+-- A change that unsettles at most the task o. That waits for nothing then and, unless it is a, gets its local priority. So
+-- all but a have theirs, if they had before.
+pub settled_apart :
+    (S T : State) (f h : ℕ → ℕ) (a : ℕ) (o : Option ℕ)
     → wait_of S a ≡ None
     → wait_of T a ≡ None
-    → AtMost o a
     → ((g : ℕ → ℕ) → SettledBut S g None → SettledBut T g o)
-    → SettledBut S f (Some a)
-    → SettledBut T f (Some a)
-settled_over S T f a o ok task before after at change settled =
-    settled_apart T (right_at S f a) f a o after at (right_at-other S f a)
-    (change (right_at S f a) (settled_right S f a ok task before settled))
-
--- a change that unsettles one more, which waits for nothing either and gets its local priority then
-settled_both :
-    (S T : State) (f h : ℕ → ℕ) (a x : ℕ)
-    → IsSound S
-    → IsSound T
-    → IsTask S a
-    → IsTask T x
-    → wait_of S a ≡ None
-    → wait_of T a ≡ None
-    → wait_of T x ≡ None
-    → (x ≡ a → ⊥)
-    → ((g : ℕ → ℕ) → SettledBut S g None → SettledBut T g (Some x))
-    → h x ≡ local_priority T f x
-    → ((u : ℕ) → (u ≡ x → ⊥) → h u ≡ f u)
+    → ((x : ℕ) → o ≡ Some x → wait_of T x ≡ None)
+    → ((x : ℕ) → o ≡ Some x → (x ≡ a → ⊥) → h x ≡ local_priority T f x)
+    → ((u : ℕ) → (o ≡ Some u → ⊥) → h u ≡ f u)
     → SettledBut S f (Some a)
     → SettledBut T h (Some a)
-settled_both S T f h a x ok sound task known before after idle apart change here others settled =
-    settled_apart T kept h a (heir T x) after (λ t e. absurd (none-some t (sym (no_heir T x idle) ∙ e))) kept-other
-    (mended_onward T (right_at S f a) kept x sound known (change (right_at S f a) (settled_right S f a ok task before settled)) mends)
+settled_apart S T f h a o before after change idle right others settled t known away = go (either o)
   where
-    kept : ℕ → ℕ
-    kept u = cond (eqb u a) (right_at S f a a) (h u)
+    ne : t ≡ a → ⊥
+    ne is = away (ap Some (sym is))
 
-    kept-other : (u : ℕ) → (u ≡ a → ⊥) → kept u ≡ h u
-    kept-other u ne = ap (λ b. cond b (right_at S f a a) (h u)) (ne_eqb u a ne)
+    same : local_priority T f t ≡ local_priority T h t
+    same = local_priority-same T f h t (λ u _ e. sym (others u (λ is. none-some t (sym (no_heir T u (idle u is)) ∙ e))))
 
-    same : (u : ℕ) → (u ≡ x → ⊥) → (u ≡ a) ⊎ (u ≡ a → ⊥) → kept u ≡ right_at S f a u
-    same u ne (inl is) = ap (λ b. cond b (right_at S f a a) (h u)) (eq-eqb u a is) ∙ ap (right_at S f a) (sym is)
-    same u ne (inr away) = kept-other u away ∙ others u ne ∙ sym (right_at-other S f a u away)
+    either : (p : Option ℕ) → (p ≡ Some t) ⊎ (p ≡ Some t → ⊥)
+    either None = inr (none-some t)
+    either (Some x) = elim (cases_eq x t) [ inl is ↦ inl (ap Some is) | inr ne ↦ inr (λ e. ne (same_Some x t e)) ]
 
-    mends : Mends T (right_at S f a) kept x
-    mends = record {
-      mended =
-          kept-other x apart ∙ here
-          ∙ local_priority-same T f (right_at S f a) x (λ u _ e. sym (right_at-other S f a u (not_donor T a u x after e)));
-      others = λ u ne. same u ne (cases_eq u a);
-    }
+    go : (o ≡ Some t) ⊎ (o ≡ Some t → ⊥) → h t ≡ local_priority T h t
+    go (inl is) = right t is ne ∙ same
+    go (inr away) =
+        others t away ∙ sym (right_at-other S f a t ne) ∙ change (right_at S f a) (settled_right S f a before settled) t known away
+        ∙ local_priority-same T (right_at S f a) f t (λ u _ e. right_at-other S f a u (not_donor T a u t after e))
+        ∙ same
 
--- the queues are the definitions', since it is in none
+-- each queue is the definitions', since the task is in none
 pub queue_apart :
-    (v : View) (a m : ℕ)
+    (v : View) (m a : ℕ)
     → Ready v
+    → IsMutex v.state m
     → IsTask v.state a
     → wait_of v.state a ≡ None
     → SettledBut v.state (stored_at v) (Some a)
-    → IsMutex v.state m
     → queue_at v m ≡ queue_of v.state m
-queue_apart v a m ready task idle settled known =
-    sym (ap (λ o. queue_in (moved v.queues o a prio) m) idle) ∙ queue_is (restored v a prio) m calm known
+queue_apart v m a ready known task idle settled =
+    sym (ap (λ w. queue_in (moved v.queues w a prio) m) idle) ∙ queue_is (restored v a prio) m calm known
   where
     prio : ℕ
     prio = local_priority v.state (stored_at v) a
@@ -146,44 +107,65 @@ queue_apart v a m ready task idle settled known =
       settled = (visited_free v a prio ready task settled refl idle).settled;
     }
 
--- it gets its local priority
-pub right_after :
-    (v w : View) (x p : ℕ)
+-- so the first waiter for a mutex that it owns is
+pub first_apart :
+    (v : View) (m a : ℕ) (o q : Option Waiter)
     → Ready v
-    → IsTask v.state x
-    → wait_of v.state x ≡ None
-    → p ≡ local_priority v.state (stored_at v) x
-    → w ≡ restored v x p
-    → SetRight v w x
-right_after v w x p ready known idle local is = record {
-  state = ap (λ (y : View). y.state) is;
-  queues = ap (λ (y : View). y.queues) is ∙ ap (λ o. moved v.queues o x p) idle;
-  local = ap (λ y. stored_at y x) is ∙ stored_now v x p ready known ∙ local;
-  others = λ u ne. ap (λ y. stored_at y u) is ∙ stored_else v x p u ne;
-}
+    → owner_of v.state m ≡ Some a
+    → wait_of v.state a ≡ None
+    → SettledBut v.state (stored_at v) (Some a)
+    → o ≡ first_item (queue_at v m)
+    → o ≡ q
+    → first_of v.state m ≡ q
+first_apart v m a o q ready owned idle settled is same =
+    ap first_item (sym (queue_apart v m a ready (owned_mutex v.state m a ready.sound.lists owned) (ready.waits.owners m a owned) idle settled))
+    ∙ sym is
+    ∙ same
+
+-- no task has the number 0
+pub all_but_zero : (S : State) (f : ℕ → ℕ) → SettledBut S f (Some 0) → SettledBut S f None
+all_but_zero S f settled t known _ = settled t known (λ e. let zero = same_Some 0 t e in omega (arith, zero, known))
 
 -- ---- one mutex
-
-set-set : {X : Type 0} (xs : List X) (i : ℕ) (x y : X) → set (set xs i x) i y ≡ set xs i y
-set-set [] i x y = refl
-set-set (z ∷ zs) zero x y = refl
-set-set (z ∷ zs) (suc i) x y = ap (λ r. z ∷ r) (set-set zs i x y)
-
-pub put-put : {X : Type 0} (xs : List X) (n : ℕ) (x y : X) → put (put xs n x) n y ≡ put xs n y
+put-put : {X : Type 0} (xs : List X) (n : ℕ) (x y : X) → put (put xs n x) n y ≡ put xs n y
 put-put xs zero x y = refl
 put-put xs (suc i) x y = set-set xs i x y
 
 pub freed_owner : (S : State) (m : ℕ) → owner_of (with_owner S m None) m ≡ None
 freed_owner S m = elim (unwrap_or-put_same S.owner m None) [ inl h ↦ h | inr h ↦ h ]
 
+-- a mutex that becomes free and then its first waiter's is handed over
+pub handed_state :
+    (S F T : State) (m : ℕ) (w : Waiter)
+    → F ≡ with_owner S m None
+    → T ≡ with_wait (with_owner F m (Some w.task)) w.task None
+    → first_of S m ≡ Some w
+    → T ≡ hand_over S m
+handed_state S F T m w freed passed first =
+    passed
+    ∙ ap (λ (U : State). with_wait (with_owner U m (Some w.task)) w.task None) freed
+    ∙ ap (λ os. record S { owner = os; count = put (put S.count m 0) m 1; wait = put S.wait w.task None }) (put-put S.owner m None (Some w.task))
+    ∙ ap (λ cs. record S { owner = put S.owner m (Some w.task); count = cs; wait = put S.wait w.task None }) (put-put S.count m 0 1)
+    ∙ ap (hand_over_to S m) (sym first)
+
+pub lost_owner : (S T : State) (m a t : ℕ) → T ≡ with_wait (with_owner S m (Some t)) t None → (a ≡ t → ⊥) → owner_of T m ≡ Some a → ⊥
+lost_owner S T m a t is ne owns = go (unwrap_or-put_same S.owner m (Some t))
+  where
+    mine : owner_of (with_owner S m (Some t)) m ≡ Some a
+    mine = sym (ap (λ (U : State). owner_of U m) is) ∙ owns
+
+    go : (owner_of (with_owner S m (Some t)) m ≡ Some t) ⊎ (owner_of (with_owner S m (Some t)) m ≡ None) → ⊥
+    go (inl given) = ne (sym (same_Some t a (sym given ∙ mine)))
+    go (inr none) = none-some a (sym none ∙ mine)
+
 -- the first of a queue waits
 pub first_waits :
-    (v : View) (m : ℕ) (w : Waiter)
+    {v : View} {m : ℕ} {w : Waiter}
     → Ready v
     → IsMutex v.state m
     → first_item (queue_at v m) ≡ Some w
     → wait_of v.state w.task ≡ Some (record { mutex = m; ticket = w.ticket })
-first_waits v m w ready known e = go (queue_at v m) (ready.queues m known) e
+first_waits {v} {m} {w} ready known e = go (queue_at v m) (ready.queues m known) e
   where
     go :
         (ws : List Waiter)
@@ -194,188 +176,72 @@ first_waits v m w ready known e = go (queue_at v m) (ready.queues m known) e
     go (x ∷ xs) q h =
         subst (λ (y : Waiter). wait_of v.state y.task ≡ Some (record { mutex = m; ticket = y.ticket })) (same_Some x w h) q.sound.0.waits
 
--- The tables v, where the task a owns the mutex, waits for nothing, and alone may have another priority than its local one.
-pub record IsHanding (v : View) (m a : ℕ) : Type 0 where
-  pub ready : Ready v
-  pub settled : SettledBut v.state (stored_at v) (Some a)
-  pub owned : owner_of v.state m ≡ Some a
-  pub mutex : IsMutex v.state m
-  pub idle : wait_of v.state a ≡ None
+pub idle_is_other : (S : State) (t a : ℕ) (w : Wait) → wait_of S t ≡ Some w → wait_of S a ≡ None → a ≡ t → ⊥
+idle_is_other S t a w waits idle same = none-some w (sym (ap (wait_of S) (sym same) ∙ idle) ∙ waits)
 
-pub handing :
-    {v : View} {m a : ℕ}
-    → Ready v
-    → SettledBut v.state (stored_at v) (Some a)
+-- the owner has lost the mutex
+pub freed_apart :
+    (v u : View) (m a : ℕ)
     → owner_of v.state m ≡ Some a
     → wait_of v.state a ≡ None
-    → IsHanding v m a
-handing {v} {m} {a} ready settled owned idle = record {
-  ready = ready;
-  settled = settled;
-  owned = owned;
-  mutex = owned_mutex v.state m a ready.sound.lists owned;
-  idle = idle;
-}
-
-module _ {v : View} {m a : ℕ} (h : IsHanding v m a) where
-  handing_task : IsTask v.state a
-  handing_task = h.ready.waits.owners m a h.owned
-
-  -- the mutex is free
-  freed_settled : SettledBut (with_owner v.state m None) (stored_at v) (Some a)
-  freed_settled =
-      settled_over v.state (with_owner v.state m None) (stored_at v) a (owner_of v.state m) h.ready.sound handing_task h.idle h.idle
-      (λ t e. same_Some t a (sym e ∙ h.owned)) (λ g. unbound_unsettles v.state g m) h.settled
-
-  pub first_is : {first : Option Waiter} → first ≡ first_item (queue_at v m) → first ≡ first_of v.state m
-  first_is is = is ∙ ap first_item (queue_apart v a m h.ready handing_task h.idle h.settled h.mutex)
-
-  -- and is left so where nobody waits
-  module _ {u : View} (freed : u ≡ with_state v (with_owner v.state m None)) where
-    pub freed_after : SettledBut u.state (stored_at u) (Some a)
-    freed_after = subst (λ (y : View). SettledBut y.state (stored_at y) (Some a)) (sym freed) freed_settled
-
-    pub freed_state : {first : Option Waiter} → first ≡ first_item (queue_at v m) → first ≡ None → u.state ≡ hand_over v.state m
-    freed_state is none = ap (λ (y : View). y.state) freed ∙ ap (hand_over_to v.state m) (sym none ∙ first_is is)
-
-    pub freed_lost : owner_of u.state m ≡ Some a → ⊥
-    freed_lost e = none-some a (sym (ap (λ (y : View). owner_of y.state m) freed ∙ freed_owner v.state m) ∙ e)
-
-    pub freed_work : (b : Work) → Tells (length v.state.base) (stored_at v) b (stored_at u) b
-    freed_work b =
-        subst (λ (y : View). Tells (length v.state.base) (stored_at v) b (stored_at y) b) (sym freed)
-        (tells-refl (length v.state.base) (stored_at v) b)
-
--- The mutex is free, as the tables u show, and its first waiter has left the queue, as x does.
-pub record IsLeaving (v u x : View) (m a : ℕ) (w : Waiter) : Type 0 where
-  pub hand : IsHanding v m a
-  pub first : first_item (queue_at v m) ≡ Some w
-  pub freed : u ≡ with_state v (with_owner v.state m None)
-  pub leaves : (y : Wait) → wait_of u.state w.task ≡ Some y → x ≡ left u w.task y.mutex
-  pub after : Ready x
-
-pub leaving :
-    {v u x : View} {m a : ℕ} {w : Waiter} {first : Option Waiter}
-    → IsHanding v m a
-    → first ≡ first_item (queue_at v m)
-    → first ≡ Some w
     → u ≡ with_state v (with_owner v.state m None)
-    → ((y : Wait) → wait_of u.state w.task ≡ Some y → x ≡ left u w.task y.mutex)
-    → Ready x
-    → IsLeaving v u x m a w
-leaving hand is some freed leaves after = record {
-  hand = hand;
-  first = sym is ∙ some;
-  freed = freed;
-  leaves = leaves;
-  after = after;
-}
+    → SettledBut v.state (stored_at v) (Some a)
+    → SettledBut u.state (stored_at u) (Some a)
+freed_apart v u m a owned idle is settled =
+    subst (λ (y : View). SettledBut y.state (stored_at y) (Some a)) (sym is)
+    (settled_apart v.state (with_owner v.state m None) (stored_at v) (stored_at v) a (owner_of v.state m) idle idle
+    (λ g. unbound_unsettles v.state g m)
+    (λ x e. ap (wait_of v.state) (same_Some x a (sym e ∙ owned)) ∙ idle) (λ x e ne. absurd (ne (same_Some x a (sym e ∙ owned))))
+    (λ y _. refl) settled)
 
--- the state once the mutex is free
-abbrev freed : View → ℕ → State
-freed v m = with_owner v.state m None
+-- the first waiter t for the free mutex has left its queue
+pub left_apart :
+    (v x : View) (m t k a : ℕ)
+    → Ready v
+    → owner_of v.state m ≡ None
+    → wait_of v.state t ≡ Some (record { mutex = m; ticket = k })
+    → x ≡ left v t m
+    → wait_of v.state a ≡ None
+    → SettledBut v.state (stored_at v) (Some a)
+    → SettledBut x.state (stored_at x) (Some a)
+left_apart v x m t k a ready free waits is idle settled =
+    subst (λ (y : View). SettledBut y.state (stored_at y) (Some a)) (sym is)
+    (settled_apart v.state (with_wait v.state t None) (stored_at v) (stored_at v) a (blocker v.state t) idle
+    (wait_other v.state t None a (idle_is_other v.state t a _ waits idle) ∙ idle)
+    (λ g. left_unsettles v.state g t ready.sound.lists (waiting_known v.state ready.sound.lists t _ waits))
+    (λ u e. absurd (none-some u (sym blocked ∙ e))) (λ u e. absurd (none-some u (sym blocked ∙ e))) (λ u _. refl) settled)
+  where
+    blocked : blocker v.state t ≡ None
+    blocked = ap (option_and_then (λ (y : Wait). owner_of v.state y.mutex)) waits ∙ free
 
--- the state once this task owns it
-abbrev given : View → ℕ → ℕ → State
-given x m t = with_owner x.state m (Some t)
+-- and it is the owner, with its local priority
+pub passed_apart :
+    (v x y z : View) (m t k a : ℕ)
+    → Ready v
+    → owner_of v.state m ≡ None
+    → wait_of v.state t ≡ Some (record { mutex = m; ticket = k })
+    → x ≡ left v t m
+    → y ≡ with_state x (with_owner x.state m (Some t))
+    → z.state ≡ y.state
+    → ((u : ℕ) → (u ≡ t → ⊥) → stored_at z u ≡ stored_at y u)
+    → wait_of v.state a ≡ None
+    → (SettledBut x.state (stored_at x) (Some a) → stored_at z t ≡ local_priority y.state (stored_at y) t)
+    → SettledBut v.state (stored_at v) (Some a)
+    → SettledBut z.state (stored_at z) (Some a)
+passed_apart v x y z m t k a ready free waits gone is same others idle right settled =
+    subst (λ S. SettledBut S (stored_at z) (Some a)) (sym (same ∙ ap (λ (w : View). w.state) is))
+    (settled_apart x.state (with_owner x.state m (Some t)) (stored_at x) (stored_at z) a (Some t) apart apart
+    (λ g. bound_unsettles x.state g m t (ap (λ (w : View). owner_of w.state m) gone ∙ free))
+    (λ u e. ap (wait_of x.state) (sym (same_Some t u e)) ∙ ap (λ (w : View). wait_of w.state t) gone ∙ idle_now v.state t)
+    (λ u e _. subst (λ n. stored_at z n ≡ local_priority (with_owner x.state m (Some t)) (stored_at x) n) (same_Some t u e)
+    (right before ∙ ap (λ (w : View). local_priority w.state (stored_at w) t) is))
+    (λ u ne. others u (λ e. ne (ap Some (sym e))) ∙ ap (λ w. stored_at w u) is) before)
+  where
+    before : SettledBut x.state (stored_at x) (Some a)
+    before = left_apart v x m t k a ready free waits gone idle settled
 
-module _ {v u x : View} {m a : ℕ} {w : Waiter} (l : IsLeaving v u x m a w) where
-  waits : wait_of v.state w.task ≡ Some (record { mutex = m; ticket = w.ticket })
-  waits = first_waits v m w l.hand.ready l.hand.mutex l.first
-
-  x_is : x ≡ left (with_state v (freed v m)) w.task m
-  x_is =
-      l.leaves (record { mutex = m; ticket = w.ticket }) (ap (λ (y : View). wait_of y.state w.task) l.freed ∙ waits)
-      ∙ ap (λ y. left y w.task m) l.freed
-
-  known : IsTask v.state w.task
-  known = waiting_known v.state l.hand.ready.sound.lists w.task _ waits
-
-  other : w.task ≡ a → ⊥
-  other is = none-some _ (sym (ap (wait_of v.state) is ∙ l.hand.idle) ∙ waits)
-
-  owner_idle : wait_of (with_wait (freed v m) w.task None) a ≡ None
-  owner_idle = wait_other (freed v m) w.task None a (λ is. other (sym is)) ∙ l.hand.idle
-
-  blocked : blocker (freed v m) w.task ≡ None
-  blocked = ap (option_and_then (λ (y : Wait). owner_of (freed v m) y.mutex)) waits ∙ freed_owner v.state m
-
-  left_settled : SettledBut (with_wait (freed v m) w.task None) (stored_at v) (Some a)
-  left_settled =
-      settled_over (freed v m) (with_wait (freed v m) w.task None) (stored_at v) a (blocker (freed v m) w.task) sound (handing_task l.hand) l.hand.idle owner_idle
-      (λ t e. absurd (none-some t (sym blocked ∙ e)))
-      (λ g. left_unsettles (freed v m) g w.task sound.lists known) (freed_settled l.hand)
-    where
-      sound : IsSound (freed v m)
-      sound = (ready_freed v m l.hand.ready).sound
-
-  pub left_known : IsTask x.state w.task
-  left_known = subst (λ (y : View). IsTask y.state w.task) (sym x_is) known
-
-  pub left_mutex : IsMutex x.state m
-  left_mutex = subst (λ (y : View). IsMutex y.state m) (sym x_is) l.hand.mutex
-
-  pub left_idle : wait_of x.state w.task ≡ None
-  left_idle = ap (λ (y : View). wait_of y.state w.task) x_is ∙ idle_now (freed v m) w.task
-
-  pub left_free : owner_of x.state m ≡ None
-  left_free = ap (λ (y : View). owner_of y.state m) x_is ∙ freed_owner v.state m
-
-  -- it is the owner, as the tables y show
-  module _ {y : View} (bound : y ≡ with_state x (with_owner x.state m (Some w.task))) where
-    pub handed_known : IsTask y.state w.task
-    handed_known = subst (λ (k : View). IsTask k.state w.task) (sym bound) left_known
-
-    pub handed_idle : wait_of y.state w.task ≡ None
-    handed_idle = ap (λ (k : View). wait_of k.state w.task) bound ∙ left_idle
-
-  -- and has its local priority, as z do
-  module _ {y z : View} (bound : y ≡ with_state x (with_owner x.state m (Some w.task))) (then : Ready y) (right : SetRight y z w.task) where
-    z_is : z.state ≡ (given x m w.task)
-    z_is = right.state ∙ ap (λ (k : View). k.state) bound
-
-    pub handed_settled : SettledBut z.state (stored_at z) (Some a)
-    handed_settled =
-        subst (λ V. SettledBut V (stored_at z) (Some a)) (sym z_is)
-        (settled_both x.state (given x m w.task) (stored_at x) (stored_at z) a w.task l.after.sound
-        (subst (λ (k : View). IsSound k.state) bound then.sound)
-        (subst (λ (k : View). IsTask k.state a) (sym x_is) (handing_task l.hand)) left_known idle idle left_idle other
-        (λ g. bound_unsettles x.state g m w.task left_free)
-        (right.local ∙ ap (λ (k : View). local_priority k.state (stored_at k) w.task) bound)
-        (λ t ne. right.others t ne ∙ ap (λ k. stored_at k t) bound)
-        (subst (λ (k : View). SettledBut k.state (stored_at k) (Some a)) (sym x_is) left_settled))
-      where
-        idle : wait_of x.state a ≡ None
-        idle = ap (λ (k : View). wait_of k.state a) x_is ∙ owner_idle
-
-    pub handed_state : z.state ≡ hand_over v.state m
-    handed_state =
-        z_is
-        ∙ ap (λ (k : View). with_owner k.state m (Some w.task)) x_is
-        ∙ ap (λ os. record v.state { owner = os; count = put (put v.state.count m 0) m 1; wait = put v.state.wait w.task None })
-        (put-put v.state.owner m None (Some w.task))
-        ∙ ap (λ cs. record v.state { owner = put v.state.owner m (Some w.task); count = cs; wait = put v.state.wait w.task None })
-        (put-put v.state.count m 0 1)
-        ∙ ap (hand_over_to v.state m) (sym l.first ∙ first_is l.hand refl)
-
-    pub handed_lost : owner_of z.state m ≡ Some a → ⊥
-    handed_lost e = go (unwrap_or-put_same x.state.owner m (Some w.task))
-      where
-        mine : owner_of (given x m w.task) m ≡ Some a
-        mine = sym (ap (λ V. owner_of V m) z_is) ∙ e
-
-        go : (owner_of (given x m w.task) m ≡ Some w.task) ⊎ (owner_of (given x m w.task) m ≡ None) → ⊥
-        go (inl is) = other (same_Some w.task a (sym is ∙ mine))
-        go (inr none) = none-some a (sym none ∙ mine)
-
-    pub handed_work :
-        {b d : Work}
-        → VisitedOnce (length y.state.base) (stored_at y) b (stored_at z) d
-        → Tells (length v.state.base) (stored_at v) b (stored_at z) d
-    handed_work {b} {d} once =
-        subst (λ (k : View). Tells (length k.state.base) (stored_at k) b (stored_at z) d) x_is
-        (subst (λ (k : View). Tells (length k.state.base) (stored_at k) b (stored_at z) d) bound
-        (tells-once (length y.state.base) (stored_at y) (stored_at z) b d w.task once right.others))
+    apart : wait_of x.state a ≡ None
+    apart = ap (λ (w : View). wait_of w.state a) gone ∙ wait_other v.state t None a (idle_is_other v.state t a _ waits idle) ∙ idle
 
 -- ---- all of them: those that are left are those that the task still owns
 
@@ -448,10 +314,10 @@ pub releasing_next :
     → Tells (length w.state.base) (stored_at w) d (stored_at x) e
     → e.count ≤ d.count + 1
     → Releasing v x a rest (released + 1) b e
-releasing_next v w x a m released left rest b d e before next is settled lost ready work most = record {
+releasing_next v w x a m released left rest b d e before next is settled owns_no_more ready work most = record {
   owns =
       sym (ap (λ V. owned V a) is
-      ∙ owned-hand_over w.state m a rest (λ mine. lost (ap (λ V. owner_of V m) is ∙ mine)) (sym before.owns ∙ next));
+      ∙ owned-hand_over w.state m a rest (λ mine. owns_no_more (ap (λ V. owner_of V m) is ∙ mine)) (sym before.owns ∙ next));
   state = ap (λ V. fold hand_over V rest) is ∙ ap (fold hand_over w.state) (sym next) ∙ before.state;
   counted = (let one = ap length next in let all = before.counted in omega (arith, one, all));
   few = before.few;

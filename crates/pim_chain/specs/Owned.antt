@@ -1,9 +1,9 @@
 -- What a task receives from the mutexes that it owns.
-use Rattle.std.specs.Prelude.{◌==◌, ◌&&◌, ℕ, max, Bool, cond, is_some, List, Some}
+use Rattle.std.specs.Prelude.{◌==◌, ◌&&◌, ℕ, max, nat_lt, Bool, cond, is_some, List, Some}
 use Rattle.std.specs.List.{find}
 use Rattle.std.specs.Option.{option_map_or}
 use Rattle.pim_base.specs.Lists.{first_item}
-use Rattle.pim_base.specs.State.{protocol_of, with_owner}
+use Rattle.pim_base.specs.State.{owner_of, protocol_of, with_owner}
 use Rattle.pim_base.specs.Chains.{heir_of}
 use Rattle.pim_base.specs.Priorities.{ceiling_of}
 use Rattle.pim_base.specs.Reasons.{is_inherit}
@@ -22,6 +22,14 @@ worth_to v m t = worth (with_state v (with_owner v.state m (Some t))) m
 -- the priority that a task donates to the owner of the mutex that it waits for: its own if that is inherited, else 0
 abbrev pub donated_by : View → ℕ → ℕ → ℕ
 donated_by v t m = cond (is_inherit (protocol_of v.state m)) (stored_at v t) 0
+
+-- the visits of the new owner in a hand-over from v to w: 1 if the mutex gives it more than it had, else 0
+abbrev pub new_owner_visits : View → View → ℕ → ℕ
+new_owner_visits v w m = option_map_or (λ t. cond (nat_lt (stored_at v t) (worth w m)) 1 0) (owner_of w.state m) 0
+
+-- the visits of the old owner in a hand-over of the mutex: 0 if it had more than the mutex gave, else 1
+abbrev pub old_owner_visits : View → ℕ → ℕ → ℕ
+old_owner_visits v m a = cond (nat_lt (worth v m) (stored_at v a)) 0 1
 
 -- the mutex is a PRIO_INHERIT one, and its first waiter has the priority
 abbrev pub donates_now : View → ℕ → ℕ → Bool

@@ -72,7 +72,7 @@ abbrev pub changed : View → View → ℕ
 changed v w = differing (length v.state.base) (stored_at v) (stored_at w)
 
 -- x, which waits for nothing, gets its local priority, and nothing else changes
-pub record SetRight (v w : View) (x : ℕ) : Type 0 where
+pub record SettledIdle (v w : View) (x : ℕ) : Type 0 where
   pub state : w.state ≡ v.state
   pub queues : w.queues ≡ v.queues
   pub local : stored_at w x ≡ local_priority v.state (stored_at v) x

@@ -5,7 +5,7 @@ ghost use Rattle.pim_base.specs.declared.limits.TheConstants.{MAX_TASKS};
 ghost use Rattle.pim_base.specs.State.{IsTask, IsMutex, owner_of, wait_of, with_owner, with_wait};
 ghost use Rattle.pim_base.specs.Chains.{leads_back};
 ghost use Rattle.pim_chain.specs.Views.{Ready, stored_at};
-ghost use Rattle.pim_chain.specs.Owned.{worth, worth_to};
+ghost use Rattle.pim_chain.specs.Owned.{worth_to};
 ghost use Rattle.pim_chain.specs.Settled.{SettledBut, changed};
 ghost use Rattle.pim_sets.specs.Work.{Tells};
 
@@ -40,34 +40,6 @@ impl Tables {
         self.bind(mutex, task);
         if !self.gives_no_more(mutex, task) {
             self.settle_from(task, visits);
-        }
-    }
-
-    /// Makes the mutex free, whose owner must be this task, which must wait for nothing, and restores all stored
-    /// priorities. They must be settled before.
-    ///
-    /// If the mutex gave a lower priority than the owner has, a comparison shows that nothing else changes. Else the
-    /// owner is visited once.
-    #[inline(always)]
-    pub fn free(&mut self, mutex: MutexNo, owner: TaskNo, visits: &mut Visits)
-        requires settled { SettledBut self.old.state (stored_at self.old) None }
-        requires owned { owner_of self.old.state mutex ≡ Some owner }
-        requires idle { wait_of self.old.state owner ≡ None }
-        requires room { visits.old.count ≤ 2 ^ 32 - 1 - MAX_TASKS }
-        ensures state { self.new.state ≡ with_owner self.old.state mutex None }
-        ensures settled { SettledBut self.new.state (stored_at self.new) None }
-        ensures ready { Ready self.new }
-        ensures single { visits.new.count ≤ visits.old.count + 1 }
-        ensures skipped { worth self.old mutex < stored_at self.old owner → visits.new.count ≡ visits.old.count }
-        ensures once { stored_at self.old owner ≤ worth self.old mutex → visits.new.count ≡ visits.old.count + 1 }
-        ensures work { Tells (length self.old.state.base) (stored_at self.old) visits.old (stored_at self.new) visits.new }
-    {
-        // The contract of this call gives the proof the invariant of the tables.
-        let _tasks = self.tasks();
-        let given = self.given_level(mutex);
-        self.unbind_from(mutex, owner);
-        if self.known_stored(owner).get() <= given {
-            self.settle_from(owner, visits);
         }
     }
 

@@ -51,6 +51,7 @@ impl Tables {
     }
 
     /// Returns whether a task waits for the mutex with this ticket. Reads each waiter.
+    #[tactic(auto, using(crate::proofs::Fields::ticket_told))]
     pub fn has_ticket(&self, mutex: MutexNo, ticket: u64) -> bool
         ensures { IsTrue result ↔ ((t : ℕ) × (wait_of self.now.state t ≡ Some (record { mutex = mutex; ticket = ticket }))) }
     {

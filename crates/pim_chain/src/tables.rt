@@ -161,6 +161,7 @@ impl Tables {
     }
 
     /// Returns the owner of the mutex, `None` where it is free or unknown.
+    #[tactic(auto, using(crate::proofs::Known::none_at_unknown))]
     pub fn owner(&self, mutex: MutexNo) -> Option<TaskNo>
         ensures { result ≡ owner_of self.now.state mutex }
     {
@@ -193,6 +194,7 @@ impl Tables {
     }
 
     /// Returns the mutexes that a known task owns, in ascending order.
+    #[tactic(auto, using(crate::proofs::Owning::owned_members))]
     pub fn owned(&self, task: TaskNo) -> Owned<'_>
         requires { IsTask self.now.state task }
         ensures { result ≡ owned self.now.state task }
@@ -201,6 +203,7 @@ impl Tables {
     }
 
     /// Returns the set of the mutexes that a known task owns.
+    #[tactic(auto, using(crate::proofs::Owning::owned_members))]
     pub(crate) fn owned_set(&self, task: TaskNo) -> NumberSet
         requires { IsTask self.now.state task }
         ensures { members result.words ≡ owned self.now.state task }
@@ -217,6 +220,7 @@ impl Tables {
 
     /// Returns the mutex that the task waits for, with its ticket there, `None` where it waits for nothing or is
     /// unknown.
+    #[tactic(auto, using(crate::proofs::Known::none_at_unknown))]
     pub fn waits_for(&self, task: TaskNo) -> Option<Wait>
         ensures { result ≡ wait_of self.now.state task }
     {

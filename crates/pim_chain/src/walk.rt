@@ -1,15 +1,13 @@
 //! The walk that restores the stored priorities, and stops early.
 
-ghost use Rattle.std.specs.Prelude.{◌≡◌, ◌≢◌, ◌≤◌, ◌<◌, ◌+◌, ◌-◌, ◌^◌, None, Some, false, length, unwrap_or, ℕ, ◌↔◌, IsTrue};
-ghost use Rattle.std.specs.Option.{option_map};
+ghost use Rattle.std.specs.Prelude.{◌≡◌, ◌≢◌, ◌≤◌, ◌<◌, ◌+◌, ◌-◌, ◌^◌, None, Some, length, unwrap_or, ℕ, ◌↔◌, IsTrue};
 ghost use Rattle.pim_base.specs.declared.limits.TheConstants.{MAX_TASKS};
-ghost use Rattle.pim_base.specs.State.{IsTask, IsMutex, owner_of, wait_of, with_owner, with_wait};
-ghost use Rattle.pim_base.specs.Chains.{heir, leads_back};
+ghost use Rattle.pim_base.specs.State.{IsTask, IsMutex, owner_of};
+ghost use Rattle.pim_base.specs.Chains.{heir};
 ghost use Rattle.pim_base.specs.Priorities.{local_priority, effective_priority};
 ghost use Rattle.pim_base.specs.Queues.{queue_of};
-ghost use Rattle.pim_base.specs.declared.steps.Wait.{Wait};
 ghost use Rattle.pim_chain.specs.Views.{Ready, stored_at, queue_at, first_prio};
-ghost use Rattle.pim_chain.specs.Owned.{worth, worth_to, donated_by};
+ghost use Rattle.pim_chain.specs.Owned.{worth, donated_by};
 ghost use Rattle.pim_chain.specs.Settled.{SettledBut, Visited, next_of, changed};
 ghost use Rattle.pim_sets.specs.Work.{Tells, VisitedOnce};
 
@@ -24,16 +22,6 @@ impl Tables {
         ensures { unwrap_or result 0 ≡ first_prio (queue_at self.now mutex) }
     {
         self.known_first(mutex).map(|first| first.prio)
-    }
-
-    // Returns the level of this priority, 0 if no task waits.
-    pub(crate) fn first_level(&self, mutex: MutexNo) -> u16
-        requires { IsMutex self.now.state mutex }
-        ensures { result ≡ first_prio (queue_at self.now mutex) }
-    {
-        // The contract of this call gives the proof the invariant of the tables.
-        let _tasks = self.tasks();
-        self.queues.first_level(mutex)
     }
 
     // Returns the priority that the owned mutex gives its owner: its ceiling, or the donation of its first waiter.

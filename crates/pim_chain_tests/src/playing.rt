@@ -15,8 +15,10 @@ pub(crate) enum Event {
     Lock(u16, u16),
     /// The task would close a cycle if it locked the mutex.
     Deadlock(u16, u16),
-    /// The owner of the mutex unlocks it.
-    Unlock(u16),
+    /// The owner of the mutex unlocks it, and it goes to this task, if any.
+    Unlock(u16, Option<u16>),
+    /// The task hands over all mutexes that it owns: so many.
+    Release(u16, u16),
     /// The task stops waiting.
     Cancel(u16),
     /// The task gets this base.
@@ -136,8 +138,18 @@ pub(crate) fn lock(
     }
 }
 
-/// Takes the mutex from its owner: the first part of a hand-over. The mutex may have waiters.
-fn free(rt: &impl Abort, tables: &mut Tables, mutex: MutexNo, visits: &mut Visits)
+pub(crate) fn first_waiter(tables: &Tables, mutex: MutexNo) -> Option<Waiter> {
+    tables.queue(mutex)?.front()
+}
+
+/// Takes the mutex from its owner, and hands it to the first waiter, which must be this task.
+fn unlock(
+    rt: &impl Abort,
+    tables: &mut Tables,
+    mutex: MutexNo,
+    new_owner: Option<u16>,
+    visits: &mut Visits,
+)
     requires { SettledBut tables.old.state (stored_at tables.old) None }
     ensures { SettledBut tables.new.state (stored_at tables.new) None }
 {
@@ -146,39 +158,21 @@ fn free(rt: &impl Abort, tables: &mut Tables, mutex: MutexNo, visits: &mut Visit
     if let Some(owner) = owner {
         assert!(rt; tables.waits_for(owner).is_none());
         assert!(rt; visits.get() < 1000);
-        tables.free(mutex, owner, visits);
+        let handed = tables.hand_over(mutex, owner, visits);
+        assert!(rt; handed == new_owner.map(|task| TaskNo(task)));
     }
 }
 
-/// Gives the free mutex to a task that waits for it: the second part of a hand-over.
-fn take(rt: &impl Abort, tables: &mut Tables, mutex: MutexNo, task: TaskNo, visits: &mut Visits)
+/// Hands over all mutexes of the task, which must be so many.
+fn release(rt: &impl Abort, tables: &mut Tables, task: TaskNo, count: u16, visits: &mut Visits)
     requires { SettledBut tables.old.state (stored_at tables.old) None }
     ensures { SettledBut tables.new.state (stored_at tables.new) None }
 {
-    assert!(rt; tables.waits_for(task).is_some());
-    assert!(rt; blocker(tables, task).is_none());
-    tables.leave(task);
     assert!(rt; !tables.is_unknown_task(task));
-    assert!(rt; !tables.is_unknown_mutex(mutex));
     assert!(rt; tables.waits_for(task).is_none());
-    assert!(rt; tables.owner(mutex).is_none());
     assert!(rt; visits.get() < 1000);
-    tables.grant(mutex, task, visits);
-}
-
-pub(crate) fn first_waiter(tables: &Tables, mutex: MutexNo) -> Option<Waiter> {
-    tables.queue(mutex)?.front()
-}
-
-fn unlock(rt: &impl Abort, tables: &mut Tables, mutex: MutexNo, visits: &mut Visits)
-    requires { SettledBut tables.old.state (stored_at tables.old) None }
-    ensures { SettledBut tables.new.state (stored_at tables.new) None }
-{
-    let first = first_waiter(tables, mutex);
-    free(rt, tables, mutex, visits);
-    if let Some(waiter) = &first {
-        take(rt, tables, mutex, waiter.task, visits);
-    }
+    let released = tables.release_all(task, visits);
+    assert_eq!(rt; released, count);
 }
 
 pub(crate) fn cancel(rt: &impl Abort, tables: &mut Tables, task: TaskNo, visits: &mut Visits)
@@ -237,7 +231,8 @@ fn happen(rt: &impl Abort, tables: &mut Tables, event: Event, ticket: u64, visit
         Event::Deadlock(task, mutex) => {
             assert!(rt; leads_back(tables, TaskNo(task), MutexNo(mutex)));
         }
-        Event::Unlock(mutex) => unlock(rt, tables, MutexNo(mutex), visits),
+        Event::Unlock(mutex, new_owner) => unlock(rt, tables, MutexNo(mutex), new_owner, visits),
+        Event::Release(task, count) => release(rt, tables, TaskNo(task), count, visits),
         Event::Cancel(task) => cancel(rt, tables, TaskNo(task), visits),
         Event::Base(task, level) => set_base(rt, tables, TaskNo(task), level, visits),
         Event::Ceiling(mutex, level) => set_ceiling(rt, tables, MutexNo(mutex), level, visits),

@@ -78,7 +78,7 @@ fn new_owner_keeps_what_its_waiters_donate() -> &'static Scene {
         Row(Event::Lock(1, 1), 0, &[10, 50, 40]),
         Row(Event::Lock(2, 1), 1, &[50, 50, 40]),
         Row(Event::Lock(3, 1), 1, &[50, 50, 40]),
-        Row(Event::Unlock(1), 1, &[10, 50, 40]),
+        Row(Event::Unlock(1, Some(2)), 1, &[10, 50, 40]),
         Row(Event::Base(2, 20), 1, &[10, 40, 40]),
         Row(Event::Base(2, 21), 1, &[10, 40, 40]),
     ];
@@ -103,8 +103,8 @@ fn second_waiter_becomes_first_with_a_changed_priority() -> &'static Scene {
         Row(Event::Lock(1, 3), 1, &[10, 90, 30, 50, 70, 90]),
         Row(Event::Lock(2, 3), 1, &[10, 90, 90, 50, 70, 90]),
         Row(Event::Lock(5, 4), 1, &[70, 90, 90, 50, 70, 90]),
-        Row(Event::Unlock(3), 1, &[70, 90, 30, 50, 70, 90]),
-        Row(Event::Unlock(1), 1, &[70, 70, 30, 50, 70, 90]),
+        Row(Event::Unlock(3, Some(2)), 1, &[70, 90, 30, 50, 70, 90]),
+        Row(Event::Unlock(1, Some(6)), 1, &[70, 70, 30, 50, 70, 90]),
     ];
     const SCENE: &Scene = &Scene {
         name: "second waiter becomes first with a changed priority",
@@ -145,7 +145,7 @@ fn ceiling_hands_nothing_on() -> &'static Scene {
         Row(Event::Lock(2, 2), 0, &[50, 40, 90]),
         Row(Event::Lock(2, 1), 1, &[50, 40, 90]),
         Row(Event::Lock(3, 2), 1, &[50, 90, 90]),
-        Row(Event::Unlock(1), 1, &[20, 90, 90]),
+        Row(Event::Unlock(1, Some(2)), 1, &[20, 90, 90]),
     ];
     const SCENE: &Scene = &Scene {
         name: "ceiling hands nothing on",
@@ -164,7 +164,7 @@ fn raised_waiter_is_first_of_a_mutex_that_passes_on_no_priority() -> &'static Sc
         Row(Event::Lock(2, 1), 1, &[10, 40, 30, 90]),
         Row(Event::Lock(3, 1), 1, &[10, 40, 30, 90]),
         Row(Event::Lock(4, 2), 1, &[10, 40, 90, 90]),
-        Row(Event::Unlock(1), 0, &[10, 40, 90, 90]),
+        Row(Event::Unlock(1, Some(3)), 0, &[10, 40, 90, 90]),
     ];
     const SCENE: &Scene = &Scene {
         name: "raised waiter is first of a mutex that passes on no priority",
@@ -217,6 +217,29 @@ fn another_ceiling_reaches_the_owner_and_its_heir() -> &'static Scene {
     SCENE
 }
 
+fn release_visits_the_old_owner_once() -> &'static Scene {
+    const ROWS: &[Row] = &[
+        Row(Event::Lock(1, 1), 0, &[10, 20, 90, 50]),
+        Row(Event::Lock(1, 2), 0, &[10, 20, 90, 50]),
+        Row(Event::Lock(2, 1), 1, &[20, 20, 90, 50]),
+        Row(Event::Lock(4, 1), 1, &[50, 20, 90, 50]),
+        Row(Event::Lock(3, 2), 1, &[90, 20, 90, 50]),
+        Row(Event::Release(1, 2), 1, &[10, 20, 90, 50]),
+        Row(Event::Base(4, 10), 1, &[10, 20, 90, 20]),
+        Row(Event::Release(4, 1), 1, &[10, 20, 90, 10]),
+        Row(Event::Release(4, 0), 0, &[10, 20, 90, 10]),
+        Row(Event::Unlock(1, None), 0, &[10, 20, 90, 10]),
+    ];
+    const SCENE: &Scene = &Scene {
+        name: "release visits the old owner once",
+        bases: &[10, 20, 90, 50],
+        kinds: &[INHERIT; 2],
+        rows: ROWS,
+        ends: &[End::Owner(2, 3)],
+    };
+    SCENE
+}
+
 fn expect_end(rt: &impl Abort, tables: &Tables, name: &str, end: End) {
     match end {
         End::Owner(mutex, task) => {
@@ -261,6 +284,7 @@ fn scenes(rt: HostRuntime) -> Result<(), Fail> {
         raised_waiter_is_first_of_a_mutex_that_passes_on_no_priority(),
         one_of_two_equal_waiters_may_go(),
         another_ceiling_reaches_the_owner_and_its_heir(),
+        release_visits_the_old_owner_once(),
     ];
     for scene in scenes {
         play_scene(&rt, rt.alloc(), scene)?;

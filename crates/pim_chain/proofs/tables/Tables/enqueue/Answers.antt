@@ -1,9 +1,9 @@
-use Rattle.std.proofs.Common.{subst, sym, length, Some}
+use Rattle.std.proofs.Common.{ap, subst, length, Some}
 use Rattle.pim_chain.specs.Views.{View, stored_at, waiter_at}
 use Rattle.pim_chain.specs.Settled.{SettledBut}
 use Rattle.pim_sets.specs.Work.{Tells}
 use Rattle.pim_chain.proofs.NoHigher.{joined_settled}
-use Rattle.pim_chain.proofs.Told.{tells-refl}
+use Rattle.pim_chain.proofs.Told.{tells-same}
 use Rattle.pim_chain.proofs.tables.Tables.enqueue.Goals as goal
 
 pub returns-else-not-gives_no_more-clause-settled : goal.returns-else-not-gives_no_more-clause-settled
@@ -17,10 +17,7 @@ returns-else-not-gives_no_more-clause-settled c =
     (c.gives_no_more.ensures.0 c.if-not-gives_no_more.false)
 
 pub returns-else-not-gives_no_more-clause-work : goal.returns-else-not-gives_no_more-clause-work
-returns-else-not-gives_no_more-clause-work c =
-    let v = c.args.self.now in
-    subst (λ (w : View). Tells (length v.state.base) (stored_at v) c.args.visits.now (stored_at w) c.args.visits.now) (sym c.join.ensures.joined)
-    (tells-refl (length v.state.base) (stored_at v) c.args.visits.now)
+returns-else-not-gives_no_more-clause-work c = tells-same _ _ _ _ (λ t _ _. ap (λ (w : View). stored_at w t) c.join.ensures.joined)
 
 pub returns-then-not-gives_no_more-clause-work : goal.returns-then-not-gives_no_more-clause-work
 returns-then-not-gives_no_more-clause-work c =

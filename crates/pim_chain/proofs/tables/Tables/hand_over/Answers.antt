@@ -1,68 +1,57 @@
-use Rattle.pim_chain.proofs.Releasing.{handing, leaving, left_known, left_mutex, left_idle, left_free, handed_known, handed_idle, handed_settled, handed_state, handed_lost, handed_work, freed_after, freed_state, freed_lost, freed_work}
+use Rattle.std.proofs.Common.{◌∙◌, ap, arith, length}
+use Rattle.pim_base.specs.State.{State}
+use Rattle.pim_base.proofs.HandOvers.{base-hand_over}
+use Rattle.pim_chain.proofs.OwnerVisits.{old_owner-idle, new_owner_visits-most, new_owner_visits-settled, old_owner_visits-falls, old_owner_visits-same}
+use Rattle.pim_chain.proofs.Releasing.{no_heir}
+use Rattle.pim_chain.proofs.Told.{tells_over}
 use Rattle.pim_chain.proofs.tables.Tables.hand_over.Goals as goal
 
-pub bind-requires-clause-mutex : goal.bind-requires-clause-mutex
-bind-requires-clause-mutex c =
-    left_mutex (leaving (handing c.tasks-tasks.ensures.ready c.requires.settled c.requires.owned c.requires.idle) c.known_first-first.ensures c.in-Some.is
-    c.unbind_from.ensures.state c.leave.ensures.left c.leave.ensures.ready)
+pub returns-then-may_fall-clause-counted : goal.returns-then-may_fall-clause-counted
+returns-then-may_fall-clause-counted c =
+    let v = c.args.self.now in
+    let h = c.hand_over_unsettled-new_owner.new.self in
+    let m = c.args.mutex in
+    let a = c.args.owner in
+    let handed = c.hand_over_unsettled-new_owner.ensures in
+    let settled = c.settle_from.ensures in
+    let first = handed.counted in
+    let last = settled.single (no_heir h.state a (old_owner-idle v h m a handed.state c.requires.idle)) in
+    let same = new_owner_visits-settled v h c.settle_from.new.self m a c.tasks-tasks.ensures.ready c.requires.owned c.requires.idle
+    handed.state handed.ready handed.settled settled.queues settled.state in
+    let had = c.get.ensures.value ∙ c.known_stored.ensures in
+    let gave = c.given_level.ensures in
+    let low = c.if-may_fall.true in
+    let falls = old_owner_visits-falls v m a (omega (arith, had, gave, low)) in
+    omega (arith, first, last, same, falls)
 
-pub bind-requires-clause-free : goal.bind-requires-clause-free
-bind-requires-clause-free c =
-    left_free (leaving (handing c.tasks-tasks.ensures.ready c.requires.settled c.requires.owned c.requires.idle) c.known_first-first.ensures c.in-Some.is
-    c.unbind_from.ensures.state c.leave.ensures.left c.leave.ensures.ready)
+pub returns-else-may_fall-clause-counted : goal.returns-else-may_fall-clause-counted
+returns-else-may_fall-clause-counted c =
+    let first = c.hand_over_unsettled-new_owner.ensures.counted in
+    let had = c.get.ensures.value ∙ c.known_stored.ensures in
+    let gave = c.given_level.ensures in
+    let above = c.if-may_fall.false in
+    let stays = old_owner_visits-same c.args.self.now c.args.mutex c.args.owner (omega (arith, had, gave, above)) in
+    omega (arith, first, stays)
 
-pub bind-requires-clause-known : goal.bind-requires-clause-known
-bind-requires-clause-known c =
-    left_known (leaving (handing c.tasks-tasks.ensures.ready c.requires.settled c.requires.owned c.requires.idle) c.known_first-first.ensures c.in-Some.is
-    c.unbind_from.ensures.state c.leave.ensures.left c.leave.ensures.ready)
+pub returns-then-may_fall-clause-most : goal.returns-then-may_fall-clause-most
+returns-then-may_fall-clause-most c =
+    let v = c.args.self.now in
+    let h = c.hand_over_unsettled-new_owner.new.self in
+    let handed = c.hand_over_unsettled-new_owner.ensures in
+    let first = handed.counted in
+    let last = c.settle_from.ensures.single
+    (no_heir h.state c.args.owner (old_owner-idle v h c.args.mutex c.args.owner handed.state c.requires.idle)) in
+    let most = new_owner_visits-most v h c.args.mutex in
+    omega (arith, first, last, most)
 
-pub bind-requires-clause-idle : goal.bind-requires-clause-idle
-bind-requires-clause-idle c =
-    left_idle (leaving (handing c.tasks-tasks.ensures.ready c.requires.settled c.requires.owned c.requires.idle) c.known_first-first.ensures c.in-Some.is
-    c.unbind_from.ensures.state c.leave.ensures.left c.leave.ensures.ready)
+pub returns-else-may_fall-clause-most : goal.returns-else-may_fall-clause-most
+returns-else-may_fall-clause-most c =
+    let first = c.hand_over_unsettled-new_owner.ensures.counted in
+    let most = new_owner_visits-most c.args.self.now c.hand_over_unsettled-new_owner.new.self c.args.mutex in
+    omega (arith, first, most)
 
-pub set_right-requires-clause-known : goal.set_right-requires-clause-known
-set_right-requires-clause-known c =
-    handed_known (leaving (handing c.tasks-tasks.ensures.ready c.requires.settled c.requires.owned c.requires.idle) c.known_first-first.ensures c.in-Some.is
-    c.unbind_from.ensures.state c.leave.ensures.left c.leave.ensures.ready) c.bind.ensures.state
-
-pub set_right-requires-clause-idle : goal.set_right-requires-clause-idle
-set_right-requires-clause-idle c =
-    handed_idle (leaving (handing c.tasks-tasks.ensures.ready c.requires.settled c.requires.owned c.requires.idle) c.known_first-first.ensures c.in-Some.is
-    c.unbind_from.ensures.state c.leave.ensures.left c.leave.ensures.ready) c.bind.ensures.state
-
-pub returns-in-Some-clause-state : goal.returns-in-Some-clause-state
-returns-in-Some-clause-state c =
-    handed_state (leaving (handing c.tasks-tasks.ensures.ready c.requires.settled c.requires.owned c.requires.idle) c.known_first-first.ensures c.in-Some.is
-    c.unbind_from.ensures.state c.leave.ensures.left c.leave.ensures.ready) c.bind.ensures.state c.bind.ensures.ready c.set_right.ensures.right
-
-pub returns-in-Some-clause-settled : goal.returns-in-Some-clause-settled
-returns-in-Some-clause-settled c =
-    handed_settled (leaving (handing c.tasks-tasks.ensures.ready c.requires.settled c.requires.owned c.requires.idle) c.known_first-first.ensures c.in-Some.is
-    c.unbind_from.ensures.state c.leave.ensures.left c.leave.ensures.ready) c.bind.ensures.state c.bind.ensures.ready c.set_right.ensures.right
-
-pub returns-in-Some-clause-lost : goal.returns-in-Some-clause-lost
-returns-in-Some-clause-lost c =
-    handed_lost (leaving (handing c.tasks-tasks.ensures.ready c.requires.settled c.requires.owned c.requires.idle) c.known_first-first.ensures c.in-Some.is
-    c.unbind_from.ensures.state c.leave.ensures.left c.leave.ensures.ready) c.bind.ensures.state c.bind.ensures.ready c.set_right.ensures.right
-
-pub returns-in-Some-clause-work : goal.returns-in-Some-clause-work
-returns-in-Some-clause-work c =
-    handed_work (leaving (handing c.tasks-tasks.ensures.ready c.requires.settled c.requires.owned c.requires.idle) c.known_first-first.ensures c.in-Some.is
-    c.unbind_from.ensures.state c.leave.ensures.left c.leave.ensures.ready) c.bind.ensures.state c.bind.ensures.ready c.set_right.ensures.right c.set_right.ensures.work
-
-pub returns-in_default-clause-state : goal.returns-in_default-clause-state
-returns-in_default-clause-state c =
-    freed_state (handing c.tasks-tasks.ensures.ready c.requires.settled c.requires.owned c.requires.idle) c.unbind_from.ensures.state c.known_first-first.ensures c.in_default.is
-
-pub returns-in_default-clause-settled : goal.returns-in_default-clause-settled
-returns-in_default-clause-settled c =
-    freed_after (handing c.tasks-tasks.ensures.ready c.requires.settled c.requires.owned c.requires.idle) c.unbind_from.ensures.state
-
-pub returns-in_default-clause-lost : goal.returns-in_default-clause-lost
-returns-in_default-clause-lost c =
-    freed_lost (handing c.tasks-tasks.ensures.ready c.requires.settled c.requires.owned c.requires.idle) c.unbind_from.ensures.state
-
-pub returns-in_default-clause-work : goal.returns-in_default-clause-work
-returns-in_default-clause-work c =
-    freed_work (handing c.tasks-tasks.ensures.ready c.requires.settled c.requires.owned c.requires.idle) c.unbind_from.ensures.state c.args.visits.now
+pub returns-then-may_fall-clause-work : goal.returns-then-may_fall-clause-work
+returns-then-may_fall-clause-work c =
+    tells_over _ _ _ _ _ _ _ _ c.hand_over_unsettled-new_owner.ensures.work
+    (ap (λ (U : State). length U.base) c.hand_over_unsettled-new_owner.ensures.state ∙ ap length (base-hand_over c.args.self.now.state c.args.mutex))
+    c.settle_from.ensures.work

@@ -1,4 +1,5 @@
 use Rattle.std.proofs.Common.{length, ap, arith, sym, ◌∙◌}
+use Rattle.pim_chain.proofs.OwnerVisits.{new_owner_visits-most}
 use Rattle.pim_chain.proofs.Releasing.{releasing_none, releasing_next, first_owned}
 use Rattle.pim_chain.proofs.tables.Tables.hand_over_all.Goals as goal
 
@@ -8,8 +9,8 @@ loop-mutex-init c =
     (c.into_iter-mutex-iterator.ensures.into_iter_gives ∙ (c.new-mutex-items.ensures ∙ c.owned_set-owned.ensures))
     c.requires.idle c.tasks-tasks.ensures.ready c.requires.settled
 
-pub hand_over-requires : goal.hand_over-requires
-hand_over-requires c =
+pub hand_over_unsettled-requires : goal.hand_over_unsettled-requires
+hand_over_unsettled-requires c =
     let before = c.loop-mutex.invariant in
     let counted = before.counted in
     let few = before.few in
@@ -31,5 +32,8 @@ overflow_add-released c =
 
 pub loop-mutex-preserved : goal.loop-mutex-preserved
 loop-mutex-preserved c =
-    releasing_next _ _ _ _ _ _ _ _ _ _ _ c.loop-mutex.invariant c.in-Some.ensures.steps c.hand_over.ensures.state c.hand_over.ensures.settled
-    c.hand_over.ensures.lost c.hand_over.ensures.ready c.hand_over.ensures.work c.hand_over.ensures.most
+    let handed = c.hand_over_unsettled.ensures in
+    let counted = handed.counted in
+    let most = new_owner_visits-most c.loop-mutex.self c.hand_over_unsettled.new.self c.in-Some.mutex in
+    releasing_next _ _ _ _ _ _ _ _ _ _ _ c.loop-mutex.invariant c.in-Some.ensures.steps handed.state handed.settled
+    handed.owns_no_more handed.ready handed.work (omega (arith, counted, most))

@@ -1,24 +1,12 @@
-use Rattle.std.proofs.Common.{◌≤◌, ◌+◌, subst, sym, arith, ap, ◌∙◌, length, None, option_and_then}
+use Rattle.std.proofs.Common.{subst, arith, ap, ◌∙◌, None, option_and_then}
 use Rattle.pim_base.specs.State.{owner_of}
 use Rattle.pim_base.specs.declared.steps.Wait.{Wait}
 use Rattle.pim_chain.specs.Views.{View, stored_at}
-use Rattle.pim_chain.specs.Settled.{SettledBut, changed}
-use Rattle.pim_sets.specs.Work.{Tells}
+use Rattle.pim_chain.specs.Settled.{SettledBut}
 use Rattle.pim_chain.proofs.NoHigher.{left_settled}
 use Rattle.pim_chain.proofs.Known.{owned_mutex}
-use Rattle.pim_chain.proofs.Told.{tells-refl}
+use Rattle.pim_chain.proofs.Told.{tells-same}
 use Rattle.pim_chain.proofs.tables.Tables.withdraw.Goals as goal
-
-pub returns-else-get-donated-clause-state : goal.returns-else-get-donated-clause-state
-returns-else-get-donated-clause-state c = ap (λ (u : View). u.state) c.end_wait.ensures.left
-
-pub returns-then-get-donated-clause-state : goal.returns-then-get-donated-clause-state
-returns-then-get-donated-clause-state c = c.settle_from.ensures.state ∙ ap (λ (u : View). u.state) c.end_wait.ensures.left
-
-pub returns-then-get-donated-clause-at_most : goal.returns-then-get-donated-clause-at_most
-returns-then-get-donated-clause-at_most c =
-    subst (λ (u : View). c.settle_from.new.visits.count ≤ c.args.visits.now.count + changed u c.settle_from.new.self + 1)
-    c.end_wait.ensures.left c.settle_from.ensures.at_most
 
 pub returns-else-get-donated-clause-settled : goal.returns-else-get-donated-clause-settled
 returns-else-get-donated-clause-settled c =
@@ -34,13 +22,4 @@ returns-else-get-donated-clause-settled c =
     (omega (arith, c.if-get-donated.false, c.donated_by-donated.ensures, c.get.ensures.value, c.known_stored.ensures))
 
 pub returns-else-get-donated-clause-work : goal.returns-else-get-donated-clause-work
-returns-else-get-donated-clause-work c =
-    let v = c.args.self.now in
-    subst (λ (w : View). Tells (length v.state.base) (stored_at v) c.args.visits.now (stored_at w) c.args.visits.now)
-    (sym c.end_wait.ensures.left)
-    (tells-refl (length v.state.base) (stored_at v) c.args.visits.now)
-
-pub returns-then-get-donated-clause-work : goal.returns-then-get-donated-clause-work
-returns-then-get-donated-clause-work c =
-    subst (λ (w : View). Tells (length w.state.base) (stored_at w) c.args.visits.now (stored_at c.settle_from.new.self) c.settle_from.new.visits)
-    c.end_wait.ensures.left c.settle_from.ensures.work
+returns-else-get-donated-clause-work c = tells-same _ _ _ _ (λ t _ _. ap (λ (w : View). stored_at w t) c.end_wait.ensures.left)

@@ -3,7 +3,7 @@ use Rattle.pim_chain.specs.Views.{View, stored_at}
 use Rattle.pim_chain.proofs.Fields.{stored_written, stored_free, ready_after}
 use Rattle.pim_chain.proofs.Told.{worked-noted}
 use Rattle.pim_chain.proofs.Visit.{stored_now, stored_else, ready_restored}
-use Rattle.pim_chain.proofs.tables.Tables.set_right.Goals as goal
+use Rattle.pim_chain.proofs.tables.Tables.settle_idle.Goals as goal
 
 pub returns-clause-ready : goal.returns-clause-ready
 returns-clause-ready c =
