@@ -1,5 +1,5 @@
 -- What `==` says of the lists of two states: all are equal exactly if the states are.
-use Rattle.std.proofs.Common.{rules, ◌≡◌, ◌↔◌, ◌==◌, eqb, ◌&&◌, ℕ, Bool, Option, IsTrue, ap, eqb-true, eq-eqb, sym, ◌∙◌}
+use Rattle.std.proofs.Common.{rules, ◌≡◌, ◌↔◌, ◌==◌, eqb, ◌&&◌, ℕ, Bool, Option, IsTrue, refl, eqb-true, eq-eqb, sym, ◌∙◌}
 use Rattle.std.specs.Bool.{Decides}
 use Rattle.std.specs.Option.{option_eq}
 use Rattle.std.proofs.lemmas.Bool.Decides.{Decides-and}
@@ -53,22 +53,6 @@ same_fields_are S T =
 pub same_fields-Decides : (S T : State) (r : Bool) → r ≡ same_fields S T → IsTrue r ↔ S ≡ T
 same_fields-Decides S T r is = (
   λ t. let f = (same_fields_are S T).0 (sym is ∙ t) in
-      λ i. record {
-        base = f.0.0.0.0.0 i;
-        protocol = f.0.0.0.0.1 i;
-        owner = f.0.0.0.1 i;
-        count = f.0.0.1 i;
-        wait = f.0.1 i;
-        next = f.1 i;
-      },
-  λ e. is ∙ (same_fields_are S T).1 (
-    (
-      (
-        ((ap (λ (s : State). s.base) e, ap (λ (s : State). s.protocol) e), ap (λ (s : State). s.owner) e),
-        ap (λ (s : State). s.count) e,
-      ),
-      ap (λ (s : State). s.wait) e,
-    ),
-    ap (λ (s : State). s.next) e,
-  ),
+      λ i. record { base = f.0.0.0.0.0 i; protocol = f.0.0.0.0.1 i; owner = f.0.0.0.1 i; count = f.0.0.1 i; wait = f.0.1 i; next = f.1 i },
+  λ e. is ∙ (same_fields_are S T).1 (rw e (((((refl, refl), refl), refl), refl), refl)),
 )

@@ -1,8 +1,8 @@
 -- Whose local priority alone a single change may change.
-use Rattle.std.proofs.Common.{◌≡◌, ℕ, sym, ◌∙◌, ap, arith, Option, Some, None, false, option_and_then}
-use Rattle.std.proofs.lemmas.Option.{none-some, same_Some}
+use Rattle.std.proofs.Common.{◌≡◌, ℕ, sym, arith, Option, Some, None, false}
+use Rattle.std.proofs.lemmas.Option.{same_Some}
 use Rattle.pim_base.specs.State.{State, IsState, IsTask, owner_of, wait_of, protocol_of, with_owner, with_wait, with_base, with_protocol, with_ceiling}
-use Rattle.pim_base.specs.Chains.{blocker, heir_of}
+use Rattle.pim_base.specs.Chains.{blocker}
 use Rattle.pim_base.specs.Checks.{not_protect}
 use Rattle.pim_base.specs.declared.steps.Protocol.{Protocol}
 use Rattle.pim_base.specs.declared.steps.Wait.{Wait}
@@ -11,16 +11,13 @@ use Rattle.pim_chain.specs.Settled.{SettledBut}
 use Rattle.pim_chain.proofs.Changes.{AtMost, DiffersAt, differs_settled, differs_owner, differs_wait, differs_base}
 use Rattle.pim_chain.proofs.Protocols.{differs_ceiling, differs_protocol}
 
--- no task is number 0
-settled_all : (S : State) (stored : ℕ → ℕ) → SettledBut S stored (Some 0) → SettledBut S stored None
-settled_all S stored settled t task _ =
-    settled t task (λ e. let same : 0 ≡ t = same_Some 0 t e in let low = task.0 in absurd (omega (arith, same, low)))
-
 -- nobody but this one
 module _ (S T : State) (stored : ℕ → ℕ) (settled : SettledBut S stored None) where
   but : (o : Option ℕ) → ((x : ℕ) → AtMost o x → DiffersAt S T x) → SettledBut T stored o
   but (Some x) differs = differs_settled S T stored x (differs x (λ t e. sym (same_Some x t e))) settled
-  but None differs = settled_all T stored (differs_settled S T stored 0 (differs 0 (λ t e. absurd (none-some t e))) settled)
+  -- no task is number 0
+  but None differs = λ t task _.
+      differs_settled S T stored 0 (differs 0 (λ u e. cc)) settled t task (λ e. absurd (omega (arith, same_Some 0 t e, task.0)))
 
 pub bound_unsettles :
     (S : State) (stored : ℕ → ℕ) (m t : ℕ)
@@ -28,15 +25,14 @@ pub bound_unsettles :
     → SettledBut S stored None
     → SettledBut (with_owner S m (Some t)) stored (Some t)
 bound_unsettles S stored m t free settled =
-    differs_settled S (with_owner S m (Some t)) stored t
-    (differs_owner S m (Some t) t (λ x e. absurd (none-some x (sym free ∙ e))) (λ x e. sym (same_Some t x e))) settled
+    but S (with_owner S m (Some t)) stored settled (Some t) (λ x at. differs_owner S m (Some t) x (λ y e. cc) at)
 
 pub unbound_unsettles :
     (S : State) (stored : ℕ → ℕ) (m : ℕ)
     → SettledBut S stored None
     → SettledBut (with_owner S m None) stored (owner_of S m)
 unbound_unsettles S stored m settled =
-    but S (with_owner S m None) stored settled (owner_of S m) (λ x at. differs_owner S m None x at (λ t e. absurd (none-some t e)))
+    but S (with_owner S m None) stored settled (owner_of S m) (λ x at. differs_owner S m None x at (λ t e. cc))
 
 pub joined_unsettles :
     (S : State) (stored : ℕ → ℕ) (t : ℕ) (w : Wait)
@@ -47,9 +43,7 @@ pub joined_unsettles :
     → SettledBut (with_wait S t (Some w)) stored (owner_of S w.mutex)
 joined_unsettles S stored t w lists known idle settled =
     but S (with_wait S t (Some w)) stored settled (owner_of S w.mutex) (λ x at.
-    differs_wait S t (Some w) x lists known
-    (λ y e. absurd (none-some y (sym (ap (option_and_then (λ (u : Wait). heir_of S u.mutex)) idle) ∙ e)))
-    (λ y e. at y (heir_in-owner (protocol_of S w.mutex) (owner_of S w.mutex) y e)))
+    differs_wait S t (Some w) x lists known (λ y e. cc) (λ y e. at y (heir_in-owner (protocol_of S w.mutex) (owner_of S w.mutex) y e)))
 
 pub left_unsettles :
     (S : State) (stored : ℕ → ℕ) (t : ℕ)
@@ -59,7 +53,7 @@ pub left_unsettles :
     → SettledBut (with_wait S t None) stored (blocker S t)
 left_unsettles S stored t lists known settled =
     but S (with_wait S t None) stored settled (blocker S t) (λ x at.
-    differs_wait S t None x lists known (λ y e. at y (heir-blocker S t y e)) (λ y e. absurd (none-some y e)))
+    differs_wait S t None x lists known (λ y e. at y (heir-blocker S t y e)) (λ y e. cc))
 
 pub based_unsettles : (S : State) (stored : ℕ → ℕ) (t p : ℕ) → SettledBut S stored None → SettledBut (with_base S t p) stored (Some t)
 based_unsettles S stored t p settled = differs_settled S (with_base S t p) stored t (differs_base S t p) settled

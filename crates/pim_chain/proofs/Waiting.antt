@@ -1,13 +1,12 @@
 -- The queues: who is first, and how a change of one task changes them.
-use Rattle.std.proofs.Common.{◌≡◌, ℕ, eqb, suc, ◌<◌, ◌≤◌, max, true, false, ◌⊎◌, inl, inr, refl, sym, ◌∙◌, ap, subst, arith, le_trans, le_antisymm, Option, Some, None, List, [], ◌∷◌, length, map, unwrap_or}
+use Rattle.std.proofs.Common.{◌≡◌, ℕ, eqb, suc, ◌<◌, ◌≤◌, max, true, false, inl, inr, refl, sym, ◌∙◌, ap, subst, arith, le_antisymm, Option, Some, List, [], ◌∷◌, length, map}
 use Rattle.std.specs.List.{list_any, AllByRecursion, IsDistinct}
-use Rattle.std.specs.Option.{option_map_or}
-use Rattle.std.proofs.lemmas.Bool.{both_ways, cases_eq, eqb-true, eq-eqb, ne_eqb, cond_both, or_cases}
+use Rattle.std.proofs.lemmas.Bool.{both_ways, cases_eq, eqb-true, eq-eqb, ne_eqb, cond_both}
 use Rattle.std.proofs.lemmas.List.{length-map}
 use Rattle.std.proofs.lemmas.Option.{same_Some}
 use Rattle.std.proofs.lemmas.Map.Steps.{length-le_from_distinct_below}
-use Rattle.std.proofs.Math.Nat.{le-max_left, le-max_right, max-le}
-use Rattle.pim_base.specs.Lists.{nth, holds, insert_by}
+use Rattle.std.proofs.Math.Nat.{le-max_left, max-le}
+use Rattle.pim_base.specs.Lists.{holds, insert_by}
 use Rattle.pim_base.specs.State.{State, IsState, IsTask, wait_of}
 use Rattle.pim_base.specs.Chains.{heir_of}
 use Rattle.pim_base.specs.Priorities.{own_priority, local_priority}
@@ -23,17 +22,10 @@ use Rattle.pim_chain.specs.Views.{first_prio, waits_for, Shows, IsQueue, WaitsFi
 use Rattle.pim_chain.proofs.Local.{top, through, heir_at, waits_for_from}
 
 pub waiting_known : (S : State) → IsState S → (t : ℕ) (w : Wait) → wait_of S t ≡ Some w → IsTask S t
-waiting_known S lists t w e = go (nth S.wait t) refl e
-  where
-    go : (o : Option (Option Wait)) → nth S.wait t ≡ o → unwrap_or o None ≡ Some w → IsTask S t
-    go None at h = cc
-    go (Some x) at h = let within = nth_within S.wait t x at in (within.0, subst (λ n. t ≤ n) lists.waits within.1)
+waiting_known S lists t w e = grind (arith, nth_within S.wait t, lists.waits)
 
 pub waiter_is : (w : Waiter) (t p k : ℕ) → w.task ≡ t → w.prio ≡ p → w.ticket ≡ k → w ≡ record { task = t; prio = p; ticket = k }
-waiter_is w t p k task prio ticket =
-    ap (λ n. record w { task = n }) task
-    ∙ ap (λ n. record w { task = t; prio = n }) prio
-    ∙ ap (λ n. record { task = t; prio = p; ticket = n }) ticket
+waiter_is w t p k task prio ticket = λ i. record { task = task i; prio = prio i; ticket = ticket i }
 
 -- ---- the greatest at a mutex is first
 shown_le :
@@ -43,29 +35,22 @@ shown_le :
     → AllByRecursion (λ v. v.prio ≤ b) ws
     → stored u ≤ b
 shown_le wait stored m u b ws h shows under =
-    let it =
-    found (is_of u) (λ v. (v.prio ≡ stored v.task) × (v.prio ≤ b)) ws h
-    (all_both (Shows wait stored m) (λ v. v.prio ≤ b) (λ v. (v.prio ≡ stored v.task) × (v.prio ≤ b))
-    (λ v k l. (k.prio, l)) ws shows under) in
-    subst (λ p. p ≤ b) (it.holds.0 ∙ ap stored (eqb-true it.one.task u it.passes)) it.holds.1
+    let it = found (is_of u) _ ws h (all_both (Shows wait stored m) (λ v. v.prio ≤ b) (λ v. stored v.task ≤ b) (λ v k l. rw k.prio at l) ws shows under) in
+    rw (eqb-true it.one.task u it.passes) at it.holds
 
 pub top_front :
     (S : State) (stored : ℕ → ℕ) (m : ℕ) (ws : List Waiter)
     → IsState S
     → IsQueue (wait_of S) stored m ws
     → top S stored m ≡ first_prio ws
-top_front S stored m [] lists q =
-    le_antisymm
-    (greatest_of-le stored (waits_for (wait_of S) m) (length S.base) 0 (λ u _ _ h. absurd (both_ways false refl (q.complete u h))))
-    (omega arith)
+top_front S stored m [] lists q = grind (arith, greatest_of-le, q.complete)
 top_front S stored m (w ∷ ws) lists q =
     let known : IsTask S w.task = waiting_known S lists w.task _ q.sound.0.waits in
     le_antisymm
     (greatest_of-le stored (waits_for (wait_of S) m) (length S.base) w.prio
     (λ u _ _ h. shown_le (wait_of S) stored m u w.prio (w ∷ ws) (q.complete u h) q.sound
     (omega arith, all_each _ _ (λ v k. before_prio w v k) ws q.ordered.0)))
-    (subst (λ p. p ≤ top S stored m) (sym q.sound.0.prio)
-    (le-greatest_of stored (waits_for (wait_of S) m) (length S.base) w.task known.0 known.1
+    (rw q.sound.0.prio (le-greatest_of stored (waits_for (wait_of S) m) (length S.base) w.task known.0 known.1
     (waits_for_from (wait_of S) w.task _ q.sound.0.waits)))
 
 -- ---- the local priority, mutex by mutex
@@ -78,16 +63,15 @@ local_by_mutexes S stored t fit =
     (local_priority-le S stored t _ (le-max_left _ _) (λ u task e.
     let by = through S u t e in
     let known = fit.mutexes u by.wait by.waits in
-    le_trans (le-greatest_of stored (waits_for (wait_of S) by.wait.mutex) (length S.base) u task.0 task.1
-    (waits_for_from (wait_of S) u by.wait by.waits))
-    (le_trans
-    (le-greatest_of (top S stored) (λ m. holds (heir_of S m) t) (length S.protocol) by.wait.mutex known.0 known.1
-    (holds_from (heir_of S by.wait.mutex) t by.heir))
-    (le-max_right _ _))))
+    omega (
+      arith,
+      le-greatest_of stored (waits_for (wait_of S) by.wait.mutex) (length S.base) u task.0 task.1 (waits_for_from (wait_of S) u by.wait by.waits),
+      le-greatest_of (top S stored) (λ m. holds (heir_of S m) t) (length S.protocol) by.wait.mutex known.0 known.1 (holds_from _ t by.heir),
+    )))
     (max-le
     (own_priority-le-local_priority S stored t)
-    (greatest_of-le (top S stored) (λ m. holds (heir_of S m) t) (length S.protocol) (local_priority S stored t) (λ m _ _ p.
-    greatest_of-le stored (waits_for (wait_of S) m) (length S.base) (local_priority S stored t) (λ u low high h.
+    (greatest_of-le (top S stored) (λ m. holds (heir_of S m) t) (length S.protocol) _ (λ m _ _ p.
+    greatest_of-le stored (waits_for (wait_of S) m) (length S.base) _ (λ u low high h.
     stored-le-local_priority S stored u t (low, high) (heir_at S m u h ∙ from_holds (heir_of S m) t p)))))
 
 -- ---- the queues after one task has another wait or another priority
@@ -103,14 +87,10 @@ pub queue_kept :
 queue_kept wait wait' old new x m ws waits others away away' q = record {
   ordered = q.ordered;
   sound = all_each (Shows wait old m) (Shows wait' new m) (λ v k.
-      let ne : v.task ≡ x → ⊥ = λ e. away (subst (λ u. waits_for wait m u ≡ true) e (waits_for_from wait v.task _ k.waits)) in
+      let ne : v.task ≡ x → ⊥ = λ e. away (rw e at (waits_for_from wait v.task _ k.waits)) in
       record { waits = waits v.task ne ∙ k.waits; prio = k.prio ∙ sym (others v.task ne) }) ws q.sound;
-  complete = λ t h. q.complete t (go t h (cases_eq t x));
+  complete = λ t h. q.complete t (rw (waits t (λ is. away' (rw is at h))) at h);
 }
-  where
-    go : (t : ℕ) → waits_for wait' m t ≡ true → (t ≡ x) ⊎ (t ≡ x → ⊥) → waits_for wait m t ≡ true
-    go t h (inl is) = absurd (away' (subst (λ u. waits_for wait' m u ≡ true) is h))
-    go t h (inr ne) = ap (λ o. option_map_or (λ (w : Wait). eqb w.mutex m) o false) (sym (waits t ne)) ∙ h
 
 -- two waiters of one task show the same
 pub same_waiter :
@@ -160,13 +140,10 @@ queue_left wait wait' old new x m ws waits others away' q = record {
       all_both (Shows wait old m) (λ v. v.task ≡ x → ⊥) (Shows wait' new m)
       (λ v k ne. record { waits = waits v.task ne ∙ k.waits; prio = k.prio ∙ sym (others v.task ne) }) (without x ws)
       (all_without (Shows wait old m) x ws q.sound) (gone wait old m x ws q.ordered q.sound);
-  complete = λ t h. go t h (cases_eq t x);
+  complete = λ t h.
+      let ne : t ≡ x → ⊥ = λ is. away' (rw is at h) in
+      any_without x t ws ne (q.complete t (rw (waits t ne) at h));
 }
-  where
-    go : (t : ℕ) → waits_for wait' m t ≡ true → (t ≡ x) ⊎ (t ≡ x → ⊥) → list_any (is_of t) (without x ws) ≡ true
-    go t h (inl is) = absurd (away' (subst (λ u. waits_for wait' m u ≡ true) is h))
-    go t h (inr ne) =
-        any_without x t ws ne (q.complete t (ap (λ o. option_map_or (λ (w : Wait). eqb w.mutex m) o false) (sym (waits t ne)) ∙ h))
 
 -- a queue that the task joins
 pub queue_joined :
@@ -184,28 +161,22 @@ queue_joined wait wait' old new x w ws waits others away now fresh q = record {
   sound = all_place (Shows wait' new w.mutex) joined ws (record { waits = now; prio = refl })
       (all_each (Shows wait old w.mutex) (Shows wait' new w.mutex)
       (λ v k. record { waits = waits v.task (other v k) ∙ k.waits; prio = k.prio ∙ sym (others v.task (other v k)) }) ws q.sound);
-  complete = λ t h. go t h (cases_eq t x);
+  complete = λ t h. elim (cases_eq t x) [
+    | inl is ↦ any_place_new (is_of t) joined ws (eq-eqb x t (sym is))
+    | inr ne ↦ any_place (is_of t) joined ws (q.complete t (rw (waits t ne) at h))
+  ];
 }
   where
     joined : Waiter
     joined = record { task = x; prio = new x; ticket = w.ticket }
 
     other : (v : Waiter) → Shows wait old w.mutex v → v.task ≡ x → ⊥
-    other v k e = away (subst (λ u. waits_for wait w.mutex u ≡ true) e (waits_for_from wait v.task _ k.waits))
-
-    go : (t : ℕ) → waits_for wait' w.mutex t ≡ true → (t ≡ x) ⊎ (t ≡ x → ⊥) → list_any (is_of t) (insert_by precedes ws joined) ≡ true
-    go t h (inl is) = any_place_new (is_of t) joined ws (eq-eqb x t (sym is))
-    go t h (inr ne) =
-        any_place (is_of t) joined ws
-        (q.complete t (ap (λ o. option_map_or (λ (w' : Wait). eqb w'.mutex w.mutex) o false) (sym (waits t ne)) ∙ h))
+    other v k e = away (rw e at (waits_for_from wait v.task _ k.waits))
 
 -- ---- there is room for one who isn't in it
-apart :
-    (y : ℕ) (us : List Waiter)
-    → AllByRecursion (λ u. y ≡ u.task → ⊥) us
-    → AllByRecursion (λ z. eqb y z ≡ false) (map (λ (w : Waiter). w.task) us)
-apart y [] h = tt
-apart y (u ∷ us) h = (ne_eqb y u.task h.0, apart y us h.1)
+all_tasks : (P : ℕ → Type 0) (ws : List Waiter) → AllByRecursion (λ w. P w.task) ws → AllByRecursion P (map (λ (w : Waiter). w.task) ws)
+all_tasks P [] h = tt
+all_tasks P (w ∷ ws) h = (h.0, all_tasks P ws h.1)
 
 distinct_tasks :
     (wait : ℕ → Option Wait) (stored : ℕ → ℕ) (m : ℕ) (ws : List Waiter)
@@ -214,26 +185,11 @@ distinct_tasks :
     → IsDistinct eqb (map (λ (w : Waiter). w.task) ws)
 unfolding IsDistinct
 distinct_tasks wait stored m [] ordered shows = tt
-distinct_tasks wait stored m (v ∷ vs) ordered shows =
-    (apart v.task vs (others_behind wait stored m v vs ordered.0 shows.0 shows.1), distinct_tasks wait stored m vs ordered.1 shows.1)
-
-among :
-    (S : State) (stored : ℕ → ℕ) (m : ℕ)
-    → IsState S
-    → (us : List Waiter)
-    → AllByRecursion (Shows (wait_of S) stored m) us
-    → (k : ℕ)
-    → list_any (λ y. eqb k y) (map (λ (w : Waiter). w.task) us) ≡ true
-    → k < suc (length S.base)
-among S stored m lists [] shows k h = absurd (both_ways false refl h)
-among S stored m lists (u ∷ us) shows k h = go (among S stored m lists us shows.1 k) (or_cases _ _ h)
-  where
-    go :
-        (list_any (λ y. eqb k y) (map (λ (w : Waiter). w.task) us) ≡ true → k < suc (length S.base))
-        → (eqb k u.task ≡ true) ⊎ (list_any (λ y. eqb k y) (map (λ (w : Waiter). w.task) us) ≡ true)
-        → k < suc (length S.base)
-    go rest (inl e) = let task = waiting_known S lists u.task _ shows.0.waits in let is : k ≡ u.task = eqb-true k u.task e in omega (arith, is, task.1)
-    go rest (inr r) = rest r
+distinct_tasks wait stored m (v ∷ vs) ordered shows = (
+  all_tasks (λ t. eqb v.task t ≡ false) vs
+      (all_each _ _ (λ u ne. ne_eqb v.task u.task ne) vs (others_behind wait stored m v vs ordered.0 shows.0 shows.1)),
+  distinct_tasks wait stored m vs ordered.1 shows.1,
+)
 
 pub room_for :
     (S : State) (stored : ℕ → ℕ) (m x : ℕ) (ws : List Waiter)
@@ -246,28 +202,20 @@ unfolding IsDistinct
 room_for S stored m x ws lists known away q =
     let all : length (0 ∷ x ∷ map (λ (w : Waiter). w.task) ws) ≤ suc (length S.base) =
     length-le_from_distinct_below (0 ∷ x ∷ map (λ (w : Waiter). w.task) ws) (suc (length S.base)) (
+      (ne_eqb 0 x (λ e. absurd (omega (arith, e, known.0))), each (λ t. eqb 0 t ≡ false) (λ u task _. ne_eqb 0 u.task (λ e. absurd (omega (arith, e, task.0))))),
       (
-        ne_eqb 0 x (λ e. absurd (omega (arith, e, known.0))),
-        apart 0 ws
-            (all_each (Shows (wait_of S) stored m) (λ u. 0 ≡ u.task → ⊥)
-            (λ u k e. let task = waiting_known S lists u.task _ k.waits in absurd (omega (arith, e, task.0))) ws q.sound),
-      ),
-      (
-        apart x ws (all_each (Shows (wait_of S) stored m) (λ u. x ≡ u.task → ⊥)
-            (λ u k e. away (subst (λ t. waits_for (wait_of S) m t ≡ true) (sym e) (waits_for_from (wait_of S) u.task _ k.waits))) ws q.sound),
+        each (λ t. eqb x t ≡ false) (λ u _ k. ne_eqb x u.task (λ e. away (rw (sym e) at (waits_for_from (wait_of S) u.task _ k.waits)))),
         distinct_tasks (wait_of S) stored m ws q.ordered q.sound,
       ),
     )
-    below in
+    (λ k h.
+    let it = found (eqb k) (λ t. t < suc (length S.base)) (0 ∷ x ∷ map (λ (w : Waiter). w.task) ws) h
+    (omega arith, (omega (arith, known.1), each (λ t. t < suc (length S.base)) (λ u task _. omega (arith, task.1)))) in
+    rw (eqb-true k it.one it.passes) it.holds) in
     omega (arith, all, length-map ws (λ (w : Waiter). w.task))
   where
-    below : (k : ℕ) → list_any (λ y. eqb k y) (0 ∷ x ∷ map (λ (w : Waiter). w.task) ws) ≡ true → k < suc (length S.base)
-    below k h = go (or_cases _ _ h)
-      where
-        last : (eqb k x ≡ true) ⊎ (list_any (λ y. eqb k y) (map (λ (w : Waiter). w.task) ws) ≡ true) → k < suc (length S.base)
-        last (inl e) = let is : k ≡ x = eqb-true k x e in omega (arith, is, known.1)
-        last (inr r) = among S stored m lists ws q.sound k r
-
-        go : (eqb k 0 ≡ true) ⊎ (list_any (λ y. eqb k y) (x ∷ map (λ (w : Waiter). w.task) ws) ≡ true) → k < suc (length S.base)
-        go (inl e) = let is : k ≡ 0 = eqb-true k 0 e in omega (arith, is)
-        go (inr r) = last (or_cases _ _ r)
+    each :
+        (P : ℕ → Type 0)
+        → ((u : Waiter) → IsTask S u.task → Shows (wait_of S) stored m u → P u.task)
+        → AllByRecursion P (map (λ (w : Waiter). w.task) ws)
+    each P h = all_tasks P ws (all_each _ _ (λ u k. h u (waiting_known S lists u.task _ k.waits) k) ws q.sound)

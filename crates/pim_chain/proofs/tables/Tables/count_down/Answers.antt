@@ -1,6 +1,6 @@
-use Rattle.pim_chain.proofs.Fields.{count_written, settled_after}
+use Rattle.pim_chain.specs.Shown.{shown}
+use Rattle.pim_chain.proofs.Fields.{settled_after}
 use Rattle.pim_chain.proofs.tables.Tables.count_down.Goals as goal
 
 pub returns-clause-unsettles : goal.returns-clause-unsettles
-returns-clause-unsettles c settled =
-    settled_after (count_written _ c.self.view_is c.put.ensures c.get.ensures) settled
+returns-clause-unsettles c settled = settled_after {w = shown c.self.inside} c.self.view_is settled
