@@ -442,7 +442,7 @@ fn relocks_end_at_255_and_the_deadlock_of_another_stays(rt: HostRuntime) -> Resu
         Row(Lock(2, 2), Granted, 0, BASES),
         Row(Lock(2, 1), Queued, 1, BOOSTED),
         Row(Lock(1, 2), Refused(Deadlock), 0, BOOSTED),
-        Row(Release(1), Released(1), 2, BASES),
+        Row(Release(1), Released(1), 1, BASES),
     ];
     let mut both = Both::new(&rt, rt.alloc(), &[10, 20], &[RECURSIVE, RECURSIVE])?;
     lock_255_times(&mut both);

@@ -1,6 +1,6 @@
 -- The tasks that are listed are those whose priority a step changed.
-use Rattle.std.proofs.Common.{◌≡◌, ◌≤◌, ◌+◌, ap₂, ℕ, zero, suc, Bool, true, false, not, cond, eqb, List, [], ◌∷◌}
-use Rattle.std.proofs.Common.{filter, length, unwrap_or, refl}
+use Rattle.std.proofs.Common.{◌≡◌, ◌≤◌, ◌+◌, ℕ, zero, suc, Bool, true, false, not, cond, eqb, [], ◌∷◌}
+use Rattle.std.proofs.Common.{List, filter, length, unwrap_or, refl}
 use Rattle.std.proofs.Common.{◌∙◌, ap, arith, None, IsSome}
 use Rattle.std.specs.List.{AllByRecursion, range_with_len}
 use Rattle.std.proofs.lemmas.Bool.{eq-eqb}
@@ -16,8 +16,7 @@ use Rattle.pim_chain.specs.Views.{View, stored_at}
 use Rattle.pim_sets.specs.Work.{Work, noted_of, has_changed}
 use Rattle.pim_sets.proofs.Members.{filter_none, filter_same}
 use Rattle.pim_chain.proofs.Walking.{settled_effective}
-use Rattle.pim_manager.specs.declared.changed_tasks.ChangedTask.{ChangedTask}
-use Rattle.pim_manager.specs.Changed.{TrackedState, listed, noted_changes}
+use Rattle.pim_manager.specs.Changed.{noted_changes}
 use Rattle.pim_manager.specs.Settled.{IsSettled, Worked}
 use Rattle.pim_chain.proofs.Filters.{few_pass}
 use Rattle.pim_base.proofs.HandOvers.{base-hand_over}
@@ -25,16 +24,7 @@ use Rattle.pim_base.proofs.HandOvers.{base-hand_over}
 -- a step keeps the number of tasks
 pub bases_after : (S : State) (step : Step) → length (after S step).base ≡ length S.base
 bases_after S step =
-    kept_by_step (λ T. length T.base ≡ length S.base) (record {
-      grant = λ T a m same _. same;
-      lock_again = λ T a m same _ _. same;
-      keep = λ T m same _. same;
-      enqueue = λ T a m same _ _ _ _. same;
-      hand = λ T m same. ap length (base-hand_over T m) ∙ same;
-      withdraw = λ T t same. same;
-      set_base = λ T t p same. length-put T.base t p ∙ same;
-      set_ceiling = λ T m p same _. same;
-    }) S step refl
+    kept_by_step (λ T. length T.base ≡ length S.base) (grind (arith, length-put, base-hand_over)) S step refl
 
 -- if nothing was noted before, the tasks that differ from the notes are those that changed
 pub noted_changes_of_step :
@@ -50,10 +40,6 @@ noted_changes_of_step S T a b bases work kept none =
     (λ t. not (eqb (effective_priority S t) (effective_priority T t))) 1 (length S.base)
     (λ t low high. ap (λ p. not (eqb p (effective_priority T t)))
     (work.noted.1 kept t low (omega (arith, high)) ∙ ap (λ o. unwrap_or o (effective_priority S t)) (none t)))
-
--- the value of a tracked manager: its state, and the tasks that differ from its notes
-abbrev pub tracked : State → Work → TrackedState
-tracked S w = record { state = S; changed = listed S (noted_changes S w) }
 
 -- if nothing is noted, nothing differs
 pub unnoted_changes : (S : State) (w : Work) → ((t : ℕ) → noted_of w t ≡ None) → noted_changes S w ≡ []
@@ -72,15 +58,23 @@ noted_changes_shown v S w settled shown =
     filter_same (has_changed (stored_at v) w)
     (has_changed (effective_priority v.state) w) 1 (length v.state.base)
     (λ t low high. ap (λ p. not (eqb (unwrap_or (noted_of w t) p) p))
-    (settled_effective v.state (stored_at v) settled.calm.ready.sound settled.calm.settled t (low, omega (arith, high))))
+    (settled_effective v.state (stored_at v) settled.calm.ready.sound settled.calm.settled t
+    (low, omega (arith, high))))
     ∙ ap (λ U. noted_changes U w) shown
 
 -- all that are noted are known
-each_known : (S : State) (p : ℕ → Bool) (a n : ℕ) → 1 ≤ a → a + n ≤ length S.base + 1 → AllByRecursion (IsTask S) (filter p (range_with_len a n))
+each_known :
+    (S : State) (p : ℕ → Bool) (a n : ℕ)
+    → 1 ≤ a
+    → a + n ≤ length S.base + 1
+    → AllByRecursion (IsTask S) (filter p (range_with_len a n))
 each_known S p a zero low high = tt
 each_known S p a (suc n) low high = go (p a) (each_known S p (a + 1) n (omega (arith, low)) (omega (arith, high)))
   where
-    go : (b : Bool) → AllByRecursion (IsTask S) (filter p (range_with_len (a + 1) n)) → AllByRecursion (IsTask S) (cond b (a ∷ filter p (range_with_len (a + 1) n)) (filter p (range_with_len (a + 1) n)))
+    more : List ℕ
+    more = filter p (range_with_len (a + 1) n)
+
+    go : (b : Bool) → AllByRecursion (IsTask S) more → AllByRecursion (IsTask S) (cond b (a ∷ more) more)
     go true rest = ((low, omega (arith, high)), rest)
     go false rest = rest
 
@@ -90,13 +84,3 @@ noted_known S w = each_known S (has_changed (effective_priority S) w) 1 (length 
 -- they are as many as there are tasks, or fewer
 pub noted_few : (S : State) (w : Work) → length (noted_changes S w) ≤ length S.base
 noted_few S w = few_pass (has_changed (effective_priority S) w) 1 (length S.base)
-
--- a tracked manager whose notes are empty lists no task
-pub tracked_unnoted :
-    (S T : State) (w : Work)
-    → S ≡ T
-    → ((t : ℕ) → noted_of w t ≡ None)
-    → tracked S w ≡ record { state = T; changed = [] }
-tracked_unnoted S T w same none =
-    let view : State → List ChangedTask → TrackedState = λ U cs. record { state = U; changed = cs } in
-    ap₂ view same (ap (listed S) (unnoted_changes S w none))

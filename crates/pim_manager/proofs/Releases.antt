@@ -1,11 +1,12 @@
 -- Mutexes handed over one after another.
-use Rattle.std.proofs.Common.{◌≡◌, ◌≤◌, ℕ, true, false, not, eqb, List, [], ◌∷◌, length, All, Option, Some, None, refl, sym, ◌∙◌, ap, subst, arith, fold, ◌⊎◌, inl, inr}
-use Rattle.std.proofs.lemmas.Bool.{both_ways, eq-eqb, ne_eqb}
-use Rattle.std.proofs.lemmas.Option.{none-some, same_Some}
+use Rattle.std.proofs.Common.{◌≡◌, ◌≤◌, ℕ, true, false, not, List, [], ◌∷◌, length, All, Option, Some, None, refl, sym}
+use Rattle.std.proofs.Common.{ap, subst, arith, fold}
+use Rattle.std.proofs.lemmas.Bool.{both_ways}
+use Rattle.std.proofs.lemmas.Bool.Decides.{nat_tests}
 use Rattle.pim_base.specs.Lists.{first_item, holds}
-use Rattle.pim_base.specs.State.{State, IsTask, IsMutex, owned, owner_of, wait_of, with_owner}
+use Rattle.pim_base.specs.State.{State, IsTask, IsMutex, owned, owner_of, wait_of}
 use Rattle.pim_base.specs.Queues.{waiter_of, queue_of, first_of}
-use Rattle.pim_base.specs.Steps.{hand_over, hand_over_to}
+use Rattle.pim_base.specs.Steps.{hand_over}
 use Rattle.pim_base.specs.Steady.{HasOwnTickets, IsSteady}
 use Rattle.pim_base.specs.Counts.{same_owner, handed_mutex_count}
 use Rattle.pim_base.specs.declared.steps.Waiter.{Waiter}
@@ -20,31 +21,28 @@ use Rattle.pim_chain.proofs.Releasing.{freed_owner, owned-hand_over}
 -- ---- one hand-over
 
 -- the first waiter waits
-first_of-waits : (S : State) (m : ℕ) (w : Waiter) → HasOwnTickets S → first_of S m ≡ Some w → wait_of S w.task ≡ None → ⊥
+first_of-waits :
+    (S : State) (m : ℕ) (w : Waiter)
+    → HasOwnTickets S
+    → first_of S m ≡ Some w
+    → wait_of S w.task ≡ None
+    → ⊥
 first_of-waits S m w tickets first idle = go (queue_of S m) (queue_law S m tickets).waiters first
   where
-    go : (ws : List Waiter) → All (λ v. IsTask S v.task × (waiter_of S m v.task ≡ Some v)) ws → first_item ws ≡ Some w → ⊥
-    go [] all e = none-some w e
-    go (v ∷ vs) all e =
-        let waits = waits_for S m v.task v (all 0 v (omega arith)).1 in
-        none-some waits.wait (sym (ap (λ (x : Waiter). wait_of S x.task) (same_Some v w e) ∙ idle) ∙ waits.waits)
+    go :
+        (ws : List Waiter)
+        → All (λ v. IsTask S v.task × (waiter_of S m v.task ≡ Some v)) ws
+        → first_item ws ≡ Some w
+        → ⊥
+    go [] all e = cc
+    go (v ∷ vs) all e = let waits = waits_for S m v.task v (all 0 v (omega arith)).1 in cc
 
 -- an owner who doesn't wait loses the mutex
 lost : (S : State) (m a : ℕ) → HasOwnTickets S → wait_of S a ≡ None → holds (owner_of (hand_over S m) m) a ≡ false
-lost S m a tickets idle = go (first_of S m) refl
-  where
-    go : (o : Option Waiter) → first_of S m ≡ o → holds (owner_of (hand_over_to S m o) m) a ≡ false
-    go None e = ap (λ x. holds x a) (freed_owner S m)
-    go (Some w) e = at (unwrap_or-put_same S.owner m (Some w.task))
-      where
-        at : (owner_of (with_owner S m (Some w.task)) m ≡ Some w.task) ⊎ (owner_of (with_owner S m (Some w.task)) m ≡ None) → holds (owner_of (with_owner S m (Some w.task)) m) a ≡ false
-        at (inl it) = ap (λ x. holds x a) it ∙ ne_eqb w.task a (λ is. first_of-waits S m w tickets e (ap (wait_of S) is ∙ idle))
-        at (inr none) = ap (λ x. holds x a) none
+lost S m a tickets idle = grind (arith, nat_tests, first_of-waits, freed_owner, unwrap_or-put_same)
 
 lost_differs : (o r : Option ℕ) (a : ℕ) → o ≡ Some a → holds r a ≡ false → not (same_owner o r) ≡ true
-lost_differs o None a is h = ap (λ x. not (same_owner x None)) is
-lost_differs o (Some u) a is h =
-    ap (λ x. not (same_owner x (Some u))) is ∙ ap not (ne_eqb a u (λ e. absurd (both_ways (eqb u a) h (eq-eqb u a (sym e)))))
+lost_differs o r a is h = grind (arith, nat_tests)
 
 keeps_not : (S : State) (m a : ℕ) → HasOwnTickets S → wait_of S a ≡ None → owner_of (hand_over S m) m ≡ Some a → ⊥
 keeps_not S m a tickets idle e = both_ways _ (lost S m a tickets idle) (holds_from (owner_of (hand_over S m) m) a e)
@@ -65,19 +63,16 @@ pub all_released :
 all_released S a [] is idle steady = record { none = is; steady = steady; bases = refl; protocols = refl }
 all_released S a (m ∷ ms) is idle steady =
     let rest =
-    all_released (hand_over S m) a ms (owned-hand_over S m a ms (keeps_not S m a steady.tickets idle) is) (idle-hand_over S m a idle)
+    all_released (hand_over S m) a ms
+    (owned-hand_over S m a ms (keeps_not S m a steady.tickets idle) is) (idle-hand_over S m a idle)
     (steady_kept.hand S m steady) in
-    record {
-      none = rest.none;
-      steady = rest.steady;
-      bases = rest.bases ∙ base-hand_over S m;
-      protocols = rest.protocols ∙ protocol-hand_over S m;
-    }
+    grind (arith, base-hand_over, protocol-hand_over)
 
 -- each mutex that the task owned has another owner then
 pub released-handed : (S T : State) (a : ℕ) → AllReleased S T a → length (owned S a) ≤ handed_mutex_count S T
 released-handed S T a all =
-    length-le-count (λ m. holds (owner_of S m) a) (λ m. not (same_owner (owner_of S m) (owner_of T m))) (length S.protocol)
+    length-le-count
+    (λ m. holds (owner_of S m) a) (λ m. not (same_owner (owner_of S m) (owner_of T m))) (length S.protocol)
     (λ m low high h. lost_differs (owner_of S m) (owner_of T m) a (from_holds (owner_of S m) a h)
     (filter-none (λ k. holds (owner_of T k) a) 1 (length T.protocol) m all.none low
     (let same = ap length all.protocols in omega (arith, same, high))))

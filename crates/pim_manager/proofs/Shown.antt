@@ -1,12 +1,12 @@
 -- What the tables show of known tasks and mutexes.
-use Rattle.std.proofs.Common.{◌≡◌, ◌<◌, ◌≤◌, ℕ, zero, suc, Bool, true, false, cond, ◌||◌, eqb, ltb, length, List, [], Some, None, refl, sym, ◌∙◌, ap, subst, arith, unwrap_or, AllPairs, ◌⊎◌, inl, inr, get_or}
+use Rattle.std.proofs.Common.{◌≡◌, ℕ, zero, suc, false, cond, ◌||◌, eqb, ltb, length, List, [], Some, None, refl, ◌∙◌}
+use Rattle.std.proofs.Common.{ap, arith, unwrap_or, AllPairs}
 use Rattle.std.specs.Option.{option_map}
-use Rattle.std.proofs.lemmas.Bool.{cases_lt, lt-ltb, le-ltb, ne_eqb}
 use Rattle.std.proofs.lemmas.Bool.Decides.{nat_tests}
-use Rattle.std.proofs.lemmas.Option.{slice_get_past, none-some, same_Some}
+use Rattle.std.proofs.lemmas.Option.{slice_get_past}
 use Rattle.pim_base.specs.Lists.{nth}
 use Rattle.pim_base.specs.State.{State, IsTask, IsMutex}
-use Rattle.pim_base.specs.Checks.{unknown_task, unknown_mutex}
+use Rattle.pim_base.specs.Checks.{unknown_mutex}
 use Rattle.pim_base.specs.Priorities.{effective_priority}
 use Rattle.pim_base.specs.Queues.{Precedes, queue_of}
 use Rattle.pim_base.specs.declared.steps.Waiter.{Waiter}
@@ -14,12 +14,13 @@ use Rattle.pim_base.proofs.InOrder.{queue_law}
 use Rattle.pim_base.proofs.Kept.{known_from_tests}
 use Rattle.pim_base.proofs.Places.{nth-get_or}
 use Rattle.pim_queue.specs.QueueView.{QueueView}
-use Rattle.pim_chain.specs.Views.{View, stored_at, view_in}
+use Rattle.pim_chain.specs.Views.{View, stored_at}
 use Rattle.pim_chain.specs.Settled.{Calm}
 use Rattle.pim_chain.proofs.Walking.{settled_effective}
 use Rattle.pim_chain.proofs.Models.{queue_is}
 use Rattle.pim_manager.specs.Known.{of_task, of_mutex}
 use Rattle.pim_manager.specs.Settled.{IsSettled}
+use Rattle.pim_manager.proofs.Listing.{noted_changes_shown}
 use Rattle.pim_manager.proofs.Works.{steady_shown}
 
 -- an item by its number, if there is one
@@ -28,27 +29,11 @@ at_number :
     → length xs ≡ n
     → nth xs k ≡ cond (eqb k 0 || ltb n k) None (Some (unwrap_or (nth xs k) d))
 at_number xs n zero d same = refl
-at_number xs n (suc k) d same =
-    go (cases_lt n (suc k))
-    ∙ ap (λ b. cond (b || ltb n (suc k)) None (Some (unwrap_or (nth xs (suc k)) d)))
-    (sym (ne_eqb (suc k) 0 (λ e. absurd (omega (arith, e)))))
-  where
-    go : (n < suc k) ⊎ (suc k ≤ n) → nth xs (suc k) ≡ cond (ltb n (suc k)) None (Some (unwrap_or (nth xs (suc k)) d))
-    go (inl past) =
-        slice_get_past xs k (omega (arith, same, past))
-        ∙ ap (λ b. cond b None (Some (unwrap_or (nth xs (suc k)) d))) (sym (lt-ltb n (suc k) past))
-    go (inr le) =
-        let here : nth xs (suc k) ≡ Some (get_or xs k d) = nth-get_or xs (suc k) k d (omega arith) (omega (arith, same, le)) in
-        here ∙ ap (λ o. Some (unwrap_or o d)) (sym here)
-        ∙ ap (λ b. cond b None (Some (unwrap_or (nth xs (suc k)) d))) (sym (le-ltb n (suc k) le))
+at_number xs n (suc k) d same = let here = nth-get_or xs (suc k) k d in grind (arith, nat_tests, slice_get_past, here)
 
 -- if two values agree for known tasks, the same is shown
 same_shown : {X : Type 0} (S : State) (t : ℕ) (x y : X) → (IsTask S t → x ≡ y) → of_task S t x ≡ of_task S t y
-same_shown S t x y same = go (unknown_task S t) refl
-  where
-    go : (b : Bool) → unknown_task S t ≡ b → cond b None (Some x) ≡ cond b None (Some y)
-    go true e = refl
-    go false e = ap Some (same (known_from_tests S t e))
+same_shown S t x y same = grind (arith, known_from_tests)
 
 pub stored_shown : (v : View) (t : ℕ) → Calm v → nth v.stored t ≡ of_task v.state t (effective_priority v.state t)
 stored_shown v t calm =
@@ -66,14 +51,7 @@ pub queue_shown :
 queue_shown v m calm =
     ap (option_map (λ (q : QueueView). q.waiters))
     (at_number v.queues (length v.state.protocol) m (record { waiters = []; room = 0 }) calm.ready.queues_len)
-    ∙ go (unknown_mutex v.state m) refl
-  where
-    go :
-        (b : Bool)
-        → unknown_mutex v.state m ≡ b
-        → option_map (λ (q : QueueView). q.waiters) (cond b None (Some (view_in v.queues m))) ≡ cond b None (Some (queue_of v.state m))
-    go true e = refl
-    go false e = ap Some (queue_is v m calm (known_mutex v.state m e))
+    ∙ (let is = queue_is v m calm in grind (arith, known_mutex))
 
 -- the queue that is shown is in order
 pub queue_in_order :
@@ -82,8 +60,7 @@ pub queue_in_order :
     → v.state ≡ S
     → Some ws ≡ of_mutex S m (queue_of S m)
     → AllPairs Precedes ws
-queue_in_order v S m ws settled shown is = go (unknown_mutex S m) is
-  where
-    go : (b : Bool) → Some ws ≡ cond b None (Some (queue_of S m)) → AllPairs Precedes ws
-    go true e = absurd (none-some ws (sym e))
-    go false e = subst (AllPairs Precedes) (sym (same_Some ws (queue_of S m) e)) (queue_law S m (steady_shown settled shown).tickets).in_order
+queue_in_order v S m ws settled shown is =
+    let law = queue_law S m (steady_shown settled shown).tickets in grind (arith, nat_tests)
+
+pub ruleset shown = (stored_shown, queue_shown, noted_changes_shown)

@@ -48,15 +48,20 @@ impl<'a> Model for ChangedTasks<'a> {
 
 impl<'a> ChangedTasks<'a> {
     /// Returns the tasks whose effective priority isn't the noted one.
+    #[tactic(auto, using(crate::proofs::Listing::unnoted_changes, crate::proofs::Listing::noted_known))]
     pub(crate) fn new(manager: &'a Manager, visits: &'a Visits) -> ChangedTasks<'a>
         ensures { result ≡ listed manager.now (noted_changes manager.now visits.now) }
     {
-        let tasks = if visits.is_unnoted() {
-            None
-        } else {
-            Some(manager.noted_changes(visits))
-        };
-        ChangedTasks { manager, tasks }
+        if visits.is_unnoted() {
+            return ChangedTasks {
+                manager,
+                tasks: None,
+            };
+        }
+        ChangedTasks {
+            manager,
+            tasks: Some(manager.noted_changes(visits)),
+        }
     }
 }
 

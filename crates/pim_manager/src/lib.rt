@@ -22,7 +22,6 @@
 #![tactic(auto)]
 
 mod changed_tasks;
-mod changes;
 mod done;
 mod make_fault;
 mod manager;

@@ -1,4 +1,5 @@
 //! The manager of mutexes: how it is made, what it shows, and its step.
+#![tactic(auto, using(crate::proofs::Shown::shown))]
 
 ghost use Rattle.std.specs.Prelude.{◌≡◌, ◌≤◌, ◌<◌, ◌+◌, ◌*◌, ◌↔◌, length, AllPairs, IfOk, IfErr, IfSome, IsErrOf, IsTrue, Some, None, ℕ};
 ghost use Rattle.std.specs.Option.{option_map, option_copied};
@@ -275,7 +276,7 @@ impl Manager {
         ensures { result ≡ changed_task self.now task }
     {
         let prio = self.tables.known_stored(task);
-        let reason = self.tables.listed_reason(task);
+        let reason = self.tables.reason(task);
         ChangedTask { task, prio, reason }
     }
 }

@@ -18,11 +18,11 @@ impl Manager {
         ensures run { IsRun self.old (entries steps.now (replies_of self.old steps.now)) self.new }
         ensures no_cycle { ¬ HasCycle self.new }
     {
-        // The contract of this call gives the proof that the state is steady.
-        let _steady = self.tasks();
         for step in steps {
             self.step(*step);
         }
+        // The contract of this call gives the proof that the state is steady.
+        let _steady = self.tasks();
     }
 
     /// Makes all steps, one after another, and returns their replies.

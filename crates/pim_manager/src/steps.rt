@@ -1,4 +1,5 @@
 //! The steps: the reply to each, and what it changes.
+#![tactic(auto, using(crate::proofs::Requests::requests))]
 
 ghost use Rattle.std.specs.Prelude.{◌≡◌, ◌≤◌, ◌+◌, ◌*◌, None, true, false};
 ghost use Rattle.pim_base.specs.State.{IsTask, owner_of, wait_of, relocks};
@@ -44,7 +45,6 @@ impl Manager {
     /// Answers a lock by a known task that doesn't wait: the mutex is granted if it is free, or once more to its
     /// owner if it is recursive, else the actor queues for it. The deadlock test makes at most as many hops as there
     /// are tasks.
-    #[tactic(auto, using(crate::proofs::Requests::owned_leads_back))]
     #[inline(always)]
     fn answer_lock(&mut self, actor: TaskNo, mutex: MutexNo, visits: &mut Visits) -> Reply
         requires known { IsTask self.old actor }
@@ -70,10 +70,12 @@ impl Manager {
         if self.tables.known_above_ceiling(actor, mutex) {
             return Reply::Refused(Refusal::Ceiling);
         }
-        if self.tables.next_ticket() > LAST_TICKET {
+        let ticket = self.tables.next_ticket();
+        if ticket > LAST_TICKET {
             return Reply::Refused(Refusal::Tickets);
         }
-        self.enqueue(actor, mutex, owner, visits);
+        self.tables.put_next_ticket(ticket + 1);
+        self.tables.enqueue(actor, mutex, owner, ticket, visits);
         Reply::Queued
     }
 
@@ -106,7 +108,6 @@ impl Manager {
 
     /// Answers a lock or a try of a free mutex by a known task that doesn't wait: the mutex is granted, unless the
     /// actor's base is above its ceiling.
-    #[tactic(auto, using(crate::proofs::Requests::free_relocks, crate::proofs::Requests::free_leads_back))]
     #[inline(always)]
     fn answer_free(&mut self, actor: TaskNo, mutex: MutexNo, visits: &mut Visits) -> Reply
         requires known { IsTask self.old actor }
@@ -123,7 +124,7 @@ impl Manager {
         if self.tables.known_above_ceiling(actor, mutex) {
             return Reply::Refused(Refusal::Ceiling);
         }
-        self.grant(mutex, actor, visits);
+        self.tables.grant(mutex, actor, visits);
         Reply::Granted
     }
 
@@ -138,7 +139,7 @@ impl Manager {
         if self.tables.count_of(mutex) == MAX_COUNT {
             return Reply::Refused(Refusal::Again);
         }
-        self.relock(mutex);
+        self.tables.count_up(mutex);
         Reply::Granted
     }
 
@@ -160,17 +161,17 @@ impl Manager {
             return Reply::Refused(Refusal::NotOwner);
         }
         if self.tables.known_kept(mutex) {
-            self.unlock_once(mutex);
+            self.tables.count_down(mutex);
             return Reply::Kept;
         }
-        match self.hand_over(mutex, actor, visits) {
+        match self.tables.hand_over(mutex, actor, visits) {
             Some(task) => Reply::Handed(task),
             None => Reply::Freed,
         }
     }
 
     /// Answers a release by a task that doesn't wait: all mutexes that it owns are handed over, in ascending order.
-    /// Each new owner is visited once, and the actor once, at the end.
+    /// Each new owner is visited at most once, and the actor once, at the end, if it owned a mutex.
     fn answer_release_all(&mut self, actor: TaskNo, visits: &mut Visits) -> Reply
         requires known { IsTask self.old actor }
         requires idle { wait_of self.old actor ≡ None }
@@ -202,7 +203,7 @@ impl Manager {
         let Some(owner) = self.tables.owner(wait.mutex) else {
             unreachable!() // no free mutex has waiters
         };
-        self.withdraw(task, wait, owner, visits);
+        self.tables.withdraw(task, wait, owner, visits);
         Reply::Withdrawn
     }
 
@@ -226,14 +227,15 @@ impl Manager {
         }
         match Prio::new(level) {
             Some(prio) => {
-                self.set_base(task, prio, visits);
+                self.tables.put_base(task, prio);
+                self.tables.settle_from(task, visits);
                 Reply::Set
             }
             None => Reply::Refused(Refusal::Priority),
         }
     }
 
-    /// Answers the change of a ceiling, which the owner of the mutex may request, too.
+    /// Answers the change of a ceiling, which any task may request while the mutex is free, and else only its owner.
     #[inline(always)]
     fn answer_set_ceiling(
         &mut self,
@@ -261,7 +263,11 @@ impl Manager {
         if owner.is_some() && owner != Some(actor) {
             return Reply::Refused(Refusal::Busy);
         }
-        self.set_ceiling(mutex, owner, ceiling, visits);
+        self.tables.put_ceiling(mutex, ceiling);
+        let Some(owner) = owner else {
+            return Reply::Set; // a free mutex gives no task a priority
+        };
+        self.tables.settle_from(owner, visits);
         Reply::Set
     }
 }

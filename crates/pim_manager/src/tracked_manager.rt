@@ -1,4 +1,5 @@
 //! A manager that keeps which tasks its last step changed.
+#![tactic(auto, using(crate::proofs::Listing::unnoted_changes))]
 
 ghost use Rattle.std.specs.Prelude.{◌≡◌, ◌↔◌, ◌<◌, ◌≤◌, ◌+◌, ◌*◌, [], length, IfOk, IfErr, IsErrOf, Some, None, ℕ};
 ghost use Rattle.pim_base.specs.Counts.{changed_task_count, handed_mutex_count};

@@ -111,8 +111,12 @@ fn manager_with_a_waiter_is_shown(rt: HostRuntime) -> Result<(), Fail> {
 
 const SECOND: MutexNo = MutexNo(2);
 
+const THIRD: MutexNo = MutexNo(3);
+
+const FOURTH: MutexNo = MutexNo(4);
+
 /// Steps with their replies, and how many visits each makes.
-const ROWS: [(u16, Op, Reply, u32); 16] = [
+const ROWS: [(u16, Op, Reply, u32); 23] = [
     (1, Lock(FIRST), Reply::Granted, 0),
     (2, Lock(SECOND), Reply::Granted, 0),
     (2, Lock(FIRST), Reply::Queued, 1),
@@ -128,9 +132,18 @@ const ROWS: [(u16, Op, Reply, u32); 16] = [
     (1, Lock(SECOND), Reply::Granted, 0),
     (2, Lock(FIRST), Reply::Queued, 1),
     (3, Lock(SECOND), Reply::Queued, 1),
-    // Each new owner is visited, and the actor, once.
-    (1, ReleaseAll, Reply::Released(2), 3),
+    // The actor is visited once. No other task waits for either mutex, so the new owners keep their priorities.
+    (1, ReleaseAll, Reply::Released(2), 1),
     (1, ReleaseAll, Reply::Released(0), 0),
+    (1, Lock(THIRD), Reply::Granted, 1),
+    (1, Lock(FOURTH), Reply::Granted, 1),
+    (2, Lock(THIRD), Reply::Queued, 0),
+    (3, Lock(FOURTH), Reply::Queued, 0),
+    // Each new owner rises to the ceiling of its mutex, and is visited once. Then the actor is, once.
+    (1, ReleaseAll, Reply::Released(2), 3),
+    (1, Lock(THIRD), Reply::Queued, 0),
+    // The new owner rises to the ceiling, and the old one falls to its base.
+    (2, Unlock(THIRD), Reply::Handed(TaskNo(1)), 2),
 ];
 
 fn expect_rows(rt: &impl Abort, manager: &mut Manager) {
@@ -142,8 +155,15 @@ fn expect_rows(rt: &impl Abort, manager: &mut Manager) {
 
 #[test]
 fn step_tells_its_visits(rt: HostRuntime) -> Result<(), Fail> {
-    let mut manager = made(rt.alloc(), &[10, 20, 90], &[Inherit, Inherit])?;
+    let protocols = [
+        Inherit,
+        Inherit,
+        Protocol::Protect(prio(&rt, 40)),
+        Protocol::Protect(prio(&rt, 95)),
+    ];
+    let mut manager = made(rt.alloc(), &[10, 20, 90], &protocols)?;
     expect_rows(&rt, &mut manager);
+    expect_levels(&rt, &manager, 40, 30, 95);
     Ok(())
 }
 

@@ -2,9 +2,7 @@ use Rattle.std.proofs.Common.{◌≤◌, length, fold, refl, ap, subst, arith, s
 use Rattle.pim_base.specs.State.{State, owned}
 use Rattle.pim_base.specs.Counts.{handed_mutex_count}
 use Rattle.pim_base.specs.Steps.{hand_over}
-use Rattle.pim_chain.specs.Views.{View, with_state, stored_at}
-use Rattle.pim_sets.specs.Work.{Tells}
-use Rattle.pim_manager.proofs.Works.{Walked, walked, steady_shown}
+use Rattle.pim_manager.proofs.Works.{Walked, walked_by, steady_shown}
 use Rattle.pim_manager.proofs.Releases.{AllReleased, all_released, released-handed}
 use Rattle.pim_manager.proofs.manager.Manager.answer_release_all.Goals as goal
 
@@ -13,31 +11,32 @@ all c =
     let S : State = c.args.self.now in
     subst (λ T. AllReleased S T c.args.actor)
     (sym (c.release_all.ensures.state ∙ ap (λ (U : State). fold hand_over U (owned U c.args.actor)) c.self.view_is))
-    (all_released S c.args.actor (owned S c.args.actor) refl c.requires.idle (steady_shown c.self.invariant c.self.view_is))
+    (all_released S c.args.actor (owned S c.args.actor) refl c.requires.idle
+    (steady_shown c.self.invariant c.self.view_is))
 
-gone :
+-- all that the actor owned is released
+released :
     (c : goal.After-release_all)
-    → Walked c.args.self.now (with_state c.self.inside.tables c.release_all.new.self.state) c.release_all.new.self c.args.visits.now c.release_all.new.visits
-gone c =
-    let v : View = c.self.inside.tables in
-    let x : View = c.release_all.new.self in
-    let bases = (all c).bases ∙ sym (ap (λ (U : State). U.base) c.self.view_is) in
-    walked v (with_state v x.state) x c.args.self.now x.state _ _ c.self.invariant c.self.view_is (all c).steady (ap length (all c).bases)
-    refl refl refl c.release_all.ensures.settled c.release_all.ensures.ready
-    (subst (λ bs. Tells (length bs) (stored_at v) c.args.visits.now (stored_at x) c.release_all.new.visits) (sym bases) c.release_all.ensures.work)
+    → Walked c.args.self.now c.self.inside.tables c.release_all.new.self c.args.visits.now c.release_all.new.visits
+released c =
+    walked_by (λ _. c.release_all.new.self.state) c.self.invariant c.self.view_is (λ _. (all c).steady)
+    (ap length ((all c).bases ∙ sym (ap (λ (U : State). U.base) c.self.view_is))) refl refl refl
+    c.release_all.ensures.settled c.release_all.ensures.ready c.release_all.ensures.work
 
 -- each mutex that is released has another owner then
-handed : (c : goal.After-release_all) → c.release_all.result ≤ handed_mutex_count c.args.self.now c.release_all.new.self.state
+handed :
+    (c : goal.After-release_all)
+    → c.release_all.result ≤ handed_mutex_count c.args.self.now c.release_all.new.self.state
 handed c =
     let few = released-handed c.args.self.now c.release_all.new.self.state c.args.actor (all c) in
     subst (λ k. k ≤ handed_mutex_count c.args.self.now c.release_all.new.self.state)
     (sym (c.release_all.ensures.released ∙ ap (λ (U : State). length (owned U c.args.actor)) c.self.view_is)) few
 
 pub invariant_of-self : goal.invariant_of-self
-invariant_of-self c = (gone c).settled
+invariant_of-self c = (released c).settled
 
 pub returns-clause-work : goal.returns-clause-work
-returns-clause-work c = (gone c).work
+returns-clause-work c = (released c).work
 
 pub returns-clause-most : goal.returns-clause-most
 returns-clause-most c = let most = c.release_all.ensures.most in omega (arith, most, handed c, c.requires.fresh)

@@ -1,5 +1,5 @@
-use Rattle.pim_manager.proofs.Works.{worked_none}
+use Rattle.pim_manager.proofs.Works.{worked_count}
 use Rattle.pim_manager.proofs.manager.Manager.answer_relock.Goals as goal
 
-pub returns-then-count_of-clause-work : goal.returns-then-count_of-clause-work
-returns-then-count_of-clause-work c = worked_none c.args.self.now
+pub returns-clause-work : goal.returns-clause-work
+returns-clause-work c = worked_count _ _ c.count_up.ensures.state c.self.view_is

@@ -14,10 +14,6 @@ returns-in-Some c =
     ∙ ap (option_map (λ (q : QueueView). q.waiters)) c.in-Some.ensures
     ∙ queue_shown c.self.inside.tables c.args.mutex c.self.invariant.calm
     ∙ ap (λ (S : State). of_mutex S c.args.mutex (queue_of S c.args.mutex)) c.self.view_is in
-    record { queue = queue; in_order = queue_in_order c.self.inside.tables c.args.self.now c.args.mutex _ c.self.invariant c.self.view_is queue }
-
-pub returns-in-None-clause-queue : goal.returns-in-None-clause-queue
-returns-in-None-clause-queue c =
-    ap (option_map (λ (q : QueueView). q.waiters)) c.in-None.ensures
-    ∙ queue_shown c.self.inside.tables c.args.mutex c.self.invariant.calm
-    ∙ ap (λ (S : State). of_mutex S c.args.mutex (queue_of S c.args.mutex)) c.self.view_is
+    let in_order =
+    queue_in_order c.self.inside.tables c.args.self.now c.args.mutex _ c.self.invariant c.self.view_is queue in
+    record { queue = queue; in_order = in_order }

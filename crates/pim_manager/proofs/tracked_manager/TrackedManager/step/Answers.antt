@@ -7,7 +7,10 @@ use Rattle.pim_manager.proofs.Listing.{bases_after, noted_changes_of_step}
 use Rattle.pim_manager.proofs.tracked_manager.TrackedManager.step.Goals as goal
 
 -- what the notes tell of the manager's new state
-noted : (c : goal.After-get) → noted_changes c.reply_to-reply.new.self c.reply_to-reply.new.visits ≡ changed_tasks c.self.inside.manager c.reply_to-reply.new.self
+noted :
+    (c : goal.After-get)
+    → noted_changes c.reply_to-reply.new.self c.reply_to-reply.new.visits
+    ≡ changed_tasks c.self.inside.manager c.reply_to-reply.new.self
 noted c =
     let S : State = c.self.inside.manager in
     noted_changes_of_step S c.reply_to-reply.new.self c.restart.new.self c.reply_to-reply.new.visits
