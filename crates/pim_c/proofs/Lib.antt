@@ -1,4 +1,3 @@
 mod Copies
 mod Handles
 mod Priorities
-mod RawBoxes

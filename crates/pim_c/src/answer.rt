@@ -5,7 +5,10 @@ ghost use Rattle.pim_c.specs.Answers.{no_answer};
 ghost use Rattle.pim_c.specs.declared.numbers.TheConstants.{REFUSED};
 ghost use Rattle.pim_c.specs.Numbers.{reply_number, reply_refusal, reply_detail};
 
-use crate::numbers::{NO_MANAGER, REFUSED, number_of_refusal, number_of_reply};
+use crate::numbers::{
+    FREED, GRANTED, HANDED, KEPT, NO_MANAGER, QUEUED, REFUSED, RELEASED, SET, WITHDRAWN,
+    number_of_refusal,
+};
 use pim_base::Reply;
 
 /// The answer to a step, in C.
@@ -51,36 +54,22 @@ impl CAnswer {
     pub fn of(reply: Reply, visits: u32) -> CAnswer
         ensures { result ≡ record { kind = reply_number reply; refusal = reply_refusal reply; number = reply_detail reply; visits = visits } }
     {
-        let refusal = refusal_in(&reply);
-        let number = number_in(&reply);
+        let (kind, refusal, number) = match reply {
+            Reply::Granted => (GRANTED, 0, 0),
+            Reply::Queued => (QUEUED, 0, 0),
+            Reply::Freed => (FREED, 0, 0),
+            Reply::Handed(task) => (HANDED, 0, task.get()),
+            Reply::Released(count) => (RELEASED, 0, count),
+            Reply::Withdrawn => (WITHDRAWN, 0, 0),
+            Reply::Set => (SET, 0, 0),
+            Reply::Refused(refusal) => (REFUSED, number_of_refusal(refusal), 0),
+            Reply::Kept => (KEPT, 0, 0),
+        };
         CAnswer {
-            kind: number_of_reply(reply),
+            kind,
             refusal,
             number,
             visits,
         }
-    }
-}
-
-// Returns the number of the refusal, or 0 for any other reply.
-fn refusal_in(reply: &Reply) -> u8
-    ensures { result ≡ reply_refusal reply.now }
-{
-    match reply {
-        Reply::Refused(refusal) => number_of_refusal(*refusal),
-        Reply::Granted | Reply::Queued | Reply::Freed | Reply::Handed(_) | Reply::Kept => 0,
-        Reply::Released(_) | Reply::Withdrawn | Reply::Set => 0,
-    }
-}
-
-// Returns the task that the mutex was handed to, or how many mutexes were released, or 0 for any other reply.
-fn number_in(reply: &Reply) -> u16
-    ensures { result ≡ reply_detail reply.now }
-{
-    match reply {
-        Reply::Handed(task) => task.get(),
-        Reply::Released(count) => *count,
-        Reply::Granted | Reply::Queued | Reply::Freed | Reply::Kept => 0,
-        Reply::Withdrawn | Reply::Set | Reply::Refused(_) => 0,
     }
 }

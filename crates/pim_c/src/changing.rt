@@ -24,14 +24,12 @@ pub extern "C" fn pim_set_protocol(
     ensures answer { result ≡ protocol_answer handle.old.held mutex (record { kind = kind; ceiling = ceiling }) }
     ensures state { handle.new.held ≡ after_protocol handle.old.held mutex (record { kind = kind; ceiling = ceiling }) }
 {
-    match handle.take(alloc) {
-        None => CAnswer::none(),
-        Some(mut held) => {
-            let answer = set_protocol(&mut held, MutexNo(mutex), CProtocol { kind, ceiling });
-            handle.put(held);
-            answer
-        }
-    }
+    let Some(mut held) = handle.take(alloc) else {
+        return CAnswer::none();
+    };
+    let answer = set_protocol(&mut held, MutexNo(mutex), CProtocol { kind, ceiling });
+    handle.put(held);
+    answer
 }
 
 /// Gives a free mutex this protocol. Changes nothing if that is refused.

@@ -68,10 +68,8 @@ impl Handle {
         ensures held { option_map box_value result ≡ self.old.held }
         ensures empty { self.new.held ≡ None }
     {
-        match replace(self, Handle::empty(alloc)).into_raw() {
-            Some(raw) => Some(raw.into_box()),
-            None => None,
-        }
+        let raw = replace(self, Handle::empty(alloc)).into_raw()?;
+        Some(raw.into_box())
     }
 
     /// Returns the manager, if there is one. It stays in the handle.

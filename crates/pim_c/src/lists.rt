@@ -12,7 +12,7 @@ use pim_base::{MutexNo, Waiter};
 use pim_manager::TrackedManager;
 
 /// Copies the waiters for the mutex, the next owner first, as many as there is room for. Returns how many wait, or 0
-/// for an unknown mutex.
+/// for an unknown mutex or without a manager.
 #[unsafe(no_mangle)]
 pub extern "C" fn pim_waiters(handle: &mut Handle, mutex: u16, to: &mut [CWaiter]) -> usize
     ensures count { result ≡ length (waiters_in handle.old.held mutex) }
@@ -29,7 +29,7 @@ pub extern "C" fn pim_waiters(handle: &mut Handle, mutex: u16, to: &mut [CWaiter
 }
 
 /// Copies the tasks whose effective priority the last step changed, in ascending order, as many as there is room for.
-/// Returns how many there are.
+/// Returns how many there are, 0 without a manager.
 #[unsafe(no_mangle)]
 pub extern "C" fn pim_changed(handle: &mut Handle, to: &mut [CChangedTask]) -> usize
     ensures count { result ≡ length (changed_in handle.old.held) }
@@ -47,9 +47,7 @@ fn copy_waiters(from: &[Waiter], to: &mut [CWaiter]) -> usize
     ensures count { result ≡ length from.now }
     ensures copied { to.new ≡ copied (map c_waiter from.now) to.old }
 {
-    let room = to.len();
-    let count = if from.len() < room { from.len() } else { room };
-    for place in 0..count {
+    for place in 0..from.len().min(to.len()) {
         to[place] = CWaiter::of(from[place]);
     }
     from.len()

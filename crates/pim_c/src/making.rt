@@ -2,7 +2,7 @@
 
 ghost use Rattle.std.specs.Prelude.{◌≡◌, ◌≢◌, true, IfOk};
 ghost use Rattle.std.specs.List.{list_all};
-ghost use Rattle.pim_ffi.specs.Protocols.{is_priority, priority_meant};
+ghost use Rattle.pim_ffi.specs.Protocols.{is_priority};
 ghost use Rattle.pim_c.specs.Making.{first_fault, is_protocol, made, priorities_meant, protocols_meant};
 
 use crate::handle::Handle;
@@ -50,13 +50,11 @@ pub extern "C" fn pim_make(
     if !are_protocols(protocols) {
         return FAULT_BAD_PROTOCOL;
     }
-    match hold(alloc, bases, protocols) {
-        Ok(held) => {
-            handle.put(held);
-            MADE
-        }
-        Err(_) => FAULT_NO_MEMORY,
-    }
+    let Ok(held) = hold(alloc, bases, protocols) else {
+        return FAULT_NO_MEMORY;
+    };
+    handle.put(held);
+    MADE
 }
 
 /// Drops the manager, if there is one, and frees its memory.
@@ -97,10 +95,7 @@ fn hold(
 {
     let bases = read_bases(alloc, bases)?;
     let protocols = read_protocols(alloc, protocols)?;
-    match TrackedManager::new(alloc, &bases, &protocols) {
-        Ok(held) => Ok(held),
-        Err(_) => Err(AllocError),
-    }
+    TrackedManager::new(alloc, &bases, &protocols).map_err(|_| AllocError)
 }
 
 /// Returns those of the levels that are priorities.
@@ -113,15 +108,8 @@ fn read_bases(alloc: Global, bases: &[u16]) -> Result<Vec<Prio>, AllocError>
 {
     bases
         .iter()
-        .filter_map(|base| read_base(*base))
+        .filter_map(|base| Prio::new(*base))
         .collect(alloc)
-}
-
-/// Returns the priority of this level, or `None` if it is none.
-fn read_base(level: u16) -> Option<Prio>
-    ensures { result ≡ priority_meant level }
-{
-    Prio::new(level)
 }
 
 /// Returns those that are valid, as protocols.

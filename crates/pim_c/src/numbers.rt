@@ -2,10 +2,9 @@
 //! the end of a table, and changes none. `c/pim.h` has the same names with `PIM_` before them.
 
 ghost use Rattle.std.specs.Prelude.{◌≡◌};
-ghost use Rattle.pim_c.specs.Numbers.{reply_number};
 ghost use Rattle.pim_base.specs.Reports.{refusal_number};
 
-use pim_base::{Refusal, Reply};
+use pim_base::Refusal;
 
 // ---- Replies to steps
 
@@ -83,23 +82,6 @@ pub const FAULT_BAD_BASE: u32 = 4;
 pub const FAULT_BAD_PROTOCOL: u32 = 5;
 
 pub const FAULT_NO_MEMORY: u32 = 6;
-
-/// Returns the number of the reply.
-pub fn number_of_reply(reply: Reply) -> u8
-    ensures { result ≡ reply_number reply }
-{
-    match reply {
-        Reply::Granted => GRANTED,
-        Reply::Queued => QUEUED,
-        Reply::Freed => FREED,
-        Reply::Handed(_) => HANDED,
-        Reply::Released(_) => RELEASED,
-        Reply::Withdrawn => WITHDRAWN,
-        Reply::Set => SET,
-        Reply::Refused(_) => REFUSED,
-        Reply::Kept => KEPT,
-    }
-}
 
 /// Returns the number of the refusal.
 pub fn number_of_refusal(refusal: Refusal) -> u8

@@ -34,22 +34,11 @@ impl CReason {
     pub fn of(reason: Reason) -> CReason
         ensures { result ≡ c_reason reason }
     {
-        match reason {
-            Reason::Base => CReason {
-                kind: OF_BASE,
-                task: 0,
-                mutex: 0,
-            },
-            Reason::Ceiling(mutex) => CReason {
-                kind: OF_CEILING,
-                task: 0,
-                mutex: mutex.get(),
-            },
-            Reason::Waiter(task, mutex) => CReason {
-                kind: OF_WAITER,
-                task: task.get(),
-                mutex: mutex.get(),
-            },
-        }
+        let (kind, task, mutex) = match reason {
+            Reason::Base => (OF_BASE, 0, 0),
+            Reason::Ceiling(mutex) => (OF_CEILING, 0, mutex.get()),
+            Reason::Waiter(task, mutex) => (OF_WAITER, task.get(), mutex.get()),
+        };
+        CReason { kind, task, mutex }
     }
 }

@@ -96,16 +96,11 @@ fn make_step(alloc: Global, handle: &mut Handle, task: u16, op: Op) -> CAnswer
     ensures answer { IsAnswered handle.old.held (record { actor = task; op = op }) result }
     ensures state { handle.new.held ≡ after_step handle.old.held (record { actor = task; op = op }) }
 {
-    match handle.take(alloc) {
-        None => CAnswer::none(),
-        Some(mut held) => {
-            let step = Step {
-                actor: TaskNo(task),
-                op,
-            };
-            let Done { reply, visits } = held.step(step);
-            handle.put(held);
-            CAnswer::of(reply, visits)
-        }
-    }
+    let Some(mut held) = handle.take(alloc) else {
+        return CAnswer::none();
+    };
+    let actor = TaskNo(task);
+    let Done { reply, visits } = held.step(Step { actor, op });
+    handle.put(held);
+    CAnswer::of(reply, visits)
 }

@@ -1,30 +1,27 @@
-use Rattle.std.proofs.Common.{◌≡◌, length, map, suc, ◌+◌, ◌<◌, ap, ◌∙◌, arith}
-use Rattle.std.specs.Prelude.{slice_set, take}
+use Rattle.std.proofs.Common.{inl, inr, min, map, suc, ap, ◌≡◌, ◌+◌, ◌∙◌, arith, length}
+use Rattle.std.proofs.Math.Nat.{min-eq_left, min-eq_right, min-le_left, min-le_right}
+use Rattle.std.proofs.lemmas.Bool.{cases_lt}
 use Rattle.pim_ffi.specs.Copied.{copied}
 use Rattle.pim_c.specs.Shapes.{c_waiter}
 use Rattle.pim_ffi.proofs.Copies.{copied_step, copied_all, copied_full}
 use Rattle.pim_c.proofs.lists.copy_waiters.Goals as goal
-use Rattle.pim_c.proofs.lists.copy_waiters.Goals.{then-from-room, else-from-room}
 
--- src/lists.rt:64:5
 pub loop-place-preserved : goal.loop-place-preserved
 loop-place-preserved c =
     let from = c.args.from.now in let to = c.args.to.now in let k = c.loop-place.place in
-    let inside : (k < length from) × (k < length to) = elim c.if-from-room.branch [
-      | then-from-room w ↦ (omega (c.loop-place-test.true, w.count-is, w.if-from-room, arith), omega (c.loop-place-test.true, w.count-is, w.if-from-room, arith))
-      | else-from-room w ↦ (omega (c.loop-place-test.true, w.count-is, w.if-from-room, arith), omega (c.loop-place-test.true, w.count-is, w.if-from-room, arith))
-    ] in
     let next : suc k ≡ k + 1 = omega arith in
-    ap (λ ws. slice_set ws k c.of.result) c.loop-place.invariant
-    ∙ ap (λ w. slice_set (copied (map c_waiter (take k from)) to) k w) c.of.ensures
-    ∙ copied_step c_waiter from to k c.index-from-place.result inside.0 inside.1 c.index-from-place.is
-    ∙ ap (λ n. copied (map c_waiter (take n from)) to) next
+    let left = min-le_left (length from) (length to) in let right = min-le_right (length from) (length to) in
+    let more = copied_step c_waiter from to k c.index-from-place.result (omega arith) (omega arith) c.index-from-place.is in
+    cc (more, c.loop-place.invariant)
 
--- src/lists.rt:58:1
 pub returns-clause-copied : goal.returns-clause-copied
 returns-clause-copied c =
     let from = c.args.from.now in let to = c.args.to.now in let k = c.loop-place.place in
-    c.loop-place.invariant ∙ elim c.if-from-room.branch [
-      | then-from-room w ↦ ap (λ ws. copied (map c_waiter ws) to) (copied_all c_waiter from k (omega (c.loop-place-test.false, w.count-is, arith)))
-      | else-from-room w ↦ copied_full c_waiter from to k (omega (c.loop-place-test.false, w.count-is, arith))
+    c.loop-place.invariant ∙ elim (cases_lt (length from) (length to)) [
+      | inl h ↦
+          let least : min (length from) (length to) ≡ length from = min-eq_left (omega arith) in
+          ap (λ ws. copied (map c_waiter ws) to) (copied_all c_waiter from k (omega arith))
+      | inr h ↦
+          let least : min (length from) (length to) ≡ length to = min-eq_right h in
+          copied_full c_waiter from to k (omega arith)
     ]

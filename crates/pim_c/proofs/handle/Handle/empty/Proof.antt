@@ -1,28 +1,11 @@
 -- `empty` stores a null pointer with the allocator.
-use Rattle.std.proofs.Common.{◌≡◌, List, [], ◌∷◌, ◌++◌, refl, sym, subst}
-use mir.Val.{Val}
-use base.Logic.{SProp, ent, emp, id⊢}
-use base.Fml.{ftrue}
-use prog.Wp.{WpFn}
-use types.Kit.{‵, raw, ◌⊛◌, ◌$◌, ◌∵◌, !, qed, by, move, keep, drop, split, fsplit, fjoin, feq_i, suffices, rewrite, use0}
-use types.Run.{lit, no_more, and_then, returns, enter}
-use types.ByLocal.{alloc_all, pass_all, free_all, look_at, get, sets}
-use types.Part.{agg}
-use contract.Monad.{fact, fact_i}
-use contract.Running.{tables}
-use denote.Exit.{yes}
-use denote.RattleType.{owns}
-use denote.Signature.{types_at, plain}
-use denote.RawPtr.{Ptr, null_ptr, ptr_val}
-use denote.Steps.{nothing}
-use denote.Param.{layout}
-use denote.Triple.Entry.{alive}
-use denote.Triple.Walked.{Stays, stay_dropped, walk_of, Goes-dropped}
-use Rattle.std.specs.Prelude.{None}
-use Rattle.std.proofs.cell.Inside.{one}
-use Rattle.std.proofs.raw_atomic.Walks.{proved_at, leaves}
-use Rattle.pim_c.proofs.RawBoxes.{struct_of_two}
-use Rattle.pim_c.proofs.Handles.{Handle, Z, LZ, handle_good, closes_handle}
+use Rattle.pim_c.proofs.Handles.{◌≡◌, List, [], ◌∷◌, ◌++◌, refl, sym, subst, Val, SProp, ent, emp, id⊢, ftrue, WpFn}
+use Rattle.pim_c.proofs.Handles.{‵, raw, ◌⊛◌, ◌$◌, ◌∵◌, !, qed, by, move, keep, drop, split, fsplit, fjoin, feq_i}
+use Rattle.pim_c.proofs.Handles.{suffices, rewrite, use0, lit, no_more, and_then, returns, enter, alloc_all, pass_all}
+use Rattle.pim_c.proofs.Handles.{free_all, look_at, get, sets, agg, fact, fact_i, tables, yes, owns, types_at, plain}
+use Rattle.pim_c.proofs.Handles.{Ptr, null_ptr, ptr_val, nothing, layout, alive, Stays, stay_dropped, walk_of}
+use Rattle.pim_c.proofs.Handles.{Goes-dropped, None, one, proved_at, leaves, struct_of_two, Handle, Z, LZ}
+use Rattle.pim_c.proofs.Handles.{handle_good, closes_handle}
 use Rattle.pim_c.specs.contracts.handle.Handle.empty.{ended, clauses}
 use Rattle.pim_c.specs.contracts.handle.Handle.empty.Key.{name as #self}
 use Rattle.pim_c.proofs.handle.Handle.empty.Statement.{statement}

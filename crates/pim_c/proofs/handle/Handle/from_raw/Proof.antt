@@ -1,28 +1,11 @@
--- `of` moves the pointer and the allocator over.
-use Rattle.std.proofs.Common.{◌≡◌, List, [], ◌∷◌, ◌++◌, refl, sym, subst}
-use mir.Val.{Val, vptr}
-use base.Logic.{SProp, ent, emp, id⊢}
-use base.Fml.{ftrue}
-use prog.Wp.{WpFn}
-use types.Kit.{‵, raw, ◌⊛◌, ◌$◌, ◌∵◌, !, qed, by, move, keep, drop, split, fsplit, fjoin, suffices, use0}
-use types.Run.{stop, fld, of_opd, no_more, and_then, returns, enter}
-use types.ByLocal.{alloc_all, pass_all, free_all, look_at, get, get_in, sets}
-use types.Part.{agg, sub, whole}
-use contract.Monad.{fact, fact_i}
-use contract.Running.{tables}
-use denote.Exit.{yes}
-use denote.RattleType.{RattleType, owns}
-use denote.Signature.{types_at, plain}
-use denote.RawPtr.{block_ptr}
-use denote.Steps.{nothing}
-use denote.Triple.Entry.{alive}
-use denote.Triple.Walked.{Stays, stay_dropped, walk_of}
-use Rattle.std.specs.Prelude.{Some}
-use Rattle.std.specs.contracts.impls.GlobalAllocator.TheImpl.{ghosts}
-use Rattle.std.proofs.alloc.Calls.{Goes-blank}
-use Rattle.std.proofs.raw_atomic.Walks.{proved_at, leaves}
-use Rattle.pim_c.proofs.RawBoxes.{struct_of_two, RawBox, raw_box_good, opens_raw_box}
-use Rattle.pim_c.proofs.Handles.{Handle, Z, LZ, R, handle_good, closes_handle}
+-- `from_raw` moves the pointer and the allocator over.
+use Rattle.pim_c.proofs.Handles.{◌≡◌, List, [], ◌∷◌, ◌++◌, refl, sym, subst, Val, vptr, SProp, ent, emp, id⊢, ftrue}
+use Rattle.pim_c.proofs.Handles.{WpFn, ‵, raw, ◌⊛◌, ◌$◌, ◌∵◌, !, qed, by, move, keep, drop, split, fsplit, fjoin}
+use Rattle.pim_c.proofs.Handles.{suffices, use0, stop, fld, of_opd, no_more, and_then, returns, enter, alloc_all}
+use Rattle.pim_c.proofs.Handles.{pass_all, free_all, look_at, get, get_in, sets, agg, sub, whole, fact, fact_i}
+use Rattle.pim_c.proofs.Handles.{tables, yes, RattleType, owns, types_at, plain, block_ptr, nothing, alive, Stays}
+use Rattle.pim_c.proofs.Handles.{stay_dropped, walk_of, Some, ghosts, Goes-blank, proved_at, leaves, struct_of_two}
+use Rattle.pim_c.proofs.Handles.{RawBox, raw_box_good, opens_raw_box, Handle, Z, LZ, R, handle_good, closes_handle}
 use Rattle.pim_c.specs.contracts.handle.Handle.from_raw.{ended, clauses}
 use Rattle.pim_c.specs.contracts.handle.Handle.from_raw.Key.{name as #self}
 use Rattle.pim_c.proofs.handle.Handle.from_raw.Statement.{statement}
@@ -30,9 +13,9 @@ use Rattle.pim_c.proofs.handle.Handle.from_raw.Code as code
 
 pub from_raw_spec : {M : Type 1} → statement M
 from_raw_spec 𝓤 𝓛 𝓜 𝓡 wired =
-    let H = 𝓛.H in let 𝓣 = tables 𝓤 H 𝓜 𝓡 𝓡.env in let En = ended in let c = clauses 𝓛 𝓜.mem 𝓡.returns in let fn = code.function in let Lo : RattleType = RawBox R Z LZ ghosts in
-    let hs : Stays En.signature.params En.kept = (stay_dropped (plain (λ _. Lo)) yes, tt) in
-    proved_at 𝓛 En hs c 𝓜 𝓡 (Goes-blank 𝓛 0 (plain (λ _. Lo)) yes (λ κs x f. tt), tt) #self fn (code.unfolded 𝓤 H 𝓜 𝓡 wired) (λ z are.
+    let H = 𝓛.H in let 𝓣 = tables 𝓤 H 𝓜 𝓡 𝓡.env in let En = ended in let c = clauses 𝓛 𝓜.mem 𝓡.returns in let fn = code.function in let Raw : RattleType = RawBox R Z LZ ghosts in
+    let hs : Stays En.signature.params En.kept = (stay_dropped (plain (λ _. Raw)) yes, tt) in
+    proved_at 𝓛 En hs c 𝓜 𝓡 (Goes-blank 𝓛 0 (plain (λ _. Raw)) yes (λ κs x f. tt), tt) #self fn (code.unfolded 𝓤 H 𝓜 𝓡 wired) (λ z are.
     let κs = z.0.0 in let qs = z.0.1 in let v = z.0.3.0 in let a = v.alloc in let Post : Val → SProp 𝓤 = (walk_of 𝓛 En hs c).post z in let Run : List Val → SProp 𝓤 = λ ws. WpFn 𝓤 H 𝓣.C 𝓣.Λ fn ws Post in
     qed 𝓛 ((raw (alive 𝓛 En.signature κs qs) ⊛ ‵ (owns (types_at En.signature.params κs) z.0.3 z.0.4)) ∷ ‵ ftrue ∷ []) ∵ move ! (1 ∷ []) $ drop ! $ split ! $ move ! (1 ∷ []) $ fsplit ! $ opens_raw_box R Z LZ ghosts ! v z.0.4.0 (λ b o h e ws fits.
     let w : Val = struct_of_two (vptr b o) h in let made : Handle.Denot = record { at = block_ptr b o; alloc = a; held = Some v.value } in closes_handle ! (block_ptr b o) h a (Some v.value) $

@@ -1,30 +1,16 @@
 -- `held_mut` lends the manager, and the handle follows it.
-use Rattle.std.proofs.Common.{[], ◌∷◌, refl, sym}
-use mir.Syntax.{named}
-use mir.Val.{Val, vptr}
-use base.Logic.{SProp, id⊢}
-use base.Fml.{GName, ftrue, flft}
-use types.Logic.{sem}
-use types.Kit.{‵, raw, ◌⊛◌, some, later, at_ret, ◌$◌, ◌∵◌, !, qed, done, move, keep, drop, split, split3, join}
-use types.Kit.{fsplit, fsplit3, fjoin, fjoin3, use1, pick, await, rewrite, suffices, frame, group}
-use types.Run.{stop, fld, load, of_opd, addr, first, blocks, exec, returns, enter}
-use types.ByLocal.{alloc_all, pass_all, free_all, look_at, get, through, sets, sets_last, env}
-use types.Part.{sub, whole, look_in}
-use contract.Monad.{fact}
-use contract.Running.{tables}
-use denote.Exit.{no}
+use Rattle.pim_c.proofs.Handles.{[], ◌∷◌, refl, sym, named, Val, vptr, SProp, id⊢, GName, ftrue, flft, sem, ‵, raw}
+use Rattle.pim_c.proofs.Handles.{◌⊛◌, some, later, at_ret, ◌$◌, ◌∵◌, !, qed, done, move, keep, drop, split, split3}
+use Rattle.pim_c.proofs.Handles.{join, fsplit, fsplit3, fjoin, fjoin3, use1, pick, await, rewrite, suffices, frame}
+use Rattle.pim_c.proofs.Handles.{group, stop, fld, load, of_opd, addr, first, blocks, exec, returns, enter, alloc_all}
+use Rattle.pim_c.proofs.Handles.{pass_all, free_all, look_at, get, through, sets, sets_last, env, sub, whole, look_in}
+use Rattle.pim_c.proofs.Handles.{fact, tables, no, Ptr, MutRef, mut_vals, mut_Tells, plain, mut_ref_to, heard}
+use Rattle.pim_c.proofs.Handles.{nothing, Stays, stay_dropped, walk_of, says, ends_at, Goes-spent_ref, ◌≢◌, None}
+use Rattle.pim_c.proofs.Handles.{after, proved, Handle, R, held_cases, handle_lies, handle_opens, Besides}
+use Rattle.pim_c.proofs.Handles.{handle_back}
 use denote.Follow.{follows, Part, lends_Part}
 use denote.MutBor.{MutBor}
-use denote.RawPtr.{Ptr}
-use denote.Ref.{MutRef, mut_vals, mut_Tells}
-use denote.Signature.{plain, mut_ref_to}
-use denote.Steps.{heard, nothing}
-use denote.Triple.Walked.{Stays, stay_dropped, walk_of, says, ends_at, Goes-spent_ref}
-use Rattle.std.specs.Prelude.{◌≢◌, None}
-use Rattle.std.proofs.VecSteps.Shapes.{after}
-use Rattle.std.proofs.raw_atomic.Walks.{proved}
 use Rattle.pim_c.specs.Lending.{with_held}
-use Rattle.pim_c.proofs.Handles.{Handle, R, held_cases, handle_lies, handle_opens, Besides, handle_back}
 use Rattle.pim_c.specs.contracts.handle.Handle.held_mut.{ended, clauses}
 use Rattle.pim_c.specs.contracts.handle.Handle.held_mut.Key.{name as #self}
 use Rattle.pim_c.proofs.handle.Handle.held_mut.Statement.{statement}

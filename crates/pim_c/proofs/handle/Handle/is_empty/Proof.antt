@@ -1,23 +1,11 @@
 -- `is_empty` compares the pointer with null.
-use Rattle.std.proofs.Common.{◌≡◌, List, [], ◌∷◌, refl}
-use mir.Syntax.{named}
-use mir.Val.{Val, vbool}
-use base.Logic.{emp}
-use base.Fml.{ftrue, flft}
-use types.Kit.{‵, raw, ◌⊛◌, ◌$◌, ◌∵◌, !, qed, by, move, keep, split, join, fsplit3, fjoin, fjoin3, use0, feq_i}
-use types.Run.{stop, fld, lit, load, of_opd, bin, returns, enter}
-use types.ByLocal.{alloc_all, pass_all, free_all, look_at, get, through, is, sets}
-use types.Part.{sub, whole, look_in}
-use contract.Monad.{fact, fact_i}
-use contract.Running.{tables}
-use denote.Ref.{MutRef, mut_vals, mut_Tells}
-use denote.RawPtr.{tests_null}
-use denote.Signature.{plain}
-use denote.Steps.{nothing, closes}
-use denote.Triple.Walked.{Stays, stay_ref, walk_of, Goes-ref}
-use Rattle.std.specs.Prelude.{is_none}
-use Rattle.std.proofs.raw_atomic.Walks.{proved, leaves}
-use Rattle.pim_c.proofs.Handles.{Handle, handle_val, pointer_good, closes_handle, null_shows, handle_opens}
+use Rattle.pim_c.proofs.Handles.{◌≡◌, List, [], ◌∷◌, refl, named, Val, vbool, emp, ftrue, flft, ‵, raw, ◌⊛◌, ◌$◌, ◌∵◌}
+use Rattle.pim_c.proofs.Handles.{ !, qed, by, move, keep, split, join, fsplit3, fjoin, fjoin3, use0, feq_i, stop, fld}
+use Rattle.pim_c.proofs.Handles.{lit, load, of_opd, bin, returns, enter, alloc_all, pass_all, free_all, look_at, get}
+use Rattle.pim_c.proofs.Handles.{through, is, sets, sub, whole, look_in, fact, fact_i, tables, MutRef, mut_vals}
+use Rattle.pim_c.proofs.Handles.{mut_Tells, tests_null, plain, nothing, closes, Stays, stay_ref, walk_of, Goes-ref}
+use Rattle.pim_c.proofs.Handles.{is_none, proved, leaves, Handle, handle_val, pointer_good, closes_handle, null_shows}
+use Rattle.pim_c.proofs.Handles.{handle_opens}
 use Rattle.pim_c.specs.contracts.handle.Handle.is_empty.{ended, clauses}
 use Rattle.pim_c.specs.contracts.handle.Handle.is_empty.Key.{name as #self}
 use Rattle.pim_c.proofs.handle.Handle.is_empty.Statement.{statement}

@@ -1,40 +1,19 @@
 -- `into_box` hands the pointer and the allocator to `Box::from_raw`.
-use Rattle.std.proofs.Common.{◌≡◌, List, [], ◌∷◌, ◌++◌, refl, sym, ap, subst}
-use mir.Syntax.{a_type, dcons, dnil}
-use mir.Val.{Val, vptr}
-use mir.MapTy.{inst_fn}
-use base.Logic.{SProp, ent, id⊢}
-use base.Fml.{ftrue, flft}
-use prog.Wp.{WpFn}
-use types.Kit.{‵, raw, ◌⊛◌, some, later, at_ret, ◌$◌, ◌∵◌, !, qed, by, move, keep, drop, split, split3, join, fsplit}
-use types.Kit.{fjoin, pick, suffices, use1, await, rewrite, feq_i}
-use types.Run.{stop, fld, of_opd, no_more, and_then, first, blocks, exec, returns, enter}
-use types.ByLocal.{alloc_all, pass_all, free_all, look_at, get, get_in, sets, lands_last, env}
-use types.Part.{sub, whole}
-use contract.Monad.{fact}
+use Rattle.pim_c.proofs.Handles.{◌≡◌, List, [], ◌∷◌, ◌++◌, refl, sym, ap, subst, a_type, dcons, dnil, Val, vptr}
+use Rattle.pim_c.proofs.Handles.{inst_fn, SProp, ent, id⊢, ftrue, flft, WpFn, ‵, raw, ◌⊛◌, some, later, at_ret, ◌$◌}
+use Rattle.pim_c.proofs.Handles.{◌∵◌, !, qed, by, move, keep, drop, split, split3, join, fsplit, fjoin, pick}
+use Rattle.pim_c.proofs.Handles.{suffices, use1, await, rewrite, feq_i, stop, fld, of_opd, no_more, and_then, first}
+use Rattle.pim_c.proofs.Handles.{blocks, exec, returns, enter, alloc_all, pass_all, free_all, look_at, get, get_in}
+use Rattle.pim_c.proofs.Handles.{sets, lands_last, env, sub, whole, fact, tables, no, RattleType, owns, types_at}
+use Rattle.pim_c.proofs.Handles.{plain, block_ptr, nothing, only, param, layout, bounded, param_laws, triple_of}
+use Rattle.pim_c.proofs.Handles.{calls_at_last, framed, Stays, stay_dropped, walk_of, after, Goes-blank, Good}
+use Rattle.pim_c.proofs.Handles.{proved_at, leaves, box_out, box_in, struct_of_two, RawBox, raw_box_good}
+use Rattle.pim_c.proofs.Handles.{opens_raw_box}
 use contract.BorrowLft.{◌⊑◌}
-use contract.Running.{tables}
-use denote.Exit.{no}
-use denote.RattleType.{RattleType, owns}
-use denote.Signature.{types_at, plain}
-use denote.RawPtr.{block_ptr}
-use denote.Steps.{nothing, only}
-use denote.Param.{param, layout, bounded}
-use denote.Param.Laws.{param_laws}
 use denote.Triple.Clauses.{Lasts, lasts}
-use denote.Triple.Spec.{triple_of}
-use denote.Triple.Call.{calls_at_last}
-use denote.Triple.Table.{framed}
-use denote.Triple.Walked.{Stays, stay_dropped, walk_of}
-use Rattle.std.proofs.VecSteps.Shapes.{after}
-use Rattle.std.proofs.alloc.Calls.{Goes-blank}
-use Rattle.std.proofs.cell.Inside.{Good}
-use Rattle.std.proofs.raw_atomic.Walks.{proved_at, leaves}
-use Rattle.std.proofs.BoxSteps.Form as box
-use Rattle.std.proofs.BoxSteps.Steps.{box_out, box_in}
-use Rattle.std.specs.contracts.boxed.Box.from_raw as callee
 use Rattle.std.proofs.boxed.Box.from_raw.Met.{met}
-use Rattle.pim_c.proofs.RawBoxes.{struct_of_two, RawBox, raw_box_good, opens_raw_box}
+use Rattle.std.proofs.BoxSteps.Form as box
+use Rattle.std.specs.contracts.boxed.Box.from_raw as callee
 use Rattle.pim_c.specs.contracts.raw_box.RawBox.into_box as f
 use Rattle.pim_c.proofs.raw_box.RawBox.into_box.Statement.{statement}
 use Rattle.pim_c.proofs.raw_box.RawBox.into_box.Code as code

@@ -1,38 +1,18 @@
 -- `of` calls `Box::into_raw_with_allocator`, and stores the pointer with the allocator.
-use Rattle.std.proofs.Common.{◌≡◌, List, [], ◌∷◌, ◌++◌, refl, sym, ap, ◌∙◌, subst}
-use mir.Syntax.{a_type, dcons, dnil}
-use mir.Val.{Val, vptr, vstruct, of_list}
-use mir.MapTy.{inst_fn}
-use base.Logic.{SProp, ent, emp, id⊢}
-use base.Fml.{ftrue, fsep, flft}
-use prog.Wp.{WpFn}
-use types.Kit.{‵, raw, ◌⊛◌, some, later, ◌$◌, ◌∵◌, !, qed, by, move, keep, drop, split, split3, join, fsplit, fjoin}
-use types.Kit.{fpick, pick, suffices, use0, use1, await, rewrite, feq_l}
-use types.Run.{stop, fld, of_opd, no_more, and_then, returns, enter}
-use types.ByLocal.{alloc_all, pass_all, free_all, look_at, get, get_in, sets, lands_as}
-use types.Part.{agg, sub, whole}
-use contract.Monad.{fact, fact_i}
-use contract.Running.{tables}
-use denote.Exit.{no}
-use denote.RattleType.{RattleType, owns}
-use denote.Signature.{types_at, plain}
-use denote.Builtin.{RawPtr}
-use denote.RawPtr.{Ptr, block_ptr, ptr_val}
-use denote.Steps.{nothing, only, heard}
-use denote.Param.{param, bounded}
-use denote.Param.Laws.{param_laws}
+use Rattle.pim_c.proofs.Handles.{◌≡◌, List, [], ◌∷◌, ◌++◌, refl, sym, ap, ◌∙◌, subst, a_type, dcons, dnil, Val, vptr}
+use Rattle.pim_c.proofs.Handles.{vstruct, of_list, inst_fn, SProp, ent, emp, id⊢, ftrue, fsep, flft, WpFn, ‵, raw}
+use Rattle.pim_c.proofs.Handles.{◌⊛◌, some, later, ◌$◌, ◌∵◌, !, qed, by, move, keep, drop, split, split3, join}
+use Rattle.pim_c.proofs.Handles.{fsplit, fjoin, fpick, pick, suffices, use0, use1, await, rewrite, feq_l, stop, fld}
+use Rattle.pim_c.proofs.Handles.{of_opd, no_more, and_then, returns, enter, alloc_all, pass_all, free_all, look_at}
+use Rattle.pim_c.proofs.Handles.{get, get_in, sets, lands_as, agg, sub, whole, fact, fact_i, tables, no, RattleType}
+use Rattle.pim_c.proofs.Handles.{owns, types_at, plain, RawPtr, Ptr, block_ptr, ptr_val, nothing, only, heard, param}
+use Rattle.pim_c.proofs.Handles.{bounded, param_laws, triple_of, calls_at, framed, Stays, stay_dropped, walk_of}
+use Rattle.pim_c.proofs.Handles.{Goes-blank, handle_tells, proved_at, leaves, box_out, box_in, struct_of_two, memory}
+use Rattle.pim_c.proofs.Handles.{memory_in_a_block, allocator, raw_box_good, closes_raw_box}
 use denote.Struct.Tuple.{Tuple}
-use denote.Triple.Spec.{triple_of}
-use denote.Triple.Call.{calls_at}
-use denote.Triple.Table.{framed}
-use denote.Triple.Walked.{Stays, stay_dropped, walk_of}
-use Rattle.std.proofs.alloc.Calls.{Goes-blank, handle_tells}
-use Rattle.std.proofs.raw_atomic.Walks.{proved_at, leaves}
-use Rattle.std.proofs.BoxSteps.Form as box
-use Rattle.std.proofs.BoxSteps.Steps.{box_out, box_in}
-use Rattle.std.specs.contracts.boxed.Box.into_raw_with_allocator as callee
 use Rattle.std.proofs.boxed.Box.into_raw_with_allocator.Met.{met}
-use Rattle.pim_c.proofs.RawBoxes.{struct_of_two, memory, memory_in_a_block, allocator, raw_box_good, closes_raw_box}
+use Rattle.std.proofs.BoxSteps.Form as box
+use Rattle.std.specs.contracts.boxed.Box.into_raw_with_allocator as callee
 use Rattle.pim_c.specs.contracts.raw_box.RawBox.of as f
 use Rattle.pim_c.proofs.raw_box.RawBox.of.Statement.{statement}
 use Rattle.pim_c.proofs.raw_box.RawBox.of.Code as code
