@@ -94,8 +94,8 @@
  *   pim_drop             192   gives them back
  *   pim_lock             512   n hops at most for the test of deadlock, a queue, and the walk
  *   pim_try              512   the walk
- *   pim_unlock           512   a queue, and the walk
- *   pim_release_all      576   that for each mutex that the task owns
+ *   pim_unlock           512   a queue, and at most 2 priorities
+ *   pim_release_all      576   a queue and a priority for each mutex that the task owns, and 1 more
  *   pim_cancel           512   a queue, and the walk
  *   pim_set_base         512   the walk
  *   pim_set_ceiling      512   the walk
@@ -114,12 +114,13 @@
  *   pim_next_ticket       64   a few loads
  *   pim_version           64   a constant
  *
- * The walk goes from the task whose cause changed along the chain of tasks that wait for one
- * another, as far as priorities change: the answer says by `visits` how many it computed. They are
- * at least the tasks whose priority changed, and at most 1 more, and 2 for each mutex whose owner
- * changed: that is proved. A visit looks at the mutexes that the task owns, or at one alone, or at
- * the task that leaves its queue, where that shows that the priority stays; it counts as computed
- * then. To find a place in a queue is a binary search, and moves the waiters behind it.
+ * The walk goes from the task whose priority the call may change along the chain of tasks that wait
+ * for one another, as far as priorities change. The answer's `visits` says how many priorities the
+ * call computed: at least one for each task whose priority changed; at most that, 1 more, and 2 for
+ * each mutex whose owner changed. That is proved. To compute a priority, a call looks at the mutexes
+ * that the task owns. Where a look at one mutex, or at the task that leaves its queue, shows that the
+ * priority stays, none is computed. To find a place in a queue is a binary search, and moves the
+ * waiters behind it.
  *
  *
  * What grows
