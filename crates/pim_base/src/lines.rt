@@ -48,35 +48,3 @@ pub enum Verdict {
     /// The number of the first step, counted from 1, whose recorded reply differs from the model's.
     Rejected(u32),
 }
-
-#[cfg(test)]
-mod tests {
-    use super::*;
-    use crate::steps::{Op, Refusal};
-
-    #[test]
-    fn ceil_and_recursive_and_what_they_are_answered_came_with_version_2(rt: HostRuntime) {
-        let step = |op: Op, recorded: Option<Reply>| {
-            let actor = TaskNo(1);
-            Line::Step(StepLine {
-                step: Step { actor, op },
-                recorded,
-            })
-        };
-        let not_protect = Some(Reply::Refused(Refusal::NotProtect));
-        let mutex = |protocol: Protocol| {
-            let number = MutexNo(1);
-            Line::Mutex { number, protocol }
-        };
-        assert_eq!(rt; mutex(Protocol::Inherit).since(), 1);
-        assert_eq!(rt; mutex(Protocol::InheritRecursive).since(), 2);
-        assert_eq!(rt; step(Op::Lock(MutexNo(1)), Some(Reply::Granted)).since(), 1);
-        assert_eq!(rt; step(Op::Lock(MutexNo(1)), not_protect).since(), 2);
-        assert_eq!(rt; step(Op::SetCeiling(MutexNo(1), 10), None).since(), 2);
-        assert_eq!(rt; step(Op::Unlock(MutexNo(1)), Some(Reply::Kept)).since(), 2);
-        assert_eq!(rt;
-            step(Op::Lock(MutexNo(1)), Some(Reply::Refused(Refusal::Again))).since(),
-            2
-        );
-    }
-}
