@@ -10,8 +10,8 @@ ghost use Rattle.pim_chain.specs.Settled.{SettledBut, changed};
 ghost use Rattle.pim_sets.specs.Work.{Tells};
 
 use crate::tables::Tables;
+use crate::visits::Visits;
 use pim_base::{MutexNo, TaskNo, Wait};
-use pim_sets::Visits;
 
 impl Tables {
     /// Makes the task, which must wait for nothing, the owner of the mutex, which must be free, and restores all

@@ -14,8 +14,9 @@ ghost use Rattle.pim_chain.specs.Settled.{SettledBut, Unsettles, SettledIdle, Ha
 ghost use Rattle.pim_sets.specs.Work.{Tells, VisitedOnce};
 
 use crate::tables::Tables;
+use crate::visits::Visits;
 use pim_base::{MutexNo, TaskNo, Waiter};
-use pim_sets::{Owned, Visits, put};
+use pim_sets::{Owned, put};
 
 impl Tables {
     // Stores the local priority of a task that waits for nothing. This is one visit.

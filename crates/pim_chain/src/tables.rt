@@ -16,9 +16,10 @@ ghost use Rattle.pim_sets.specs.Numbers.{members};
 ghost use Rattle.pim_chain.specs.Settled.{Calm, Unsettles, joined, left};
 
 use crate::queues::Queues;
+use crate::visits::Visits;
 use pim_base::{MutexNo, Prio, Protocol, TaskNo, Wait, Waiter, nth};
 use pim_queue::Queue;
-use pim_sets::{Changed, NumberSet, Owned, OwnedSets, Visits, filled, put};
+use pim_sets::{Changed, NumberSet, Owned, OwnedSets, filled, put};
 use std::alloc::{AllocError, Global};
 use std::marker::Model;
 

@@ -12,8 +12,9 @@ ghost use Rattle.pim_chain.specs.Settled.{SettledBut, Visited, next_of, changed}
 ghost use Rattle.pim_sets.specs.Work.{Tells, VisitedOnce};
 
 use crate::tables::Tables;
+use crate::visits::Visits;
 use pim_base::{MutexNo, Prio, Protocol, TaskNo, Waiter, higher};
-use pim_sets::{Visits, put};
+use pim_sets::put;
 
 impl Tables {
     // Returns the priority of the first waiter for the known mutex.

@@ -1,9 +1,8 @@
 //! Sets of the numbers of tasks or mutexes, and notes of the priorities that tasks had.
 //!
 //! A [`NumberSet`] has a bit for each number. [`OwnedSets`] keeps the mutexes that each task owns, and
-//! [`Visits`] counts the visits of a step and, on request, notes the tasks whose stored priority it wrote.
-//! [`Changed`] goes through those whose stored priority is now another one. No set allocates after it is
-//! made.
+//! [`Notes`] the priority that each noted task had. [`Changed`] goes through those whose stored priority is now
+//! another one. No set allocates after it is made.
 //!
 //! ```text
 //! let mut set = NumberSet::new();
@@ -20,7 +19,6 @@ mod number_set;
 mod numbered;
 mod owned;
 mod owned_sets;
-mod visits;
 
 pub use changed::Changed;
 pub use notes::Notes;
@@ -28,4 +26,3 @@ pub use number_set::{NumberSet, Numbers};
 pub use numbered::{filled, put};
 pub use owned::Owned;
 pub use owned_sets::OwnedSets;
-pub use visits::Visits;
