@@ -1,14 +1,18 @@
 //! Runs of scripts: a worker for each task, and the trace of the run.
-ghost use Rattle.std.specs.Prelude.{◌≡◌, [], Some, IfOk, IfErr, IfSome};
+ghost use Rattle.std.specs.Prelude.{◌≡◌, ◌≤◌, [], length, Some, IfOk, IfErr, IfSome};
 ghost use Rattle.pim_base.specs.Texts.{lines_of};
+ghost use Rattle.pim_base.specs.State.{State};
+ghost use Rattle.pim_base.specs.Runs.{IsRun};
+ghost use Rattle.pim_base.specs.declared.limits.TheConstants.{MAX_WORKERS};
 ghost use Rattle.pim_base.specs.Recordings.{IsRunOf};
 ghost use Rattle.pim_text.specs.Reading.{trace_of};
 ghost use Rattle.pim_tool.specs.Running.{IsRunnable, SpellsRunnable, IsTraceOfRun, IsEndOfReport, IsVerdictOfRun};
 ghost use Rattle.pim_tool.specs.Running.{Unread, IsOfRun, Wrote, StandsAfter, call};
 
 use crate::scripts::scripts_of;
-use pim_base::{MAX_WORKERS, Verdict};
+use pim_base::{MAX_WORKERS, Op, Verdict};
 use pim_judge::{Fault, Sink, Source, manager_of, parse_script, read_all};
+use pim_manager::Manager;
 use pim_runs::{judge_entries, print_trace, print_verdict};
 use pim_shared::{Log, Shared, gather, run_scripts};
 use pim_text::Text;
@@ -108,12 +112,30 @@ fn log_of_run<T: Threads + Wait + Sync>(rt: &T, alloc: Global, script: &Text) ->
 {
     let scripts = scripts_of(alloc, script)?;
     let start = manager_of(alloc, script)?;
-    let manager = start.try_clone(alloc)?;
     let room = script.lines.len() + script.bases.len();
+    let log = run_from(rt, alloc, &start, &scripts, room)?;
+    Ok(gather(log, &start, &scripts)?)
+}
+
+/// Runs the scripts from this state, and returns the log of that run, which has room for `room` entries.
+fn run_from<T: Threads + Wait + Sync>(
+    rt: &T,
+    alloc: Global,
+    start: &Manager,
+    scripts: &[Vec<Op>],
+    room: usize,
+) -> Result<Log, Fault>
+    requires few { length scripts.now ≤ MAX_WORKERS }
+    ensures run { IfOk result (λ log. (end : State) × IsRun log.start log.entries end) }
+    ensures fault { IfErr result IsOfRun }
+{
+    let manager = start.try_clone(alloc)?;
     let (shared, _no_lookers) = Shared::new(rt, alloc, manager, room, 0)?;
-    let ran = run_scripts(rt, alloc, &shared, &scripts);
+    let ran = run_scripts(rt, alloc, &shared, scripts);
     // Only this call closes what is shared, so it is made after a fault, too.
     let (_end, log) = shared.finish(rt);
-    ran?;
-    Ok(gather(log, &start, &scripts)?)
+    match ran {
+        Ok(()) => Ok(log),
+        Err(fault) => Err(Fault::Shared(fault)),
+    }
 }
