@@ -8,6 +8,8 @@ import time
 
 ROOT = pathlib.Path(__file__).resolve().parent.parent
 COUNTS = {"ok": 0, "FAIL": 0, "skip": 0}
+# What takes longer hangs, on the busiest machine. A check waits for what it needs, never for a time that it should take.
+SECONDS = 300
 
 
 def check(name, why=None):
@@ -42,7 +44,7 @@ def end():
     sys.exit(1 if COUNTS["FAIL"] else 0)
 
 
-def answer(command, text=b"", seconds=60, **settings):
+def answer(command, text=b"", seconds=SECONDS, **settings):
     """Returns status, standard output and standard error of a command that is given the text.
 
     A command that hasn't ended after so many seconds is killed, with all that it started. Its
@@ -62,7 +64,7 @@ def answer(command, text=b"", seconds=60, **settings):
             raise
 
 
-def ended(child, seconds=60):
+def ended(child, seconds=SECONDS):
     """Returns the status of a child, which is killed if it hasn't ended after so many seconds."""
     try:
         return child.wait(seconds)
@@ -72,7 +74,7 @@ def ended(child, seconds=60):
         return f"no end within {seconds} s"
 
 
-def until(what, seconds=20):
+def until(what, seconds=SECONDS):
     """Waits until what the function returns is true, or so many seconds are over, and returns it."""
     deadline = time.monotonic() + seconds
     while not (found := what()) and time.monotonic() < deadline:

@@ -15,7 +15,7 @@ import time
 import types
 from unittest import mock
 
-from checks import ROOT, check, difference
+from checks import ROOT, SECONDS, check, difference
 
 sys.path.insert(0, str(ROOT / "conform"))
 import compare
@@ -78,7 +78,7 @@ def lines_read():
 
 def commands(folder):
     """Commands that are run: their outputs, statuses, and what ends one that hangs."""
-    same("a command's outputs", compare.run(["sh", "-c", "cat; echo ' why ' >&2; exit 3"], "in", 20), 3, "in", "why")
+    same("a command's outputs", compare.run(["sh", "-c", "cat; echo ' why ' >&2; exit 3"], "in", SECONDS), 3, "in", "why")
     slow = script(folder, "slow", "exec sleep 100")
     began = time.monotonic()
     same("a command that hangs is ended", fault_of(compare.run, [str(slow)], "", 1), "slow didn't end within 1 s", 2)

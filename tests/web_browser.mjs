@@ -13,6 +13,15 @@ const CODES = {
 
 export const pause = ms => new Promise(done => setTimeout(done, ms))
 
+/** What takes longer hangs, on the busiest machine. */
+export const HANGS = 300_000
+
+/** Waits until what the function returns is true, and fails if it hangs. */
+export async function until(what, isSo) {
+  for (const begin = Date.now(); !await isSo(); await pause(25))
+    if (Date.now() - begin > HANGS) throw Error(`it hangs: ${what}`)
+}
+
 /** What the page evaluates to wait until it was drawn again. */
 export const TWO_FRAMES = 'new Promise(done => requestAnimationFrame(() => requestAnimationFrame(done)))'
 
@@ -73,10 +82,8 @@ export class Page {
   async load(url) {
     await this.call('Page.navigate', { url: 'about:blank' })
     await this.call('Page.navigate', { url })
-    for (let i = 0; i < 400; i++) {
-      await pause(25)
-      if (await this.evaluate('document.readyState === "complete" && location.href !== "about:blank"')) return
-    }
+    await until(`loading ${url}`,
+      () => this.evaluate('document.readyState === "complete" && location.href !== "about:blank"'))
   }
 
   async size(width, height, dark) {
@@ -115,7 +122,7 @@ export class Page {
     await this.pipe.call('Tracing.start', { traceConfig, transferMode: 'ReportEvents' })
     await work()
     await this.pipe.call('Tracing.end')
-    while (!this.heard.some(({ method }) => method === 'Tracing.tracingComplete')) await pause(20)
+    await until('the trace', () => this.heard.some(({ method }) => method === 'Tracing.tracingComplete'))
     const isTracing = ({ method }) => /^Tracing/.test(method), told = this.heard.filter(isTracing)
     this.pipe.heard = this.heard.filter(it => !isTracing(it))
     return told.flatMap(it => it.params.value ?? [])

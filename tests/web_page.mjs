@@ -4,7 +4,7 @@
 // too. A line of JSON is printed for each thing that is shown: its name and the value. With SHOTS, a
 // folder, screenshots of three sizes go there.
 import { copyFileSync, existsSync, readFileSync, renameSync } from 'node:fs'
-import { Page, TWO_FRAMES, pause } from './web_browser.mjs'
+import { HANGS, Page, TWO_FRAMES, pause, until } from './web_browser.mjs'
 import { edited } from './web_edits.mjs'
 
 const [program, address, folder, shots] = process.argv.slice(2)
@@ -20,7 +20,8 @@ const all = (query, of) => page.evaluate(`[...document.querySelectorAll('${query
 const settled = () => page.evaluate(`(async () => {
   const isBusy = () => document.getElementById('main').getAttribute('aria-busy') === 'true'
     || !document.getElementById('start').hidden && !document.querySelector('#start mark')
-  for (let n = 0; n < 6000 && isBusy(); n++) await new Promise(done => setTimeout(done, 5))
+  const begin = Date.now()
+  while (isBusy() && Date.now() - begin < ${HANGS}) await new Promise(done => setTimeout(done, 5))
 })()`)
 
 async function pressed(...key) {
@@ -354,8 +355,9 @@ async function files() {
     document.body.dispatchEvent(new DragEvent('drop', { dataTransfer: data, bubbles: true, cancelable: true })) }`)
   await verdict(/rejected at step 1$/)
   await settled()
-  // The address follows a quarter of a second later.
-  await pause(600)
+  // The address follows later.
+  await until('the address', () => page.evaluate(
+    `decodeURIComponent(location.hash) === '#trace=' + document.getElementById('text').value`))
   show('a file dropped', [await text('verdict'), await report()])
   show('the caret behind a file', await page.evaluate(`{ const it = document.getElementById('text')
     ;[it.selectionStart === it.value.length, it.selectionEnd === it.value.length] }`))
@@ -404,7 +406,7 @@ async function saved(kind) {
   const isEnd = ({ method, params }) => method === 'Browser.downloadProgress' && params.state !== 'inProgress'
   page.pipe.heard = page.heard.filter(it => !isEnd(it))
   await page.evaluate(`document.getElementById('${kind}').click()`)
-  for (let n = 0; n < 1200 && !page.heard.some(isEnd); n++) await pause(50)
+  await until(`saving ${kind}`, () => page.heard.some(isEnd))
 }
 
 /** Returns the milliseconds of CPU time that the page's own thread has taken. */
@@ -419,9 +421,9 @@ const drop = `async text => {
   data.items.add(new File([text], 'dropped.pim'))
   document.body.dispatchEvent(new DragEvent('drop', { dataTransfer: data, bubbles: true, cancelable: true }))
 }`
-/** Waits until the page says so, two minutes at most: then what it shows is compared, and wrong. */
+/** Waits until the page says so. If it hangs, what it shows is compared, and wrong. */
 const verdict = wanted => page.evaluate(`new Promise(done => { const begin = Date.now(), wait = () =>
-  ${wanted}.test(document.getElementById('verdict').textContent) || Date.now() - begin > 120_000
+  ${wanted}.test(document.getElementById('verdict').textContent) || Date.now() - begin > ${HANGS}
     ? done() : setTimeout(wait, 5); wait() })`)
 
 /** Drops a text, and returns the milliseconds that the page's own thread took until all is drawn. */
@@ -667,7 +669,8 @@ async function lastWins() {
     await taken
     Blob.prototype.text = text })()`)
   await choose('ceilings')
-  await pause(300)
+  await pause(300) // in which the other text may come
+  await verdict(/accepted 7/)
   show('the last text', [await text('verdict'), await report()])
   await choose('inversion_avoided')
   await page.evaluate(`(async () => {
@@ -681,6 +684,8 @@ async function lastWins() {
     read()
     Blob.prototype.text = text })()`)
   await pause(300)
+  await verdict(/accepted 7/)
+  await settled()
   show('a file that is read after a later text', [await text('verdict'), await report()])
 }
 
@@ -859,7 +864,8 @@ async function looks() {
       const name = `${width} pixels, ${dark ? 'dark' : 'light'}`
       for (const what of ['start', 'boost_through_a_chain', 'ceilings', 'recording_rejected']) {
         await choose(what)
-        await pause(60)
+        await page.evaluate(TWO_FRAMES)
+        await settled()
         const wide = await page.evaluate(`document.documentElement.scrollWidth - ${width}`)
         show(`${name}, ${what}`, [Math.max(0, wide), await page.evaluate(CONTRASTS)])
         if (shots) await page.shot(`${shots}/${width}-${dark ? 'dark' : 'light'}-${what}.png`)
