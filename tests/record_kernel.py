@@ -11,12 +11,11 @@ import sys
 import tempfile
 import time
 
-from checks import ROOT, check, children_of, difference, ended, is_gone, proc_text, skip, stat_of, until
+from checks import ROOT, SECONDS, check, children_of, difference, ended, is_gone, proc_text, skip, stat_of, until
 
 RECORD = ROOT / "record"
 PROGRAMS = RECORD / "out/programs"
 STORED = RECORD / "recorded"
-SECONDS = 300  # a build may take long on a busy machine
 
 sys.path.insert(0, str(RECORD))
 import kernel_text
@@ -256,11 +255,24 @@ def random_program(reader, folder):
     check("the file's process is the log's", difference((text.head.process,), (log.head.process,)))
 
 
+STARTED = []
+
+
 def started(folder, *command, options=(), **how):
     """Starts a recording, and returns its process, which is the shell of pim-record at first."""
     words = [RECORD / "pim-record", "--kernel", "-o", pathlib.Path(folder, "run"), *options, *command]
     pipes = {"stdout": subprocess.PIPE, "stderr": subprocess.PIPE, "text": True}
-    return subprocess.Popen([str(word) for word in words], **pipes, **how)
+    STARTED.append(subprocess.Popen([str(word) for word in words], **pipes, **how))
+    return STARTED[-1]
+
+
+def end_started():
+    """Ends the recordings that a part has left, as one that broke off."""
+    for child in STARTED:
+        if child.poll() is None:
+            child.kill()
+            ended(child)
+    STARTED.clear()
 
 
 def first_line(child):
@@ -406,7 +418,7 @@ def guards(folder, tracefs):
 def streams(folder, tracefs):
     """Who waits for the end of the program's streams waits no longer than for the recorder and the program."""
     text = f"{RECORD}/pim-record --kernel -o {folder}/run sh -c 'echo out; echo err >&2' 2>&1 | cat"
-    done = run("sh", "-c", text, timeout=60)
+    done = run("sh", "-c", text)
     check("a pipe of both streams ends", difference((done.returncode, done.stdout, done.stderr), (0, "out\nerr\n", "")))
     ours, its = os.pipe()
     high = fcntl.fcntl(its, fcntl.F_DUPFD, 200)
@@ -520,16 +532,28 @@ def mounted(folder):
     return check("a tracefs that has no place", why or "; ".join(faults))
 
 
-def lost(reader, folder):
-    """A recorder that is held up loses events, and reports when and how many."""
-    child = started(folder, PROGRAMS / "random", "1", "4000", options=["--buffer", "8"])
+def overwritten(instance):
+    """Returns how many events an instance has overwritten, on all CPUs."""
+    texts = [path.read_text() for path in instance.glob("per_cpu/cpu*/stats")]
+    return sum(int(number) for text in texts for number in re.findall(r"^overrun: (\d+)$", text, re.M))
+
+
+def lost(folder, tracefs):
+    """A recorder that is held up until events are overwritten reports when and how many."""
+    waits = f"read line; exec {PROGRAMS}/random 1 4000"
+    child = started(folder, "sh", "-c", waits, options=["--buffer", "8"], stdin=subprocess.PIPE)
     name = "a recording with lost events keeps the laws"
     if not until(lambda: program_of(child)):
         child.terminate()
         check(name, f"no program was seen, status {ended(child)}: {child.stderr.read()}")
         return
+    program = program_of(child)
+    instance, = tracefs.own()
     child.send_signal(signal.SIGSTOP)
-    time.sleep(0.3)
+    until(lambda: stat_of(child.pid)[:1] == ["T"])
+    child.stdin.write("go\n")
+    child.stdin.flush()
+    until(lambda: overwritten(tracefs.instances / instance) or is_gone(program))
     child.send_signal(signal.SIGCONT)
     _, said = child.communicate(timeout=SECONDS)
     text = kernel_text.KernelText(pathlib.Path(folder, "run.kernel").read_bytes())
@@ -960,8 +984,8 @@ def kernel_files(folder):
     lines(folder)
 
 
-def kernel(reader, folder):
-    """Recordings with --kernel, where they can be made."""
+def kernel(attempt, reader, folder):
+    """Recordings with --kernel, where they can be made. A part that breaks off leaves the others as they are."""
     without_rights(reader, folder)
     tracefs = Tracefs()
     try:
@@ -971,9 +995,11 @@ def kernel(reader, folder):
                  (random_program, reader, folder), (ends, reader, folder, tracefs),
                  (signals, folder, tracefs), (killed, reader, folder, tracefs), (guards, folder, tracefs),
                  (streams, folder, tracefs), (adopted, folder), (settings, folder, tracefs), (inherited, folder),
-                 (no_room, reader, folder), (containers, reader, folder), (mounted, folder), (lost, reader, folder))
+                 (no_room, reader, folder), (containers, reader, folder), (mounted, folder), (lost, folder, tracefs))
         for part, *arguments in parts:
-            part(*arguments)
+            attempt(part, *arguments)
+            end_started()
+            until(lambda: not tracefs.own())
         return check("no instance of a recording is left", difference((tracefs.own(),), ([],)))
     finally:
         tracefs.end()

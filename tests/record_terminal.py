@@ -11,10 +11,9 @@ import select
 import signal
 import time
 
-from checks import ROOT, check, difference, is_gone, skip, stat_of, threads_of, until
-from record_kernel import Tracefs, faults_of, guard_of
+from checks import ROOT, SECONDS, check, difference, is_gone, skip, stat_of, threads_of, until
+from record_kernel import Tracefs, faults_of, guard_of, is_descendant
 
-SECONDS = 300
 INTERRUPT, QUIT, SUSPEND = b"\x03", b"\x1c", b"\x1a"
 KEYS = str(ROOT / "record/out/programs/keys")
 
@@ -45,6 +44,9 @@ def stopped(process):
     return any(stat_of(f"{process}/task/{thread}")[:1] == ["T"] for thread in threads_of(process))
 
 
+LEFT = []  # the terminals that haven't ended
+
+
 class Terminal:
     """A terminal, what is printed there, and the job that runs there."""
 
@@ -57,6 +59,7 @@ class Terminal:
             shell(command, notes, orders)
         os.close(notes)
         os.close(orders)
+        LEFT.append(self)
         self.text, self.job = "", self.note()
         self.program = int(self.text.split()[1][:-1]) if self.prints(".") else None
 
@@ -86,15 +89,15 @@ class Terminal:
     def is_stopped(self, by=signal.SIGTSTP):
         """Returns whether the shell sees that the job was stopped by the signal, and the program is."""
         status = self.note() or 0
-        return os.WIFSTOPPED(status) and os.WSTOPSIG(status) == by and until(lambda: stopped(self.program), SECONDS)
+        return os.WIFSTOPPED(status) and os.WSTOPSIG(status) == by and until(lambda: stopped(self.program))
 
     def runs(self):
         """Returns whether neither the program nor pim-record is stopped, in time."""
-        return until(lambda: not stopped(self.program) and not stopped(self.job), SECONDS)
+        return until(lambda: not stopped(self.program) and not stopped(self.job))
 
     def sleeps(self):
         """Returns whether the job waits for what comes, in time: pim-record has told its guard that it goes on."""
-        return until(lambda: stat_of(self.job)[:1] == ["S"], SECONDS)
+        return until(lambda: stat_of(self.job)[:1] == ["S"])
 
     def end(self):
         """Returns the job's last status by the convention of waitstatus_to_exitcode."""
@@ -102,12 +105,22 @@ class Terminal:
         while status is not None and os.WIFSTOPPED(status):
             status = self.note()
         if status is None:
-            os.killpg(self.job, signal.SIGKILL)
-            os.kill(self.shell, signal.SIGKILL)
+            self.kill()
+        self.close()
+        return None if status is None else -os.WTERMSIG(status) if os.WIFSIGNALED(status) else os.WEXITSTATUS(status)
+
+
+    def kill(self):
+        """Kills what runs of the job, and the shell."""
+        for process in filter(None, (self.program, self.job, self.shell)):
+            if is_descendant(process) and not is_gone(process):
+                os.kill(process, signal.SIGKILL)
+
+    def close(self):
         os.waitpid(self.shell, 0)
         for file in (self.keys, self.notes, self.orders):
             os.close(file)
-        return None if status is None else -os.WTERMSIG(status) if os.WIFSIGNALED(status) else os.WEXITSTATUS(status)
+        LEFT.remove(self)
 
 
 def stops(folder, kernel, tracefs):
@@ -120,7 +133,7 @@ def stops(folder, kernel, tracefs):
     job.presses(SUSPEND)
     got.append(job.is_stopped())
     os.write(job.orders, b"f")
-    until(lambda: not stopped(job.program), SECONDS)
+    until(lambda: not stopped(job.program))
     job.presses(INTERRUPT)
     return difference((*got, job.end()), (True, 1, True, True, -signal.SIGINT))
 
@@ -135,7 +148,7 @@ def stops_again(folder, kernel, _):
     os.kill(job.program, signal.SIGCONT)
     got.append(job.prints("goes on"))
     os.kill(job.program, signal.SIGTSTP)
-    until(lambda: stopped(job.program), SECONDS)
+    until(lambda: stopped(job.program))
     os.write(job.orders, b"-")
     if kernel:
         os.kill(job.job, signal.SIGCONT)
@@ -259,7 +272,7 @@ def leaves(folder, kernel, _):
     """A program whose terminal is closed ends by SIGHUP, with nothing left."""
     job = Terminal(folder, kernel)
     os.kill(job.shell, signal.SIGKILL)
-    return None if until(lambda: is_gone(job.job), SECONDS) else "it runs on"
+    return None if until(lambda: is_gone(job.job)) else "it runs on"
 
 
 PARTS = {"Ctrl-Z, fg, Ctrl-C": stops, "stopped again by others": stops_again,
@@ -270,7 +283,16 @@ PARTS = {"Ctrl-Z, fg, Ctrl-C": stops, "stopped again by others": stops_again,
          "a terminal that is closed": leaves}
 
 
-def terminal(folder):
+def tried(name, part, folder, kernel, tracefs):
+    why = part(folder, kernel, tracefs)
+    if kernel and not why:
+        faults = faults_of(pathlib.Path(folder, "run.kernel").read_bytes())
+        why = "; ".join(faults) if until(lambda: not tracefs.own()) else "it left an instance"
+    check(f"at a terminal{' with --kernel' if kernel else ''}: {name}", why)
+
+
+def terminal(attempt, folder):
+    """Each part at a terminal, without --kernel and with it. One that breaks off leaves the others as they are."""
     tracefs = Tracefs()
     try:
         ways = [[]] if tracefs.missing else [[], ["--kernel"]]
@@ -278,10 +300,9 @@ def terminal(folder):
             skip("--kernel at a terminal", tracefs.missing)
         for kernel in ways:
             for name, part in PARTS.items():
-                why = part(folder, kernel, tracefs)
-                if kernel and not why:
-                    faults = faults_of(pathlib.Path(folder, "run.kernel").read_bytes())
-                    why = "; ".join(faults) if until(lambda: not tracefs.own()) else "it left an instance"
-                check(f"at a terminal{' with --kernel' if kernel else ''}: {name}", why)
+                attempt(tried, name, part, folder, kernel, tracefs)
+                for job in [*LEFT]:
+                    job.kill()
+                    job.close()
     finally:
         tracefs.end()

@@ -66,7 +66,10 @@ static int create_file(const char *name) {
     refuse(name, "there are too many logs of this name");
 }
 
-/* A file longer than the process's limit would have it killed by a signal. */
+static const char log_magic[8] = { 'p', 'i', 'm', 'l', 'o', 'g', '\r', '\n' };
+
+/* A file longer than the process's limit would have it killed by a signal. The magic comes first: so
+ * what a program leaves that is killed meanwhile is a log, too, which the next recording replaces. */
 static void *map_file(int file, uint64_t bytes) {
     struct rlimit limit;
     if (getrlimit(RLIMIT_FSIZE, &limit) == 0 && limit.rlim_cur < bytes) {
@@ -74,7 +77,8 @@ static void *map_file(int file, uint64_t bytes) {
         refuse(log_path, "the log is longer than the limit of a file (ulimit -f)");
     }
     void *memory = MAP_FAILED;
-    if (ftruncate(file, (off_t)bytes) == 0)
+    bool is_marked = write(file, log_magic, sizeof log_magic) == sizeof log_magic;
+    if (is_marked && ftruncate(file, (off_t)bytes) == 0)
         memory = mmap(NULL, bytes, PROT_READ | PROT_WRITE, MAP_SHARED, file, 0);
     if (memory != MAP_FAILED && madvise(memory, HEADER_BYTES, MADV_POPULATE_WRITE) != 0)
         if (errno != EINVAL) memory = MAP_FAILED;
@@ -122,7 +126,6 @@ void log_make(void) {
     header->command_bytes = read_command(header->command);
     atomic_store(&header->next_number, 1);
     atomic_store(&header->next_thread, 1);
-    memcpy(header->magic, "pimlog\r\n", sizeof header->magic);
     log_header = header;
 }
 

@@ -6,9 +6,11 @@
 
 static pthread_mutex_t mutex = PTHREAD_MUTEX_INITIALIZER;
 static sem_t is_coming;
+static _Atomic pid_t waiting;
 
 static void *waiter(void *unused) {
     sem_post(&is_coming);
+    comes(&waiting);
     lock(&mutex);
     return unused;
 }
@@ -19,7 +21,7 @@ int main(int count, char **arguments) {
     lock(&mutex);
     start(waiter, NULL);
     while (sem_wait(&is_coming)) continue;
-    rest(500); /* until the other waits */
+    until_waits(&waiting);
     if (count > 1) raise(SIGKILL);
     abort();
 }

@@ -5,12 +5,13 @@
 
 static pthread_mutex_t mutex;
 static sem_t is_owned, is_tried;
+static _Atomic pid_t waiting;
 
 static void *owner(void *unused) {
     lock(&mutex);
     sem_post(&is_owned);
     while (sem_wait(&is_tried)) continue;
-    rest(200); /* until the other waits */
+    until_waits(&waiting);
     unlock(&mutex);
     return unused;
 }
@@ -18,6 +19,7 @@ static void *owner(void *unused) {
 static void *waiter(void *unused) {
     expect(pthread_mutex_trylock(&mutex), EBUSY, "pthread_mutex_trylock");
     sem_post(&is_tried);
+    comes(&waiting);
     lock(&mutex);
     unlock(&mutex);
     return unused;

@@ -5,10 +5,12 @@
 
 static pthread_mutex_t a, b;
 static sem_t step, done;
+static _Atomic pid_t waiting[3];
 
 static void *low(void *unused) {
     lock(&a);
     sem_post(&step);
+    comes(&waiting[0]);
     while (sem_wait(&done)) continue;
     unlock(&a);
     return unused;
@@ -17,6 +19,7 @@ static void *low(void *unused) {
 static void *middle(void *unused) {
     lock(&b);
     sem_post(&step);
+    comes(&waiting[1]);
     lock(&a);
     unlock(&a);
     unlock(&b);
@@ -25,6 +28,7 @@ static void *middle(void *unused) {
 
 static void *high(void *unused) {
     sem_post(&step);
+    comes(&waiting[2]);
     lock(&b);
     unlock(&b);
     return unused;
@@ -42,7 +46,7 @@ int main(void) {
     for (int i = 0; i < 3; i++) {
         threads[i] = start_at(10 * (i + 1), bodies[i], NULL);
         while (sem_wait(&step)) continue;
-        rest(50); /* until the thread waits */
+        until_waits(&waiting[i]);
     }
     sem_post(&done);
     for (int i = 2; i >= 0; i--) join(threads[i]);

@@ -3,6 +3,7 @@
 #define COMMON_H
 
 #include <errno.h>
+#include <fcntl.h>
 #include <pthread.h>
 #include <sched.h>
 #include <semaphore.h>
@@ -11,6 +12,7 @@
 #include <stdio.h>
 #include <stdlib.h>
 #include <string.h>
+#include <sys/syscall.h>
 #include <sys/wait.h>
 #include <time.h>
 #include <unistd.h>
@@ -62,6 +64,24 @@ static inline struct timespec after(clockid_t clock, long milliseconds) {
     time.tv_sec += milliseconds / 1000 + time.tv_nsec / 1000000000;
     time.tv_nsec %= 1000000000;
     return time;
+}
+
+/* Stores the calling thread. From then on it sleeps in no call but the one that until_waits is for. */
+static inline void comes(_Atomic pid_t *thread) {
+    *thread = (pid_t)syscall(SYS_gettid);
+}
+
+/* Waits until a thread has come and sleeps, however busy the machine is. */
+static inline void until_waits(const _Atomic pid_t *thread) {
+    for (char state = '?'; state != 'S'; rest(1)) {
+        char path[64], line[256] = "";
+        snprintf(path, sizeof path, "/proc/self/task/%d/stat", *thread);
+        int file = open(path, O_RDONLY | O_CLOEXEC);
+        ssize_t length = file < 0 ? 0 : read(file, line, sizeof line - 1);
+        if (file >= 0) close(file);
+        const char *behind = length > 0 ? strrchr(line, ')') : NULL;
+        if (behind && behind[1] != '\0') state = behind[2];
+    }
 }
 
 /* Makes a mutex of a protocol and a type; a ceiling counts for PTHREAD_PRIO_PROTECT. */

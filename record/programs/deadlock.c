@@ -5,12 +5,14 @@
 
 static pthread_mutex_t first, second;
 static sem_t has_first, has_second;
+static _Atomic pid_t waiting[2];
 
 static void *one(void *unused) {
     pthread_setname_np(pthread_self(), "one");
     lock(&first);
     sem_post(&has_first);
     while (sem_wait(&has_second)) continue;
+    comes(&waiting[0]);
     lock(&second);
     return unused;
 }
@@ -20,6 +22,7 @@ static void *two(void *unused) {
     pthread_setname_np(pthread_self(), "two");
     lock(&second);
     sem_post(&has_second);
+    comes(&waiting[1]);
     lock(&first);
     return unused;
 }
@@ -31,6 +34,6 @@ int main(void) {
     make(&second, PTHREAD_PRIO_NONE, PTHREAD_MUTEX_NORMAL, 0);
     start(one, NULL);
     start(two, NULL);
-    rest(1000); /* until both wait */
+    for (int i = 0; i < 2; i++) until_waits(&waiting[i]);
     return 0;
 }

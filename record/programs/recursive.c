@@ -5,12 +5,13 @@
 
 static pthread_mutex_t mutex;
 static sem_t is_owned, is_coming;
+static _Atomic pid_t waiting;
 
 static void *owner(void *unused) {
     for (int i = 0; i < 3; i++) lock(&mutex);
     sem_post(&is_owned);
     while (sem_wait(&is_coming)) continue;
-    rest(500); /* until the other waits */
+    until_waits(&waiting);
     for (int i = 0; i < 3; i++) unlock(&mutex);
     return unused;
 }
@@ -18,6 +19,7 @@ static void *owner(void *unused) {
 static void *waiter(void *unused) {
     while (sem_wait(&is_owned)) continue;
     sem_post(&is_coming);
+    comes(&waiting);
     errno = 77; /* which its first recorded call doesn't change */
     lock(&mutex);
     expect(errno, 77, "errno after the first lock");
