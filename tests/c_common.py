@@ -2,7 +2,7 @@
 import os
 import subprocess
 
-from checks import ROOT, check, difference
+from checks import ROOT, SECONDS, check, difference
 
 C = ROOT / "c"
 OUT = C / "out"
@@ -13,9 +13,9 @@ README = (C / "README.md").read_text()
 def run(*command, text=None, **settings):
     """Returns status and standard output of a run, with standard error where the status isn't 0."""
     try:
-        done = subprocess.run([str(word) for word in command], input=text, capture_output=True, timeout=120, **settings)
+        done = subprocess.run([str(word) for word in command], input=text, capture_output=True, timeout=SECONDS, **settings)
     except subprocess.TimeoutExpired:
-        return 124, b"it did not end in 120 seconds"
+        return 124, b"it hangs"
     return done.returncode, done.stdout + (done.stderr if done.returncode else b"")
 
 

@@ -2,7 +2,7 @@
 import subprocess
 import sys
 
-from checks import ROOT, check, difference, program
+from checks import ROOT, SECONDS, check, difference, program
 
 sys.path.insert(0, str(ROOT / "bench"))
 from texts import TEXTS, mixed, wide  # noqa: E402
@@ -14,9 +14,9 @@ def replayed(name, pim, machine, texts):
     """Replays each text, and asks every getter after each step; compares with what the program prints."""
     count = 0
     for count, text in enumerate(texts, 1):
-        wanted = subprocess.run([pim], input=text, capture_output=True, timeout=60)
+        wanted = subprocess.run([pim], input=text, capture_output=True, timeout=SECONDS)
         replay = [*machine.runs, machine.out / "replay", "-check"]
-        got = subprocess.run(replay, input=text, capture_output=True, timeout=60)
+        got = subprocess.run(replay, input=text, capture_output=True, timeout=SECONDS)
         why = difference((got.returncode, got.stderr, got.stdout), (wanted.returncode, b"", wanted.stdout))
         if why:
             return check(f"replayed as the program does: {name}", f"text {count}: {why}")

@@ -203,7 +203,7 @@ def importer(folder, *lines):
 def bench(*arguments):
     """Returns the status of bench-import, how many lines it prints, and what it says."""
     command = [BENCH, "--records", "3000", "--runs", "1", *map(str, arguments)]
-    status, out, err = answer(command, seconds=300)
+    status, out, err = answer(command)
     return status, out.decode().splitlines(), err.decode()
 
 
