@@ -864,6 +864,7 @@ async function looks() {
       const name = `${width} pixels, ${dark ? 'dark' : 'light'}`
       for (const what of ['start', 'boost_through_a_chain', 'ceilings', 'recording_rejected']) {
         await choose(what)
+        await pause(60)
         await page.evaluate(TWO_FRAMES)
         await settled()
         const wide = await page.evaluate(`document.documentElement.scrollWidth - ${width}`)
