@@ -161,7 +161,7 @@ pub record KeepsPlace (r s : ReplayState) (t : ℕ) : Type 0 where
 abbrev pub KeepsOrder : ReplayState → ReplayState → Type 0
 KeepsOrder r s = (t : ℕ) → KeepsPlace r s t
 
--- why an observation isn't replayed: there is a last entry, whose reply contradicts it, or memory ran out
+-- why an observation isn't replayed: memory ran out, or a reply contradicts it; of that it says only that there is an entry
 abbrev pub IsReplayFault : ReplayState → ReplayFault → Type 0
 IsReplayFault r Contradiction = (before : List Entry) × (last : Entry) × (r.entries ≡ before ++ last ∷ [])
 IsReplayFault r Memory = Unit {0}

@@ -57,7 +57,8 @@ pub enum ImportFault {
     /// The thread of the record with this number has a number above [`MAX_THREADS`](crate::MAX_THREADS).
     #[error("record {0}: it has more threads than can be imported, which are 4194304")]
     TooManyThreads(u64),
-    /// When the thread or mutex with this number takes part, as many others do as a trace has numbers for.
+    /// More threads take part at one time than a trace has numbers for. Or the mutexes need more numbers: those of one
+    /// protocol as many as take part at one time, and the three protocols share none.
     #[error("more than 256 threads, or more than 256 mutexes, contend at one time")]
     Crowded,
     /// Threads have more priorities than a trace has: 1 to 99 of SCHED_FIFO or SCHED_RR, and others.

@@ -1,7 +1,7 @@
 //! Laws on which an import rests: what it leaves out of a trace, and how it renames priorities, changes nothing else.
 //!
 //! They are laws over the definitions of pim_base: each is the contract of a function that does nothing, so that it is
-//! proved. specs/Laws.antt has them.
+//! proved. `specs/LeavingOut.antt` and `specs/Renaming.antt` have them.
 #![tactic(auto)]
 
 ghost use Rattle.pim_import_laws.specs.LeavingOut.{UnawaitedLaw, BesideLaw, LeavingOutLaw};
