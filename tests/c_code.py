@@ -1,4 +1,4 @@
-"""Checks of the C around libpim: the files of c/heap, c/threads and c/pthreads, and blocks of memory that are refused."""
+"""Checks of libpim's calls, and of the C around it: the files of c/heap, c/threads and c/pthreads, and refused blocks."""
 import re
 
 from c_common import C, HERE, OUT, expect, run, said
@@ -13,6 +13,16 @@ def wrapped(source, *names):
     """Returns the linker's flags for the functions that a C file replaces, and for these."""
     found = re.findall(r"\b__wrap_(\w+)\(", source.read_text()) + re.findall(r"^GUARDED\([^,]*, (\w+),", source.read_text(), re.M)
     return [f"-Wl,--wrap={name}" for name in sorted({*found, *names})]
+
+
+# ---- calls
+
+def calls(folder, machine=HERE):
+    """What the functions of pim.h return and write, where no trace has a line for it."""
+    files = (TESTS / "calls.c", C / "heap/malloc.c")
+    made = machine.compiled(folder, "calls", *files, flags=machine.sanitized)
+    if made:
+        told("calls.c", machine.run(made))
 
 
 # ---- memory

@@ -24,11 +24,12 @@ def replayed(name, pim, machine, texts):
 
 
 def locked_often():
-    """Yields recorded texts in which a recursive mutex is locked as often as it may be, or once more."""
+    """Yields recorded texts in which a recursive mutex is locked as often as it may be, or more often."""
     declared = ["pim 2", "task 1 10", "task 2 50", "mutex 1 inherit recursive"]
     for locks in (1, 2, 255, 256):
         granted = min(locks, 255)
         steps = ["1 lock 1 = granted"] * granted + ["1 lock 1 = refused again"] * (locks - granted)
+        steps += ["1 try 1 = refused again"] if granted == 255 else []
         steps += ["2 lock 1 = queued"] + ["1 unlock 1 = kept"] * (granted - 1)
         for last in ("1 unlock 1 = handed 2", "1 release = released 1", "1 unlock 1 = kept"):
             yield "\n".join([*declared, *steps, last, ""]).encode()

@@ -13,7 +13,7 @@ use pim_base::Reply;
 
 /// The answer to a step, in C.
 #[repr(C)]
-#[derive(Clone, Copy, Debug, PartialEq, Eq)]
+#[derive(Clone, Copy)]
 pub struct CAnswer {
     /// The number of the reply, or `NO_MANAGER`.
     pub kind: u8,

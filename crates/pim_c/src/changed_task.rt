@@ -8,7 +8,7 @@ use pim_manager::ChangedTask;
 
 /// A task whose effective priority a step changed, in C.
 #[repr(C)]
-#[derive(Clone, Copy, Debug, PartialEq, Eq)]
+#[derive(Clone, Copy)]
 pub struct CChangedTask {
     /// The task.
     pub task: u16,

@@ -26,7 +26,5 @@ mod numbers;
 mod raw_box;
 mod reason;
 mod steps;
-#[cfg(test)]
-mod tests;
 mod version;
 mod waiter;

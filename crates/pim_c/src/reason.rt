@@ -8,7 +8,7 @@ use pim_base::Reason;
 
 /// Why a task has its effective priority, in C.
 #[repr(C)]
-#[derive(Clone, Copy, Debug, PartialEq, Eq)]
+#[derive(Clone, Copy)]
 pub struct CReason {
     /// The number of the reason.
     pub kind: u16,

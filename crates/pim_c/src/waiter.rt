@@ -7,7 +7,7 @@ use pim_base::Waiter;
 
 /// A task in the queue of a mutex, in C.
 #[repr(C)]
-#[derive(Clone, Copy, Debug, PartialEq, Eq)]
+#[derive(Clone, Copy)]
 pub struct CWaiter {
     /// The task that waits.
     pub task: u16,
