@@ -2,7 +2,8 @@
 //
 // PAGE is the folder of the page's scripts. Prints a line of JSON for each text: kind, number, the
 // report's SHA-256, how many states that the getters give differ from the report, and how many bars
-// differ from the states. Then one line for a module whose memory is 6 MiB at most, and one for its heap.
+// differ from the states. Then one line for what calls write, with what is wrong or null for each; one
+// for a module whose memory is 6 MiB at most; and one for its heap.
 import { createHash } from 'node:crypto'
 import { existsSync, readFileSync } from 'node:fs'
 
@@ -99,6 +100,74 @@ for (let n = 0; existsSync(`${folder}/${n}`); n++) {
   const wrong = isDrawn ? wrongPictures(engine, bytes.toString(), report, made) : [0, 0]
   console.log(JSON.stringify([kind, number, hash, ...wrong]))
 }
+
+// ---- what pim_judge and pim_read write
+
+const MARK = 0x2d // '-', in each byte that no call wrote
+const BOOSTED = 'pim 1\ntask 1 10\nmutex 1 protect 40\n1 lock 1\n'
+const BOOSTED_REPORT = '1 granted\n  task 1 at 40 ceiling 1\naccepted 1\n'
+const PARTS = 'pim 2\ntask 1 10\ntask 2 50\nmutex 1 none\nmutex 2 inherit\nmutex 3 protect 60\n' +
+  'mutex 4 inherit recursive\n1 lock 3\n2 try 4\n3 unlock 5\n1 release = released 1\n2 cancel 1\n' +
+  '1 base 2 20\n2 ceil 3 70\n'
+
+// a text, the room for its report, and what is written: kind, number and length, and the report
+const JUDGED = {
+  'a long buffer has the report at its front': [BOOSTED, 47, [0, 1, 46], BOOSTED_REPORT],
+  'a short buffer has the front of the report': [BOOSTED, 4, [0, 1, 46], '1 gr'],
+  'a report without a buffer has a length': [BOOSTED, 0, [0, 1, 46], ''],
+  'an invalid line has no report': ['pim 1\ntask 1 10\n1 lokc 1\n', 8, [2, 3, 0], ''],
+  'an empty text is invalid at line 1': ['', 8, [2, 1, 0], ''],
+}
+
+// a text, the rooms for its parts, and what is written: kind, line and counts; bases, protocols and steps
+const READ = {
+  'each part is read as its numbers': [PARTS, [3, 5, 8], [0, 0, 2, 4, 7], [
+    [10, 50],
+    [[0, 0], [1, 0], [2, 60], [3, 0]],
+    [[1, 1, 3, 0], [2, 2, 4, 0], [3, 3, 5, 0], [1, 4, 0, 0], [2, 5, 1, 0], [1, 6, 2, 20], [2, 7, 3, 70]]]],
+  'short buffers have the first parts': [PARTS, [1, 0, 1], [0, 0, 2, 4, 7], [[10], [], [[1, 1, 3, 0]]]],
+  'an invalid line has no parts': ['pim 1\ntask 1 10\ntask 3 10\n', [2, 2, 2], [2, 3, 0, 0, 0], [[], [], []]],
+}
+
+/** Returns the address of marked bytes: so many, and 16 behind them, which no call may write. */
+function marked(bytes) {
+  const at = engine.memory.room(bytes + 16)
+  engine.memory.bytes(at, bytes + 16).fill(MARK)
+  return at
+}
+
+/** Says where what is written from an address on differs from the wanted bytes and the marks behind them, or null. */
+function wrongBytes(at, room, wanted) {
+  const got = Buffer.from(engine.memory.bytes(at, room + 16))
+  const whole = Buffer.concat([Buffer.from(wanted), Buffer.alloc(room + 16 - wanted.length, MARK)])
+  return got.equals(whole) ? null : `${got.toString('hex')} in place of ${whole.toString('hex')}`
+}
+
+/** Says which number differs, or returns null. */
+function wrongNumbers(got, wanted) {
+  return got.join(' ') === wanted.join(' ') ? null : `${got.join(' ')} in place of ${wanted.join(' ')}`
+}
+
+function wrongJudged([text, room, numbers, report]) {
+  const { memory, pim, out } = engine, to = marked(room)
+  engine.withBytes(Buffer.from(text), (at, n) => pim.pim_judge(out, at, n, to, BigInt(room)))
+  const got = [memory.u32(out, 0), memory.u32(out, 1), memory.u64(out, 1)]
+  return wrongNumbers(got, numbers) ?? wrongBytes(to, room, Buffer.from(report))
+}
+
+function wrongRead([text, rooms, numbers, parts]) {
+  const { memory, pim, out } = engine, bytes = [2, 4, 8].map((size, i) => size * rooms[i])
+  const to = bytes.map(marked), buffers = to.flatMap((at, i) => [at, BigInt(rooms[i])])
+  engine.withBytes(Buffer.from(text), (at, n) => pim.pim_read(out, at, n, ...buffers))
+  const got = [memory.u32(out, 0), memory.u32(out, 1), ...[1, 2, 3].map(place => memory.u64(out, place))]
+  const wrong = parts.map((part, i) =>
+    wrongBytes(to[i], bytes[i], Buffer.from(Uint16Array.from(part.flat()).buffer)))
+  return wrongNumbers(got, numbers) ?? wrong.find(why => why) ?? null
+}
+
+const wrongCalls = Object.entries(JUDGED).map(([name, row]) => [`pim_judge: ${name}`, wrongJudged(row)])
+wrongCalls.push(...Object.entries(READ).map(([name, row]) => [`pim_read: ${name}`, wrongRead(row)]))
+console.log(JSON.stringify(wrongCalls))
 
 const small = new Engine(new WebAssembly.Module(limited(wasm, 96)), 1 << 12)
 const huge = `pim 1\ntask 1 1\n${'1 lock 1\n'.repeat(65536)}`

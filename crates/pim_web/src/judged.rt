@@ -8,7 +8,7 @@ use pim_base::Verdict;
 
 /// The verdict on a text, or the fault that prevented one.
 #[repr(C)]
-#[derive(Clone, Copy, Debug, PartialEq, Eq)]
+#[derive(Clone, Copy)]
 pub struct CJudged {
     /// ACCEPTED, REJECTED, INVALID or NO_MEMORY.
     pub kind: u32,

@@ -14,5 +14,3 @@ mod judging;
 mod numbers;
 mod parts;
 mod reading;
-#[cfg(test)]
-mod tests;

@@ -8,7 +8,7 @@ use pim_base::{Op, Prio, Step, StepLine};
 
 /// The step of a line, without the recorded reply.
 #[repr(C)]
-#[derive(Clone, Copy, Debug, PartialEq, Eq)]
+#[derive(Clone, Copy)]
 pub struct CStep {
     /// The task that makes the step.
     pub actor: u16,

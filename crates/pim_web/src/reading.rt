@@ -16,7 +16,7 @@ use std::alloc::Global;
 
 /// How many tasks, mutexes and steps a text has, or the fault that prevented reading it.
 #[repr(C)]
-#[derive(Clone, Copy, Debug, PartialEq, Eq)]
+#[derive(Clone, Copy)]
 pub struct CRead {
     /// ACCEPTED, INVALID or NO_MEMORY.
     pub kind: u32,
