@@ -1,38 +1,36 @@
-//! The texts of the faults.
+//! pim_manager: the texts of the faults.
 
-use SharedFault::{Closed, Full, NoPlace, Torn};
 use pim_manager::{MakeFault, SharedFault};
-use std::process::Abort;
 use std::test::Fail;
 
-fn expect_text(rt: &impl Abort, printed: &str, text: &str) {
-    assert_eq!(rt; printed, text);
-}
+const MAKE_FAULTS: [(MakeFault, &str); 3] = [
+    (MakeFault::TooManyTasks, "too many tasks"),
+    (MakeFault::TooManyMutexes, "too many mutexes"),
+    (MakeFault::Memory, "memory"),
+];
 
 #[test]
 fn each_fault_of_making_has_its_text(rt: HostRuntime) -> Result<(), Fail> {
-    for (fault, text) in [
-        (MakeFault::TooManyTasks, "too many tasks"),
-        (MakeFault::TooManyMutexes, "too many mutexes"),
-        (MakeFault::Memory, "memory"),
-    ] {
+    for (fault, text) in MAKE_FAULTS {
         let printed = format!(in rt.alloc(); "{fault}")?;
-        expect_text(&rt, printed.as_str(), text);
+        assert!(rt; printed.as_str() == text, "{text}");
     }
     Ok(())
 }
 
+const SHARED_FAULTS: [(SharedFault, &str); 5] = [
+    (SharedFault::Full, "full"),
+    (SharedFault::Memory, "memory"),
+    (SharedFault::Closed, "closed"),
+    (SharedFault::Torn, "torn"),
+    (SharedFault::NoPlace, "no place"),
+];
+
 #[test]
 fn each_shared_fault_has_its_text(rt: HostRuntime) -> Result<(), Fail> {
-    for (fault, text) in [
-        (Full, "full"),
-        (SharedFault::Memory, "memory"),
-        (Closed, "closed"),
-        (Torn, "torn"),
-        (NoPlace, "no place"),
-    ] {
+    for (fault, text) in SHARED_FAULTS {
         let printed = format!(in rt.alloc(); "{fault}")?;
-        expect_text(&rt, printed.as_str(), text);
+        assert!(rt; printed.as_str() == text, "{text}");
     }
     Ok(())
 }

@@ -1,10 +1,7 @@
 use Rattle.std.proofs.Common.{None}
 use Rattle.pim_chain.specs.Views.{stored_at}
 use Rattle.pim_chain.specs.Settled.{SettledBut}
-use Rattle.pim_chain_tests.proofs.playing.play.Given as goal
+use Rattle.pim_manager_tests.proofs.walks.play.Given as goal
 
 abbrev pub invariant-loop-row : goal.invariant-loop-row
 invariant-loop-row g l = SettledBut l.tables.state (stored_at l.tables) None
-
-abbrev pub invariant-loop-level : goal.invariant-loop-level
-invariant-loop-level g l = SettledBut l.tables.state (stored_at l.tables) None
