@@ -8,7 +8,7 @@ use pim_base::{MutexNo, Op, Prio, Step, TaskNo};
 use pim_plain::PlainManager;
 use rand_core::utils::NextWord;
 use rand_pcg::Pcg32;
-use std::alloc::Global;
+use std::alloc::{AllocError, Global};
 use std::process::Abort;
 use std::test::Fail;
 
@@ -93,40 +93,41 @@ fn any_step(random: &mut Pcg32, plain: &PlainManager) -> Step {
     Step { actor, op }
 }
 
-/// Every task has the same priority and reason, and is listed with them if its priority changed.
+/// Every task has the same base, priority and reason. Exactly those tasks are listed, in ascending order, that have
+/// another priority than before.
 fn expect_same_tasks(rt: &impl Abort, both: &Both<'_, impl Abort>, before: &[Option<Prio>; 7]) {
+    let mut changed = both.tracked.changed();
     for number in 1..TASKS + 1 {
         let task = TaskNo(number);
-        let prio = both.effective(task);
-        let reason = both.reason(task);
-        let listed = both.tracked.changed().find(|listed| listed.task == task);
-        let listed = listed.map(|listed| (Some(listed.prio), Some(listed.reason)));
-        let expected = if before[number as usize] == prio {
-            None
-        } else {
-            Some((prio, reason))
-        };
-        let shown = (both.manager().base(task), listed);
-        assert_eq!(rt; shown, (both.plain.base(task), expected), "{task:?}");
+        assert!(rt;
+            both.manager().base(task) == both.plain.base(task),
+            "{task:?}"
+        );
+        let (prio, reason) = (both.effective(task), both.reason(task));
+        if before[number as usize] != prio {
+            let listed = changed.next().expect(rt, "a changed task");
+            let is_listed = listed.task == task && Some(listed.prio) == prio;
+            assert!(rt; is_listed && Some(listed.reason) == reason, "{task:?}");
+        }
     }
+    assert!(rt; changed.next().is_none());
 }
 
 /// Every mutex has the same protocol, the same owner, the same count and the same queue.
-fn expect_same_mutexes(rt: &impl Abort, both: &Both<'_, impl Abort>) -> Result<(), Fail> {
+fn expect_same_mutexes(rt: &impl Abort, both: &Both<'_, impl Abort>) -> Result<(), AllocError> {
     for number in 1..MUTEXES + 1 {
         let mutex = MutexNo(number);
-        let shown = (
-            both.manager().protocol(mutex),
-            both.manager().owner(mutex),
-            both.manager().count(mutex),
+        let (manager, plain) = (both.manager(), &both.plain);
+        assert!(rt;
+            manager.protocol(mutex) == plain.protocol(mutex),
+            "{mutex:?}"
         );
-        let expected = (
-            both.plain.protocol(mutex),
-            Some(both.plain.owner_of(mutex)),
-            both.plain.count(mutex),
+        assert!(rt;
+            manager.owner(mutex) == Some(plain.owner_of(mutex)),
+            "{mutex:?}"
         );
-        assert_eq!(rt; shown, expected, "{mutex:?}");
-        both.queue(mutex)?;
+        assert!(rt; manager.count(mutex) == plain.count(mutex), "{mutex:?}");
+        both.expect_same_queue(mutex)?;
     }
     Ok(())
 }
@@ -136,7 +137,7 @@ fn expect_agreement(
     rt: &impl Abort,
     both: &mut Both<'_, impl Abort>,
     seed: u64,
-) -> Result<(), Fail> {
+) -> Result<(), AllocError> {
     let mut random = Pcg32::new(seed, 54);
     for _step in 0..1000 {
         let step = any_step(&mut random, &both.plain);
@@ -152,7 +153,7 @@ fn expect_agreement(
 }
 
 fn expect_same_ticket(rt: &impl Abort, both: &Both<'_, impl Abort>) {
-    assert_eq!(rt; both.manager().next_ticket(), both.plain.next_ticket());
+    assert!(rt; both.manager().next_ticket() == both.plain.next_ticket());
 }
 
 fn agree(rt: &impl Abort, alloc: Global, seed: u64) -> Result<(), Fail> {

@@ -12,7 +12,7 @@ use Refusal::{
     Waiting,
 };
 use Seen::{Base, Ceiling, Donated};
-use pim_base::{MutexNo, Prio, Protocol, Refusal, TaskNo};
+use pim_base::{MutexNo, Prio, Protocol, Refusal, TaskNo, Wait};
 use pim_plain::PlainManager;
 use std::process::Abort;
 use std::test::Fail;
@@ -370,13 +370,14 @@ fn only_owners_unlock_and_only_waiters_withdraw() -> &'static Scene {
 }
 
 /// Task 2 has the last ticket but one, and the last ticket is never used.
-fn expect_last_ticket(rt: &impl Abort, both: &Both<'_, impl Abort>) -> Result<(), Fail> {
-    let first = both.queue(MutexNo(1))?.first().map(|waiter| waiter.ticket);
-    let wait = both.plain.wait_of(TaskNo(2)).map(|wait| wait.ticket);
-    assert_eq!(rt; [first, wait], [Some(u64::MAX - 1); 2]);
+fn expect_last_ticket(rt: &impl Abort, both: &Both<'_, impl Abort>) {
+    let second = Some(Wait {
+        mutex: MutexNo(1),
+        ticket: u64::MAX - 1,
+    });
+    assert!(rt; both.plain.wait_of(TaskNo(2)) == second);
     let next = [both.manager().next_ticket(), both.plain.next_ticket()];
-    assert_eq!(rt; next, [u64::MAX; 2]);
-    Ok(())
+    assert!(rt; next == [u64::MAX; 2]);
 }
 
 #[test]
@@ -391,7 +392,9 @@ fn last_ticket_is_given_out_and_no_more(rt: HostRuntime) -> Result<(), Fail> {
     ];
     let mut both = Both::with_next_ticket(&rt, rt.alloc(), LEVELS, &[INHERIT], u64::MAX - 1)?;
     both.play("the last ticket", ROWS);
-    expect_last_ticket(&rt, &both)
+    both.expect_same_queue(MutexNo(1))?;
+    expect_last_ticket(&rt, &both);
+    Ok(())
 }
 
 fn recursive_mutex_goes_to_its_waiter_at_the_last_unlock() -> &'static Scene {
@@ -429,7 +432,7 @@ fn lock_255_times(both: &mut Both<'_, impl Abort>) {
 }
 
 fn expect_count_1(rt: &impl Abort, both: &Both<'_, impl Abort>) {
-    assert_eq!(rt; both.manager().count(MutexNo(1)), Some(1));
+    assert!(rt; both.manager().count(MutexNo(1)) == Some(1));
 }
 
 #[test]
@@ -483,15 +486,14 @@ fn scenarios(rt: HostRuntime) -> Result<(), Fail> {
 fn expect_counts(rt: &impl Abort, plain: &PlainManager) {
     let [one, two] = [TaskNo(1), TaskNo(2)];
     let [recursive, once] = [MutexNo(1), MutexNo(2)];
-    let counts = [plain.count(recursive), plain.count(once)];
-    assert_eq!(rt; counts, [Some(2), Some(1)]);
+    assert!(rt; [plain.count(recursive), plain.count(once)] == [Some(2), Some(1)]);
     let is_so = [
         plain.is_kept(recursive),
         plain.relocks(one, recursive),
         plain.is_busy(two, recursive),
         plain.leads_back(one, recursive),
     ];
-    assert_eq!(rt; is_so, [true; 4]);
+    assert!(rt; is_so == [true; 4]);
     let is_not = [
         plain.is_kept(once),
         plain.relocks(one, once),
@@ -499,7 +501,7 @@ fn expect_counts(rt: &impl Abort, plain: &PlainManager) {
         plain.is_locked_too_often(one, recursive),
         plain.closes_cycle(one, recursive),
     ];
-    assert_eq!(rt; is_not, [false; 5]);
+    assert!(rt; is_not == [false; 5]);
 }
 
 #[test]
@@ -524,27 +526,24 @@ const PROTECTED: MutexNo = MutexNo(1);
 const INHERITED: MutexNo = MutexNo(2);
 
 fn expect_values(rt: &impl Abort, plain: &PlainManager) {
-    let counts = (plain.tasks(), plain.mutexes(), plain.next_ticket());
-    assert_eq!(rt; counts, (3, 2, 3));
-    let levels = [plain.base(TWO), plain.ceiling(PROTECTED)];
-    let shown = (levels, plain.protocol(INHERITED));
-    let expected = [Prio::new(40), Prio::new(50)];
-    assert_eq!(rt; shown, (expected, Some(Protocol::Inherit)));
+    assert!(rt; [plain.tasks(), plain.mutexes()] == [3, 2]);
+    assert!(rt; plain.next_ticket() == 3);
+    assert!(rt; [plain.base(TWO), plain.ceiling(PROTECTED)] == [Prio::new(40), Prio::new(50)]);
+    assert!(rt; plain.protocol(INHERITED) == Some(Protocol::Inherit));
 }
 
 fn expect_chain(rt: &impl Abort, plain: &PlainManager) {
-    let first = plain.first_of(INHERITED).map(|waiter| waiter.task);
+    let first = plain.first_of(INHERITED).expect(rt, "a waiter");
+    assert!(rt; first.task == THREE);
     let tasks = [
         plain.owner_of(INHERITED),
         plain.blocker(TWO),
-        first,
         plain.heir(TWO),
         plain.heir(THREE),
     ];
-    let expected = [Some(TWO), Some(ONE), Some(THREE), None, Some(TWO)];
-    assert_eq!(rt; tasks, expected);
-    let wait = plain.wait_of(THREE).map(|wait| (wait.mutex, wait.ticket));
-    assert_eq!(rt; wait, Some((INHERITED, 2)));
+    assert!(rt; tasks == [Some(TWO), Some(ONE), None, Some(TWO)]);
+    let (mutex, ticket) = (INHERITED, 2);
+    assert!(rt; plain.wait_of(THREE) == Some(Wait { mutex, ticket }));
 }
 
 fn expect_tests(rt: &impl Abort, plain: &PlainManager) {
@@ -558,18 +557,18 @@ fn expect_tests(rt: &impl Abort, plain: &PlainManager) {
         plain.on_inherit_chain(THREE, TWO),
         plain.closes_cycle(ONE, INHERITED),
     ];
-    assert_eq!(rt; is_so, [true; 8]);
+    assert!(rt; is_so == [true; 8]);
     let is_not = [
         plain.is_unknown_task(THREE),
         plain.is_unknown_mutex(INHERITED),
         plain.is_owned_by_another(ONE, PROTECTED),
         plain.on_inherit_chain(THREE, ONE),
     ];
-    assert_eq!(rt; is_not, [false; 4]);
+    assert!(rt; is_not == [false; 4]);
 }
 
 fn expect_effective(rt: &impl Abort, both: &Both<'_, impl Abort>) {
-    assert_eq!(rt; both.effective(ONE), Prio::new(50));
+    assert!(rt; both.effective(ONE) == Prio::new(50));
 }
 
 #[test]

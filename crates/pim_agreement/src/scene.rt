@@ -8,7 +8,7 @@ use pim_base::{
 };
 use pim_manager::{Done, Manager, TrackedManager};
 use pim_plain::PlainManager;
-use std::alloc::Global;
+use std::alloc::{AllocError, Global};
 use std::process::Abort;
 use std::test::Fail;
 
@@ -232,7 +232,7 @@ impl<'a, R: Abort> Both<'a, R> {
     /// Makes the step, to which both must reply the same.
     pub fn step(&mut self, step: Step) -> Done {
         let done = self.tracked.step(step);
-        assert_eq!(self.rt; self.plain.step(step), done.reply, "{step:?}");
+        assert!(self.rt; self.plain.step(step) == done.reply, "{step:?}");
         done
     }
 
@@ -244,25 +244,30 @@ impl<'a, R: Abort> Both<'a, R> {
     /// Returns the effective priority of the task.
     pub fn effective(&self, task: TaskNo) -> Option<Prio> {
         let prio = self.manager().effective(task);
-        assert_eq!(self.rt; self.plain.effective(task), prio, "{task:?}");
+        assert!(self.rt; self.plain.effective(task) == prio, "{task:?}");
         prio
     }
 
     /// Returns why the task has its effective priority.
     pub fn reason(&self, task: TaskNo) -> Option<Reason> {
         let reason = self.manager().reason(task);
-        assert_eq!(self.rt; self.plain.reason(task), reason, "{task:?}");
+        assert!(self.rt; self.plain.reason(task) == reason, "{task:?}");
         reason
     }
 
     /// Returns the waiters of the mutex, in order.
-    pub fn queue(&self, mutex: MutexNo) -> Result<&[Waiter], Fail> {
-        let waiters = self.manager().waiters(mutex).ok_or("a known mutex")?;
+    pub fn queue(&self, mutex: MutexNo) -> &[Waiter] {
+        let waiters = self.manager().waiters(mutex);
+        waiters.expect(self.rt, "a known mutex")
+    }
+
+    /// Both must have the same waiters for the mutex, in the same order.
+    pub fn expect_same_queue(&self, mutex: MutexNo) -> Result<(), AllocError> {
         let queue = self.plain.queue_of(self.alloc, mutex)?;
-        let is_same = queue.as_slice() == waiters;
+        let is_same = queue.as_slice() == self.queue(mutex);
         drop(queue);
         assert!(self.rt; is_same, "{mutex:?}");
-        Ok(waiters)
+        Ok(())
     }
 
     /// Makes the step, and tests its reply, the manager's visits, and the priority and reason of task 1, task 2 and so
@@ -270,13 +275,16 @@ impl<'a, R: Abort> Both<'a, R> {
     pub fn expect_step(&mut self, name: &str, step: Step, row: &Row) {
         let (reply, visits) = (row.1.reply(), row.2);
         let done = self.step(step);
-        assert_eq!(self.rt; done, Done { reply, visits }, "{name}: {step:?}");
+        assert!(self.rt; done == Done { reply, visits }, "{name}: {step:?}");
         for (number, seen) in (1u16..257).zip(row.3) {
-            let task = TaskNo(number);
-            let shown = (self.effective(task), self.reason(task));
-            let expected = (seen.prio(), Some(seen.reason()));
-            assert_eq!(self.rt; shown, expected, "{name}: {task:?} after {step:?}");
+            let is_seen = self.is_seen(TaskNo(number), *seen);
+            assert!(self.rt; is_seen, "{name}: {number} after {step:?}");
         }
+    }
+
+    /// Returns whether the task has this priority and this reason.
+    fn is_seen(&self, task: TaskNo, seen: Seen) -> bool {
+        self.effective(task) == seen.prio() && self.reason(task) == Some(seen.reason())
     }
 
     /// Makes the step of each row of a scenario, and tests what the row says.
@@ -287,11 +295,12 @@ impl<'a, R: Abort> Both<'a, R> {
     }
 
     /// Plays the parts of the scenario, and compares their queues.
-    fn play_parts(&mut self, scene: &Scene) -> Result<(), Fail> {
+    fn play_parts(&mut self, scene: &Scene) -> Result<(), AllocError> {
         for part in scene.parts {
             self.play(scene.name, part.0);
             if let Some((mutex, tasks)) = part.1 {
-                self.expect_queue(mutex, tasks)?;
+                self.expect_same_queue(MutexNo(mutex))?;
+                self.expect_queue(MutexNo(mutex), tasks);
             }
         }
         Ok(())
@@ -305,13 +314,12 @@ impl<'a, R: Abort> Both<'a, R> {
     }
 
     /// Tests that the queue of the mutex has these tasks, in order.
-    pub fn expect_queue(&self, mutex: u16, tasks: &[u16]) -> Result<(), Fail> {
-        let queue = self.queue(MutexNo(mutex))?;
-        assert_eq!(self.rt; queue.len(), tasks.len(), "mutex {mutex}");
+    fn expect_queue(&self, mutex: MutexNo, tasks: &[u16]) {
+        let queue = self.queue(mutex);
+        assert!(self.rt; queue.len() == tasks.len(), "{mutex:?}");
         for (waiter, task) in queue.iter().zip(tasks) {
-            assert_eq!(self.rt; waiter.task, TaskNo(*task), "mutex {mutex}");
+            assert!(self.rt; waiter.task == TaskNo(*task), "{mutex:?}: {task}");
         }
-        Ok(())
     }
 }
 
@@ -336,5 +344,6 @@ pub struct Scene {
 /// the one that it gives.
 pub fn play<R: Abort>(rt: &R, alloc: Global, scene: &Scene) -> Result<(), Fail> {
     let mut both = Both::new(rt, alloc, scene.bases, scene.kinds)?;
-    both.play_parts(scene)
+    both.play_parts(scene)?;
+    Ok(())
 }

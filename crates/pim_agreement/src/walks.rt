@@ -287,20 +287,20 @@ fn chain_of_all_tasks<'a, R: Abort>(rt: &'a R, alloc: Global) -> Result<Both<'a,
 fn expect_walk(rt: &impl Abort, both: &mut Both<'_, impl Abort>, row: &Row) {
     let (step, reply, visits) = (row.0.step(), row.1.reply(), row.2);
     let done = both.step(step);
-    let shown = (done, both.tracked.changed().count());
-    let expected = (Done { reply, visits }, visits as usize);
-    assert_eq!(rt; shown, expected, "{step:?}");
+    assert!(rt; done == Done { reply, visits }, "{step:?}");
+    let changed = both.tracked.changed().count();
+    assert!(rt; changed == visits as usize, "{step:?}");
 }
 
-/// Returns the effective priorities of the first task and of the last.
+/// Tests the effective priorities of the first task and of the last.
 fn expect_ends(rt: &impl Abort, both: &Both<'_, impl Abort>, first: u16, last: u16) {
     let ends = [both.effective(TaskNo(1)), both.effective(TaskNo(256))];
-    assert_eq!(rt; ends, [Prio::new(first), Prio::new(last)]);
+    assert!(rt; ends == [Prio::new(first), Prio::new(last)]);
 }
 
 fn expect_donated_by_101(rt: &impl Abort, both: &Both<'_, impl Abort>) {
     let donated = Some(Reason::Waiter(TaskNo(101), MutexNo(100)));
-    assert_eq!(rt; both.reason(TaskNo(100)), donated);
+    assert!(rt; both.reason(TaskNo(100)) == donated);
 }
 
 fn raise_and_lower(rt: &impl Abort, both: &mut Both<'_, impl Abort>) {
@@ -331,14 +331,14 @@ fn chain_of_all_tasks_is_raised_and_lowered(rt: HostRuntime) -> Result<(), Fail>
 /// The tasks up to this one are at their base, and the others have the last task's priority.
 fn expect_lowered(rt: &impl Abort, manager: &Manager, lowered: u16) {
     for number in 1u16..256 {
-        let (prio, reason) = if number <= lowered {
+        let task = TaskNo(number);
+        let (level, reason) = if number <= lowered {
             (10, Reason::Base)
         } else {
             (99, Reason::Waiter(TaskNo(number + 1), MutexNo(number)))
         };
-        let task = TaskNo(number);
-        let shown = (manager.effective(task), manager.reason(task));
-        assert_eq!(rt; shown, (Prio::new(prio), Some(reason)), "{task:?}");
+        assert!(rt; manager.effective(task) == Prio::new(level), "{number}");
+        assert!(rt; manager.reason(task) == Some(reason), "{number}");
     }
 }
 
@@ -364,24 +364,25 @@ fn withdrawal_from_the_middle_of_all_tasks_cuts_their_chain(rt: HostRuntime) -> 
 
 /// The tasks raised so far are first, by their tickets, and the others come after them.
 fn expect_raised(rt: &impl Abort, queue: &[Waiter], first: u16) {
-    assert_eq!(rt; queue.len(), 255);
+    assert!(rt; queue.len() == 255);
     for (number, waiter) in (first..257).chain(2..first).zip(queue) {
-        let prio = Prio::new(if number < first { 10 } else { 50 });
-        let shown = (waiter.task, Some(waiter.prio));
-        assert_eq!(rt; shown, (TaskNo(number), prio), "{first} is raised");
-        let next = waiter.ticket.checked_add(1);
-        assert_eq!(rt; next, Some(u64::from(number)), "{number}");
+        let level = if number < first { 10 } else { 50 };
+        let expected = Waiter {
+            task: TaskNo(number),
+            prio: Prio::new(level).expect(rt, "a priority"),
+            ticket: u64::from(number).saturating_sub(1),
+        };
+        assert!(rt; *waiter == expected, "{number} when {first} is raised");
     }
 }
 
 /// Task 1 owns mutex 1, and has the priority of its first waiter.
-fn expect_donated(rt: &impl Abort, manager: &Manager, first: u16) -> Result<(), Fail> {
-    let queue = manager.waiters(MutexNo(1)).ok_or("a known mutex")?;
-    expect_raised(rt, queue, first);
+fn expect_donated(rt: &impl Abort, manager: &Manager, first: u16) {
+    let queue = manager.waiters(MutexNo(1));
+    expect_raised(rt, queue.expect(rt, "a known mutex"), first);
+    assert!(rt; manager.effective(TaskNo(1)) == Prio::new(50));
     let donated = Reason::Waiter(TaskNo(first), MutexNo(1));
-    let shown = (manager.effective(TaskNo(1)), manager.reason(TaskNo(1)));
-    assert_eq!(rt; shown, (Prio::new(50), Some(donated)));
-    Ok(())
+    assert!(rt; manager.reason(TaskNo(1)) == Some(donated));
 }
 
 /// All tasks ask for mutex 1.
@@ -391,18 +392,16 @@ fn fill_queue(both: &mut Both<'_, impl Abort>) {
     }
 }
 
-fn raise_waiters(rt: &impl Abort, both: &mut Both<'_, impl Abort>) -> Result<(), Fail> {
+fn raise_waiters(rt: &impl Abort, both: &mut Both<'_, impl Abort>) {
     // The last waiter raises the owner. Each further one is put in front of all that were raised.
     for raised in 0u16..255 {
         let number = 256 - raised;
         let visits = if raised == 0 { 2 } else { 1 };
         let reply = Reply::Set;
         let done = both.step(set_base(1, number, 50));
-        assert_eq!(rt; done, Done { reply, visits }, "{number}");
-        expect_donated(rt, both.manager(), number)?;
+        assert!(rt; done == Done { reply, visits }, "{number}");
+        expect_donated(rt, both.manager(), number);
     }
-    both.queue(MutexNo(1))?;
-    Ok(())
 }
 
 /// Compares the replies with the plain manager, and the whole queue only at the end.
@@ -411,7 +410,8 @@ fn waiters_of_a_full_queue_are_raised_one_by_one(rt: HostRuntime) -> Result<(), 
     const HANDED: &[Row] = &[Row(Unlock(1, 1), Handed(2), 1, &[Base(10)])];
     let mut both = Both::new(&rt, rt.alloc(), &[10; 256], &[INHERIT])?;
     fill_queue(&mut both);
-    raise_waiters(&rt, &mut both)?;
+    raise_waiters(&rt, &mut both);
+    both.expect_same_queue(MutexNo(1))?;
     both.play("a full queue", HANDED);
     Ok(())
 }
