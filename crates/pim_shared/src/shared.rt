@@ -6,6 +6,7 @@ ghost use Rattle.std.specs.Vec.{vec_len};
 ghost use Rattle.pim_base.specs.Runs.{IsRun};
 ghost use Rattle.pim_shared.specs.Books.{IsCallFault};
 ghost use Rattle.pim_shared.specs.Lookers.{HaveSeenNothing, EndsWithNew};
+ghost use Rattle.pim_shared.specs.Publishers.{unpublished};
 ghost use Rattle.pim_base.specs.declared.limits.TheConstants.{MAX_LOOKERS};
 
 use crate::SharedFault;
@@ -53,23 +54,14 @@ impl Shared {
             return Err(SharedFault::NoPlace);
         }
         let start = manager.try_clone(alloc)?;
-        let second = manager.try_clone(alloc)?;
         let entries = Vec::with_capacity(alloc, room)?;
-        let mut publisher = Publisher::new(rt, alloc, manager, second, lookers)?;
-        match lookers_of(&mut publisher, alloc, lookers) {
-            Ok(lookers) => {
-                let book = Book::new(start, entries, room, publisher);
-                let shared = Shared {
-                    book: Mutex::new(book),
-                    changed: Condvar::new(),
-                };
-                Ok((shared, lookers))
-            }
-            Err(fault) => {
-                publisher.end(rt);
-                Err(fault)
-            }
-        }
+        let (publisher, lookers) = started(rt, alloc, manager, lookers)?;
+        let book = Book::new(start, entries, room, publisher);
+        let shared = Shared {
+            book: Mutex::new(book),
+            changed: Condvar::new(),
+        };
+        Ok((shared, lookers))
     }
 
     /// Makes one step under the lock by `Book::call`, and returns its reply.
@@ -142,6 +134,45 @@ impl Shared {
     {
         let Shared { book, changed: _ } = self;
         book.into_inner().end(rt)
+    }
+}
+
+/// Returns a publisher that starts in the state of `manager`, and `count` readers of it.
+fn started<R: Wait>(
+    rt: &R,
+    alloc: Global,
+    manager: Manager,
+    count: u16,
+) -> Result<(Publisher, Vec<Looker>), SharedFault>
+    ensures publisher { IfOk result (λ made. made.0 ≡ unpublished manager) }
+    ensures count { IfOk result (λ made. vec_len made.1 ≡ count) }
+    ensures lookers { IfOk result (λ made. HaveSeenNothing manager made.1.items) }
+    ensures refused { IfErr result (λ fault. (fault ≡ SharedFault.Memory) ⊎ (fault ≡ SharedFault.NoPlace)) }
+{
+    let second = manager.try_clone(alloc)?;
+    let publisher = Publisher::new(rt, alloc, manager, second, count)?;
+    with_lookers(rt, alloc, publisher, count)
+}
+
+/// Returns the publisher, and `count` readers of it. It ends the publisher if one of them can't be made.
+fn with_lookers<R: Wait>(
+    rt: &R,
+    alloc: Global,
+    publisher: Publisher,
+    count: u16,
+) -> Result<(Publisher, Vec<Looker>), SharedFault>
+    ensures publisher { IfOk result (λ made. made.0 ≡ publisher) }
+    ensures count { IfOk result (λ made. vec_len made.1 ≡ count) }
+    ensures lookers { IfOk result (λ made. HaveSeenNothing publisher.start made.1.items) }
+    ensures refused { IfErr result (λ fault. (fault ≡ SharedFault.Memory) ⊎ (fault ≡ SharedFault.NoPlace)) }
+{
+    let mut publisher = publisher;
+    match lookers_of(&mut publisher, alloc, count) {
+        Ok(lookers) => Ok((publisher, lookers)),
+        Err(fault) => {
+            publisher.end(rt);
+            Err(fault)
+        }
     }
 }
 

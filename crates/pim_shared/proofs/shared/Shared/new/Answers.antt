@@ -14,11 +14,3 @@ memory_or (Err f) h = inl h
 
 pub returns-in_err-entries-clause-refused : goal.returns-in_err-entries-clause-refused
 returns-in_err-entries-clause-refused g c = memory_or _ c.from_residual-in_err-entries.ensures.1
-
-pub returns-in_err-publisher-clause-refused : goal.returns-in_err-publisher-clause-refused
-returns-in_err-publisher-clause-refused g c = memory_or _ c.from_residual-in_err-publisher.ensures.1
-
-pub returns-in-Ok-clause-lookers : goal.returns-in-Ok-clause-lookers
-returns-in-Ok-clause-lookers g c k d less =
-    let start : c.in_ok-publisher.publisher.start ≡ c.args.manager = search rules in
-    c.in-Ok.ensures.lookers k d less ∙ ap (λ (S : State). record { start = S; entries = [] }) start
