@@ -23,8 +23,6 @@ mod looker;
 mod publisher;
 mod rule;
 mod shared;
-#[cfg(test)]
-mod tests;
 mod version;
 mod workers;
 

@@ -20,9 +20,6 @@ use pim_manager::Manager;
 use std::alloc::Global;
 use std::sync::{Condvar, Mutex, Wait};
 
-#[cfg(test)]
-mod tests;
-
 /// A manager that many threads call, one at a time, and that wait-free readers read without the lock.
 ///
 /// It isn't `Drop`: only `finish` ends it.

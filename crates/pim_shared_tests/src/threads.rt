@@ -1,9 +1,12 @@
 //! Threads that call one shared manager at the same time.
 
-use super::*;
-use crate::version::entry;
+use crate::making::{FIRST, by, entry, shared};
 use Op::{Try, Unlock};
-use pim_base::Entry;
+use pim_base::{Entry, Op, TaskNo};
+use pim_shared::Shared;
+use std::alloc::Global;
+use std::process::Abort;
+use std::sync::Wait;
 use std::thread::{Threads, join};
 
 const CALLS: usize = 100;
@@ -49,26 +52,21 @@ fn called<R: Threads + Wait + Sync>(rt: &R, shared: &Shared) -> (Called, Called)
     )
 }
 
-/// What a log shows: the numbers of tasks and mutexes at the start and the rest of it, the number of entries, and whether
-/// they are the calls of both tasks.
-type Logged = ((u16, u16), Shown, usize, (bool, bool));
-
-/// Lets two tasks call a shared manager.
-fn logged<R: Threads + Wait + Abort + Sync>(rt: &R, alloc: Global) -> Logged {
-    let (shared, _) = shared(rt, alloc, &[Protocol::None], 2 * CALLS, 0);
+/// Lets two tasks call a shared manager. Returns the number of entries in its log, and whether they are their calls.
+fn logged<R: Threads + Wait + Abort + Sync>(rt: &R, alloc: Global) -> (usize, bool, bool) {
+    let (shared, _) = shared(rt, alloc, 2 * CALLS, 0);
     let (one, two) = called(rt, &shared);
     let (_, log) = shared.finish(rt);
-    let (start, entries) = (log.start(), log.entries());
-    let counts = (start.tasks(), start.mutexes());
-    let are = (are_calls(entries, 1, &one), are_calls(entries, 2, &two));
-    (counts, shown(start), entries.len(), are)
+    let entries = log.entries();
+    (
+        entries.len(),
+        are_calls(entries, 1, &one),
+        are_calls(entries, 2, &two),
+    )
 }
 
 #[test]
 fn two_threads_have_all_their_calls_in_the_log(rt: HostRuntime) {
-    let (counts, start, entries, are) = logged(&rt, rt.alloc());
-    let free = (Some(None), Some(None), 1);
-    assert_eq!(rt; counts, (2, 1));
-    assert_eq!(rt; start, (free, [10, 20], Some(Protocol::None)));
-    assert_eq!(rt; (entries, are), (200, (true, true)));
+    let shown = logged(&rt, rt.alloc());
+    assert!(rt; shown == (200, true, true));
 }

@@ -3,36 +3,14 @@
 ghost use Rattle.std.specs.Prelude.{◌≤◌, length};
 ghost use Rattle.pim_base.specs.declared.limits.TheConstants.{MAX_WORKERS};
 
-use super::scripts_of;
-use crate::{Gate, Settled, SharedFault, run_scripts};
-use pim_base::{MAX_WORKERS, MutexNo, Op, Reply, Step, TaskNo};
+use crate::gates::Recorder;
+use crate::making::scripts_of;
+use pim_base::{MAX_WORKERS, Op};
+use pim_shared::{SharedFault, run_scripts};
 use std::alloc::{AllocError, Global};
 use std::process::Abort;
 use std::sync::Wait;
-use std::sync::atomic::{AtomicU64, Ordering};
 use std::thread::Threads;
-
-/// A gate that counts the calls, and frees for each.
-#[derive(Drop)]
-struct Counter {
-    calls: AtomicU64,
-}
-
-impl Gate for Counter {
-    fn call<R: Wait>(&self, _rt: &R, _step: Step) -> Result<Reply, SharedFault> {
-        self.calls.fetch_add(1, Ordering::SeqCst);
-        Ok(Reply::Freed)
-    }
-
-    fn settle<R: Wait>(
-        &self,
-        _rt: &R,
-        _task: TaskNo,
-        _mutex: MutexNo,
-    ) -> Result<Settled, SharedFault> {
-        Ok(Settled::Owns)
-    }
-}
 
 /// The most blocks of one size that are allocated.
 const BLOCKS: usize = 65_536;
@@ -61,16 +39,14 @@ fn not_started<R: Threads + Wait + Abort + Sync>(
     rt: &R,
     alloc: Global,
     scripts: &[Vec<Op>],
-) -> (Result<(), SharedFault>, u64)
+) -> (Result<(), SharedFault>, usize)
     requires { length scripts.now ≤ MAX_WORKERS }
 {
-    let gate = Counter {
-        calls: AtomicU64::new(0),
-    };
+    let gate = Recorder::new(rt, alloc, 40);
     let blocks = all_large_blocks(alloc).expect(rt, "memory");
     let answer = run_scripts(rt, alloc, &gate, scripts);
     drop(blocks);
-    (answer, gate.calls.load(Ordering::SeqCst))
+    (answer, gate.into_calls().len())
 }
 
 #[test]
@@ -79,7 +55,7 @@ fn a_worker_that_is_not_started_makes_no_call_and_counts_as_memory(rt: HostRunti
     for count in [1, 2, MAX_WORKERS] {
         let scripts = scripts_of(&rt, rt.alloc(), &empty[..count.min(MAX_WORKERS)]);
         assert!(rt; scripts.len() <= MAX_WORKERS);
-        let made = not_started(&rt, rt.alloc(), &scripts);
-        assert_eq!(rt; made, (Err(SharedFault::Memory), 0), "{count}");
+        let shown = not_started(&rt, rt.alloc(), &scripts);
+        assert!(rt; shown == (Err(SharedFault::Memory), 0), "{count}");
     }
 }

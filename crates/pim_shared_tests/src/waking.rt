@@ -1,15 +1,18 @@
 //! Threads that wait in `settle`, and the call that wakes them.
 
-use super::*;
-use crate::Settled;
+use crate::making::{FIRST, SECOND, base, by, made};
+use crate::rows::Answer;
 use Op::{Lock, ReleaseAll};
-use pim_base::Reply;
+use pim_base::{MutexNo, Op, Protocol, Reply, TaskNo};
+use pim_manager::Manager;
+use pim_shared::{Looker, Settled, Shared, SharedFault};
+use std::alloc::Global;
+use std::process::Abort;
 use std::rt::Clock;
+use std::sync::Wait;
 use std::sync::atomic::{AtomicU64, Ordering};
 use std::thread::{self, Threads, join};
 use std::time::Duration;
-
-const SECOND: MutexNo = MutexNo(2);
 
 /// The numbers of threads that are about to call `settle`, and that have returned from it.
 #[derive(Drop)]
@@ -43,18 +46,19 @@ fn settle_counted<R: Wait>(
     answer
 }
 
-/// What the call that releases both mutexes returns, and whether it woke both threads.
-type Released = (Result<Reply, SharedFault>, bool);
-
-/// Releases both mutexes once both threads sleep in `settle`: by `call_with` if there is a reader, else by `call`.
+/// Releases both mutexes, this long after both threads are about to call `settle`: by `call_with` if there is a reader,
+/// else by `call`. Returns what that answers, and whether it woke both threads.
 fn release<R: Wait + Clock>(
     rt: &R,
     shared: &Shared,
     waits: &Waits,
     looker: Option<&mut Looker>,
-) -> Released {
+    pause: u64,
+) -> (Answer, bool) {
     reaches_two(&waits.begun);
-    thread::sleep(rt, Duration::from_millis(2));
+    if pause > 0 {
+        thread::sleep(rt, Duration::from_millis(pause));
+    }
     let step = by(1, ReleaseAll);
     let answer = match looker {
         Some(looker) => shared.call_with(rt, looker, step),
@@ -76,7 +80,8 @@ fn released<R: Threads + Wait + Clock + Sync>(
     rt: &R,
     shared: &Shared,
     looker: Option<&mut Looker>,
-) -> (Both, Released) {
+    pause: u64,
+) -> (Both, (Answer, bool)) {
     let waits = Waits {
         begun: AtomicU64::new(0),
         ended: AtomicU64::new(0),
@@ -84,14 +89,12 @@ fn released<R: Threads + Wait + Clock + Sync>(
     let waits = &waits;
     join(
         rt,
-        || {
-            join(
-                rt,
-                || settle_counted(rt, shared, waits, 2, FIRST),
-                || settle_counted(rt, shared, waits, 3, SECOND),
-            )
-        },
-        || release(rt, shared, waits, looker),
+        || join(
+            rt,
+            || settle_counted(rt, shared, waits, 2, FIRST),
+            || settle_counted(rt, shared, waits, 3, SECOND),
+        ),
+        || release(rt, shared, waits, looker, pause),
     )
 }
 
@@ -104,40 +107,42 @@ fn awaited(rt: &impl Abort, alloc: Global) -> Manager {
     manager
 }
 
-/// What `settle` and the release return on a shared manager with this room.
+/// What `settle` and the release return on a shared manager with this room and number of readers.
 fn woken<R: Threads + Wait + Clock + Abort + Sync>(
     rt: &R,
     alloc: Global,
     room: usize,
-    by_looker: bool,
-) -> (Both, Released) {
+    lookers: u16,
+    pause: u64,
+) -> (Both, (Answer, bool)) {
     let manager = awaited(rt, alloc);
-    let (shared, mut lookers) = Shared::new(rt, alloc, manager, room, 1).expect(rt, "memory");
-    let looker = if by_looker { lookers.get_mut(0) } else { None };
-    let answers = released(rt, &shared, looker);
+    let (shared, mut lookers) = Shared::new(rt, alloc, manager, room, lookers).expect(rt, "memory");
+    let answers = released(rt, &shared, lookers.get_mut(0), pause);
     let (_, _log) = shared.finish(rt);
     answers
 }
 
 /// The room, what `settle` returns to both tasks, and what the release returns: they own the mutexes then, or it found the
 /// log full.
-const ROWS: [(
-    usize,
-    Result<Settled, SharedFault>,
-    Result<Reply, SharedFault>,
-); 2] = [
+const ROWS: [(usize, Result<Settled, SharedFault>, Answer); 2] = [
     (0, Err(SharedFault::Closed), Err(SharedFault::Full)),
     (1, Ok(Settled::Owns), Ok(Reply::Released(2))),
 ];
 
+/// How often one call has to wake both tasks, by how many readers, and how many milliseconds after they began to settle:
+/// mostly while they still fall asleep, and sometimes while they sleep.
+const ROUNDS: [(u16, u16, u64); 4] = [(5, 0, 2), (5, 1, 2), (300, 0, 0), (300, 1, 0)];
+
 #[test]
 fn one_call_wakes_all_tasks_that_wait(rt: HostRuntime) {
-    for _round in 0..5 {
-        for by_looker in [false, true] {
-            for (room, settled, answer) in ROWS {
-                let shown = woken(&rt, rt.alloc(), room, by_looker);
-                let wanted = ((settled, settled), (answer, true));
-                assert_eq!(rt; shown, wanted, "room {room}, by a looker {by_looker}");
+    for (rounds, lookers, pause) in ROUNDS {
+        for (room, settled, answer) in ROWS {
+            for _round in 0..rounds {
+                let shown = woken(&rt, rt.alloc(), room, lookers, pause);
+                assert!(rt;
+                    shown == ((settled, settled), (answer, true)),
+                    "room {room}"
+                );
             }
         }
     }
