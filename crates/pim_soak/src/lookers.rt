@@ -59,7 +59,7 @@ impl Record {
     }
 
     /// Reads once more after the run, which must return `Closed`.
-    pub fn expect_closed(&mut self, looker: &mut Looker) {
+    fn expect_closed(&mut self, looker: &mut Looker) {
         if looker.look(TaskNo(1)) != Err(SharedFault::Closed) {
             count(&mut self.wrong, 1);
         }
@@ -77,7 +77,7 @@ impl Record {
     }
 
     /// Records what was seen of the task, unless the last read of it returned the same.
-    pub fn keep(&mut self, task: TaskNo, steps: u64, prio: Prio, reason: Reason) {
+    fn keep(&mut self, task: TaskNo, steps: u64, prio: Prio, reason: Reason) {
         self.steps = steps;
         let look = Look {
             task,
@@ -101,17 +101,23 @@ impl Record {
     }
 }
 
-/// Reads the tasks again and again, at least `least` times, and once more after all workers have finished.
+/// Makes the last read of each looker, which must return `Closed`.
+pub fn expect_all_closed(mut lookers: Vec<Looker>, records: &mut [Record]) {
+    for (looker, record) in lookers.iter_mut().zip(records) {
+        record.expect_closed(looker);
+    }
+}
+
+/// Reads the tasks again and again, and once more after all workers have finished.
 fn watch<R: Wait>(
     rt: &R,
     looker: &mut Looker,
     record: &mut Record,
     tasks: u16,
-    least: u64,
     ended: &AtomicBool,
 ) {
     for _ in rt.forever() {
-        let is_last = ended.load(Ordering::SeqCst) && record.looks >= least;
+        let is_last = ended.load(Ordering::SeqCst);
         record.look_round(looker, tasks);
         thread::yield_now();
         if is_last {
@@ -120,7 +126,7 @@ fn watch<R: Wait>(
     }
 }
 
-/// Runs the scripts of the scene while each looker reads, in a thread of its own, at least `least` times.
+/// Runs the scripts of the scene while each looker reads, in a thread of its own.
 ///
 /// # Errors
 ///
@@ -132,7 +138,6 @@ pub fn run_beside_lookers<R: Threads + Wait + Sync>(
     scripts: &[Vec<Op>],
     lookers: &mut [Looker],
     records: &mut [Record],
-    least: u64,
 ) -> Result<(), SharedFault>
     requires { length scripts.now ≤ MAX_WORKERS }
 {
@@ -145,7 +150,7 @@ pub fn run_beside_lookers<R: Threads + Wait + Sync>(
             requires { length scripts.now ≤ MAX_WORKERS }
         {
             for (looker, record) in lookers.iter_mut().zip(records) {
-                let _started = scope.spawn(move || watch(rt, looker, record, tasks, least, ended));
+                let _started = scope.spawn(move || watch(rt, looker, record, tasks, ended));
             }
             let answer = run_scripts(rt, alloc, crowd, scripts);
             ended.store(true, Ordering::SeqCst);

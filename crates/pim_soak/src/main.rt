@@ -8,18 +8,21 @@
 //!
 //! The scripts with number k have the seed SEED + k. Each difference is reported with its seed, which finds it again as far
 //! as the schedule of the threads allows.
+//!
+//! `pim_soak planted SEED` runs the scripts of one seed several times, each time with another mistake put into what is
+//! compared, and prints how many differences it finds.
 #![tactic(auto)]
 
 mod crowd;
 mod figures;
 mod lookers;
+mod planted;
 mod replay;
 mod scene;
-#[cfg(test)]
-mod tests;
 mod trial;
 
 use crate::figures::Figures;
+use crate::planted::Planted;
 use crate::scene::Scene;
 use crate::trial::trial;
 use pim_base::MAX_LOOKERS;
@@ -38,25 +41,64 @@ const DIFFERS: u8 = 1;
 /// The exit status for wrong arguments.
 const FAULT: u8 = 2;
 
+/// What the program is asked for.
+#[derive(Clone, Copy)]
+enum Job {
+    /// Scripts for this number of seconds, from this seed on.
+    Soak(u64, u64),
+    /// Mistakes in the run of this seed.
+    Planted(u64),
+}
+
 fn main(rt: HostRuntime) -> io::Result<ExitCode> {
-    let alloc = rt.alloc();
-    let words: Vec<String> = std::env::args(&rt)?.collect(alloc)?;
-    let Some((seconds, seed)) = seconds_and_seed(&words) else {
-        eprintln!(&rt; "pim_soak SECONDS [SEED]")?;
-        return Ok(ExitCode::from(FAULT));
-    };
-    let figures = soak(&rt, alloc, Duration::from_secs(seconds), seed)?;
+    let words: Vec<String> = std::env::args(&rt)?.collect(rt.alloc())?;
+    match job_of(&words) {
+        Some(Job::Soak(seconds, seed)) => soak_and_print(&rt, rt.alloc(), seconds, seed),
+        Some(Job::Planted(seed)) => print_planted(&rt, rt.alloc(), seed),
+        None => {
+            eprintln!(&rt; "pim_soak SECONDS [SEED] | planted SEED")?;
+            Ok(ExitCode::from(FAULT))
+        }
+    }
+}
+
+/// Returns what the command line asks for, or None if the arguments are wrong. The seed is 1 if it is missing.
+fn job_of(words: &[String]) -> Option<Job> {
+    match words {
+        [_program, seconds] => Some(Job::Soak(seconds.parse().ok()?, 1)),
+        [_program, job, seed] if job.as_str() == "planted" => Some(Job::Planted(
+            seed.parse().ok()?,
+        )),
+        [_program, seconds, seed] => Some(Job::Soak(seconds.parse().ok()?, seed.parse().ok()?)),
+        _ => None,
+    }
+}
+
+/// Runs scripts for this number of seconds, and prints the figures.
+fn soak_and_print<R: Threads + Wait + Sync + Clock + Print + Eprint>(
+    rt: &R,
+    alloc: Global,
+    seconds: u64,
+    seed: u64,
+) -> io::Result<ExitCode> {
+    let figures = soak(rt, alloc, Duration::from_secs(seconds), seed)?;
     println!(rt; "{figures}")?;
     Ok(ExitCode::from(if figures.differences == 0 { 0 } else { DIFFERS }))
 }
 
-/// Returns the two numbers of the command line, or None if the arguments are wrong. The seed is 1 if it is missing.
-fn seconds_and_seed(words: &[String]) -> Option<(u64, u64)> {
-    match words {
-        [_program, seconds] => Some((seconds.parse().ok()?, 1)),
-        [_program, seconds, seed] => Some((seconds.parse().ok()?, seed.parse().ok()?)),
-        _ => None,
+/// Runs the scripts of the seed once for each mistake, and prints the number of differences.
+fn print_planted<R: Threads + Wait + Sync + Print>(
+    rt: &R,
+    alloc: Global,
+    seed: u64,
+) -> io::Result<ExitCode> {
+    for planted in Planted::ALL {
+        match drawn(rt, alloc, seed, planted) {
+            Ok(found) => println!(rt; "{} {}", planted.name(), found.differences)?,
+            Err(fault) => println!(rt; "{} {fault}", planted.name())?,
+        }
     }
+    Ok(ExitCode::from(0))
 }
 
 /// Runs scripts for this time, and reports its progress on standard error.
@@ -83,7 +125,7 @@ fn soak<R: Threads + Wait + Sync + Clock + Eprint>(
             eprintln!(rt; "{told} s: {figures}")?;
         }
         let seed = seed.wrapping_add(number);
-        match drawn(rt, alloc, seed) {
+        match drawn(rt, alloc, seed, Planted::Nothing) {
             Ok(found) => {
                 if found.differences > 0 {
                     eprintln!(rt; "the scripts of seed {seed}: {found}")?;
@@ -100,7 +142,7 @@ fn soak<R: Threads + Wait + Sync + Clock + Eprint>(
     Ok(figures)
 }
 
-/// Runs the scripts of this seed.
+/// Runs the scripts of this seed, and puts this mistake into what is compared.
 ///
 /// # Errors
 ///
@@ -109,7 +151,8 @@ fn drawn<R: Threads + Wait + Sync>(
     rt: &R,
     alloc: Global,
     seed: u64,
+    planted: Planted,
 ) -> Result<Figures, SharedFault> {
     let scene = Scene::random(alloc, seed)?;
-    trial(rt, alloc, &scene, MAX_LOOKERS, 0)
+    trial(rt, alloc, &scene, MAX_LOOKERS, planted)
 }

@@ -24,15 +24,6 @@ pub struct Scene {
 }
 
 impl Scene {
-    /// Returns a scene without tasks and mutexes.
-    pub fn new(alloc: Global) -> Scene {
-        Scene {
-            bases: Vec::new(alloc),
-            protocols: Vec::new(alloc),
-            scripts: Vec::new(alloc),
-        }
-    }
-
     /// Returns the scene of this seed, which is always the same.
     ///
     /// # Errors
@@ -40,7 +31,11 @@ impl Scene {
     /// Returns `AllocError` if out of memory.
     pub fn random(alloc: Global, seed: u64) -> Result<Scene, AllocError> {
         let mut draw = Draw::new(seed);
-        let mut scene = Scene::new(alloc);
+        let mut scene = Scene {
+            bases: Vec::new(alloc),
+            protocols: Vec::new(alloc),
+            scripts: Vec::new(alloc),
+        };
         for _ in 0..draw.mutexes {
             scene.protocols.push(draw.protocol())?;
         }

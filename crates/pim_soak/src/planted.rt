@@ -1,0 +1,92 @@
+//! Mistakes that the comparison must find.
+
+use crate::lookers::Record;
+use pim_base::{Entry, MutexNo, Op, Prio, Reason, Reply, Step, TaskNo};
+use pim_plain::PlainManager;
+
+/// A mistake that is put into what is compared.
+#[derive(Clone, Copy, PartialEq, Eq)]
+pub enum Planted {
+    Nothing,
+    /// The last reply of the log is another one.
+    Reply,
+    /// The first read has another priority.
+    Priority,
+    /// The first read has another reason.
+    Reason,
+    /// In the plain manager task 1 has another base at the end.
+    Base,
+}
+
+impl Planted {
+    /// All mistakes, and before them none.
+    pub const ALL: [Planted; 5] = [
+        Planted::Nothing,
+        Planted::Reply,
+        Planted::Priority,
+        Planted::Reason,
+        Planted::Base,
+    ];
+
+    pub fn name(self) -> &'static str {
+        match self {
+            Planted::Nothing => "nothing",
+            Planted::Reply => "reply",
+            Planted::Priority => "priority",
+            Planted::Reason => "reason",
+            Planted::Base => "base",
+        }
+    }
+
+    /// Changes the entries of the log and the first reader's record, if the mistake is in them.
+    pub fn change_run(self, entries: &mut [Entry], records: &mut [Record]) {
+        if self == Planted::Reply
+            && let Some(entry) = entries.last_mut()
+        {
+            entry.reply = other_reply(entry.reply);
+        }
+        if let Some(record) = records.first_mut()
+            && let Some(look) = record.told.first_mut()
+        {
+            if self == Planted::Priority {
+                look.prio = other_prio(look.prio);
+            } else if self == Planted::Reason {
+                look.reason = other_reason(look.reason);
+            }
+        }
+    }
+
+    /// Changes the plain manager at the end of the run, if the mistake is in it.
+    pub fn change_end(self, plain: &mut PlainManager) {
+        if self == Planted::Base
+            && let Some(base) = plain.base(TaskNo(1))
+        {
+            let level = other_prio(base).get();
+            plain.step(Step {
+                actor: TaskNo(1),
+                op: Op::SetBase(TaskNo(1), level),
+            });
+        }
+    }
+}
+
+fn other_reply(reply: Reply) -> Reply {
+    if reply == Reply::Kept {
+        Reply::Freed
+    } else {
+        Reply::Kept
+    }
+}
+
+fn other_prio(prio: Prio) -> Prio {
+    let level = if prio.get() == 1 { 2 } else { 1 };
+    Prio::new(level).unwrap_or(prio)
+}
+
+fn other_reason(reason: Reason) -> Reason {
+    if reason == Reason::Base {
+        Reason::Waiter(TaskNo(1), MutexNo(1))
+    } else {
+        Reason::Base
+    }
+}
