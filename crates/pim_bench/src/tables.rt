@@ -6,7 +6,7 @@ use crate::looks::time_looks;
 use crate::scene::manager;
 use crate::timed::Timed;
 use pim_shared::Shared;
-use std::alloc::Global;
+use std::alloc::{AllocError, Global};
 use std::io;
 use std::io::Print;
 use std::sync::{Mutex, RwLock, Wait};
@@ -46,8 +46,7 @@ where
     for threads in [1u16, 4, 16] {
         let each = calls / u32::from(threads);
         let shared = calls_of_shared(rt, alloc, threads, each)?;
-        let lock = Mutex::new(manager(alloc)?);
-        let plain = time_calls(rt, alloc, &lock, threads, each)?;
+        let plain = calls_of_lock(rt, alloc, threads, each)?;
         println!(rt; "{threads} {} {}", shared.rate(), plain.rate())?;
     }
     Ok(())
@@ -77,11 +76,20 @@ fn looks_under_lock<R: Threads + Wait + Clock + Sync>(
         manager: manager(alloc)?,
         steps: 0,
     });
-    let mut readers = Vec::new(alloc);
-    for _ in 0..lookers {
-        readers.push(LockReader(&lock))?;
-    }
+    let readers = readers_of(alloc, &lock, lookers)?;
     time_looks(rt, alloc, readers, &lock, looks)
+}
+
+fn readers_of(
+    alloc: Global,
+    lock: &RwLock<Counted>,
+    count: u16,
+) -> Result<Vec<LockReader<'_>>, AllocError> {
+    let mut readers = Vec::new(alloc);
+    for _ in 0..count {
+        readers.push(LockReader(lock))?;
+    }
+    Ok(readers)
 }
 
 fn calls_of_shared<R: Threads + Wait + Clock + Sync>(
@@ -96,4 +104,14 @@ fn calls_of_shared<R: Threads + Wait + Clock + Sync>(
     let timed = time_calls(rt, alloc, &shared, threads, calls);
     let _end = shared.finish(rt);
     timed
+}
+
+fn calls_of_lock<R: Threads + Wait + Clock + Sync>(
+    rt: &R,
+    alloc: Global,
+    threads: u16,
+    calls: u32,
+) -> io::Result<Timed> {
+    let lock = Mutex::new(manager(alloc)?);
+    time_calls(rt, alloc, &lock, threads, calls)
 }
