@@ -4,34 +4,34 @@
 //! and the call succeeds. `tests/memory` runs the test again and again: its first allocation fails, then its second,
 //! and so on. A call whose allocation fails must say so and change nothing, and what comes after it must work. The test
 //! then ends in the error `IN_CALL`.
-//!
-//! The stack of a thread isn't allocated by `malloc`. The tests of `stacks` allocate all large blocks of memory, and
-//! free them one by one. The tests of `sizes` have enough memory, and make managers of every size.
 #![tactic(auto)]
 
 #[cfg(test)]
 mod managers;
 #[cfg(test)]
-mod runs;
-#[cfg(test)]
 mod shared;
-#[cfg(test)]
-mod sizes;
-#[cfg(test)]
-mod stacks;
 #[cfg(test)]
 mod tables;
 #[cfg(test)]
 mod texts;
 
+#[cfg(test)]
+use std::process::Abort;
+#[cfg(test)]
+use std::test::Fail;
+
 /// The error of a test whose call was out of memory, and changed nothing.
 #[cfg(test)]
 const IN_CALL: &str = "out of memory in the call";
 
-/// The error of a test whose call ran a script that was out of memory.
-#[cfg(test)]
-const IN_RUN: &str = "out of memory in the call, shared memory";
-
 /// The error of a test that was out of memory before its call.
 #[cfg(test)]
 const BEFORE: &str = "out of memory before the call";
+
+/// Tests that what the call returned is right. It is `None` if an allocation of the call failed.
+#[cfg(test)]
+fn expect_right(rt: &impl Abort, is_right: Option<bool>) -> Result<(), Fail> {
+    let is_right = is_right.ok_or(IN_CALL)?;
+    assert!(rt; is_right);
+    Ok(())
+}

@@ -1,6 +1,6 @@
 //! The calls of a manager.
 
-use crate::{BEFORE, IN_CALL};
+use crate::{BEFORE, IN_CALL, expect_right};
 use pim_base::{MutexNo, Op, Prio, Protocol, Refusal, Reply, Step, TaskNo};
 use pim_manager::{MakeFault, Manager, TrackedManager};
 use std::alloc::Global;
@@ -35,48 +35,52 @@ pub fn waited_for(alloc: Global) -> Result<Manager, Fail> {
     Ok(manager)
 }
 
-/// Returns what was made, unless an allocation failed, which must be the fault.
-fn made<T: Drop>(rt: &impl Abort, answer: Result<T, MakeFault>) -> Result<T, Fail> {
-    match answer {
-        Ok(manager) => Ok(manager),
-        Err(fault) => {
-            assert_eq!(rt; fault, MakeFault::Memory);
-            Err(IN_CALL)?
-        }
+/// Tests that what was made is right, unless an allocation failed, which must be the fault.
+fn expect_made(rt: &impl Abort, is_right: Result<bool, MakeFault>) -> Result<(), Fail> {
+    if let Err(fault) = is_right {
+        assert!(rt; fault == MakeFault::Memory);
     }
+    expect_right(rt, is_right.ok())
 }
 
-/// Tests that there are three tasks of base 10, two free mutexes, and this next ticket.
-fn expect_free(rt: &impl Abort, manager: &Manager, next: u64) {
+/// Returns whether there are three tasks of base 10, two free mutexes, and this next ticket.
+fn is_free(manager: &Manager, next: u64) -> bool {
     let counts = (manager.tasks(), manager.mutexes(), manager.next_ticket());
-    assert_eq!(rt; counts, (3, 2, next));
-    assert_eq!(rt; manager.base(TaskNo(3)), Prio::new(10));
     let last = MutexNo(2);
-    let shown = (manager.protocol(last), manager.owner(last));
-    assert_eq!(rt; shown, (Some(Protocol::None), Some(None)));
+    counts == (3, 2, next)
+        && manager.base(TaskNo(3)) == Prio::new(10)
+        && manager.protocol(last) == Some(Protocol::None)
+        && manager.owner(last) == Some(None)
+}
+
+/// Returns whether the manager is free, with this next ticket.
+fn shown(made: Result<Manager, MakeFault>, next: u64) -> Result<bool, MakeFault> {
+    match made {
+        Ok(manager) => Ok(is_free(&manager, next)),
+        Err(fault) => Err(fault),
+    }
 }
 
 #[test]
 fn new_out_of_memory(rt: HostRuntime) -> Result<(), Fail> {
-    let answer = Manager::new(rt.alloc(), &bases()?, &PROTOCOLS);
-    expect_free(&rt, &made(&rt, answer)?, 1);
-    Ok(())
+    let bases = bases()?;
+    let made = Manager::new(rt.alloc(), &bases, &PROTOCOLS);
+    expect_made(&rt, shown(made, 1))
 }
 
 #[test]
 fn with_next_ticket_out_of_memory(rt: HostRuntime) -> Result<(), Fail> {
-    let answer = Manager::with_next_ticket(rt.alloc(), &bases()?, &PROTOCOLS, 7);
-    expect_free(&rt, &made(&rt, answer)?, 7);
-    Ok(())
+    let bases = bases()?;
+    let made = Manager::with_next_ticket(rt.alloc(), &bases, &PROTOCOLS, 7);
+    expect_made(&rt, shown(made, 7))
 }
 
-/// Tests that task 1 owns mutex 1, and task 2 alone waits for it.
-pub fn expect_waited_for(rt: &impl Abort, manager: &Manager) {
-    let owner = manager.owner(MutexNo(1));
+/// Returns whether task 1 owns mutex 1, and task 2 alone waits for it.
+pub fn is_waited_for(manager: &Manager) -> bool {
     let waits = (manager.waits_for(TaskNo(2)), manager.waits_for(TaskNo(3)));
-    assert_eq!(rt; owner, Some(Some(TaskNo(1))));
-    assert_eq!(rt; waits, (Some(Some(MutexNo(1))), Some(None)));
-    assert_eq!(rt; manager.next_ticket(), 2);
+    manager.owner(MutexNo(1)) == Some(Some(TaskNo(1)))
+        && waits == (Some(Some(MutexNo(1))), Some(None))
+        && manager.next_ticket() == 2
 }
 
 #[test]
@@ -84,43 +88,57 @@ fn try_clone_out_of_memory(rt: HostRuntime) -> Result<(), Fail> {
     let mut manager = waited_for(rt.alloc())?;
     let copy = manager.try_clone(rt.alloc());
     // The manager steps on, whether it was copied or not.
-    let reply = manager.step(lock(3)).reply;
-    assert_eq!(rt; (reply, manager.next_ticket()), (Reply::Queued, 3));
-    expect_waited_for(&rt, &copy.map_err(|_error| IN_CALL)?);
-    Ok(())
+    let after = (manager.step(lock(3)).reply, manager.next_ticket());
+    drop(manager);
+    let is_copy = match copy {
+        Ok(copy) => Some(is_waited_for(&copy)),
+        Err(_error) => None,
+    };
+    assert!(rt; after == (Reply::Queued, 3));
+    expect_right(&rt, is_copy)
+}
+
+/// Returns the number of replies of task 3, which locks mutex 1 again and again, and the first of them.
+fn replied(alloc: Global, manager: &mut Manager) -> Option<(usize, Option<Reply>)> {
+    let replies = manager.run_replies(alloc, &[lock(3); 100]).ok()?;
+    Some((replies.len(), replies.first().copied()))
 }
 
 #[test]
 fn run_replies_out_of_memory(rt: HostRuntime) -> Result<(), Fail> {
     let mut manager = waited_for(rt.alloc())?;
-    let answer = manager.run_replies(rt.alloc(), &[lock(3); 100]);
-    let replied = answer.map(|replies| (replies.len(), replies.first().copied()));
-    if replied.is_err() {
-        expect_waited_for(&rt, &manager);
-    }
+    let replied = replied(rt.alloc(), &mut manager);
+    let is_unchanged = is_waited_for(&manager);
     let after = (manager.next_ticket(), manager.step(lock(3)).reply);
     drop(manager);
-    if replied.is_err() {
-        assert_eq!(rt; after, (2, Reply::Queued));
-        Err(IN_CALL)?
-    }
-    assert_eq!(rt; replied.ok(), Some((100, Some(Reply::Queued))));
-    assert_eq!(rt; after, (3, Reply::Refused(Refusal::Waiting)));
+    let Some(replies) = replied else {
+        assert!(rt; is_unchanged && after == (2, Reply::Queued));
+        return Err(IN_CALL)?;
+    };
+    assert!(rt; replies == (100, Some(Reply::Queued)));
+    assert!(rt; after == (3, Reply::Refused(Refusal::Waiting)));
     Ok(())
+}
+
+/// Returns whether a step that raises task 2, which waits for task 1, is one that changes both.
+fn changes_two(made: Result<Box<TrackedManager>, MakeFault>) -> Result<bool, MakeFault> {
+    match made {
+        Ok(mut tracked) => {
+            tracked.step(lock(1));
+            tracked.step(lock(2));
+            tracked.step(Step {
+                actor: TaskNo(1),
+                op: Op::SetBase(TaskNo(2), 50),
+            });
+            Ok(tracked.changed().count() == 2)
+        }
+        Err(fault) => Err(fault),
+    }
 }
 
 #[test]
 fn tracked_manager_out_of_memory(rt: HostRuntime) -> Result<(), Fail> {
-    let answer = TrackedManager::new(rt.alloc(), &bases()?, &PROTOCOLS);
-    let mut tracked = made(&rt, answer)?;
-    tracked.step(lock(1));
-    tracked.step(lock(2));
-    let op = Op::SetBase(TaskNo(2), 50);
-    let step = Step {
-        actor: TaskNo(1),
-        op,
-    };
-    tracked.step(step);
-    assert_eq!(rt; tracked.changed().count(), 2);
-    Ok(())
+    let bases = bases()?;
+    let made = TrackedManager::new(rt.alloc(), &bases, &PROTOCOLS);
+    expect_made(&rt, changes_two(made))
 }

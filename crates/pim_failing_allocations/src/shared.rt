@@ -1,12 +1,10 @@
 //! The calls of a shared manager, and workers.
 
-use crate::managers::{expect_waited_for, free, lock, waited_for};
-use crate::{BEFORE, IN_CALL};
-use pim_base::{Entry, MAX_WORKERS, MutexNo, Op, Prio, Reason, Refusal, Reply, Step, TaskNo};
+use crate::managers::{free, is_waited_for, lock, waited_for};
+use crate::{BEFORE, IN_CALL, expect_right};
+use pim_base::{Entry, MAX_WORKERS, MutexNo, Op, Reason, Refusal, Reply, Step, TaskNo};
 use pim_manager::Manager;
-use pim_shared::{
-    Gate, Log, Looker, Seen, Settled, Shared, SharedFault, gather, run_scripts, worker,
-};
+use pim_shared::{Gate, Log, Looker, Settled, Shared, SharedFault, gather, run_scripts, worker};
 use std::alloc::Global;
 use std::process::Abort;
 use std::sync::Wait;
@@ -25,21 +23,25 @@ fn unlock(task: u16) -> Step {
     }
 }
 
-/// Returns what a read shows of task 1, to which task 2 donates the same priority as its base.
-fn at_base(rt: &impl Abort, steps: u64) -> Result<Option<Seen>, SharedFault> {
-    Ok(Some(Seen {
-        steps,
-        prio: Prio::new(10).expect(rt, "a priority"),
-        reason: Reason::Base,
-    }))
+/// What a read returns: the number of entries, the priority, and the reason.
+type Look = Result<Option<(u64, u16, Reason)>, SharedFault>;
+
+/// Reads of task 1, to which task 2 donates the same priority as its base.
+fn look(looker: &mut Looker) -> Look {
+    match looker.look(TaskNo(1))? {
+        Some(seen) => Ok(Some((seen.steps, seen.prio.get(), seen.reason))),
+        None => Ok(None),
+    }
 }
 
-/// Ends the shared manager, and tests that it made and logged nothing.
-fn finish_unchanged<R: Abort + Wait>(rt: &R, shared: Shared) {
-    let (manager, log) = shared.finish(rt);
-    assert!(rt; log.entries().is_empty());
-    expect_waited_for(rt, &manager);
-    expect_waited_for(rt, log.start());
+/// What a read of task 1 returns after this number of entries.
+fn at_base(steps: u64) -> Look {
+    Ok(Some((steps, 10, Reason::Base)))
+}
+
+/// Returns whether a shared manager made and logged nothing.
+fn is_unchanged(manager: &Manager, log: &Log) -> bool {
+    log.entries().is_empty() && is_waited_for(manager) && is_waited_for(log.start())
 }
 
 /// What four calls return if the first one is out of memory. The later ones allocate nothing.
@@ -59,8 +61,8 @@ const REPLIES: [Result<Reply, SharedFault>; 4] = [
     Ok(Reply::Granted),
 ];
 
-/// Tests that the four steps are logged with their replies, and task 3 owns mutex 1.
-fn expect_four_calls(rt: &impl Abort, manager: &Manager, log: &Log) {
+/// Returns whether the four steps are logged with their replies, and task 3 owns mutex 1.
+fn has_four_calls(manager: &Manager, log: &Log) -> bool {
     let made = [
         Entry {
             step: unlock(1),
@@ -79,25 +81,7 @@ fn expect_four_calls(rt: &impl Abort, manager: &Manager, log: &Log) {
             reply: Reply::Granted,
         },
     ];
-    assert!(rt; log.entries() == made.as_slice());
-    assert_eq!(rt; manager.owner(FIRST), Some(Some(TaskNo(3))));
-}
-
-/// Ends the shared manager, and tests that it made all four calls or none, as they returned.
-fn finish_calls<R: Abort + Wait>(
-    rt: &R,
-    shared: Shared,
-    answers: &[Result<Reply, SharedFault>; 4],
-) -> Result<(), Fail> {
-    if answers[0].is_err() {
-        finish_unchanged(rt, shared);
-        assert!(rt; *answers == CLOSED);
-        return Err(IN_CALL)?;
-    }
-    let (manager, log) = shared.finish(rt);
-    expect_four_calls(rt, &manager, &log);
-    assert!(rt; *answers == REPLIES);
-    Ok(())
+    log.entries() == made.as_slice() && manager.owner(FIRST) == Some(Some(TaskNo(3)))
 }
 
 /// Makes a shared manager whose task 2 waits for task 1, with one reader.
@@ -108,53 +92,97 @@ fn shared_by_two<R: Abort + Wait>(rt: &R, alloc: Global) -> Result<(Shared, Look
     Ok((shared, looker))
 }
 
-/// Tests that the reader sees task 1 at its base, after this number of entries.
-fn expect_look(rt: &impl Abort, looker: &mut Looker, steps: u64) {
-    assert_eq!(rt; looker.look(TaskNo(1)), at_base(rt, steps));
+/// What four calls show: what each returns, a read before and after them, and whether all or none was made.
+#[derive(Clone, Copy)]
+struct FourCalls {
+    answers: [Result<Reply, SharedFault>; 4],
+    looks: [Look; 2],
+    is_unchanged: bool,
+    has_four_calls: bool,
 }
 
-#[test]
-fn shared_new_out_of_memory(rt: HostRuntime) -> Result<(), Fail> {
-    let manager = waited_for(rt.alloc())?;
-    match Shared::new(&rt, rt.alloc(), manager, 100, 2) {
-        Ok((shared, mut lookers)) => {
-            expect_look(&rt, &mut lookers[1], 0);
-            finish_unchanged(&rt, shared);
-            assert_eq!(rt; lookers.len(), 2);
-        }
-        Err(fault) => {
-            assert!(rt; fault == SharedFault::Memory || fault == SharedFault::NoPlace);
-            Err(IN_CALL)?
-        }
+/// Makes the four calls: with the reader by `call_with`, else by `call`.
+fn answers<R: Wait>(
+    rt: &R,
+    shared: &Shared,
+    looker: &mut Looker,
+    by_looker: bool,
+) -> [Result<Reply, SharedFault>; 4] {
+    if by_looker {
+        [
+            shared.call_with(rt, looker, unlock(1)),
+            shared.call_with(rt, looker, unlock(1)),
+            shared.call_with(rt, looker, unlock(2)),
+            shared.call_with(rt, looker, lock(3)),
+        ]
+    } else {
+        [
+            shared.call(rt, unlock(1)),
+            shared.call(rt, unlock(1)),
+            shared.call(rt, unlock(2)),
+            shared.call(rt, lock(3)),
+        ]
     }
+}
+
+/// Makes the four calls on a new shared manager, and ends it.
+fn called<R: Abort + Wait>(rt: &R, alloc: Global, by_looker: bool) -> Result<FourCalls, Fail> {
+    let (shared, mut looker) = shared_by_two(rt, alloc)?;
+    let before = look(&mut looker);
+    let answers = answers(rt, &shared, &mut looker, by_looker);
+    let after = look(&mut looker);
+    let (manager, log) = shared.finish(rt);
+    Ok(FourCalls {
+        answers,
+        looks: [before, after],
+        is_unchanged: is_unchanged(&manager, &log),
+        has_four_calls: has_four_calls(&manager, &log),
+    })
+}
+
+/// Tests that all four calls were made or none, as they returned.
+fn expect_called(rt: &impl Abort, called: FourCalls) -> Result<(), Fail> {
+    if called.answers[0].is_err() {
+        assert!(rt; called.answers == CLOSED && called.is_unchanged);
+        assert!(rt; called.looks == [at_base(0), at_base(0)]);
+        return Err(IN_CALL)?;
+    }
+    assert!(rt; called.answers == REPLIES && called.has_four_calls);
+    assert!(rt; called.looks == [at_base(0), at_base(4)]);
     Ok(())
 }
 
 #[test]
 fn call_out_of_memory(rt: HostRuntime) -> Result<(), Fail> {
-    let (shared, mut looker) = shared_by_two(&rt, rt.alloc())?;
-    expect_look(&rt, &mut looker, 0);
-    let answers = [
-        shared.call(&rt, unlock(1)),
-        shared.call(&rt, unlock(1)),
-        shared.call(&rt, unlock(2)),
-        shared.call(&rt, lock(3)),
-    ];
-    expect_look(&rt, &mut looker, if answers[0].is_ok() { 4 } else { 0 });
-    finish_calls(&rt, shared, &answers)
+    let called = called(&rt, rt.alloc(), false)?;
+    expect_called(&rt, called)
 }
 
 #[test]
 fn call_with_out_of_memory(rt: HostRuntime) -> Result<(), Fail> {
-    let (shared, mut looker) = shared_by_two(&rt, rt.alloc())?;
-    let answers = [
-        shared.call_with(&rt, &mut looker, unlock(1)),
-        shared.call_with(&rt, &mut looker, unlock(1)),
-        shared.call_with(&rt, &mut looker, unlock(2)),
-        shared.call_with(&rt, &mut looker, lock(3)),
-    ];
-    expect_look(&rt, &mut looker, if answers[0].is_ok() { 4 } else { 0 });
-    finish_calls(&rt, shared, &answers)
+    let called = called(&rt, rt.alloc(), true)?;
+    expect_called(&rt, called)
+}
+
+/// Returns whether both readers of a new shared manager see no entry, and its end is its start.
+fn starts<R: Abort + Wait>(rt: &R, manager: Manager, alloc: Global) -> Result<bool, SharedFault> {
+    let (shared, mut lookers) = Shared::new(rt, alloc, manager, 100, 2)?;
+    let mut are_right = lookers.len() == 2;
+    for looker in &mut lookers {
+        are_right = are_right && look(looker) == at_base(0);
+    }
+    let (manager, log) = shared.finish(rt);
+    Ok(are_right && is_unchanged(&manager, &log))
+}
+
+#[test]
+fn shared_new_out_of_memory(rt: HostRuntime) -> Result<(), Fail> {
+    let manager = waited_for(rt.alloc())?;
+    let is_right = starts(&rt, manager, rt.alloc());
+    if let Err(fault) = is_right {
+        assert!(rt; fault == SharedFault::Memory || fault == SharedFault::NoPlace);
+    }
+    expect_right(&rt, is_right.ok())
 }
 
 /// A gate before a shared manager in which task 2 waits from the start on: its lock is queued. It knows when a task
@@ -224,26 +252,22 @@ fn settle_and_call<R: Threads + Wait + Sync>(rt: &R, gate: &Waiting<'_>) -> Opti
     Some((settled, called?))
 }
 
-/// Ends the shared manager after the unlock and both releases; task 2 releases its mutex, too.
-fn finish_three<R: Abort + Wait>(rt: &R, shared: Shared) {
-    let (manager, log) = shared.finish(rt);
-    assert_eq!(rt; log.entries().len(), 3);
-    assert_eq!(rt; manager.owner(FIRST), Some(None));
-}
-
-/// The task that waits meanwhile is woken, and its worker ends.
+/// The task that waits meanwhile is woken, and its worker ends. After the unlock task 2 releases its mutex, too.
 #[test]
 fn call_beside_a_waiting_task_out_of_memory(rt: HostRuntime) -> Result<(), Fail> {
     let (shared, _looker) = shared_by_two(&rt, rt.alloc())?;
     let answers = settle_and_call(&rt, &Waiting::new(&shared));
-    if answers == Some((Ok(()), Ok(()))) {
-        finish_three(&rt, shared);
+    let (manager, log) = shared.finish(&rt);
+    let are_made = log.entries().len() == 3 && manager.owner(FIRST) == Some(None);
+    let is_unchanged = is_unchanged(&manager, &log);
+    drop(manager);
+    drop(log);
+    let answers = answers.ok_or(BEFORE)?;
+    if answers == (Ok(()), Ok(())) {
+        assert!(rt; are_made);
         return Ok(());
     }
-    finish_unchanged(&rt, shared);
-    let closed = answers.ok_or(BEFORE)?;
-    let expected = (Err(SharedFault::Closed), Err(SharedFault::Memory));
-    assert_eq!(rt; closed, expected);
+    assert!(rt; is_unchanged && answers == (Err(SharedFault::Closed), Err(SharedFault::Memory)));
     Err(IN_CALL)?
 }
 
@@ -266,12 +290,14 @@ fn scripts(alloc: Global) -> Result<Vec<Vec<Op>>, SharedFault> {
     Ok(scripts)
 }
 
-/// Tests that some of the ten steps were made, with the replies of a manager that makes them one by one.
-fn expect_part(rt: &impl Abort, mut manager: Manager, entries: &[Entry]) {
-    assert!(rt; entries.len() < 10);
+/// Returns whether some of the ten steps were made, with the replies of a manager that makes them one by one.
+fn are_part(mut manager: Manager, entries: &[Entry]) -> bool {
     for entry in entries {
-        assert_eq!(rt; manager.step(entry.step).reply, entry.reply);
+        if manager.step(entry.step).reply != entry.reply {
+            return false;
+        }
     }
+    entries.len() < 10
 }
 
 /// Runs the scripts on a shared manager, and returns what that answers, and the log.
@@ -290,20 +316,31 @@ fn run_of<R: Threads + Wait + Sync>(
     Ok((answer, log))
 }
 
+/// Runs the scripts, and returns what that answers, and whether the log is theirs, or a part of it after a fault.
+fn ran<R: Threads + Wait + Sync>(
+    rt: &R,
+    alloc: Global,
+    scripts: &[Vec<Op>],
+) -> Result<(Result<(), SharedFault>, bool), Fail> {
+    let start = free(alloc)?;
+    let (answer, log) = run_of(rt, alloc, scripts)?;
+    let is_right = if answer.is_ok() {
+        gather(log, &start, scripts).is_ok()
+    } else {
+        are_part(start, log.entries())
+    };
+    Ok((answer, is_right))
+}
+
 /// If a worker isn't started, the other makes its whole script. If a call is out of memory, both end.
 #[test]
 fn run_scripts_out_of_memory(rt: HostRuntime) -> Result<(), Fail> {
-    let alloc = rt.alloc();
-    let scripts = scripts(alloc).map_err(|_fault| BEFORE)?;
-    let start = free(alloc)?;
-    let (answer, log) = run_of(&rt, alloc, &scripts)?;
-    match answer {
-        Ok(()) => assert!(rt; gather(log, &start, &scripts).is_ok()),
-        Err(fault) => {
-            expect_part(&rt, start, log.entries());
-            assert_eq!(rt; fault, SharedFault::Memory);
-            Err(IN_CALL)?
-        }
+    let scripts = scripts(rt.alloc()).map_err(|_fault| BEFORE)?;
+    let (answer, is_right) = ran(&rt, rt.alloc(), &scripts)?;
+    assert!(rt; is_right);
+    if let Err(fault) = answer {
+        assert!(rt; fault == SharedFault::Memory);
+        Err(IN_CALL)?
     }
     Ok(())
 }

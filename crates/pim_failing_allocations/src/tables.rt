@@ -1,7 +1,7 @@
 //! The parts of a manager: its tables and its queues, and their copies.
 
 use crate::managers::{PROTOCOLS, bases};
-use crate::{BEFORE, IN_CALL};
+use crate::{BEFORE, expect_right};
 use pim_base::{MutexNo, Prio, TaskNo, Waiter};
 use pim_chain::Tables;
 use pim_queue::Queue;
@@ -9,30 +9,38 @@ use std::alloc::{AllocError, Global};
 use std::process::Abort;
 use std::test::Fail;
 
-/// Returns tables of three tasks of base 10 and two mutexes, for which nobody waits.
-fn expect_tables(rt: &impl Abort, tables: &Tables) {
-    let stored = (tables.stored(TaskNo(3)), tables.stored(TaskNo(4)));
-    assert_eq!(rt; stored, (Prio::new(10), None));
+/// Returns whether there are three tasks of base 10 and two mutexes, for which nobody waits.
+fn are_fresh(tables: &Tables) -> bool {
     let waiting = tables.queue(MutexNo(2)).map(|queue| queue.as_slice().len());
-    assert_eq!(rt; waiting, Some(0));
-    assert!(rt; tables.queue(MutexNo(3)).is_none());
+    tables.stored(TaskNo(3)) == Prio::new(10)
+        && tables.stored(TaskNo(4)).is_none()
+        && waiting == Some(0)
+        && tables.queue(MutexNo(3)).is_none()
+}
+
+/// Returns whether the tables are fresh, or `None` if there are none.
+fn shown(made: Result<Tables, AllocError>) -> Option<bool> {
+    let tables = made.ok()?;
+    Some(are_fresh(&tables))
 }
 
 #[test]
 fn tables_out_of_memory(rt: HostRuntime) -> Result<(), Fail> {
-    let made = Tables::new(rt.alloc(), &bases()?, &PROTOCOLS);
-    expect_tables(&rt, &made.map_err(|_error| IN_CALL)?);
-    Ok(())
+    let bases = bases()?;
+    let made = Tables::new(rt.alloc(), &bases, &PROTOCOLS);
+    expect_right(&rt, shown(made))
 }
 
 #[test]
 fn copied_tables_out_of_memory(rt: HostRuntime) -> Result<(), Fail> {
-    let made = Tables::new(rt.alloc(), &bases()?, &PROTOCOLS);
+    let bases = bases()?;
+    let made = Tables::new(rt.alloc(), &bases, &PROTOCOLS);
     let tables = made.map_err(|_error| BEFORE)?;
-    let copy = tables.try_clone(rt.alloc());
-    expect_tables(&rt, &tables);
-    expect_tables(&rt, &copy.map_err(|_error| IN_CALL)?);
-    Ok(())
+    let is_copy = shown(tables.try_clone(rt.alloc()));
+    let are_unchanged = are_fresh(&tables);
+    drop(tables);
+    assert!(rt; are_unchanged);
+    expect_right(&rt, is_copy)
 }
 
 fn insert(rt: &impl Abort, queue: &mut Queue, waiter: Waiter) {
@@ -56,25 +64,30 @@ fn waiter() -> Result<Waiter, Fail> {
     })
 }
 
-fn expect_one(rt: &impl Abort, queue: &Queue, waiter: Waiter) {
-    assert!(rt; queue.as_slice() == [waiter].as_slice());
-    assert!(rt; queue.has_room());
+fn has_one(queue: &Queue, waiter: Waiter) -> bool {
+    queue.as_slice() == [waiter].as_slice() && queue.has_room()
+}
+
+/// Returns whether the waiter is the one of the queue, or `None` if there is no queue.
+fn has_one_if_made(made: Result<Queue, AllocError>, waiter: Waiter) -> Option<bool> {
+    let queue = made.ok()?;
+    Some(has_one(&queue, waiter))
 }
 
 #[test]
 fn queue_out_of_memory(rt: HostRuntime) -> Result<(), Fail> {
     let waiter = waiter()?;
-    let queue = queue_of(&rt, rt.alloc(), waiter);
-    expect_one(&rt, &queue.map_err(|_error| IN_CALL)?, waiter);
-    Ok(())
+    let made = queue_of(&rt, rt.alloc(), waiter);
+    expect_right(&rt, has_one_if_made(made, waiter))
 }
 
 #[test]
 fn copied_queue_out_of_memory(rt: HostRuntime) -> Result<(), Fail> {
     let waiter = waiter()?;
     let queue = queue_of(&rt, rt.alloc(), waiter).map_err(|_error| BEFORE)?;
-    let copy = queue.try_clone(rt.alloc());
-    expect_one(&rt, &queue, waiter);
-    expect_one(&rt, &copy.map_err(|_error| IN_CALL)?, waiter);
-    Ok(())
+    let is_copy = has_one_if_made(queue.try_clone(rt.alloc()), waiter);
+    let is_unchanged = has_one(&queue, waiter);
+    drop(queue);
+    assert!(rt; is_unchanged);
+    expect_right(&rt, is_copy)
 }

@@ -1,7 +1,7 @@
 //! The calls on texts.
 
-use crate::{BEFORE, IN_CALL};
-use pim_tool::{Fault, Input, Output, Verdict, judge, judge_bytes, parse, parse_script};
+use crate::expect_right;
+use pim_judge::{Fault, Judged, Verdict, judge_bytes, parse, parse_script};
 use std::process::Abort;
 use std::test::Fail;
 
@@ -30,54 +30,33 @@ const REPORT: &str = "\
 accepted 5
 ";
 
-/// Returns the answer, unless an allocation failed, which must be the fault.
-fn served<T: Drop>(rt: &impl Abort, answer: Result<T, Fault>) -> Result<T, Fail> {
-    match answer {
-        Ok(value) => Ok(value),
-        Err(fault) => {
-            assert_eq!(rt; fault, Fault::Memory);
-            Err(IN_CALL)?
-        }
+/// Tests that what the call returned is right, unless an allocation failed, which must be the fault.
+fn expect_served(rt: &impl Abort, is_right: Result<bool, Fault>) -> Result<(), Fail> {
+    if let Err(fault) = is_right {
+        assert!(rt; fault == Fault::Memory);
     }
+    expect_right(rt, is_right.ok())
 }
 
 #[test]
 fn parse_out_of_memory(rt: HostRuntime) -> Result<(), Fail> {
-    let answer = parse(rt.alloc(), TEXT).map(|text| text.lines.len());
-    assert_eq!(rt; served(&rt, answer)?, 5);
-    Ok(())
+    let is_right = parse(rt.alloc(), TEXT).map(|text| text.lines.len() == 5);
+    expect_served(&rt, is_right)
 }
 
 #[test]
 fn parse_script_out_of_memory(rt: HostRuntime) -> Result<(), Fail> {
-    let answer = parse_script(rt.alloc(), TEXT).map(|script| script.lines.len());
-    assert_eq!(rt; served(&rt, answer)?, 5);
-    Ok(())
+    let is_right = parse_script(rt.alloc(), TEXT).map(|script| script.lines.len() == 5);
+    expect_served(&rt, is_right)
 }
 
-/// The report is shorter than a page, so nothing is written before the last allocation.
-#[test]
-fn judge_out_of_memory(rt: HostRuntime) -> Result<(), Fail> {
-    let room = Vec::with_capacity(rt.alloc(), 1024).map_err(|_error| BEFORE)?;
-    let mut writer = Output::new(room);
-    let answer = judge(rt.alloc(), &mut Input::new(TEXT), &mut writer);
-    let written = writer.into_inner();
-    let expected = if answer.is_ok() { REPORT } else { "" };
-    let is_expected = written.as_slice() == expected.as_bytes();
-    drop(written);
-    assert!(rt; is_expected);
-    assert_eq!(rt; served(&rt, answer)?, Verdict::Accepted(5));
-    Ok(())
+fn is_reported(judged: &Judged) -> bool {
+    let is_report = judged.report.as_slice() == REPORT.as_bytes();
+    is_report && judged.verdict == Verdict::Accepted(5)
 }
 
 #[test]
 fn judge_bytes_out_of_memory(rt: HostRuntime) -> Result<(), Fail> {
-    let answer = judge_bytes(rt.alloc(), TEXT);
-    let shown = answer.map(|judged| {
-        let is_expected = judged.report.as_slice() == REPORT.as_bytes();
-        (judged.verdict, is_expected)
-    });
-    let judged = served(&rt, shown)?;
-    assert_eq!(rt; judged, (Verdict::Accepted(5), true));
-    Ok(())
+    let is_right = judge_bytes(rt.alloc(), TEXT).map(|judged| is_reported(&judged));
+    expect_served(&rt, is_right)
 }
