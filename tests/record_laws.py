@@ -5,6 +5,7 @@ import struct
 import tempfile
 
 from checks import ROOT, answer, check, difference
+from record_logs import log_of
 
 THREAD, NAME, CREATE, EXIT, PRIORITY, FORK, CHILD, EXEC, EXEC_FAILED, END = range(1, 11)
 MODULE, PLACE, TEXT = range(11, 14)
@@ -14,24 +15,9 @@ INHERIT, RECURSIVE, ROBUST, SHARED = 0x24, 0x25, 0x34, 0xA4
 MUTEX, WAIT, OWNER_DIED, SATURATED = 0x5000, 4, 0x80, 2**32 - 1
 
 
-def log_of(rows, processes=(100, 100, 100), missing=0):
-    """Returns a log of three threads: thread, event, object, value, detail and how of each record.
-    Record n is of the time 1000 + 10 n. Thread t is task 99 + t."""
-    data = bytearray(4096 + 3 * 16384)
-    head = b"pimlog\r\n", 1, 0x01020304, 4096, 32, 512, 7, 3, 100, 50, 1000, 0, 4, 0
-    struct.pack_into("<8sIIIIIIQIIQQII", data, 0, *head)
-    struct.pack_into("<Q", data, 128, len(rows) + 1 + missing)
-    struct.pack_into("<QQ", data, 192, 3, 4)
-    data[256:260] = b"./p\0"
-    at = [4096 + 16384 * chunk for chunk in range(3)]
-    for thread in {row[0] for row in rows}:
-        head = b"pimChunk", processes[thread - 1], 99 + thread, thread, 0, 0
-        struct.pack_into("<8sIIIIQ", data, at[thread - 1], *head)
-    for number, (thread, event, target, value, detail, how) in enumerate(rows, 1):
-        at[thread - 1] += 32
-        fields = number, 1000 + 10 * number, target, value, detail, event, how
-        struct.pack_into("<QQQIHBB", data, at[thread - 1], *fields)
-    return data
+def log_of_three(rows, processes=None, missing=0):
+    """Returns a log of three threads, which lacks so many numbers behind the rows. Thread t is of process 100."""
+    return log_of(rows, 3, processes=processes, numbers=len(rows) + 1 + missing)
 
 
 def start(*threads):
@@ -123,15 +109,15 @@ def verdict(reader, data):
 
 def laws(reader):
     for name, rows in KEPT.items():
-        check(f"a law is kept: {name}", difference((verdict(reader, log_of(rows)),), ([],)))
+        check(f"a law is kept: {name}", difference((verdict(reader, log_of_three(rows)),), ([],)))
     for name, (rows, wanted) in BROKEN.items():
-        said = verdict(reader, log_of(rows))
+        said = verdict(reader, log_of_three(rows))
         check(f"just one law is broken: {name}", difference((said,), ([wanted],)))
 
 
 def told(reader, name, row, wanted):
     """Checks that pim-log says this of the second record."""
-    said = verdict(reader, log_of(start(1) + [row]))
+    said = verdict(reader, log_of_three(start(1) + [row]))
     check(name, None if f"record 2: {wanted}" in said else said or "nothing is said")
 
 
@@ -168,29 +154,29 @@ def forks(reader):
                               ["record 5: there is no such fork"]),
     }
     for name, (rows, wanted) in cases.items():
-        said = verdict(reader, log_of(rows, processes=(100, 200, 100)))
+        said = verdict(reader, log_of_three(rows, processes={2: 200}))
         check(f"a child and a mutex, {name}", difference((said,), (wanted,)))
 
 
 def numbers(reader):
     """Numbers may be missing of each thread that was killed, times may be the same, and the chunks
     of a thread name one."""
-    said = [verdict(reader, log_of(start(1, 2, 3), missing=count)) for count in (3, 4)]
+    said = [verdict(reader, log_of_three(start(1, 2, 3), missing=count)) for count in (3, 4)]
     check("a number may be missing for each thread",
           difference(said, ([], ["4 numbers are missing"])))
-    said = verdict(reader, log_of(start(1, 2), missing=-1))
+    said = verdict(reader, log_of_three(start(1, 2), missing=-1))
     check("a number is below the next",
           difference((said,), (["record 2: its number isn't below 2"],)))
-    lost = log_of(start(1, 2), missing=5)
+    lost = log_of_three(start(1, 2), missing=5)
     struct.pack_into("<QQ", lost, 208, 6, 2)
     check("numbers behind the first lost one may be missing",
           difference((verdict(reader, lost),), ([],)))
-    same = log_of(start(1) + lock(1))
+    same = log_of_three(start(1) + lock(1))
     struct.pack_into("<Q", same, 4096 + 64 + 8, 1010)
     check("two records of a thread have a time", difference((verdict(reader, same),), ([],)))
     for at, value, wanted in ((8, 100, []), (8, 101, ["thread 1: its chunks name several"]),
                               (12, 101, ["thread 1: its chunks name several"])):
-        data = log_of(start(1) + [(2, EXIT, 0, 0, 0, 0)])
+        data = log_of_three(start(1) + [(2, EXIT, 0, 0, 0, 0)])
         struct.pack_into("<8sIIIIQ", data, 4096 + 16384, b"pimChunk", 100, 100, 1, 1, 0)
         struct.pack_into("<I", data, 4096 + 16384 + at, value)
         said = verdict(reader, data)
@@ -212,7 +198,7 @@ def commands():
                                     "the log was full: 1 records are missing, from 2 on"])}
     for name, (rows, *wanted) in cases.items():
         with tempfile.TemporaryDirectory() as folder:
-            path, data = pathlib.Path(folder, "run"), log_of(rows)
+            path, data = pathlib.Path(folder, "run"), log_of_three(rows)
             struct.pack_into("<QQ", data, 208, *((1, 2) if name == "was full" else (0, 0)))
             path.write_bytes(data)
             status, out, _ = answer([str(ROOT / "record/pim-log"), "--check", str(path)])
