@@ -12,8 +12,6 @@
 
 mod ran;
 mod schedule;
-#[cfg(test)]
-mod tests;
 
 pub use ran::Ran;
 pub use schedule::schedule_of;

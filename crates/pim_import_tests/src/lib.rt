@@ -1,20 +1,30 @@
-//! Tests of pim_import: logs of a few records, spans, and programs of a few observations, all by hand.
+//! Tests of the recording half and of the pictures: of pim_log, pim_kernel, pim_waits, pim_names, pim_cpus, pim_import,
+//! pim_comparison and pim_drawing.
 //!
-//! They have a crate of their own, since a crate with tests is proved a second time with them.
+//! They have a call of each public function, with values by hand, and what only a call in memory shows. All else is in
+//! `suite/recordings` and `suite/pictures`, which the built programs play.
 #![tactic(auto)]
 
 #[cfg(test)]
-mod crowds;
+mod comparing;
 #[cfg(test)]
-mod imports;
+mod differs;
 #[cfg(test)]
-mod logs;
+mod drawing;
 #[cfg(test)]
-mod pieces;
+mod importing;
 #[cfg(test)]
-mod priorities;
+mod inversion;
 #[cfg(test)]
-mod replays;
+mod kernel;
+#[cfg(test)]
+mod log;
+#[cfg(test)]
+mod names;
+#[cfg(test)]
+mod ran;
+#[cfg(test)]
+mod replay;
 #[cfg(test)]
 mod sharing;
 #[cfg(test)]

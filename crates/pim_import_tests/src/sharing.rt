@@ -1,87 +1,149 @@
-//! Spans of a few records, and their numbers by hand.
+//! pim_import: spans of a few records and their numbers, and levels of a log and their priorities.
 
-use pim_import::{SharingFault, Span, share};
+use pim_import::{Priorities, Scale, SharingFault, Span, share};
 use std::alloc::{AllocError, Global};
 use std::test::*;
 
-/// Returns the numbers of the first five spans, or the fault.
-fn numbers_of(
-    alloc: Global,
-    spans: &[Span],
+/// Spans, as their first and last record; how many numbers there are; and the number of each, or the fault.
+struct Case {
+    name: &'static str,
+    spans: &'static [(u64, u64)],
     limit: usize,
-) -> ([Option<usize>; 5], Option<SharingFault>) {
-    match share(alloc, spans, limit) {
-        Ok(numbers) => (
-            [0usize, 1, 2, 3, 4].map(|index| numbers.get(index).copied()),
-            None,
-        ),
-        Err(fault) => ([None; 5], Some(fault)),
-    }
+    numbers: &'static [usize],
+    fault: Option<SharingFault>,
 }
 
-fn span(first: u64, last: u64) -> Span {
-    Span { first, last }
-}
+const CASES: [Case; 8] = [
+    Case {
+        name: "spans that don't meet share a number",
+        spans: &[(1, 4), (2, 9), (5, 7), (8, 8), (9, 12)],
+        limit: 256,
+        numbers: &[0, 1, 0, 0, 0],
+        fault: None,
+    },
+    Case {
+        name: "a span that begins with the last record of another has its own number",
+        spans: &[(1, 4), (4, 5), (5, 6)],
+        limit: 256,
+        numbers: &[0, 1, 0],
+        fault: None,
+    },
+    Case {
+        name: "three at one time need three numbers",
+        spans: &[(1, 9), (2, 9), (3, 3)],
+        limit: 3,
+        numbers: &[0, 1, 2],
+        fault: None,
+    },
+    Case {
+        name: "two numbers aren't enough for three",
+        spans: &[(1, 9), (2, 9), (3, 3)],
+        limit: 2,
+        numbers: &[],
+        fault: Some(SharingFault::Crowded(2)),
+    },
+    Case {
+        name: "spans out of order are refused",
+        spans: &[(4, 9), (5, 6), (4, 9)],
+        limit: 256,
+        numbers: &[],
+        fault: Some(SharingFault::OutOfOrder(2)),
+    },
+    Case {
+        name: "no span needs no number",
+        spans: &[],
+        limit: 0,
+        numbers: &[],
+        fault: None,
+    },
+    Case {
+        name: "without numbers the first span is refused",
+        spans: &[(1, 1)],
+        limit: 0,
+        numbers: &[],
+        fault: Some(SharingFault::Crowded(0)),
+    },
+    Case {
+        name: "memory has no room for all numbers",
+        spans: &[(1, 1)],
+        limit: usize::MAX,
+        numbers: &[],
+        fault: Some(SharingFault::Memory),
+    },
+];
 
-#[test]
-fn spans_that_do_not_meet_share_a_number(rt: HostRuntime) {
-    let spans = [span(1, 4), span(2, 9), span(5, 7), span(8, 8), span(9, 12)];
-    let (numbers, fault) = numbers_of(rt.alloc(), &spans, 256);
-    assert!(rt; fault.is_none());
-    assert!(rt; numbers == [Some(0), Some(1), Some(0), Some(0), Some(0)]);
-}
-
-#[test]
-fn span_that_begins_with_the_last_record_of_another_has_its_own_number(rt: HostRuntime) {
-    let (numbers, _) = numbers_of(rt.alloc(), &[span(1, 4), span(4, 5), span(5, 6)], 256);
-    assert!(rt; numbers == [Some(0), Some(1), Some(0), None, None]);
-}
-
-#[test]
-fn three_at_one_time_need_three_numbers(rt: HostRuntime) {
-    let spans = [span(1, 9), span(2, 9), span(3, 3)];
-    let (numbers, _) = numbers_of(rt.alloc(), &spans, 3);
-    assert!(rt; numbers == [Some(0), Some(1), Some(2), None, None]);
-    let (_, fault) = numbers_of(rt.alloc(), &spans, 2);
-    assert!(rt; fault == Some(SharingFault::Crowded(2)));
-}
-
-#[test]
-fn spans_out_of_order_are_refused(rt: HostRuntime) {
-    let (_, fault) = numbers_of(rt.alloc(), &[span(4, 9), span(5, 6), span(4, 9)], 256);
-    assert!(rt; fault == Some(SharingFault::OutOfOrder(2)));
-}
-
-#[test]
-fn without_numbers_the_first_span_is_refused(rt: HostRuntime) {
-    let (_, fault) = numbers_of(rt.alloc(), &[], 0);
-    assert!(rt; fault.is_none());
-    let (_, fault) = numbers_of(rt.alloc(), &[span(1, 1)], 0);
-    assert!(rt; fault == Some(SharingFault::Crowded(0)));
-}
-
-#[test]
-fn more_numbers_than_memory_has_room_for_are_refused(rt: HostRuntime) {
-    let (_, fault) = numbers_of(rt.alloc(), &[span(1, 1)], usize::MAX);
-    assert!(rt; fault == Some(SharingFault::Memory));
-}
-
-/// Returns the spans of 300 threads, each of which creates the next one with its last record.
-fn relay(alloc: Global) -> Result<Vec<Span>, AllocError> {
+/// Returns whether the spans of a case have the numbers that it wants, or its fault.
+fn are_shared_as_wanted(alloc: Global, case: &Case) -> Result<bool, AllocError> {
     let mut spans = Vec::new(alloc);
-    for thread in 0..300u64 {
-        spans.push(span(10 * thread, 10 * thread + 10))?;
+    for (first, last) in case.spans {
+        let span = Span {
+            first: *first,
+            last: *last,
+        };
+        if spans.push(span).is_err() {
+            return Err(AllocError);
+        }
     }
-    Ok(spans)
+    Ok(match share(alloc, &spans, case.limit) {
+        Ok(numbers) => case.fault.is_none() && numbers.as_slice() == case.numbers,
+        Err(fault) => case.fault == Some(fault),
+    })
 }
 
 #[test]
-fn two_numbers_are_enough_for_threads_in_a_relay(rt: HostRuntime) -> Result<(), Fail> {
-    let spans = relay(rt.alloc())?;
-    let (numbers, fault) = numbers_of(rt.alloc(), &spans, 2);
-    let (_, refused) = numbers_of(rt.alloc(), &spans, 1);
-    assert!(rt; fault.is_none());
-    assert!(rt; numbers == [Some(0), Some(1), Some(0), Some(1), Some(0)]);
-    assert!(rt; refused == Some(SharingFault::Crowded(1)));
+fn spans_have_numbers(rt: HostRuntime) -> Result<(), Fail> {
+    for case in &CASES {
+        assert!(rt; are_shared_as_wanted(rt.alloc(), case)?, "{}", case.name);
+    }
     Ok(())
+}
+
+/// The levels that a log has alone, its scale, and the priorities of these levels.
+const LEVELS: [([u8; 3], Scale, [u16; 3]); 8] = [
+    ([0, 2, 50], Scale::Same, [1, 2, 50]),
+    ([0, 98, 99], Scale::Same, [1, 98, 99]),
+    ([1, 98, 100], Scale::Same, [1, 98, 99]),
+    ([0, 1, 50], Scale::OneHigher, [1, 2, 51]),
+    ([0, 1, 98], Scale::OneHigher, [1, 2, 99]),
+    ([0, 1, 99], Scale::Ranks, [1, 2, 3]),
+    ([0, 1, 100], Scale::Ranks, [1, 2, 3]),
+    ([50, 99, 100], Scale::Ranks, [1, 2, 3]),
+];
+
+/// Returns a log's levels: these are there, and the others are as `others`.
+fn levels_of(levels: [u8; 3], is_there: bool, others: bool) -> [bool; 101] {
+    let mut has = [others; 101];
+    for level in levels {
+        has[level.min(100) as usize] = is_there;
+    }
+    has
+}
+
+/// Returns the scale of a log with these levels, and the priorities of three levels.
+fn priorities_of(has: &[bool; 101], levels: [u8; 3]) -> Option<(Scale, [u16; 3])> {
+    let priorities = Priorities::of(has)?;
+    let [first, second, third] = levels;
+    let of = [
+        priorities.of_level(first).get(),
+        priorities.of_level(second).get(),
+        priorities.of_level(third).get(),
+    ];
+    Some((priorities.scale, of))
+}
+
+#[test]
+fn levels_have_priorities(rt: HostRuntime) {
+    for (levels, scale, wanted) in LEVELS {
+        let has = levels_of(levels, true, false);
+        assert!(rt;
+            priorities_of(&has, levels) == Some((scale, wanted)),
+            "{}",
+            wanted[2]
+        );
+    }
+    let has = levels_of([30, 60, 60], false, true);
+    let ranks = priorities_of(&has, [29, 31, 100]);
+    assert!(rt; ranks == Some((Scale::Ranks, [30, 31, 99])));
+    let has = levels_of([30, 30, 30], false, true);
+    assert!(rt; priorities_of(&has, [29, 31, 100]).is_none());
 }

@@ -1,0 +1,64 @@
+//! pim_comparison: a log and its kernel's events.
+
+use crate::inversion::{KERNEL, log_bytes};
+use pim_base::{MutexNo, Reason, TaskNo};
+use pim_comparison::{Compared, Found, compare, waits_of};
+use pim_import::{Wait, import_log};
+use pim_kernel::{Difference, Recording};
+use pim_log::Log;
+use std::alloc::Global;
+use std::test::*;
+
+#[test]
+fn kernel_shows_the_wait(rt: HostRuntime) -> Result<(), Fail> {
+    let recording = Recording::read(rt.alloc(), KERNEL.as_bytes())?;
+    let waits = waits_of(rt.alloc(), &recording)?;
+    let wanted = Wait {
+        from: 320_000,
+        task: 702,
+        address: 0x500,
+    };
+    assert!(rt; waits.as_slice() == [wanted].as_slice());
+    Ok(())
+}
+
+fn compared(alloc: Global) -> Result<Compared, Fail> {
+    let bytes = log_bytes(alloc)?;
+    let Ok(log) = Log::read(alloc, &bytes) else {
+        return Err(Fail::from("it isn't a log"));
+    };
+    let recording = Recording::read(alloc, KERNEL.as_bytes())?;
+    let Ok(imported) = import_log(alloc, &log, false, &[]) else {
+        return Err(Fail::from("it isn't imported"));
+    };
+    Ok(compare(alloc, &log, &imported, &recording, 0)?)
+}
+
+#[test]
+fn late_boost_is_found(rt: HostRuntime) -> Result<(), Fail> {
+    let compared = compared(rt.alloc())?;
+    let difference = Difference {
+        level: 10,
+        mark: 2,
+        begin: 320_000,
+        end: 350_000,
+        ran: 30_000,
+        first_line: 8,
+        last_line: 13,
+    };
+    let found = Found {
+        thread: 1,
+        difference,
+        level: 40,
+        reason: Reason::Waiter(TaskNo(2), MutexNo(1)),
+    };
+    assert!(rt; compared.found.as_slice() == [found].as_slice());
+    let counts = [
+        compared.threads,
+        compared.unknown,
+        compared.losses,
+        compared.lost_time,
+    ];
+    assert!(rt; counts == [2, 0, 0, 0]);
+    Ok(())
+}

@@ -1,0 +1,66 @@
+//! pim_import: a log and its trace.
+
+use crate::inversion::log_bytes;
+use pim_base::{Entry, MutexNo, Op, Protocol, Reply, Step, TaskNo};
+use pim_import::{Family, Imported, LeftOut, blocker_of, family_of, import_log};
+use pim_log::Log;
+use std::alloc::Global;
+use std::test::*;
+
+fn entry(actor: u16, op: Op, reply: Reply) -> Entry {
+    let step = Step {
+        actor: TaskNo(actor),
+        op,
+    };
+    Entry { step, reply }
+}
+
+/// Imports the log of the inversion.
+fn imported(alloc: Global) -> Result<Imported, Fail> {
+    let bytes = log_bytes(alloc)?;
+    let Ok(log) = Log::read(alloc, &bytes) else {
+        return Err(Fail::from("it isn't a log"));
+    };
+    match import_log(alloc, &log, false, &[]) {
+        Ok(imported) => Ok(imported),
+        Err(_) => Err(Fail::from("it isn't imported")),
+    }
+}
+
+#[test]
+fn log_has_a_trace(rt: HostRuntime) -> Result<(), Fail> {
+    let imported = imported(rt.alloc())?;
+    let piece = imported.performed.pieces.first().ok_or("a piece")?;
+    let lock = Op::Lock(MutexNo(1));
+    let wanted = [
+        entry(1, lock, Reply::Granted),
+        entry(2, Op::Lock(MutexNo(1)), Reply::Queued),
+        entry(1, Op::Unlock(MutexNo(1)), Reply::Handed(TaskNo(2))),
+        entry(2, Op::Unlock(MutexNo(1)), Reply::Freed),
+    ];
+    assert!(rt; piece.replay.entries() == wanted.as_slice());
+    let times = [200_000, 300_000, 900_000, 940_000];
+    assert!(rt; piece.times.as_slice() == times.as_slice() && piece.restoring == 0);
+    assert!(rt; piece.replay.protocols() == [Protocol::Inherit].as_slice());
+    // Two threads and a mutex.
+    assert!(rt; imported.performed.entrances.len() == 3 && imported.ended == 990_000);
+    Ok(())
+}
+
+#[test]
+fn log_has_findings(rt: HostRuntime) -> Result<(), Fail> {
+    let imported = imported(rt.alloc())?;
+    let findings = &imported.performed.findings;
+    let wait = findings.longest.first().ok_or("a wait")?;
+    let facts = (wait.thread, wait.owner, wait.began, wait.lasted);
+    assert!(rt; facts == (2, 1, 300_000, 630_000));
+    let found = findings.mutex(1);
+    assert!(rt; (found.waits, found.longest, found.longest_owner) == (1, 700_000, 1));
+    assert!(rt; !findings.is_bad() && family_of(&imported.sources, 1) == Family::Inherit);
+    assert!(rt; blocker_of(&imported, 2) == (0, 0));
+    let tally = &imported.performed.tally;
+    assert!(rt; (tally.used, tally.left_out(LeftOut::Remark)) == (5, 3));
+    let numbers = &imported.numbering.threads;
+    assert!(rt; (numbers.of(1), numbers.of(2), numbers.count()) == (1, 2, 2));
+    Ok(())
+}
