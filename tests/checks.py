@@ -8,7 +8,7 @@ import time
 
 ROOT = pathlib.Path(__file__).resolve().parent.parent
 COUNTS = {"ok": 0, "FAIL": 0, "skip": 0}
-# What takes longer hangs, on the busiest machine. A check waits for what it needs, never for a time that it should take.
+# What takes longer hangs, on the busiest machine. A check waits for what it needs.
 SECONDS = 300
 
 

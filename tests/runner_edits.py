@@ -1,4 +1,4 @@
-"""tests/runner's checks of tests/edits, which names clauses, and of tests/mutate, which tries the edits of tests/mutations.
+"""tests/runner's checks of tests/edits, which names clauses, and of tests/mutate, which tries tests/mutations.
 
 Both run in an outline of the repository; for the latter 'rt' is a stub.
 """
