@@ -45,16 +45,9 @@ fn tracked(
 }
 
 /// Task 1 locks mutex 1, and task 2 waits for it.
-const CONTEND: [Step; 2] = [
-    Step {
-        actor: TaskNo(1),
-        op: Lock(FIRST),
-    },
-    Step {
-        actor: TaskNo(2),
-        op: Lock(FIRST),
-    },
-];
+fn contention() -> [Step; 2] {
+    [by(1, Lock(FIRST)), by(2, Lock(FIRST))]
+}
 
 fn expect_tasks(rt: &impl Abort, manager: &Manager) {
     assert!(rt; [manager.tasks(), manager.mutexes()] == [2, 2]);
@@ -78,7 +71,7 @@ fn expect_mutexes(rt: &impl Abort, manager: &Manager) {
 #[test]
 fn run_leaves_an_owner_a_waiter_and_a_donation(rt: HostRuntime) -> Result<(), Fail> {
     let mut manager = made(&rt, rt.alloc(), &[10, 90], &[Inherit, Protocol::None])?;
-    manager.run(&CONTEND);
+    manager.run(&contention());
     expect_tasks(&rt, &manager);
     expect_mutexes(&rt, &manager);
     assert!(rt; manager.next_ticket() == 2);
@@ -88,7 +81,7 @@ fn run_leaves_an_owner_a_waiter_and_a_donation(rt: HostRuntime) -> Result<(), Fa
 #[test]
 fn run_returns_its_replies(rt: HostRuntime) -> Result<(), Fail> {
     let mut manager = made(&rt, rt.alloc(), &[10, 90], &[Inherit])?;
-    let replies = manager.run_replies(rt.alloc(), &CONTEND)?;
+    let replies = manager.run_replies(rt.alloc(), &contention())?;
     assert!(rt; replies.as_slice() == &[Granted, Queued][..]);
     Ok(())
 }
@@ -105,7 +98,7 @@ fn expect_own_way(rt: &impl Abort, manager: &Manager, copy: &mut Manager) {
 #[test]
 fn copy_has_the_same_state_and_goes_its_own_way(rt: HostRuntime) -> Result<(), Fail> {
     let mut manager = made(&rt, rt.alloc(), &[10, 90], &[Inherit])?;
-    manager.run(&CONTEND);
+    manager.run(&contention());
     let mut copy = manager.try_clone(rt.alloc())?;
     expect_own_way(&rt, &manager, &mut copy);
     Ok(())
@@ -302,7 +295,7 @@ fn expect_protocols(rt: &impl Abort, manager: &mut Manager) {
 #[test]
 fn only_a_free_mutex_gets_another_protocol(rt: HostRuntime) -> Result<(), Fail> {
     let mut manager = made(&rt, rt.alloc(), &[10, 90], &[Inherit, Protocol::None])?;
-    manager.run(&CONTEND);
+    manager.run(&contention());
     expect_protocols(&rt, &mut manager);
     Ok(())
 }
@@ -321,8 +314,8 @@ fn expect_list(rt: &impl Abort, tracked: &mut TrackedManager) {
 #[test]
 fn protocol_that_is_set_empties_the_list_of_changes(rt: HostRuntime) -> Result<(), Fail> {
     let mut tracked = tracked(&rt, rt.alloc(), &[10, 90], &[Inherit, Protocol::None])?;
-    tracked.step(CONTEND[0]);
-    tracked.step(CONTEND[1]);
+    tracked.step(by(1, Lock(FIRST)));
+    tracked.step(by(2, Lock(FIRST)));
     expect_list(&rt, &mut tracked);
     Ok(())
 }
