@@ -1,8 +1,7 @@
 //! pim_drawing: pictures of a small trace, and arguments.
 
-use clap::error::ErrorKind;
 use pim_drawing::{Form, Named, Recorded, Style, Window, command, named_picture, picture};
-use pim_judge::{Fault, MemoryReader, MemoryWriter, Verdict};
+use pim_judge::{MemoryReader, MemoryWriter, Verdict};
 use pim_kernel::{Recording, Tracks};
 use pim_names::{Names, NamesFault};
 use std::alloc::Global;
@@ -30,14 +29,6 @@ fn arguments_ask_for_a_picture(rt: HostRuntime) {
             && asked.piece == 2
             && asked.kernel == Some("run.kernel"))
     );
-}
-
-#[test]
-fn wrong_arguments_have_a_kind(rt: HostRuntime) {
-    let asked = command(rt.alloc(), &["pim-picture", "--from", "x"]);
-    assert!(rt; asked.is_err_and(|error| error.kind() == ErrorKind::ValueValidation));
-    let asked = command(rt.alloc(), &["pim-picture", "--perfetto", "--kernel=x"]);
-    assert!(rt; asked.is_err_and(|error| error.kind() == ErrorKind::MissingRequiredArgument));
 }
 
 const STEPS: Window = Window { first: 1, last: 9 };
@@ -70,15 +61,6 @@ fn boosted_task_is_marked(rt: HostRuntime) -> Result<(), Fail> {
     assert!(rt; verdict == Verdict::Accepted(2));
     assert!(rt; writer.into_bytes().as_slice() == TABLE.as_bytes());
     Ok(())
-}
-
-#[test]
-fn invalid_line_is_named(rt: HostRuntime) {
-    let mut reader = MemoryReader::new(b"pim 1\ntask 1 100\n");
-    let mut writer = MemoryWriter::new(rt.alloc());
-    let drawn = picture(rt.alloc(), &mut reader, &mut writer, &style(Form::Svg));
-    assert!(rt; drawn.is_err_and(|fault| fault == Fault::Line(2)));
-    assert!(rt; writer.into_bytes().is_empty());
 }
 
 /// Task 1 is another thread behind the last step.
@@ -145,9 +127,9 @@ const TRACKS: &str = "{\"displayTimeUnit\":\"ms\",\"traceEvents\":[\
 {\"ph\":\"X\",\"pid\":1000,\"tid\":1000002,\"name\":\"high[9]\",\
 \"ts\":1000.900,\"dur\":1000,\"args\":{\"task\":2,\"level\":50}}]}";
 
-/// Returns the tracks of the trace with these names, and what the kernel's events show.
-fn tracks_of(alloc: Global, names: &str) -> Result<(Named, MemoryWriter), Fail> {
-    let names = Names::read(alloc, names.as_bytes())?;
+/// Draws the tracks of the trace with its names and its kernel's events.
+fn tracks_of(alloc: Global) -> Result<(Named, MemoryWriter), Fail> {
+    let names = Names::read(alloc, NAMES.as_bytes())?;
     let piece = names.piece(1).ok_or(NamesFault::Line(0))?;
     let recording = Recording::read(alloc, KERNEL.as_bytes())?;
     let tracks = Tracks::of(alloc, &recording)?;
@@ -164,16 +146,8 @@ fn tracks_of(alloc: Global, names: &str) -> Result<(Named, MemoryWriter), Fail> 
 
 #[test]
 fn tracks_have_names_times_and_cpus(rt: HostRuntime) -> Result<(), Fail> {
-    let (named, writer) = tracks_of(rt.alloc(), NAMES)?;
+    let (named, writer) = tracks_of(rt.alloc())?;
     assert!(rt; named == Named::Drawn(Verdict::Accepted(2)));
     assert!(rt; writer.into_bytes().as_slice() == TRACKS.as_bytes());
-    Ok(())
-}
-
-#[test]
-fn names_of_other_steps_are_refused(rt: HostRuntime) -> Result<(), Fail> {
-    let (named, writer) = tracks_of(rt.alloc(), "piece 1 0\nstep 1 1000500\n")?;
-    assert!(rt; named == Named::OtherSteps(2));
-    assert!(rt; writer.into_bytes().is_empty());
     Ok(())
 }
