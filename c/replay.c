@@ -214,7 +214,9 @@ int main(int argc, char **argv) {
     static char line[256], out[1 << 16];
     int checks = argc > 1 && strcmp(argv[1], "-check") == 0, status = 0;
     setvbuf(stdout, out, _IOFBF, sizeof out);
-    if (!fgets(line, sizeof line, stdin) || (strcmp(line, "pim 1\n") != 0 && strcmp(line, "pim 2\n") != 0)) return 2;
+    if (!fgets(line, sizeof line, stdin)) return 2;
+    line[strcspn(line, "\n")] = 0;
+    if (strcmp(line, "pim 1") != 0 && strcmp(line, "pim 2") != 0) return 2;
     while (status == 0 && fgets(line, sizeof line, stdin)) {
         line[strcspn(line, "\n")] = 0;
         if (line[0] == 't') status = read_task(line) ? 0 : 2;

@@ -35,9 +35,14 @@ def locked_often():
             yield "\n".join([*declared, *steps, last, ""]).encode()
 
 
+def suite(machine):
+    """The texts that tests/suite replays on this machine."""
+    texts = (file.read_bytes() for folder in ("suite/traces", "examples") for file in sorted((ROOT / folder).glob("*.pim")))
+    replayed("the suite", program(), machine, texts)
+
+
 def replays(machine):
     pim = program()
-    replayed("examples", pim, machine, (file.read_bytes() for file in sorted((ROOT / "examples").glob("*.pim"))))
     for kind, make in TEXTS.items():
         replayed(kind, pim, machine, (make(*size).encode() for size in SIZES))
     replayed("mixed again", pim, machine, (mixed(2 + seed % 11, 150, seed).encode() for seed in range(200)))

@@ -1,113 +1,125 @@
-//! Ends of one byte a call, and ends of which each call in turn goes wrong.
+//! Streams of a byte a call, of which each call in turn goes wrong.
 
-use crate::worked::{REPORT, TEXT};
-use pim_judge::{Fault, MemoryReader, MemoryWriter, Trouble, Verdict, judge};
+use pim_tool::{Fault, MemoryReader, MemoryWriter, Trouble, check, judge, run};
 use std::alloc::{AllocGlobal, Global};
 use std::process::Abort;
+use std::sync::Wait;
+use std::thread::Threads;
 
-/// Ends that read and write so many bytes a call. The calls of these numbers, counted from 1, go wrong.
+const SCRIPT: &[u8] = b"pim 1\ntask 1 10\nmutex 1 protect 20\n1 lock 1\n";
+
+const REPORT: &[u8] = b"1 granted\n  task 1 at 20 ceiling 1\naccepted 1\n";
+
+const TRACE: &[u8] = b"\
+pim 1
+task 1 10
+mutex 1 protect 20
+1 lock 1 = granted
+1 release = released 1
+";
+
+/// What is done with the script.
 #[derive(Clone, Copy)]
-struct Ends {
-    read: usize,
-    written: usize,
-    wrong_read: u64,
-    wrong_write: u64,
+enum Job {
+    Judge,
+    Run,
+    Check,
+}
+
+/// Each job, and what it writes.
+const JOBS: &[(Job, &[u8])] = &[
+    (Job::Judge, REPORT),
+    (Job::Run, TRACE),
+    (Job::Check, b"accepted 2\n"),
+];
+
+/// The fault of a job, and what it writes, where the read of this number or the write of that one goes wrong.
+fn done<T: Threads + Wait + Sync>(
+    rt: &T,
+    alloc: Global,
+    job: Job,
+    read: u64,
+    write: u64,
     trouble: Trouble,
+) -> (Option<Fault>, MemoryWriter) {
+    let mut reader = MemoryReader::piecewise(SCRIPT, 1, read);
+    let mut writer = MemoryWriter::piecewise(alloc, 1, trouble, write);
+    let fault = match job {
+        Job::Judge => judge(alloc, &mut reader, &mut writer).err(),
+        Job::Run => run(rt, alloc, &mut reader, &mut writer).err(),
+        Job::Check => check(rt, alloc, &mut reader, &mut writer).err(),
+    };
+    (fault, writer)
 }
 
-/// Ends that move so many bytes a call, and of which no call goes wrong.
-fn pieces(read: usize, written: usize) -> Ends {
-    Ends {
-        read,
-        written,
-        wrong_read: 0,
-        wrong_write: 0,
-        trouble: Trouble::Fails,
+#[test]
+fn each_failed_read_is_a_fault_and_nothing_is_written(rt: HostRuntime) {
+    for (job, output) in JOBS {
+        for call in 1..SCRIPT.len() as u64 + 2 {
+            let (fault, written) = done(&rt, rt.alloc(), *job, call, 0, Trouble::Fails);
+            let calls = written.calls();
+            drop(written);
+            assert!(rt; fault == Some(Fault::Read) && calls == 0, "read {call}");
+        }
+        // No read is made after the end.
+        let after_end = SCRIPT.len() as u64 + 2;
+        let (fault, written) = done(&rt, rt.alloc(), *job, after_end, 0, Trouble::Fails);
+        let is_whole = written.bytes() == *output;
+        drop(written);
+        assert!(rt; fault.is_none() && is_whole);
     }
 }
 
-/// Returns the judge's answer for the worked text over these ends, and what it writes.
-fn judged_over(alloc: Global, ends: Ends) -> (Result<Verdict, Fault>, Vec<u8>) {
-    let mut reader = MemoryReader::piecewise(TEXT.as_bytes(), ends.read, ends.wrong_read);
-    let mut writer = MemoryWriter::piecewise(alloc, ends.written, ends.trouble, ends.wrong_write);
-    let answer = judge(alloc, &mut reader, &mut writer);
-    (answer, writer.into_bytes())
-}
-
-/// The judge answers so of the worked text over these ends, and writes so many bytes of its report.
-fn expect_written(
-    rt: &(impl Abort + AllocGlobal),
-    name: &str,
-    ends: Ends,
-    answer: Result<Verdict, Fault>,
-    count: usize,
+/// Each write of the job in turn goes wrong so: what was written before is a prefix of its output.
+fn expect_prefixes<T: Threads + Wait + Sync + Abort + AllocGlobal>(
+    rt: &T,
+    job: Job,
+    output: &[u8],
+    trouble: Trouble,
 ) {
-    let call = ends.wrong_read.max(ends.wrong_write);
-    let (answered, written) = judged_over(rt.alloc(), ends);
-    let report = str::from_utf8(&written).ok();
-    assert_eq!(rt; report, REPORT.get(..count), "{name}, call {call}");
-    drop(written);
-    assert_eq!(rt; answered, answer, "{name}, call {call}");
-}
-
-const PIECES: &[usize] = &[1, 2, 3, 7, 1000];
-
-#[test]
-fn report_is_the_same_by_pieces(rt: HostRuntime) {
-    let all = REPORT.len();
-    let accepted = Ok(Verdict::Accepted(3));
-    for most in PIECES {
-        let ends = pieces(*most, usize::MAX);
-        expect_written(&rt, "pieces are read", ends, accepted, all);
-        let ends = pieces(usize::MAX, *most);
-        expect_written(&rt, "pieces are written", ends, accepted, all);
-        let ends = pieces(*most, *most);
-        expect_written(&rt, "pieces are read and written", ends, accepted, all);
-    }
-}
-
-/// Ends that read a byte a call, of which this one fails.
-fn failing_read(call: u64) -> Ends {
-    Ends {
-        read: 1,
-        written: usize::MAX,
-        wrong_read: call,
-        wrong_write: 0,
-        trouble: Trouble::Fails,
-    }
-}
-
-#[test]
-fn each_failed_read_is_answered_and_nothing_is_written(rt: HostRuntime) {
-    for call in 1..TEXT.len() as u64 + 2 {
-        let ends = failing_read(call);
-        expect_written(&rt, "failed read", ends, Err(Fault::Read), 0);
-    }
-}
-
-#[test]
-fn no_read_is_made_after_the_end(rt: HostRuntime) {
-    let ends = failing_read(TEXT.len() as u64 + 2);
-    let accepted = Ok(Verdict::Accepted(3));
-    expect_written(&rt, "read after the end", ends, accepted, REPORT.len());
-}
-
-/// Each write in turn goes wrong: what was written before is a prefix of the report.
-fn expect_prefixes(rt: &(impl Abort + AllocGlobal), name: &str, trouble: Trouble) {
-    for count in 0..REPORT.len() {
-        let ends = Ends {
-            read: usize::MAX,
-            written: 1,
-            wrong_read: 0,
-            wrong_write: count as u64 + 1,
-            trouble,
-        };
-        expect_written(rt, name, ends, Err(Fault::Write), count);
+    for count in 0..output.len() {
+        let (fault, written) = done(rt, rt.alloc(), job, 0, count as u64 + 1, trouble);
+        let is_prefix = written.bytes() == &output[..count];
+        drop(written);
+        assert!(rt; is_prefix && fault == Some(Fault::Write), "write {count}");
     }
 }
 
 #[test]
 fn each_wrong_write_leaves_a_prefix(rt: HostRuntime) {
-    expect_prefixes(&rt, "failed write", Trouble::Fails);
-    expect_prefixes(&rt, "write of no byte", Trouble::Stalls);
+    for (job, output) in JOBS {
+        expect_prefixes(&rt, *job, output, Trouble::Fails);
+        expect_prefixes(&rt, *job, output, Trouble::Stalls);
+    }
+}
+
+/// Returns `pim 1` and so many steps, of a task that isn't declared.
+fn releases(alloc: Global, times: usize) -> Result<Vec<u8>, Fault> {
+    let mut text = b"pim 1\n".to_vec(alloc)?;
+    for _step in 0..times {
+        text.extend_from_slice(b"1 release\n")?;
+    }
+    Ok(text)
+}
+
+/// Judges the text over a writer whose call of this number goes wrong so. Returns the fault, and how many bytes are
+/// written in how many calls.
+fn written(alloc: Global, text: &[u8], call: u64, trouble: Trouble) -> (Option<Fault>, usize, u64) {
+    let mut writer = MemoryWriter::piecewise(alloc, usize::MAX, trouble, call);
+    let fault = judge(alloc, &mut MemoryReader::new(text), &mut writer).err();
+    (fault, writer.bytes().len(), writer.calls())
+}
+
+#[test]
+fn report_is_written_in_pages_of_64_kib(rt: HostRuntime) {
+    let text = releases(rt.alloc(), 9_999).expect(&rt, "memory");
+    let whole = written(rt.alloc(), &text, 0, Trouble::Fails);
+    let failed = written(rt.alloc(), &text, 3, Trouble::Fails);
+    let stalled = written(rt.alloc(), &text, 3, Trouble::Stalls);
+    drop(text);
+    // Lines 1 to 999 have 19,872 bytes, the later ones 21 each. A page is written once it has 65,536: the first with
+    // line 3,174 and 65,547 bytes, the next two with 3,121 lines and 65,541 bytes each. What is left has 12,257.
+    assert!(rt; whole == (None, 208_886, 4));
+    assert!(rt; failed == (Some(Fault::Write), 131_088, 3));
+    assert!(rt; stalled == failed);
 }

@@ -1,33 +1,24 @@
-//! Tests of pim_judge: worked texts with their reports, invalid ones, answers, and ends that fail.
+//! Tests of pim_text, pim_page, pim_judge, pim_runs and pim_tool: each of their public calls once, and streams that fail.
 //!
-//! They have a crate of their own, since a crate with tests is proved a second time with them.
+//! What texts can show is in suite/, which tests/suite plays on the program. The tests have a crate of their own,
+//! since a crate with tests is proved a second time with them.
 #![tactic(auto)]
 
 #[cfg(test)]
-mod answers;
-#[cfg(test)]
-mod boosts;
-#[cfg(test)]
-mod ceilings;
+mod command_words;
 #[cfg(test)]
 mod failing_ends;
 #[cfg(test)]
-mod invalid_texts;
+mod judged;
 #[cfg(test)]
-mod odd_sizes;
+mod library;
 #[cfg(test)]
-mod parts;
+mod memory;
 #[cfg(test)]
-mod recursive;
+mod pages;
 #[cfg(test)]
-mod refusals;
-#[cfg(test)]
-mod scenes;
-#[cfg(test)]
-mod sizes;
+mod runs;
 #[cfg(test)]
 mod streams;
 #[cfg(test)]
-mod versions;
-#[cfg(test)]
-mod worked;
+mod texts;

@@ -12,8 +12,6 @@
 #![tactic(auto)]
 
 mod entries;
-#[cfg(test)]
-mod tests;
 mod trace;
 
 pub use entries::{judge_entries, print_verdict};
