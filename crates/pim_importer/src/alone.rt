@@ -4,9 +4,9 @@ use crate::arguments::Arguments;
 use crate::fault::Fault;
 use crate::files::{is_file, is_missing, read_file};
 use crate::kernel::{path_of, put_lost};
-use crate::report::Count;
-use crate::words::{put_duration, put_level, put_since};
+use crate::words::{put_count, put_duration, put_level, put_since};
 use pim_kernel::{Boost, Recording, TextFault, line_at};
+use pim_out::Out;
 use pim_waits::{Boosted, Findings, Tasks, Wait, boosts_by};
 use std::alloc::{AllocError, Global};
 
@@ -89,106 +89,110 @@ fn cpus_in(bytes: &[u8]) -> u64 {
 ///
 /// Returns `AllocError` if out of memory.
 pub fn report_alone(alloc: Global, alone: &Alone) -> Result<String, AllocError> {
-    let mut out = String::new(alloc);
+    let mut out = Out::new(alloc);
     let waits = alone.findings.waits.as_slice();
     for place in 0..waits.len().min(LONGEST) {
-        put_wait(alloc, &mut out, alone, &waits[place])?;
+        put_wait(&mut out, alone, &waits[place]);
+        for boost in &boosts_by(alloc, &alone.recording, &waits[place])? {
+            put_boost(&mut out, alone, boost);
+        }
+        out.put("\n");
     }
     if waits.is_empty() {
-        writeln!(out, "no thread waited for an INHERIT mutex")?;
+        out.put("no thread waited for an INHERIT mutex\n");
     } else if waits.len() > LONGEST {
         let others = waits.len() - LONGEST;
-        writeln!(
-            out,
-            "and {}, none of them longer",
-            Count(others as u64, "wait")
-        )?;
+        out.put("and ");
+        put_count(&mut out, others as u64, "wait");
+        out.put(", none of them longer\n");
     }
     for boosted in &alone.findings.boosted {
-        put_boosted(&mut out, alone, boosted)?;
+        put_boosted(&mut out, alone, boosted);
     }
-    put_summary(&mut out, alone)?;
-    out.push_str(UNKNOWN)?;
-    Ok(out)
+    put_summary(&mut out, alone);
+    out.put(UNKNOWN);
+    out.finish()
 }
 
-fn put_task(out: &mut String, alone: &Alone, task: u32) -> Result<(), AllocError> {
-    let name = alone.tasks.name_of(task);
-    write!(out, "{name}[{task}]")
+fn put_task(out: &mut Out, alone: &Alone, task: u32) {
+    out.put(alone.tasks.name_of(task));
+    out.put("[");
+    out.number(u64::from(task));
+    out.put("]");
 }
 
-/// Writes a wait, and the boosts that it began.
-fn put_wait(alloc: Global, out: &mut String, alone: &Alone, wait: &Wait) -> Result<(), AllocError> {
-    put_task(out, alone, wait.task)?;
-    out.push_str(", at ")?;
-    put_level(out, wait.level)?;
+fn put_wait(out: &mut Out, alone: &Alone, wait: &Wait) {
+    put_task(out, alone, wait.task);
+    out.put(", at ");
+    put_level(out, wait.level);
     let end = wait.began.saturating_add(wait.lasted);
     let is_to_the_end = wait.is_open && end >= alone.recording.ended;
-    out.push_str(if is_to_the_end {
+    out.put(if is_to_the_end {
         ", waits "
     } else {
         ", waited "
-    })?;
-    put_duration(out, wait.lasted)?;
-    out.push_str(" from ")?;
-    put_since(out, alone.recording.began, wait.began)?;
-    out.push_str(match (is_to_the_end, wait.is_open) {
+    });
+    put_duration(out, wait.lasted);
+    out.put(" from ");
+    put_since(out, alone.recording.began, wait.began);
+    out.put(match (is_to_the_end, wait.is_open) {
         (true, _) => " to the end",
         (false, true) => " to its own end",
         (false, false) => " on",
-    })?;
-    write!(out, " for the mutex at 0x{:x}", wait.address)?;
-    for boost in &boosts_by(alloc, &alone.recording, wait)? {
-        put_boost(out, alone, boost)?;
-    }
-    out.push_str("\n")
+    });
+    out.put(" for the mutex at ");
+    out.address(wait.address);
 }
 
-fn put_boost(out: &mut String, alone: &Alone, boost: &Boost) -> Result<(), AllocError> {
-    out.push_str("; ")?;
-    put_task(out, alone, boost.task)?;
-    out.push_str(" was boosted from ")?;
-    put_level(out, boost.before)?;
-    out.push_str(" to ")?;
-    put_level(out, boost.after)
+/// Writes a boost that a wait began.
+fn put_boost(out: &mut Out, alone: &Alone, boost: &Boost) {
+    out.put("; ");
+    put_task(out, alone, boost.task);
+    out.put(" was boosted from ");
+    put_level(out, boost.before);
+    out.put(" to ");
+    put_level(out, boost.after);
 }
 
 /// Writes how often and for how long a thread ran at the priority of a boost.
-fn put_boosted(out: &mut String, alone: &Alone, boosted: &Boosted) -> Result<(), AllocError> {
-    out.push_str("boosted: ")?;
-    put_task(out, alone, boosted.task)?;
-    out.push_str(" ran at ")?;
-    put_level(out, boosted.level)?;
-    out.push_str(" in place of ")?;
-    put_level(out, boosted.own)?;
-    write!(out, ": {}, ", Count(boosted.times.len() as u64, "time"))?;
-    put_duration(out, boosted.ran)?;
-    out.push_str(" in all, ")?;
-    put_duration(out, boosted.longest)?;
-    out.push_str(" at most\n")
+fn put_boosted(out: &mut Out, alone: &Alone, boosted: &Boosted) {
+    out.put("boosted: ");
+    put_task(out, alone, boosted.task);
+    out.put(" ran at ");
+    put_level(out, boosted.level);
+    out.put(" in place of ");
+    put_level(out, boosted.own);
+    out.put(": ");
+    put_count(out, boosted.times.len() as u64, "time");
+    out.put(", ");
+    put_duration(out, boosted.ran);
+    out.put(" in all, ");
+    put_duration(out, boosted.longest);
+    out.put(" at most\n");
 }
 
 /// Writes how much the events have, and what was left out.
-fn put_summary(out: &mut String, alone: &Alone) -> Result<(), AllocError> {
+fn put_summary(out: &mut Out, alone: &Alone) {
     let findings = &alone.findings;
-    write!(
-        out,
-        "kernel: {} of {} and {} in ",
-        Count(findings.calls, "futex call"),
-        Count(findings.callers, "thread"),
-        Count(findings.boosts, "boost")
-    )?;
     let recording = &alone.recording;
-    put_duration(out, recording.ended.saturating_sub(recording.began))?;
-    write!(out, " on {}", Count(alone.cpus, "CPU"))?;
+    out.put("kernel: ");
+    put_count(out, findings.calls, "futex call");
+    out.put(" of ");
+    put_count(out, findings.callers, "thread");
+    out.put(" and ");
+    put_count(out, findings.boosts, "boost");
+    out.put(" in ");
+    put_duration(out, recording.ended.saturating_sub(recording.began));
+    out.put(" on ");
+    put_count(out, alone.cpus, "CPU");
     if !recording.is_whole {
-        out.push_str("; the events aren't whole")?;
+        out.put("; the events aren't whole");
     }
-    out.push_str("\n")?;
-    put_lost(out, recording.lost, findings.losses, findings.lost_time)?;
+    out.put("\n");
+    put_lost(out, recording.lost, findings.losses, findings.lost_time);
     if findings.left_out > 0 {
-        let waits = Count(findings.left_out, "wait");
-        writeln!(out, "left out: {waits} during which events were lost")?;
+        out.put("left out: ");
+        put_count(out, findings.left_out, "wait");
+        out.put(" during which events were lost\n");
     }
-    Ok(())
 }

@@ -10,6 +10,7 @@ use pim_base::{MAX_STEPS, Protocol};
 use pim_import::{Imported, Piece, Replay};
 use pim_judge::{Output, Text, parse};
 use pim_log::{HEADER_BYTES, used_bytes};
+use pim_out::Out;
 use pim_runs::print_trace;
 use std::alloc::{AllocError, Global};
 use std::fs::{File, OpenFile};
@@ -156,27 +157,38 @@ fn declarations_of(alloc: Global, replay: &Replay) -> Result<Text, Fault>
 
 /// Returns the lines of what a piece declares.
 fn spelled_declarations(alloc: Global, replay: &Replay) -> Result<String, AllocError> {
-    let mut out = String::from_str(alloc, "pim 2\n")?;
-    let mut number = 0u32;
+    let mut out = Out::new(alloc);
+    out.put("pim 2\n");
+    let mut number = 0u64;
     for base in replay.bases() {
         number = number.saturating_add(1);
-        writeln!(out, "task {number} {}", base.get())?;
+        out.put("task ");
+        out.number(number);
+        out.put(" ");
+        out.number(u64::from(base.get()));
+        out.put("\n");
     }
     number = 0;
     for protocol in replay.protocols() {
         number = number.saturating_add(1);
-        match protocol {
-            Protocol::None => writeln!(out, "mutex {number} none")?,
-            Protocol::Inherit => writeln!(out, "mutex {number} inherit")?,
-            Protocol::InheritRecursive => writeln!(out, "mutex {number} inherit recursive")?,
-            Protocol::Protect(ceiling) => writeln!(
-                out,
-                "mutex {number} protect {}",
-                ceiling.get()
-            )?,
+        out.put("mutex ");
+        out.number(number);
+        put_protocol(&mut out, *protocol);
+        out.put("\n");
+    }
+    out.finish()
+}
+
+fn put_protocol(out: &mut Out, protocol: Protocol) {
+    match protocol {
+        Protocol::None => out.put(" none"),
+        Protocol::Inherit => out.put(" inherit"),
+        Protocol::InheritRecursive => out.put(" inherit recursive"),
+        Protocol::Protect(ceiling) => {
+            out.put(" protect ");
+            out.number(u64::from(ceiling.get()));
         }
     }
-    Ok(out)
 }
 
 /// Writes the names of the numbers.

@@ -3,12 +3,13 @@
 use crate::arguments::Arguments;
 use crate::fault::Fault;
 use crate::files::{is_file, read_file};
-use crate::words::{Told, put_duration, put_level, put_moment, put_thread};
+use crate::words::{Told, put_count, put_duration, put_level, put_moment, put_thread};
 use pim_base::Reason;
 use pim_comparison::{Compared, Found, compare, waits_of};
 use pim_import::{Imported, Wait};
 use pim_kernel::{Recording, TextFault, line_at};
 use pim_log::Log;
+use pim_out::Out;
 use std::alloc::{AllocError, Global};
 
 /// How many differences the text lists.
@@ -103,91 +104,97 @@ pub fn path_of(alloc: Global, arguments: &Arguments) -> Result<String, AllocErro
 }
 
 /// Writes the longest differences, the longest first, each with the lines that show it.
-pub fn put_differences(out: &mut String, told: &Told, kernel: &Kernel) -> Result<(), AllocError> {
+pub fn put_differences(out: &mut Out, told: &Told, kernel: &Kernel) {
     let found = kernel.compared.found.as_slice();
     for place in 0..found.len().min(LONGEST) {
-        put_difference(out, told, &found[place])?;
-        put_lines(out, kernel, &found[place])?;
+        put_difference(out, told, &found[place]);
+        put_lines(out, kernel, &found[place]);
     }
     if found.len() > LONGEST {
         let others = found.len() - LONGEST;
-        let word = if others == 1 {
-            "difference"
-        } else {
-            "differences"
-        };
-        writeln!(out, "and {others} {word}, none of them longer")?;
+        out.put("and ");
+        put_count(out, others as u64, "difference");
+        out.put(", none of them longer\n");
     }
-    Ok(())
 }
 
-fn put_difference(out: &mut String, told: &Told, found: &Found) -> Result<(), AllocError> {
-    put_thread(out, told, found.thread)?;
-    out.push_str(" ran at ")?;
-    put_level(out, found.difference.level)?;
-    out.push_str(" for ")?;
-    put_duration(out, found.difference.ran)?;
-    out.push_str(" from ")?;
-    put_moment(out, told, found.difference.begin)?;
-    out.push_str(" on, POSIX gives ")?;
-    put_level(out, found.level)?;
-    out.push_str(" (")?;
-    put_reason(out, found.reason)?;
-    out.push_str(")\n")
+fn put_difference(out: &mut Out, told: &Told, found: &Found) {
+    put_thread(out, told, found.thread);
+    out.put(" ran at ");
+    put_level(out, found.difference.level);
+    out.put(" for ");
+    put_duration(out, found.difference.ran);
+    out.put(" from ");
+    put_moment(out, told, found.difference.begin);
+    out.put(" on, POSIX gives ");
+    put_level(out, found.level);
+    out.put(" (");
+    put_reason(out, found.reason);
+    out.put(")\n");
 }
 
 /// Writes why a thread should have its priority, as a report of `pim` does.
-pub fn put_reason(out: &mut String, reason: Reason) -> Result<(), AllocError> {
+pub fn put_reason(out: &mut Out, reason: Reason) {
     match reason {
-        Reason::Base => out.push_str("base"),
-        Reason::Ceiling(mutex) => write!(out, "ceiling mutex {}", mutex.get()),
-        Reason::Waiter(task, mutex) => write!(out, "waiter {} mutex {}", task.get(), mutex.get()),
+        Reason::Base => out.put("base"),
+        Reason::Ceiling(mutex) => {
+            out.put("ceiling mutex ");
+            out.number(u64::from(mutex.get()));
+        }
+        Reason::Waiter(task, mutex) => {
+            out.put("waiter ");
+            out.number(u64::from(task.get()));
+            out.put(" mutex ");
+            out.number(u64::from(mutex.get()));
+        }
     }
 }
 
 /// Writes the lines of the file that show when a difference began and ended.
-fn put_lines(out: &mut String, kernel: &Kernel, found: &Found) -> Result<(), AllocError> {
-    put_line(out, kernel, found.difference.first_line)?;
+fn put_lines(out: &mut Out, kernel: &Kernel, found: &Found) {
+    put_line(out, kernel, found.difference.first_line);
     if found.difference.last_line != found.difference.first_line {
-        put_line(out, kernel, found.difference.last_line)?;
+        put_line(out, kernel, found.difference.last_line);
     }
-    Ok(())
 }
 
-fn put_line(out: &mut String, kernel: &Kernel, number: u64) -> Result<(), AllocError> {
-    write!(out, "    line {number}: ")?;
+fn put_line(out: &mut Out, kernel: &Kernel, number: u64) {
+    out.put("    line ");
+    out.number(number);
+    out.put(": ");
     if let Ok(text) = std::str::from_utf8(line_at(&kernel.bytes, number)) {
-        out.push_str(text)?;
+        out.put(text);
     }
-    out.push_str("\n")
+    out.put("\n");
 }
 
 /// Writes how much was compared.
-pub fn put_compared(out: &mut String, kernel: &Kernel) -> Result<(), AllocError> {
+pub fn put_compared(out: &mut Out, kernel: &Kernel) {
     let compared = &kernel.compared;
-    let word = if compared.threads == 1 {
-        "thread"
-    } else {
-        "threads"
-    };
-    write!(out, "kernel: {} {word} compared", compared.threads)?;
+    out.put("kernel: ");
+    put_count(out, compared.threads, "thread");
+    out.put(" compared");
     if compared.unknown > 0 {
-        write!(out, "; waits whose owner isn't known: {}", compared.unknown)?;
+        out.put("; waits whose owner isn't known: ");
+        out.number(compared.unknown);
     }
     if !kernel.is_whole {
-        out.push_str("; the events aren't whole")?;
+        out.put("; the events aren't whole");
     }
-    out.push_str("\n")?;
-    put_lost(out, kernel.lost, compared.losses, compared.lost_time)
+    out.put("\n");
+    put_lost(out, kernel.lost, compared.losses, compared.lost_time);
 }
 
 /// Writes how many events were lost, in so many stretches of this time in all.
-pub fn put_lost(out: &mut String, lost: u64, count: u64, time: u64) -> Result<(), AllocError> {
+pub fn put_lost(out: &mut Out, lost: u64, count: u64, time: u64) {
     if lost == 0 {
-        return Ok(());
+        return;
     }
-    write!(out, "lost: {lost} events of the kernel; left out are ")?;
-    put_duration(out, time)?;
-    let word = if count == 1 { "stretch" } else { "stretches" };
-    writeln!(out, " in {count} {word}")
+    out.put("lost: ");
+    out.number(lost);
+    out.put(" events of the kernel; left out are ");
+    put_duration(out, time);
+    out.put(" in ");
+    put_count(out, count, "stretch");
+    out.put("\n");
 }

@@ -2,6 +2,7 @@
 
 use pim_import::{LoggedMutex, Subjects};
 use pim_log::{Event, Log, Record};
+use pim_out::Out;
 use std::alloc::{AllocError, Global};
 
 /// A name of a thread, of at most 22 bytes. Linux has at most 15.
@@ -134,8 +135,9 @@ impl Labels {
             }
             Pending::Module(place) => {
                 if place < self.modules.len() {
-                    let end = (length as usize).min(22);
-                    put_text(&mut self.modules[place].path, &bytes[..end])?;
+                    for byte in &bytes[..(length as usize).min(22)] {
+                        self.modules[place].path.push(shown(*byte))?;
+                    }
                 }
             }
             Pending::Nothing | Pending::Init(_) => {}
@@ -144,30 +146,25 @@ impl Labels {
     }
 
     /// Writes the name of a thread, or nothing if it has none.
-    pub fn put_name(&self, out: &mut String, thread: u32) -> Result<(), AllocError> {
-        match self.names.get(thread as usize) {
-            Some(name) => put_text(out, &name.bytes[..(name.length as usize).min(22)]),
-            None => Ok(()),
+    pub fn put_name(&self, out: &mut Out, thread: u32) {
+        if let Some(name) = self.names.get(thread as usize) {
+            put_text(out, &name.bytes[..(name.length as usize).min(22)]);
         }
     }
 
     /// Writes where a mutex was initialised, or where it is if it was initialised statically: the file and the offset
     /// there, or an address.
-    pub fn put_place(
-        &self,
-        out: &mut String,
-        number: u32,
-        mutex: &LoggedMutex,
-    ) -> Result<(), AllocError> {
+    pub fn put_place(&self, out: &mut Out, number: u32, mutex: &LoggedMutex) {
         let place = self.places.get(number as usize).copied().unwrap_or(0);
         let address = if place == 0 { mutex.address } else { place };
         match self.module_of(mutex.process, address) {
             Some(module) => {
-                let offset = address.saturating_sub(module.address);
                 let file = module.path.as_str().rsplit('/').next().unwrap_or("?");
-                write!(out, "{file}+0x{offset:x}")
+                out.put(file);
+                out.put("+");
+                out.address(address.saturating_sub(module.address));
             }
-            None => write!(out, "0x{address:x}"),
+            None => out.address(address),
         }
     }
 
@@ -198,11 +195,18 @@ fn text_in(record: &Record) -> ([u8; 22], u8) {
     (bytes, record.how.min(22))
 }
 
-/// Adds bytes to a text, with a dot for each that is no letter, digit or sign of ASCII.
-fn put_text(out: &mut String, bytes: &[u8]) -> Result<(), AllocError> {
+/// Adds bytes to a text.
+fn put_text(out: &mut Out, bytes: &[u8]) {
     for byte in bytes {
-        let shown = if byte.is_ascii_graphic() { *byte } else { b'.' };
-        out.push(shown as char)?;
+        out.put_char(shown(*byte));
     }
-    Ok(())
+}
+
+/// Returns a letter, digit or sign of ASCII as it is, and a dot for each other byte.
+fn shown(byte: u8) -> char {
+    if byte.is_ascii_graphic() {
+        byte as char
+    } else {
+        '.'
+    }
 }

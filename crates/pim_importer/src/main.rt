@@ -75,7 +75,7 @@ fn import(rt: &HostRuntime, alloc: Global, arguments: &Arguments) -> Result<u8, 
     let text = if arguments.is_json {
         json_of(alloc, &log, &imported, &labels, kernel.as_ref())?
     } else {
-        report_of(alloc, &log, &imported, &labels, kernel.as_ref())?
+        report_of(alloc, &log, &imported, &labels, kernel.as_ref())?.into_bytes()
     };
     if print(rt, &text).is_err() {
         return Err(Fault::Write);
@@ -89,7 +89,7 @@ fn tell_alone(rt: &HostRuntime, alloc: Global, path: &str, is_json: bool) -> Res
     let text = if is_json {
         json_alone(alloc, &alone)?
     } else {
-        report_alone(alloc, &alone)?
+        report_alone(alloc, &alone)?.into_bytes()
     };
     if print(rt, &text).is_err() {
         return Err(Fault::Write);
@@ -111,9 +111,9 @@ fn status_of(imported: &Imported, kernel: Option<&Kernel>) -> u8 {
 }
 
 /// Writes a text to standard output.
-fn print(rt: &HostRuntime, text: &str) -> io::Result<()> {
+fn print(rt: &HostRuntime, text: &[u8]) -> io::Result<()> {
     use std::io::Write;
     let mut writer = io::writer(rt);
-    writer.write_all(text.as_bytes())?;
+    writer.write_all(text)?;
     writer.flush()
 }

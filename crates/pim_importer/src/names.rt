@@ -2,6 +2,7 @@
 
 use crate::labels::Labels;
 use pim_import::{Entrance, Imported, Piece, family_of};
+use pim_out::Out;
 use std::alloc::Global;
 use std::io;
 use std::io::Write;
@@ -96,31 +97,45 @@ impl<'a> Table<'a> {
         alloc: Global,
         entrance: &Entrance,
     ) -> io::Result<()> {
-        let subjects = &self.imported.sources.subjects;
-        let mut label = String::new(alloc);
+        let mut line = Out::new(alloc);
         if entrance.thread != 0 {
-            if let Some(thread) = subjects.threads.get(entrance.thread as usize) {
-                let number = self.imported.numbering.threads.of(entrance.thread);
-                self.labels.put_name(&mut label, entrance.thread)?;
-                writeln!(
-                    out,
-                    "task {number} {}/{} {label}",
-                    thread.process, thread.task
-                )?;
-            }
+            self.put_task(&mut line, entrance.thread);
         }
         if entrance.mutex != 0 {
-            if let Some(mutex) = subjects.mutex(entrance.mutex) {
-                let number = self.imported.numbering.mutexes.of(entrance.mutex);
-                let family = family_of(&self.imported.sources, entrance.mutex).name();
-                self.labels.put_place(&mut label, entrance.mutex, mutex)?;
-                let (address, process) = (mutex.address, mutex.process);
-                writeln!(
-                    out,
-                    "mutex {number} {family} 0x{address:x} {process} {label}"
-                )?;
-            }
+            self.put_mutex(&mut line, entrance.mutex);
         }
-        Ok(())
+        out.write_all(line.as_str()?.as_bytes())
+    }
+
+    fn put_task(&self, line: &mut Out, thread: u32) {
+        if let Some(is) = self.imported.sources.subjects.threads.get(thread as usize) {
+            let number = self.imported.numbering.threads.of(thread);
+            line.put("task ");
+            line.number(u64::from(number));
+            line.put(" ");
+            line.number(u64::from(is.process));
+            line.put("/");
+            line.number(u64::from(is.task));
+            line.put(" ");
+            self.labels.put_name(line, thread);
+            line.put("\n");
+        }
+    }
+
+    fn put_mutex(&self, line: &mut Out, mutex: u32) {
+        if let Some(is) = self.imported.sources.subjects.mutex(mutex) {
+            let number = self.imported.numbering.mutexes.of(mutex);
+            line.put("mutex ");
+            line.number(u64::from(number));
+            line.put(" ");
+            line.put(family_of(&self.imported.sources, mutex).name());
+            line.put(" ");
+            line.address(is.address);
+            line.put(" ");
+            line.number(u64::from(is.process));
+            line.put(" ");
+            self.labels.put_place(line, mutex, is);
+            line.put("\n");
+        }
     }
 }

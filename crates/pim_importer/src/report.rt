@@ -3,11 +3,12 @@
 use crate::kernel::{Kernel, put_compared, put_differences};
 use crate::labels::Labels;
 use crate::words::{
-    Told, family_of, found_of, mutexes, put_duration, put_level, put_moment, put_mutex, put_place,
-    put_thread,
+    Told, family_of, found_of, mutexes, put_count, put_duration, put_level, put_moment, put_mutex,
+    put_place, put_thread,
 };
 use pim_import::{Family, FoundMutex, FoundWait, Imported, LeftOut, Scale, blocker_of};
 use pim_log::Log;
+use pim_out::Out;
 use std::alloc::{AllocError, Global};
 
 /// What a log of pim-record can't know.
@@ -38,267 +39,252 @@ pub fn report_of(
         labels,
         began: log.header().began,
     };
-    let mut out = String::new(alloc);
+    let mut out = Out::new(alloc);
     if let Some(kernel) = kernel {
-        put_differences(&mut out, &told, kernel)?;
+        put_differences(&mut out, &told, kernel);
     }
-    put_waits(&mut out, &told)?;
-    put_conversions(&mut out, &told)?;
-    put_hand_overs(&mut out, &told)?;
-    put_ownerships(&mut out, &told)?;
-    put_deadlocks(&mut out, &told)?;
-    put_left_out(&mut out, &told, log)?;
-    put_added(&mut out, &told)?;
-    put_unknown(&mut out, kernel)?;
-    put_summary(&mut out, &told, log)?;
-    Ok(out)
+    put_waits(&mut out, &told);
+    put_conversions(&mut out, &told);
+    put_hand_overs(&mut out, &told);
+    put_ownerships(&mut out, &told);
+    put_deadlocks(&mut out, &told);
+    put_left_out(&mut out, &told, log);
+    put_added(&mut out, &told);
+    put_unknown(&mut out, kernel);
+    put_summary(&mut out, &told, log);
+    out.finish()
 }
 
 /// Writes the longest waits, the longest first.
-fn put_waits(out: &mut String, told: &Told) -> Result<(), AllocError> {
+fn put_waits(out: &mut Out, told: &Told) {
     let findings = &told.imported.performed.findings;
     for wait in &findings.longest {
-        put_wait(out, told, wait)?;
+        put_wait(out, told, wait);
     }
+    let listed = findings.longest.len() as u64;
     if findings.waits == 0 {
-        writeln!(out, "no thread waited for a mutex")?;
-    } else if findings.waits > findings.longest.len() as u64 {
-        let others = findings.waits - findings.longest.len() as u64;
-        writeln!(out, "and {}, none of them longer", Count(others, "wait"))?;
+        out.put("no thread waited for a mutex\n");
+    } else if findings.waits > listed {
+        out.put("and ");
+        put_count(out, findings.waits - listed, "wait");
+        out.put(", none of them longer\n");
     }
-    Ok(())
 }
 
-fn put_wait(out: &mut String, told: &Told, wait: &FoundWait) -> Result<(), AllocError> {
-    put_thread(out, told, wait.thread)?;
-    out.push_str(", at ")?;
-    put_level(out, wait.level)?;
-    out.push_str(if wait.is_open {
+fn put_wait(out: &mut Out, told: &Told, wait: &FoundWait) {
+    put_thread(out, told, wait.thread);
+    out.put(", at ");
+    put_level(out, wait.level);
+    out.put(if wait.is_open {
         ", waits "
     } else {
         ", waited "
-    })?;
-    put_duration(out, wait.lasted)?;
-    out.push_str(" from ")?;
-    put_moment(out, told, wait.began)?;
-    out.push_str(if wait.is_open {
+    });
+    put_duration(out, wait.lasted);
+    out.put(" from ");
+    put_moment(out, told, wait.began);
+    out.put(if wait.is_open {
         " to the end for "
     } else {
         " on for "
-    })?;
-    put_mutex(out, told, wait.mutex)?;
+    });
+    put_mutex(out, told, wait.mutex);
     if wait.owner == 0 {
-        return writeln!(out, ", whose owner isn't known");
+        out.put(", whose owner isn't known\n");
+        return;
     }
-    out.push_str(" of ")?;
-    put_thread(out, told, wait.owner)?;
-    out.push_str(", at ")?;
-    put_level(out, wait.owner_level)?;
-    put_bound(out, told, wait)
+    out.put(" of ");
+    put_thread(out, told, wait.owner);
+    out.put(", at ");
+    put_level(out, wait.owner_level);
+    put_bound(out, told, wait);
 }
 
 /// Writes what bounds a wait.
-fn put_bound(out: &mut String, told: &Told, wait: &FoundWait) -> Result<(), AllocError> {
+fn put_bound(out: &mut Out, told: &Told, wait: &FoundWait) {
     if wait.is_unbounded {
-        let number = told.imported.numbering.mutexes.of(wait.mutex);
-        return writeln!(out, ": not bounded: mutex {number} is a NONE one");
+        out.put(": not bounded: mutex ");
+        out.number(u64::from(told.imported.numbering.mutexes.of(wait.mutex)));
+        out.put(" is a NONE one\n");
+        return;
     }
     if wait.owner_level >= wait.level {
-        return writeln!(out, ": no inversion");
+        out.put(": no inversion\n");
+        return;
     }
-    match family_of(told, wait.mutex) {
-        Family::Inherit => writeln!(out, ": bounded by inheritance"),
-        Family::Protect => writeln!(out, ": bounded by the ceiling"),
-        Family::None => writeln!(out),
-    }
+    out.put(match family_of(told, wait.mutex) {
+        Family::Inherit => ": bounded by inheritance\n",
+        Family::Protect => ": bounded by the ceiling\n",
+        Family::None => "\n",
+    });
 }
 
 /// Writes the NONE mutexes at which a thread waited for a lower one.
-fn put_conversions(out: &mut String, told: &Told) -> Result<(), AllocError> {
+fn put_conversions(out: &mut Out, told: &Told) {
     for mutex in 0..mutexes(told) {
         let found = found_of(told, mutex);
         if found.unbounded > 0 {
-            out.push_str("should inherit: ")?;
-            put_mutex(out, told, mutex)?;
-            out.push_str(", from ")?;
-            put_place(out, told, mutex)?;
-            write!(out, ": {} not bounded, ", Count(found.unbounded, "wait"))?;
-            put_duration(out, found.unbounded_time)?;
-            writeln!(out, " in all")?;
+            out.put("should inherit: ");
+            put_mutex(out, told, mutex);
+            out.put(", from ");
+            put_place(out, told, mutex);
+            out.put(": ");
+            put_count(out, found.unbounded, "wait");
+            out.put(" not bounded, ");
+            put_duration(out, found.unbounded_time);
+            out.put(" in all\n");
         }
     }
-    Ok(())
 }
 
 /// Writes the mutexes that passed over their first waiters.
-fn put_hand_overs(out: &mut String, told: &Told) -> Result<(), AllocError> {
+fn put_hand_overs(out: &mut Out, told: &Told) {
     for mutex in 0..mutexes(told) {
         let given = found_of(told, mutex).hand_overs;
         if given.to_later > 0 || given.to_last_owner > 0 || given.to_newcomer > 0 {
-            out.push_str("out of order: ")?;
-            put_mutex(out, told, mutex)?;
-            write!(
-                out,
-                " went {} to its last owner again",
-                Count(given.to_last_owner, "time")
-            )?;
-            write!(out, ", {} to a newcomer", given.to_newcomer)?;
-            write!(out, ", {} to a later waiter", given.to_later)?;
-            writeln!(out, ", and {} to the first", given.in_order)?;
+            out.put("out of order: ");
+            put_mutex(out, told, mutex);
+            out.put(" went ");
+            put_count(out, given.to_last_owner, "time");
+            out.put(" to its last owner again, ");
+            out.number(given.to_newcomer);
+            out.put(" to a newcomer, ");
+            out.number(given.to_later);
+            out.put(" to a later waiter, and ");
+            out.number(given.in_order);
+            out.put(" to the first\n");
         }
     }
-    Ok(())
 }
 
 /// Writes the longest ownership of each mutex that was waited for.
-fn put_ownerships(out: &mut String, told: &Told) -> Result<(), AllocError> {
+fn put_ownerships(out: &mut Out, told: &Told) {
     for mutex in 0..mutexes(told) {
         let found = found_of(told, mutex);
         if found.waits > 0 {
-            put_ownership(out, told, mutex, &found)?;
+            put_ownership(out, told, mutex, &found);
         }
     }
-    Ok(())
 }
 
-fn put_ownership(
-    out: &mut String,
-    told: &Told,
-    mutex: u32,
-    found: &FoundMutex,
-) -> Result<(), AllocError> {
-    out.push_str("owned: ")?;
-    put_mutex(out, told, mutex)?;
-    out.push_str(", from ")?;
-    put_place(out, told, mutex)?;
+fn put_ownership(out: &mut Out, told: &Told, mutex: u32, found: &FoundMutex) {
+    out.put("owned: ");
+    put_mutex(out, told, mutex);
+    out.put(", from ");
+    put_place(out, told, mutex);
+    out.put(", ");
     if found.longest_owner == 0 {
-        out.push_str(", to the end")?;
+        out.put("to the end");
     } else {
-        out.push_str(", ")?;
-        put_duration(out, found.longest)?;
-        out.push_str(" at most, by ")?;
-        put_thread(out, told, found.longest_owner)?;
+        put_duration(out, found.longest);
+        out.put(" at most, by ");
+        put_thread(out, told, found.longest_owner);
     }
-    writeln!(out, "; {}", Count(found.waits, "wait"))
+    out.put("; ");
+    put_count(out, found.waits, "wait");
+    out.put("\n");
 }
 
 /// Writes the deadlocks that stood at the end.
-fn put_deadlocks(out: &mut String, told: &Told) -> Result<(), AllocError> {
+fn put_deadlocks(out: &mut Out, told: &Told) {
     let mut is_first = true;
     for thread in &told.imported.performed.findings.deadlocked {
         if *thread == 0 {
-            writeln!(out)?;
+            out.put("\n");
             is_first = true;
             continue;
         }
-        out.push_str(if is_first { "deadlock: " } else { ", " })?;
+        out.put(if is_first { "deadlock: " } else { ", " });
         is_first = false;
-        put_thread(out, told, *thread)?;
+        put_thread(out, told, *thread);
         let (mutex, owner) = blocker_of(told.imported, *thread);
-        out.push_str(" waits for ")?;
-        put_mutex(out, told, mutex)?;
-        out.push_str(" of ")?;
-        put_thread(out, told, owner)?;
+        out.put(" waits for ");
+        put_mutex(out, told, mutex);
+        out.put(" of ");
+        put_thread(out, told, owner);
     }
-    Ok(())
 }
 
 /// Writes what was left out, and why.
-fn put_left_out(out: &mut String, told: &Told, log: &Log) -> Result<(), AllocError> {
+fn put_left_out(out: &mut Out, told: &Told, log: &Log) {
     for reason in LeftOut::ALL {
         let count = told.imported.performed.tally.left_out(reason);
         if count > 0 {
-            writeln!(
-                out,
-                "left out: {} {}",
-                Count(count, "record"),
-                reason.text()
-            )?;
+            out.put("left out: ");
+            put_count(out, count, "record");
+            out.put(" ");
+            out.put(reason.text());
+            out.put("\n");
         }
     }
     let header = log.header();
     if header.lost > 0 {
-        writeln!(
-            out,
-            "lost: {} for which the log had no room",
-            Count(header.lost, "record")
-        )?;
+        out.put("lost: ");
+        put_count(out, header.lost, "record");
+        out.put(" for which the log had no room\n");
     }
     if header.left_out > 0 {
-        writeln!(
-            out,
-            "unseen: {} that the recorder couldn't see whole",
-            Count(header.left_out, "call")
-        )?;
+        out.put("unseen: ");
+        put_count(out, header.left_out, "call");
+        out.put(" that the recorder couldn't see whole\n");
     }
-    Ok(())
 }
 
 /// Writes how many requests were added that the log lacks.
-fn put_added(out: &mut String, told: &Told) -> Result<(), AllocError> {
+fn put_added(out: &mut Out, told: &Told) {
     let requests = &told.imported.sources.requests;
     let count = requests.list.len() as u64;
     if count == 0 {
-        return Ok(());
+        return;
     }
-    write!(out, "added: {} that the log lacks", Count(count, "request"))?;
+    out.put("added: ");
+    put_count(out, count, "request");
+    out.put(" that the log lacks");
     if requests.of_waits > 0 {
-        write!(out, ", {} by the kernel's calls", requests.of_waits)?;
+        out.put(", ");
+        out.number(requests.of_waits);
+        out.put(" by the kernel's calls");
     }
-    out.push_str("\n")
+    out.put("\n");
 }
 
 /// Writes what isn't known, and how much of the kernel's events was compared.
-fn put_unknown(out: &mut String, kernel: Option<&Kernel>) -> Result<(), AllocError> {
+fn put_unknown(out: &mut Out, kernel: Option<&Kernel>) {
     match kernel {
         Some(kernel) => {
-            put_compared(out, kernel)?;
-            out.push_str(STILL_UNKNOWN)
+            put_compared(out, kernel);
+            out.put(STILL_UNKNOWN);
         }
-        None => out.push_str(UNKNOWN),
+        None => out.put(UNKNOWN),
     }
 }
 
 /// Writes what the trace has.
-fn put_summary(out: &mut String, told: &Told, log: &Log) -> Result<(), AllocError> {
+fn put_summary(out: &mut Out, told: &Told, log: &Log) {
     let performed = &told.imported.performed;
     let mut steps = 0u64;
     for piece in &performed.pieces {
         steps = steps.saturating_add(piece.replay.entries().len() as u64);
     }
     let numbering = &told.imported.numbering;
-    write!(
-        out,
-        "trace: {} and {} of {} make {}",
-        Count(numbering.threads.count(), "thread"),
-        Count(numbering.mutexes.count(), "mutex"),
-        Count(performed.tally.used, "record"),
-        Count(steps, "step"),
-    )?;
+    out.put("trace: ");
+    put_count(out, numbering.threads.count(), "thread");
+    out.put(" and ");
+    put_count(out, numbering.mutexes.count(), "mutex");
+    out.put(" of ");
+    put_count(out, performed.tally.used, "record");
+    out.put(" make ");
+    put_count(out, steps, "step");
     let pieces = performed.pieces.len() as u64;
     if pieces > 1 {
-        write!(out, " in {}", Count(pieces, "piece"))?;
+        out.put(" in ");
+        put_count(out, pieces, "piece");
     }
-    out.push_str(" of ")?;
-    put_duration(out, told.imported.ended.saturating_sub(log.header().began))?;
-    match told.imported.priorities.scale {
-        Scale::Same => writeln!(out, "; priorities as they are, SCHED_OTHER at 1"),
-        Scale::OneHigher => writeln!(out, "; priorities one higher, SCHED_OTHER at 1"),
-        Scale::Ranks => writeln!(out, "; priorities are ranks"),
-    }
-}
-
-/// So many of something.
-#[derive(Clone, Copy)]
-pub struct Count(pub u64, pub &'static str);
-
-impl std::fmt::Display for Count {
-    fn fmt<W: std::fmt::Write>(&self, f: &mut std::fmt::Formatter<W>) -> std::fmt::Result {
-        let Count(count, word) = *self;
-        match (count, word) {
-            (1, _) => write!(f, "1 {word}"),
-            (_, "mutex") => write!(f, "{count} mutexes"),
-            _ => write!(f, "{count} {word}s"),
-        }
-    }
+    out.put(" of ");
+    put_duration(out, told.imported.ended.saturating_sub(log.header().began));
+    out.put(match told.imported.priorities.scale {
+        Scale::Same => "; priorities as they are, SCHED_OTHER at 1\n",
+        Scale::OneHigher => "; priorities one higher, SCHED_OTHER at 1\n",
+        Scale::Ranks => "; priorities are ranks\n",
+    });
 }

@@ -2,7 +2,7 @@
 
 use crate::labels::Labels;
 use pim_import::{Family, FoundMutex, Imported};
-use std::alloc::AllocError;
+use pim_out::Out;
 
 /// What the texts are made from.
 #[derive(Clone, Copy)]
@@ -24,19 +24,39 @@ pub fn found_of(told: &Told, mutex: u32) -> FoundMutex {
     told.imported.performed.findings.mutex(mutex)
 }
 
+/// Writes how many there are of something, such as `1 wait` or `2 waits`.
+pub fn put_count(out: &mut Out, count: u64, word: &str) {
+    out.number(count);
+    out.put(" ");
+    out.put(word);
+    if count != 1 {
+        out.put(match word {
+            "mutex" | "stretch" => "es",
+            _ => "s",
+        });
+    }
+}
+
 /// Writes a thread: its name and its number in the kernel.
-pub fn put_thread(out: &mut String, told: &Told, thread: u32) -> Result<(), AllocError> {
-    told.labels.put_name(out, thread)?;
+pub fn put_thread(out: &mut Out, told: &Told, thread: u32) {
+    told.labels.put_name(out, thread);
     match told.imported.sources.subjects.threads.get(thread as usize) {
-        Some(is) => write!(out, "[{}]", is.task),
-        None => out.push_str("?"),
+        Some(is) => {
+            out.put("[");
+            out.number(u64::from(is.task));
+            out.put("]");
+        }
+        None => out.put("?"),
     }
 }
 
 /// Writes a mutex: its number in the trace and its protocol.
-pub fn put_mutex(out: &mut String, told: &Told, mutex: u32) -> Result<(), AllocError> {
-    let number = told.imported.numbering.mutexes.of(mutex);
-    write!(out, "mutex {number} ({})", family_of(told, mutex).name())
+pub fn put_mutex(out: &mut Out, told: &Told, mutex: u32) {
+    out.put("mutex ");
+    out.number(u64::from(told.imported.numbering.mutexes.of(mutex)));
+    out.put(" (");
+    out.put(family_of(told, mutex).name());
+    out.put(")");
 }
 
 /// Returns the protocol of a mutex.
@@ -45,50 +65,47 @@ pub fn family_of(told: &Told, mutex: u32) -> Family {
 }
 
 /// Writes where a mutex comes from.
-pub fn put_place(out: &mut String, told: &Told, mutex: u32) -> Result<(), AllocError> {
+pub fn put_place(out: &mut Out, told: &Told, mutex: u32) {
     match told.imported.sources.subjects.mutex(mutex) {
         Some(is) => told.labels.put_place(out, mutex, is),
-        None => out.push_str("?"),
+        None => out.put("?"),
     }
 }
 
 /// Writes a priority of SCHED_FIFO and SCHED_RR, or the policy of a thread that has none.
-pub fn put_level(out: &mut String, level: u8) -> Result<(), AllocError> {
+pub fn put_level(out: &mut Out, level: u8) {
     match level {
-        0 => out.push_str("SCHED_OTHER"),
-        100 => out.push_str("SCHED_DEADLINE"),
-        _ => write!(out, "{level}"),
+        0 => out.put("SCHED_OTHER"),
+        100 => out.put("SCHED_DEADLINE"),
+        _ => out.number(u64::from(level)),
     }
 }
 
 /// Writes a time in seconds from the begin of the log on, to a microsecond.
-pub fn put_moment(out: &mut String, told: &Told, time: u64) -> Result<(), AllocError> {
-    put_since(out, told.began, time)
+pub fn put_moment(out: &mut Out, told: &Told, time: u64) {
+    put_since(out, told.began, time);
 }
 
 /// Writes how many seconds a time is after another, to a microsecond.
-pub fn put_since(out: &mut String, began: u64, time: u64) -> Result<(), AllocError> {
+pub fn put_since(out: &mut Out, began: u64, time: u64) {
     let since = time.saturating_sub(began);
-    write!(
-        out,
-        "{}.{:06} s",
-        since / 1_000_000_000,
-        since / 1_000 % 1_000_000
-    )
+    out.number(since / 1_000_000_000);
+    out.put(".");
+    out.six_digits(since / 1_000 % 1_000_000);
+    out.put(" s");
 }
 
 /// Writes a duration with three digits behind the point.
-pub fn put_duration(out: &mut String, nanoseconds: u64) -> Result<(), AllocError> {
-    let (whole, rest, unit) = if nanoseconds >= 1_000_000_000 {
-        (
-            nanoseconds / 1_000_000_000,
-            nanoseconds / 1_000_000 % 1_000,
-            "s",
-        )
+pub fn put_duration(out: &mut Out, nanoseconds: u64) {
+    let (thousandths, unit) = if nanoseconds >= 1_000_000_000 {
+        (nanoseconds / 1_000_000, " s")
     } else if nanoseconds >= 1_000_000 {
-        (nanoseconds / 1_000_000, nanoseconds / 1_000 % 1_000, "ms")
+        (nanoseconds / 1_000, " ms")
     } else {
-        (nanoseconds / 1_000, nanoseconds % 1_000, "us")
+        (nanoseconds, " us")
     };
-    write!(out, "{whole}.{rest:03} {unit}")
+    out.number(thousandths / 1_000);
+    out.put(".");
+    out.three_digits(thousandths % 1_000);
+    out.put(unit);
 }
