@@ -1,7 +1,7 @@
 //! A stretch in which a thread ran on a CPU.
 
 /// A thread ran on a CPU without a break.
-#[derive(Clone, Copy, Debug, PartialEq, Eq)]
+#[derive(Clone, Copy, PartialEq, Eq)]
 pub struct Ran {
     pub cpu: u32,
     /// CLOCK_MONOTONIC in nanoseconds.

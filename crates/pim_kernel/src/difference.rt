@@ -5,7 +5,7 @@ use crate::stretch::Stretch;
 use std::alloc::{AllocError, Global};
 
 /// A task ran at another priority than it should have.
-#[derive(Clone, Copy, Debug, PartialEq, Eq)]
+#[derive(Clone, Copy, PartialEq, Eq)]
 pub struct Difference {
     /// The level at which it ran.
     pub level: u8,

@@ -1,7 +1,7 @@
 //! What a line of the file says happened.
 
 /// A task stops, and the next one runs.
-#[derive(Clone, Copy, Debug, PartialEq, Eq)]
+#[derive(Clone, Copy, PartialEq, Eq)]
 pub struct Switch {
     /// The level of the task that stops.
     pub level: u8,
@@ -14,7 +14,7 @@ pub struct Switch {
 }
 
 /// A boost of a task begins, changes or ends.
-#[derive(Clone, Copy, Debug, PartialEq, Eq)]
+#[derive(Clone, Copy, PartialEq, Eq)]
 pub struct Boost {
     /// The task whose priority changes.
     pub task: u32,
@@ -25,7 +25,7 @@ pub struct Boost {
 }
 
 /// Events are missing, up to the time of this line.
-#[derive(Clone, Copy, Debug, PartialEq, Eq)]
+#[derive(Clone, Copy, PartialEq, Eq)]
 pub struct Loss {
     /// How many.
     pub events: u64,
@@ -34,7 +34,7 @@ pub struct Loss {
 }
 
 /// What happened.
-#[derive(Clone, Copy, Debug, PartialEq, Eq)]
+#[derive(Clone, Copy, PartialEq, Eq)]
 pub enum What {
     Switch(Switch),
     Boost(Boost),
@@ -50,7 +50,7 @@ pub enum What {
 }
 
 /// A line of the file.
-#[derive(Clone, Copy, Debug, PartialEq, Eq)]
+#[derive(Clone, Copy, PartialEq, Eq)]
 pub struct Event {
     /// The number of the line, from 1 on.
     pub line: u64,

@@ -4,7 +4,7 @@ use crate::event::{Boost, Event, Loss, Switch, What};
 use crate::words::{Words, address_of, number_of};
 
 /// What a line below the head says.
-#[derive(Clone, Copy, Debug, PartialEq, Eq)]
+#[derive(Clone, Copy, PartialEq, Eq)]
 pub enum Line {
     Event(Event),
     /// A task's name, at this time.
@@ -13,7 +13,7 @@ pub enum Line {
 }
 
 /// The last line.
-#[derive(Clone, Copy, Debug, PartialEq, Eq)]
+#[derive(Clone, Copy, PartialEq, Eq)]
 pub struct End {
     /// When recording ended.
     pub time: u64,

@@ -16,7 +16,7 @@ pub struct Losses {
 }
 
 /// Where a time is, compared with the stretches in which events were lost.
-#[derive(Clone, Copy, Debug, PartialEq, Eq)]
+#[derive(Clone, Copy, PartialEq, Eq)]
 pub enum Place {
     /// Nothing was lost since the time before.
     Certain,

@@ -6,7 +6,7 @@ use crate::stretches::Stretches;
 use std::alloc::{AllocError, Global};
 
 /// A futex call of a mutex with priority inheritance.
-#[derive(Clone, Copy, Debug, PartialEq, Eq)]
+#[derive(Clone, Copy, PartialEq, Eq)]
 pub struct Call {
     /// Whether it unlocks the mutex.
     pub is_unlock: bool,
@@ -20,7 +20,7 @@ pub struct Call {
 }
 
 /// A line, its time, and the CPU on which its task ran.
-#[derive(Clone, Copy, Debug, PartialEq, Eq)]
+#[derive(Clone, Copy, PartialEq, Eq)]
 pub struct Sign {
     pub line: u64,
     pub time: u64,

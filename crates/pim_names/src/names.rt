@@ -23,7 +23,7 @@ pub struct Names {
 }
 
 /// A thread that is a task of the trace.
-#[derive(Debug, PartialEq, Eq, Drop)]
+#[derive(PartialEq, Eq, Drop)]
 pub struct Thread {
     /// The number of the task.
     pub task: u16,

@@ -5,7 +5,7 @@ use crate::tasks::Tasks;
 use pim_kernel::{Call, Event, Recording, What};
 
 /// A thread waited for an INHERIT mutex.
-#[derive(Clone, Copy, Debug, PartialEq, Eq)]
+#[derive(Clone, Copy, PartialEq, Eq)]
 pub struct Wait {
     /// The thread, by the kernel's number.
     pub task: u32,
