@@ -3,7 +3,7 @@ ghost use Rattle.std.specs.Prelude.{◌≡◌, ◌≤◌, MatchOption, true, fal
 ghost use Rattle.pim_log.specs.Events.{code_of, is_event};
 
 /// What a record says happened.
-#[derive(Clone, Copy, Debug, PartialEq, Eq)]
+#[derive(Clone, Copy, PartialEq, Eq)]
 pub enum Event {
     /// A thread's first record.
     Thread,

@@ -71,7 +71,7 @@ pub fn used_bytes(start: &[u8]) -> Result<usize, HeaderFault>
 }
 
 /// What the header of a log says.
-#[derive(Clone, Copy, Debug, PartialEq, Eq)]
+#[derive(Clone, Copy, PartialEq, Eq)]
 pub struct Header {
     /// What is known of mutexes: bit 0 their kinds, bit 1 their ceilings, bit 2 their owners.
     pub known: u32,

@@ -3,7 +3,7 @@
 use crate::event::Event;
 
 /// What a thread did, or what is known of it. record/FORMAT.md says what the fields of each event mean.
-#[derive(Clone, Copy, Debug, PartialEq, Eq)]
+#[derive(Clone, Copy, PartialEq, Eq)]
 pub struct Record {
     /// Its place in the order of all records, from 1 on.
     pub number: u64,
