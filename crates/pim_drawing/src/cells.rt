@@ -3,8 +3,8 @@
 use crate::standing::Standing;
 use pim_base::{MutexNo, Reason, TaskNo};
 use pim_manager::Manager;
+use pim_out::Out;
 use std::alloc::{AllocError, Global};
-use std::fmt;
 
 /// More mutexes than these are not listed in a cell, so that each row fits 80 columns.
 const LISTED: usize = 3;
@@ -59,38 +59,44 @@ pub(crate) struct Cell<'a> {
     pub owned: &'a [MutexNo],
 }
 
-impl fmt::Display for Cell<'_> {
-    fn fmt<W: fmt::Write>(&self, f: &mut fmt::Formatter<W>) -> fmt::Result {
-        write!(f, "{:>2}", self.standing.prio.get())?;
-        write_boost(f, self.standing.reason)?;
-        write_owned(f, self.owned)?;
-        match self.standing.waits {
-            None => Ok(()),
-            Some(mutex) => write!(f, " ~{}", mutex.get()),
+impl Cell<'_> {
+    /// Adds the cell.
+    pub fn put(&self, out: &mut Out) {
+        let prio = self.standing.prio.get();
+        if prio < 10 {
+            out.put(" ");
+        }
+        out.number(u64::from(prio));
+        put_boost(out, self.standing.reason);
+        put_owned(out, self.owned);
+        if let Some(mutex) = self.standing.waits {
+            out.put(" ~");
+            out.number(u64::from(mutex.get()));
         }
     }
 }
 
-/// Writes what gives a boost, such as `^2` or `*1`.
-fn write_boost<W: fmt::Write>(f: &mut fmt::Formatter<W>, reason: Reason) -> fmt::Result {
+/// Adds what gives a boost, such as `^2` or `*1`.
+fn put_boost(out: &mut Out, reason: Reason) {
     let (mark, number) = match reason {
-        Reason::Base => return Ok(()),
-        Reason::Ceiling(mutex) => ('*', mutex.get()),
-        Reason::Waiter(task, _) => ('^', task.get()),
+        Reason::Base => return,
+        Reason::Ceiling(mutex) => ("*", mutex.get()),
+        Reason::Waiter(task, _) => ("^", task.get()),
     };
-    write!(f, "{mark}{number}")
+    out.put(mark);
+    out.number(u64::from(number));
 }
 
-/// Writes the mutexes that a task owns, such as ` [1,3]`.
-fn write_owned<W: fmt::Write>(f: &mut fmt::Formatter<W>, owned: &[MutexNo]) -> fmt::Result {
+/// Adds the mutexes that a task owns, such as ` [1,3]`.
+fn put_owned(out: &mut Out, owned: &[MutexNo]) {
     if owned.is_empty() {
-        return Ok(());
+        return;
     }
     for (place, mutex) in owned.iter().enumerate() {
         if place < LISTED {
-            let before = if place == 0 { " [" } else { "," };
-            write!(f, "{before}{}", mutex.get())?;
+            out.put(if place == 0 { " [" } else { "," });
+            out.number(u64::from(mutex.get()));
         }
     }
-    f.write_str(if LISTED < owned.len() { "..]" } else { "]" })
+    out.put(if LISTED < owned.len() { "..]" } else { "]" });
 }

@@ -2,9 +2,9 @@
 
 use crate::drawing::Recorded;
 use crate::events::{Events, Field, Track};
-use crate::paper::set_text;
 use pim_cpus::{Ran, schedule_of};
 use pim_names::Thread;
+use pim_out::Out;
 use std::alloc::{AllocError, Global};
 
 /// Adds the tracks of the CPUs on which threads of the trace ran between two times, if that is known.
@@ -20,15 +20,18 @@ pub(crate) fn put_cpus(
     };
     let threads = recorded.names.threads();
     let schedule = schedule_of(alloc, tracks, threads, from, until)?;
-    let mut name = String::new(alloc);
+    let mut name = Out::new(alloc);
     let mut last = None;
     for ran in &schedule {
         if last != Some(ran.cpu) {
-            put_names(events, &mut name, ran.cpu, last.is_none())?;
+            name.clear();
+            name.put("CPU ");
+            name.number(u64::from(ran.cpu));
+            put_names(events, name.as_str()?, ran.cpu, last.is_none());
             last = Some(ran.cpu);
         }
         if let Some(thread) = threads.get(ran.thread) {
-            put_ran(events, ran, thread)?;
+            put_ran(events, ran, thread);
         }
     }
     Ok(())
@@ -36,24 +39,18 @@ pub(crate) fn put_cpus(
 
 /// Adds the name of the track of a CPU, and of the group if that is its first track. The group is above those of the
 /// tasks.
-fn put_names(
-    events: &mut Events,
-    name: &mut String,
-    cpu: u32,
-    is_first: bool,
-) -> Result<(), AllocError> {
+fn put_names(events: &mut Events, name: &str, cpu: u32, is_first: bool) {
     let track = Track::of_cpu(cpu);
     if is_first {
-        events.call("process_name", &track, "CPUs")?;
-        events.sort("process_sort_index", &track, 0)?;
+        events.call("process_name", &track, "CPUs");
+        events.sort("process_sort_index", &track, 0);
     }
-    set_text(name, format_args!("CPU {cpu}"))?;
-    events.call("thread_name", &track, name.as_str())?;
-    events.sort("thread_sort_index", &track, track.row)
+    events.call("thread_name", &track, name);
+    events.sort("thread_sort_index", &track, track.row);
 }
 
 /// Adds a stretch in which a thread ran on a CPU.
-fn put_ran(events: &mut Events, ran: &Ran, thread: &Thread) -> Result<(), AllocError> {
+fn put_ran(events: &mut Events, ran: &Ran, thread: &Thread) {
     let track = Track::of_cpu(ran.cpu);
     let times = [
         Field::time("ts", ran.begin),
@@ -66,7 +63,7 @@ fn put_ran(events: &mut Events, ran: &Ran, thread: &Thread) -> Result<(), AllocE
         None => events.add("X", &track, name, &times, &[task, level]),
         Some(before) => {
             let before = Field::number("level before", u64::from(before));
-            events.add("X", &track, name, &times, &[task, level, before])
+            events.add("X", &track, name, &times, &[task, level, before]);
         }
     }
 }

@@ -1,9 +1,8 @@
 //! The events of a Trace Event file, written as JSON.
 
-use crate::paper::set_text;
-use json::{Writer, is_number};
 use pim_base::TaskNo;
 use pim_names::Piece;
+use pim_out::{JsonOut, Out};
 use std::alloc::{AllocError, Global};
 
 /// The nanoseconds that a step takes, unless there are times. A trace doesn't say when its steps were made.
@@ -116,22 +115,22 @@ impl Clock<'_> {
 /// The events that are written so far.
 #[derive(Drop)]
 pub(crate) struct Events {
-    json: Writer<Global>,
-    scratch: String,
+    json: JsonOut,
+    scratch: Out,
 }
 
 impl Events {
     /// Returns no events.
-    pub fn new(alloc: Global) -> Result<Events, AllocError> {
+    pub fn new(alloc: Global) -> Events {
         let mut events = Events {
-            json: Writer::new(Vec::new(alloc)),
-            scratch: String::new(alloc),
+            json: JsonOut::new(alloc),
+            scratch: Out::new(alloc),
         };
-        events.json.begin_object()?;
-        events.put(&[Field::text("displayTimeUnit", "ms")])?;
-        events.json.key("traceEvents")?;
-        events.json.begin_array()?;
-        Ok(events)
+        events.json.begin_object();
+        events.json.string("displayTimeUnit", "ms");
+        events.json.key("traceEvents");
+        events.json.begin_array();
+        events
     }
 
     /// Adds an event of this kind, with its fields, and its arguments if there are any.
@@ -142,63 +141,66 @@ impl Events {
         name: &str,
         fields: &[Field<'_>],
         arguments: &[Field<'_>],
-    ) -> Result<(), AllocError> {
-        self.json.begin_object()?;
-        self.put(&[
-            Field::text("ph", kind),
-            Field::number("pid", track.group),
-            Field::number("tid", track.number()),
-            Field::text("name", name),
-        ])?;
-        self.put(fields)?;
+    ) {
+        self.json.begin_object();
+        self.json.string("ph", kind);
+        self.json.number("pid", track.group);
+        self.json.number("tid", track.number());
+        self.json.string("name", name);
+        self.put(fields);
         if !arguments.is_empty() {
-            self.json.key("args")?;
-            self.json.begin_object()?;
-            self.put(arguments)?;
-            self.json.end_object()?;
+            self.json.key("args");
+            self.json.begin_object();
+            self.put(arguments);
+            self.json.end_object();
         }
-        self.json.end_object()
+        self.json.end_object();
     }
 
     /// Adds fields to the object that is open.
-    fn put(&mut self, fields: &[Field<'_>]) -> Result<(), AllocError> {
+    fn put(&mut self, fields: &[Field<'_>]) {
         for field in fields.iter() {
-            self.json.key(field.key)?;
             match field.value {
-                Value::Text(text) => self.json.string(text)?,
-                Value::Number(number) => self.json.u64(number)?,
-                Value::Time(time) => self.put_time(time)?,
+                Value::Text(text) => self.json.string(field.key, text),
+                Value::Number(number) => self.json.number(field.key, number),
+                Value::Time(time) => self.put_time(field.key, time),
             }
         }
-        Ok(())
     }
 
     /// Adds nanoseconds as microseconds, with three digits behind the point if they aren't whole.
-    fn put_time(&mut self, time: u64) -> Result<(), AllocError> {
+    fn put_time(&mut self, key: &str, time: u64) {
         let (whole, rest) = (time / 1000, time % 1000);
-        set_text(&mut self.scratch, format_args!("{whole}.{rest:03}"))?;
-        if rest != 0 && is_number(self.scratch.as_str()) {
-            self.json.number(self.scratch.as_str())
-        } else {
-            self.json.u64(whole)
+        if rest == 0 {
+            self.json.number(key, whole);
+            return;
         }
+        self.scratch.clear();
+        self.scratch.number(whole);
+        self.scratch.put(".");
+        self.scratch.three_digits(rest);
+        self.json.numeral(key, &self.scratch);
     }
 
     /// Adds what a group or a track is called: an event of this name.
-    pub fn call(&mut self, what: &str, track: &Track, name: &str) -> Result<(), AllocError> {
-        self.add("M", track, what, &[], &[Field::text("name", name)])
+    pub fn call(&mut self, what: &str, track: &Track, name: &str) {
+        self.add("M", track, what, &[], &[Field::text("name", name)]);
     }
 
     /// Adds where a group or a track is among others: an event of this name.
-    pub fn sort(&mut self, what: &str, track: &Track, place: u64) -> Result<(), AllocError> {
-        self.add("M", track, what, &[], &[Field::number("sort_index", place)])
+    pub fn sort(&mut self, what: &str, track: &Track, place: u64) {
+        self.add("M", track, what, &[], &[Field::number("sort_index", place)]);
     }
 
     /// Returns the bytes of the file.
+    ///
+    /// # Errors
+    ///
+    /// `AllocError` if an allocation failed.
     pub fn into_bytes(self) -> Result<Vec<u8>, AllocError> {
         let Events { mut json, .. } = self;
-        json.end_array()?;
-        json.end_object()?;
-        Ok(json.into_inner())
+        json.end_array();
+        json.end_object();
+        json.finish()
     }
 }

@@ -3,8 +3,8 @@ ghost use Rattle.std.specs.Prelude.{IfErr};
 ghost use Rattle.pim_drawing.specs.Faults.{IsOfOutput};
 
 use pim_judge::{Fault, Sink};
-use std::alloc::{AllocError, Global};
-use std::fmt::{Display, Write};
+use pim_out::Out;
+use std::alloc::Global;
 
 /// This much text is written.
 const FULL: usize = 65_536;
@@ -14,7 +14,7 @@ const FULL: usize = 65_536;
 pub(crate) struct Paper<'a, W> {
     writer: &'a mut W,
     /// The text that is not yet written.
-    pub text: String,
+    pub text: Out,
 }
 
 impl<'a, W: Sink> Paper<'a, W> {
@@ -22,7 +22,7 @@ impl<'a, W: Sink> Paper<'a, W> {
     pub fn new(alloc: Global, writer: &'a mut W) -> Paper<'a, W> {
         Paper {
             writer,
-            text: String::new(alloc),
+            text: Out::new(alloc),
         }
     }
 
@@ -41,7 +41,7 @@ impl<'a, W: Sink> Paper<'a, W> {
     pub fn write(&mut self) -> Result<(), Fault>
         ensures { IfErr result IsOfOutput }
     {
-        write_all(self.writer, self.text.as_bytes())?;
+        write_all(self.writer, self.text.as_str()?.as_bytes())?;
         self.text.clear();
         Ok(())
     }
@@ -59,10 +59,4 @@ pub(crate) fn write_all<W: Sink>(writer: &mut W, bytes: &[u8]) -> Result<(), Fau
         }
     }
     Ok(())
-}
-
-/// Replaces the text by what is printed of a value.
-pub(crate) fn set_text(text: &mut String, value: impl Display + Drop) -> Result<(), AllocError> {
-    text.clear();
-    write!(text, "{value}")
 }

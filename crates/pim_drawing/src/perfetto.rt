@@ -8,14 +8,15 @@ ghost use Rattle.pim_drawing.specs.Faults.{IsOfOutput};
 use crate::cpus::put_cpus;
 use crate::drawing::Recorded;
 use crate::events::{Clock, Events, Field, Track};
-use crate::paper::{set_text, write_all};
+use crate::paper::write_all;
 use crate::rows::Rows;
 use crate::spans::{Bar, Level, Spans, spans_of};
 use crate::walking::Window;
-use crate::words::{BarWords, Called, Heading, Thread, Why};
+use crate::words::{Called, put_heading};
 use pim_base::{Reason, TaskNo, Verdict};
 use pim_judge::{Fault, Sink, Text};
 use pim_names::Piece;
+use pim_out::Out;
 use std::alloc::{AllocError, Global};
 
 /// Draws a trace as Trace Event JSON. A step takes a millisecond, unless names say when it was made. The CPUs have tracks
@@ -57,7 +58,7 @@ struct Drawn<'a> {
     /// The first step that isn't drawn.
     past: u32,
     /// The name of the last event.
-    name: String,
+    name: Out,
     boosts: Rows,
     waits: Rows,
     owns: Rows,
@@ -77,11 +78,11 @@ fn events_of(
         None => None,
     };
     let mut drawn = Drawn {
-        events: Events::new(alloc)?,
+        events: Events::new(alloc),
         names,
         clock: Clock { names },
         past,
-        name: String::new(alloc),
+        name: Out::new(alloc),
         boosts: Rows::new(alloc),
         waits: Rows::new(alloc),
         owns: Rows::new(alloc),
@@ -108,7 +109,7 @@ impl Drawn<'_> {
         }
         for (index, bar) in spans.bars.iter().enumerate() {
             self.bar(bar)?;
-            self.flow(bar, index as u64)?;
+            self.flow(bar, index as u64);
         }
         for place in 0..usize::from(spans.tasks) {
             if let Some(level) = spans.levels.get(place) {
@@ -124,29 +125,30 @@ impl Drawn<'_> {
         let track = Track::of_task(level.task, BOOSTED);
         let at = self.clock.at(level.from);
         let prio = Field::number("priority", u64::from(level.prio.get()));
-        self.events.add("C", &track, "priority", &[at], &[prio])?;
+        self.events.add("C", &track, "priority", &[at], &[prio]);
         if level.reason == Reason::Base {
             return Ok(());
         }
         self.boosts.place(level.task, level.from, past)?;
-        let called = Called::at(self.names, level.from);
-        set_text(&mut self.name, Why { level, called })?;
         let times = [at, self.clock.until(level.from, past)];
         let base = Field::number("base", u64::from(level.base.get()));
+        self.name.clear();
+        Called::at(self.names, level.from).put_why(&mut self.name, level);
         self.events
-            .add("X", &track, self.name.as_str(), &times, &[base])
+            .add("X", &track, self.name.as_str()?, &times, &[base]);
+        Ok(())
     }
 
     /// Adds what a task owns or waits for.
     fn bar(&mut self, bar: &Bar) -> Result<(), AllocError> {
         let track = self.track_of(bar)?;
-        let called = Called::at(self.names, bar.from);
-        set_text(&mut self.name, BarWords { bar, called })?;
         let past = bar.past.min(self.past);
         let times = [self.clock.at(bar.from), self.clock.until(bar.from, past)];
         let owner = Field::number("owner", u64::from(bar.owner.get()));
+        self.name.clear();
+        Called::at(self.names, bar.from).put_bar(&mut self.name, bar);
         self.events
-            .add("X", &track, self.name.as_str(), &times, &[owner])?;
+            .add("X", &track, self.name.as_str()?, &times, &[owner]);
         self.tracks.push(track)?;
         Ok(())
     }
@@ -166,57 +168,49 @@ impl Drawn<'_> {
     }
 
     /// Adds the flow from the last bar to that of the owner, if it is a wait.
-    fn flow(&mut self, bar: &Bar, number: u64) -> Result<(), AllocError> {
+    fn flow(&mut self, bar: &Bar, number: u64) {
         if bar.is_owned() {
-            return Ok(());
+            return;
         }
         let Some(track) = self.tracks.last() else {
-            return Ok(());
+            return;
         };
         let track = *track;
         let Some(owner) = self.tracks.get(bar.by) else {
-            return Ok(());
+            return;
         };
         let owner = *owner;
         let (at, id) = (self.clock.at(bar.from), Field::number("id", number));
         let (cat, bp) = (Field::text("cat", "waits"), Field::text("bp", "e"));
         self.events
-            .add("s", &track, "waits for", &[at, cat, id], &[])?;
+            .add("s", &track, "waits for", &[at, cat, id], &[]);
         self.events
-            .add("f", &owner, "waits for", &[at, bp, cat, id], &[])
+            .add("f", &owner, "waits for", &[at, bp, cat, id], &[]);
     }
 
     /// Adds the names of a task and of its tracks.
     fn names(&mut self, task: TaskNo) -> Result<(), AllocError> {
-        let number = task.get();
-        let boosts = self.boosts.count(task);
-        let waits = self.waits.count(task);
-        let owns = self.owns.count(task);
         let track = Track::of_task(task, BOOSTED);
-        let thread = Thread::of(self.names, task);
-        set_text(&mut self.name, Heading { task, thread })?;
+        self.name.clear();
+        put_heading(&mut self.name, task, self.names);
         self.events
-            .call("process_name", &track, self.name.as_str())?;
+            .call("process_name", &track, self.name.as_str()?);
         self.events
-            .sort("process_sort_index", &track, u64::from(number))?;
-        self.track_names(task, BOOSTED, boosts, "boosted")?;
-        self.track_names(task, WAITS, waits, "waits")?;
-        self.track_names(task, OWNS, owns, "owns")
+            .sort("process_sort_index", &track, u64::from(task.get()));
+        let (boosts, waits) = (self.boosts.count(task), self.waits.count(task));
+        let owns = self.owns.count(task);
+        self.track_names(task, BOOSTED, boosts, "boosted");
+        self.track_names(task, WAITS, waits, "waits");
+        self.track_names(task, OWNS, owns, "owns");
+        Ok(())
     }
 
     /// Adds the names and the places of so many tracks of a task.
-    fn track_names(
-        &mut self,
-        task: TaskNo,
-        first: u64,
-        count: u64,
-        name: &str,
-    ) -> Result<(), AllocError> {
+    fn track_names(&mut self, task: TaskNo, first: u64, count: u64, name: &str) {
         for row in first..first.saturating_add(count) {
             let track = Track::of_task(task, row);
-            self.events.call("thread_name", &track, name)?;
-            self.events.sort("thread_sort_index", &track, track.row)?;
+            self.events.call("thread_name", &track, name);
+            self.events.sort("thread_sort_index", &track, track.row);
         }
-        Ok(())
     }
 }

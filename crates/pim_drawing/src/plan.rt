@@ -3,8 +3,8 @@
 use crate::rows::Rows;
 use crate::spans::Spans;
 use pim_base::{Prio, TaskNo, Verdict};
+use pim_out::Out;
 use std::alloc::{AllocError, Global};
-use std::fmt;
 
 /// The pixels left of the first column, for the numbers of the tasks.
 pub(crate) const SIDE: u64 = 96;
@@ -68,13 +68,20 @@ impl Lane {
     }
 }
 
-/// A length in halves of a pixel. It is printed in pixels.
+/// A length in halves of a pixel.
 #[derive(Clone, Copy)]
 pub(crate) struct Pixels {
     pub halves: u64,
 }
 
 impl Pixels {
+    /// Returns a length of whole pixels.
+    pub fn whole(pixels: u64) -> Pixels {
+        Pixels {
+            halves: pixels.saturating_mul(2),
+        }
+    }
+
     /// Returns a length that is longer by this many pixels.
     pub fn plus(self, pixels: u64) -> Pixels {
         Pixels {
@@ -100,15 +107,13 @@ impl Pixels {
             halves: self.halves.saturating_sub(other.halves),
         }
     }
-}
 
-impl fmt::Display for Pixels {
-    fn fmt<W: fmt::Write>(&self, f: &mut fmt::Formatter<W>) -> fmt::Result {
-        write!(f, "{}", self.halves / 2)?;
+    /// Adds it in pixels.
+    pub fn put(self, out: &mut Out) {
+        out.number(self.halves / 2);
         if self.halves % 2 == 1 {
-            f.write_str(".5")?;
+            out.put(".5");
         }
-        Ok(())
     }
 }
 

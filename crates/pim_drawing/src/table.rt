@@ -7,16 +7,16 @@ ghost use Rattle.pim_drawing.specs.Faults.{IsOfOutput};
 
 use crate::cells::{Cell, Owned};
 use crate::drawing::Style;
-use crate::paper::{Paper, set_text};
+use crate::paper::Paper;
 use crate::standing::Standing;
 use crate::walking::{Watcher, Window, walk};
-use crate::words::{Heading, ReplyWords, RequestWords, Thread};
+use crate::words::{put_heading, put_reply, put_request};
 use pim_base::{Reply, StepLine, TaskNo, Verdict};
 use pim_judge::{Fault, Sink, Text, manager_of};
 use pim_manager::Manager;
 use pim_names::Piece;
+use pim_out::Out;
 use std::alloc::{AllocError, Global};
-use std::fmt::{Display, Write};
 
 /// What the marks of a cell mean.
 const LEGEND: &str = "\
@@ -61,8 +61,8 @@ pub fn draw_table<W: Sink>(
         names,
         block: Block { first: 1, past: 1 },
         owned: Owned::new(alloc, text.bases.len())?,
-        row: String::new(alloc),
-        cell: String::new(alloc),
+        row: Out::new(alloc),
+        cell: Out::new(alloc),
         paper: Paper::new(alloc, writer),
     };
     for block in blocks.iter() {
@@ -90,22 +90,26 @@ fn measured(
 }
 
 /// Adds the last lines of the report.
-fn put_verdict(
-    text: &mut String,
-    verdict: &Verdict,
-    difference: &Option<(Reply, Reply)>,
-) -> Result<(), AllocError> {
+fn put_verdict(text: &mut Out, verdict: &Verdict, difference: &Option<(Reply, Reply)>) {
     match verdict {
-        Verdict::Accepted(count) => writeln!(text, "accepted {count}"),
+        Verdict::Accepted(count) => {
+            text.put("accepted ");
+            text.number(u64::from(*count));
+        }
         Verdict::Rejected(number) => {
             if let Some((reply, recorded)) = difference {
-                let reply = ReplyWords(reply);
-                let recorded = ReplyWords(recorded);
-                writeln!(text, "{number} {reply} but recorded {recorded}")?;
+                text.number(u64::from(*number));
+                text.put(" ");
+                put_reply(text, reply);
+                text.put(" but recorded ");
+                put_reply(text, recorded);
+                text.put("\n");
             }
-            writeln!(text, "rejected {number}")
+            text.put("rejected ");
+            text.number(u64::from(*number));
         }
     }
+    text.put("\n");
 }
 
 /// Tasks beside each other: from the first one to the one before `past`.
@@ -125,7 +129,7 @@ struct Widths {
     /// The width of task n has place n - 1.
     cells: Vec<usize>,
     owned: Owned,
-    scratch: String,
+    scratch: Out,
     /// The reply to the last step and the recorded one, if they differ.
     difference: Option<(Reply, Reply)>,
 }
@@ -139,12 +143,13 @@ impl Widths {
         names: Option<Piece<'_>>,
     ) -> Result<Widths, AllocError> {
         let mut cells = Vec::new(alloc);
-        let mut scratch = String::new(alloc);
+        let mut scratch = Out::new(alloc);
         for number in 1..=manager.tasks() {
-            let task = TaskNo(number);
-            let thread = Thread::of(names, task);
-            cells.push(length_of(&mut scratch, Heading { task, thread })?)?;
+            scratch.clear();
+            put_heading(&mut scratch, TaskNo(number), names);
+            cells.push(scratch.len())?;
         }
+        scratch.check()?;
         Ok(Widths {
             window,
             step: STEP.len(),
@@ -172,24 +177,27 @@ impl Widths {
             let task = TaskNo(number);
             if let Some(standing) = Standing::of(manager, task) {
                 let owned = self.owned.of(task);
-                let length = length_of(&mut self.scratch, Cell { standing, owned })?;
+                self.scratch.clear();
+                Cell { standing, owned }.put(&mut self.scratch);
                 if let Some(width) = self.cells.get_mut(usize::from(number) - 1) {
-                    *width = (*width).max(length);
+                    *width = (*width).max(self.scratch.len());
                 }
             }
         }
-        Ok(())
+        self.scratch.check()
     }
 
     /// Makes the columns of the step as wide as it is.
-    fn fit_step(&mut self, number: u32, line: &StepLine, reply: &Reply) -> Result<(), AllocError> {
-        self.step = self.step.max(length_of(&mut self.scratch, number)?);
-        let request = RequestWords(&line.step);
-        self.request = self.request.max(length_of(&mut self.scratch, request)?);
-        self.reply = self
-            .reply
-            .max(length_of(&mut self.scratch, ReplyWords(reply))?);
-        Ok(())
+    fn fit_step(&mut self, number: u32, line: &StepLine, reply: &Reply) {
+        self.scratch.clear();
+        self.scratch.number(u64::from(number));
+        self.step = self.step.max(self.scratch.len());
+        self.scratch.clear();
+        put_request(&mut self.scratch, &line.step);
+        self.request = self.request.max(self.scratch.len());
+        self.scratch.clear();
+        put_reply(&mut self.scratch, reply);
+        self.reply = self.reply.max(self.scratch.len());
     }
 
     /// Returns which tasks are beside each other.
@@ -239,25 +247,18 @@ impl Watcher for Widths {
             }
         }
         if self.window.has(number) {
-            self.fit_step(number, line, reply)?;
+            self.fit_step(number, line, reply);
             self.fit_cells(manager)?;
         }
         Ok(())
     }
 }
 
-/// Returns the length of what is printed of a value.
-fn length_of(scratch: &mut String, value: impl Display + Drop) -> Result<usize, AllocError> {
-    set_text(scratch, value)?;
-    Ok(scratch.len())
-}
-
 /// Adds the spaces between a text of this length and the end of its column.
-fn put_spaces(row: &mut String, length: usize, width: usize) -> Result<(), AllocError> {
+fn put_spaces(row: &mut Out, length: usize, width: usize) {
     for _space in length..width {
-        row.push(' ')?;
+        row.put(" ");
     }
-    Ok(())
 }
 
 /// The rows of some tasks.
@@ -268,8 +269,8 @@ struct Rows<'a, W> {
     names: Option<Piece<'a>>,
     block: Block,
     owned: Owned,
-    row: String,
-    cell: String,
+    row: Out,
+    cell: Out,
     paper: Paper<'a, W>,
 }
 
@@ -289,13 +290,11 @@ impl<'a, W: Sink> Rows<'a, W> {
     fn titles(&mut self) -> Result<(), Fault>
         ensures { IfErr result IsOfOutput }
     {
-        self.put_left(STEP, REQUEST, REPLY)?;
+        self.put_left(STEP, REQUEST, REPLY);
         for number in self.block.first..self.block.past {
-            let task = TaskNo(number);
-            let thread = Thread::of(self.names, task);
-            set_text(&mut self.cell, Heading { task, thread })?;
+            put_heading(&mut self.cell, TaskNo(number), self.names);
             let width = self.widths.of(number);
-            self.put_cell(width, false)?;
+            self.put_cell(width, false);
         }
         self.end_row()
     }
@@ -311,49 +310,61 @@ impl<'a, W: Sink> Rows<'a, W> {
                 let width = self.widths.of(number);
                 let is_bold = self.style.is_bold && standing.is_boosted();
                 let owned = self.owned.of(task);
-                set_text(&mut self.cell, Cell { standing, owned })?;
-                self.put_cell(width, is_bold)?;
+                Cell { standing, owned }.put(&mut self.cell);
+                self.put_cell(width, is_bold);
             }
         }
         self.end_row()
     }
 
-    /// Begins a row with the columns on the left.
-    fn put_left(
-        &mut self,
-        number: impl Display + Drop,
-        request: impl Display + Drop,
-        reply: impl Display + Drop,
-    ) -> Result<(), AllocError> {
-        set_text(&mut self.cell, number)?;
-        self.row.clear();
-        put_spaces(&mut self.row, self.cell.len(), self.widths.step)?;
-        self.row.push_str(self.cell.as_str())?;
-        set_text(&mut self.cell, request)?;
-        self.put_cell(self.widths.request, false)?;
-        set_text(&mut self.cell, reply)?;
-        self.put_cell(self.widths.reply, false)
+    /// Begins a row with these words in the columns on the left.
+    fn put_left(&mut self, number: &str, request: &str, reply: &str) {
+        self.cell.put(number);
+        self.put_first();
+        self.cell.put(request);
+        self.put_cell(self.widths.request, false);
+        self.cell.put(reply);
+        self.put_cell(self.widths.reply, false);
     }
 
-    /// Adds two spaces and the cell to the row, and spaces as long as the column is wider.
-    fn put_cell(&mut self, width: usize, is_bold: bool) -> Result<(), AllocError> {
-        self.row.push_str("  ")?;
+    /// Begins a row with a step in the columns on the left.
+    fn put_step(&mut self, number: u32, line: &StepLine, reply: &Reply) {
+        self.cell.number(u64::from(number));
+        self.put_first();
+        put_request(&mut self.cell, &line.step);
+        self.put_cell(self.widths.request, false);
+        put_reply(&mut self.cell, reply);
+        self.put_cell(self.widths.reply, false);
+    }
+
+    /// Begins a row with the cell, at the right of its column. The cell is empty then.
+    fn put_first(&mut self) {
+        self.row.clear();
+        put_spaces(&mut self.row, self.cell.len(), self.widths.step);
+        self.row.add(&self.cell);
+        self.cell.clear();
+    }
+
+    /// Adds two spaces and the cell to the row, and spaces as long as the column is wider. The cell is empty then.
+    fn put_cell(&mut self, width: usize, is_bold: bool) {
+        self.row.put("  ");
         if is_bold {
-            self.row.push_str(BOLD)?;
+            self.row.put(BOLD);
         }
-        self.row.push_str(self.cell.as_str())?;
+        self.row.add(&self.cell);
         if is_bold {
-            self.row.push_str(PLAIN)?;
+            self.row.put(PLAIN);
         }
-        put_spaces(&mut self.row, self.cell.len(), width)
+        put_spaces(&mut self.row, self.cell.len(), width);
+        self.cell.clear();
     }
 
     /// Adds the meaning of the marks and the last lines of the report, and writes all that is not yet written.
     fn end(&mut self, verdict: &Verdict) -> Result<(), Fault>
         ensures { IfErr result IsOfOutput }
     {
-        self.paper.text.push_str(LEGEND)?;
-        put_verdict(&mut self.paper.text, verdict, &self.widths.difference)?;
+        self.paper.text.put(LEGEND);
+        put_verdict(&mut self.paper.text, verdict, &self.widths.difference);
         self.paper.write()
     }
 
@@ -361,8 +372,8 @@ impl<'a, W: Sink> Rows<'a, W> {
     fn end_row(&mut self) -> Result<(), Fault>
         ensures { IfErr result IsOfOutput }
     {
-        self.paper.text.push_str(self.row.as_str().trim_end())?;
-        self.paper.text.push('\n')?;
+        self.paper.text.put(self.row.as_str()?.trim_end());
+        self.paper.text.put("\n");
         self.paper.write_if_full()
     }
 }
@@ -371,7 +382,7 @@ impl<'a, W: Sink> Watcher for Rows<'a, W> {
     fn begin(&mut self, manager: &Manager) -> Result<(), Fault> {
         self.titles()?;
         if self.style.window.has(0) {
-            self.put_left(0, "", "")?;
+            self.put_left("0", "", "");
             self.put_cells(manager)?;
         }
         Ok(())
@@ -385,7 +396,7 @@ impl<'a, W: Sink> Watcher for Rows<'a, W> {
         manager: &Manager,
     ) -> Result<(), Fault> {
         if self.style.window.has(number) {
-            self.put_left(number, RequestWords(&line.step), ReplyWords(reply))?;
+            self.put_step(number, line, reply);
             self.put_cells(manager)?;
         }
         Ok(())

@@ -3,56 +3,50 @@
 use crate::spans::{Bar, Level};
 use pim_base::{MutexNo, Op, Reason, Reply, Step, TaskNo};
 use pim_names::Piece;
-use std::fmt;
+use pim_out::Out;
 
-/// The words of a step, such as `3 lock 1`.
-#[derive(Clone, Copy)]
-pub(crate) struct RequestWords<'a>(pub &'a Step);
-
-impl fmt::Display for RequestWords<'_> {
-    fn fmt<W: fmt::Write>(&self, f: &mut fmt::Formatter<W>) -> fmt::Result {
-        let (name, number, level) = match self.0.op {
-            Op::Lock(mutex) => ("lock", Some(mutex.get()), None),
-            Op::Try(mutex) => ("try", Some(mutex.get()), None),
-            Op::Unlock(mutex) => ("unlock", Some(mutex.get()), None),
-            Op::ReleaseAll => ("release", None, None),
-            Op::Cancel(task) => ("cancel", Some(task.get()), None),
-            Op::SetBase(task, level) => ("base", Some(task.get()), Some(level)),
-            Op::SetCeiling(mutex, level) => ("ceil", Some(mutex.get()), Some(level)),
-        };
-        write!(f, "{} {name}", self.0.actor.get())?;
-        write_number(f, number)?;
-        write_number(f, level)
-    }
+/// Adds the words of a step, such as `3 lock 1`.
+pub(crate) fn put_request(out: &mut Out, step: &Step) {
+    let (name, number, level) = match step.op {
+        Op::Lock(mutex) => (" lock", Some(mutex.get()), None),
+        Op::Try(mutex) => (" try", Some(mutex.get()), None),
+        Op::Unlock(mutex) => (" unlock", Some(mutex.get()), None),
+        Op::ReleaseAll => (" release", None, None),
+        Op::Cancel(task) => (" cancel", Some(task.get()), None),
+        Op::SetBase(task, level) => (" base", Some(task.get()), Some(level)),
+        Op::SetCeiling(mutex, level) => (" ceil", Some(mutex.get()), Some(level)),
+    };
+    out.number(u64::from(step.actor.get()));
+    out.put(name);
+    put_number(out, number);
+    put_number(out, level);
 }
 
-/// The words of a reply, such as `handed 3`.
-#[derive(Clone, Copy)]
-pub(crate) struct ReplyWords<'a>(pub &'a Reply);
-
-impl fmt::Display for ReplyWords<'_> {
-    fn fmt<W: fmt::Write>(&self, f: &mut fmt::Formatter<W>) -> fmt::Result {
-        let (name, number) = match *self.0 {
-            Reply::Granted => ("granted", None),
-            Reply::Queued => ("queued", None),
-            Reply::Freed => ("freed", None),
-            Reply::Handed(task) => ("handed", Some(task.get())),
-            Reply::Released(count) => ("released", Some(count)),
-            Reply::Withdrawn => ("withdrawn", None),
-            Reply::Set => ("set", None),
-            Reply::Kept => ("kept", None),
-            Reply::Refused(refusal) => return write!(f, "refused {}", refusal.name()),
-        };
-        f.write_str(name)?;
-        write_number(f, number)
-    }
+/// Adds the words of a reply, such as `handed 3`.
+pub(crate) fn put_reply(out: &mut Out, reply: &Reply) {
+    let (name, number) = match *reply {
+        Reply::Granted => ("granted", None),
+        Reply::Queued => ("queued", None),
+        Reply::Freed => ("freed", None),
+        Reply::Handed(task) => ("handed", Some(task.get())),
+        Reply::Released(count) => ("released", Some(count)),
+        Reply::Withdrawn => ("withdrawn", None),
+        Reply::Set => ("set", None),
+        Reply::Kept => ("kept", None),
+        Reply::Refused(refusal) => {
+            out.put("refused ");
+            (refusal.name(), None)
+        }
+    };
+    out.put(name);
+    put_number(out, number);
 }
 
-/// Writes a space and a number, if there is one.
-fn write_number<W: fmt::Write>(f: &mut fmt::Formatter<W>, number: Option<u16>) -> fmt::Result {
-    match number {
-        None => Ok(()),
-        Some(number) => write!(f, " {number}"),
+/// Adds a space and a number, if there is one.
+fn put_number(out: &mut Out, number: Option<u16>) {
+    if let Some(number) = number {
+        out.put(" ");
+        out.number(u64::from(number));
     }
 }
 
@@ -69,104 +63,61 @@ impl<'a> Called<'a> {
         Called { names, step }
     }
 
-    /// Returns the words for a task.
-    fn task(&self, task: TaskNo) -> TaskWords<'a> {
+    /// Adds a task, such as `task 1`; with names its thread, such as `low[30321]`.
+    fn put_task(&self, out: &mut Out, task: TaskNo) {
         let thread = match self.names {
             Some(names) => names.task(task.get(), self.step),
             None => None,
         };
-        TaskWords { task, thread }
+        match thread {
+            Some(thread) => out.put(thread),
+            None => put_task(out, task),
+        }
     }
 
-    /// Returns the words for a mutex.
-    fn mutex(&self, mutex: MutexNo) -> MutexWords<'a> {
+    /// Adds a mutex, such as `mutex 1`; with names also where it was initialised, such as
+    /// `mutex 1 from controller+0x1352`.
+    fn put_mutex(&self, out: &mut Out, mutex: MutexNo) {
         let place = match self.names {
             Some(names) => names.mutex(mutex.get(), self.step),
             None => None,
         };
-        MutexWords { mutex, place }
-    }
-}
-
-/// A task, such as `task 1`; with names its thread, such as `low[30321]`.
-#[derive(Clone, Copy)]
-struct TaskWords<'a> {
-    task: TaskNo,
-    thread: Option<&'a str>,
-}
-
-impl fmt::Display for TaskWords<'_> {
-    fn fmt<W: fmt::Write>(&self, f: &mut fmt::Formatter<W>) -> fmt::Result {
-        match self.thread {
-            Some(thread) => f.write_str(thread),
-            None => write!(f, "task {}", self.task.get()),
+        out.put("mutex ");
+        out.number(u64::from(mutex.get()));
+        if let Some(place) = place {
+            out.put(" from ");
+            out.put(place);
         }
     }
-}
 
-/// A mutex, such as `mutex 1`; with names also where it was initialised, such as `mutex 1 from controller+0x1352`.
-#[derive(Clone, Copy)]
-struct MutexWords<'a> {
-    mutex: MutexNo,
-    place: Option<&'a str>,
-}
-
-impl fmt::Display for MutexWords<'_> {
-    fn fmt<W: fmt::Write>(&self, f: &mut fmt::Formatter<W>) -> fmt::Result {
-        write!(f, "mutex {}", self.mutex.get())?;
-        match self.place {
-            Some(place) => write!(f, " from {place}"),
-            None => Ok(()),
-        }
-    }
-}
-
-/// Why a task has a priority.
-#[derive(Clone, Copy)]
-pub(crate) struct Why<'a> {
-    pub level: &'a Level,
-    pub called: Called<'a>,
-}
-
-impl fmt::Display for Why<'_> {
-    fn fmt<W: fmt::Write>(&self, f: &mut fmt::Formatter<W>) -> fmt::Result {
-        let called = &self.called;
-        write!(
-            f,
-            "{} at {}",
-            called.task(self.level.task),
-            self.level.prio.get()
-        )?;
-        match self.level.reason {
-            Reason::Base => Ok(()),
-            Reason::Ceiling(mutex) => write!(f, ": the ceiling of {}", called.mutex(mutex)),
+    /// Adds why a task has a priority.
+    pub fn put_why(&self, out: &mut Out, level: &Level) {
+        self.put_task(out, level.task);
+        out.put(" at ");
+        out.number(u64::from(level.prio.get()));
+        match level.reason {
+            Reason::Base => {}
+            Reason::Ceiling(mutex) => {
+                out.put(": the ceiling of ");
+                self.put_mutex(out, mutex);
+            }
             Reason::Waiter(task, mutex) => {
-                write!(
-                    f,
-                    ": {} waits for {}",
-                    called.task(task),
-                    called.mutex(mutex)
-                )
+                out.put(": ");
+                self.put_task(out, task);
+                out.put(" waits for ");
+                self.put_mutex(out, mutex);
             }
         }
     }
-}
 
-/// What a task does with a mutex, such as `owns mutex 1`.
-#[derive(Clone, Copy)]
-pub(crate) struct BarWords<'a> {
-    pub bar: &'a Bar,
-    pub called: Called<'a>,
-}
-
-impl fmt::Display for BarWords<'_> {
-    fn fmt<W: fmt::Write>(&self, f: &mut fmt::Formatter<W>) -> fmt::Result {
-        let verb = if self.bar.is_owned() {
-            "owns"
+    /// Adds what a task does with a mutex, such as `owns mutex 1`.
+    pub fn put_bar(&self, out: &mut Out, bar: &Bar) {
+        out.put(if bar.is_owned() {
+            "owns "
         } else {
-            "waits for"
-        };
-        write!(f, "{verb} {}", self.called.mutex(self.bar.mutex))
+            "waits for "
+        });
+        self.put_mutex(out, bar.mutex);
     }
 }
 
@@ -193,26 +144,18 @@ impl<'a> Thread<'a> {
     }
 }
 
-impl fmt::Display for Thread<'_> {
-    fn fmt<W: fmt::Write>(&self, f: &mut fmt::Formatter<W>) -> fmt::Result {
-        f.write_str(self.name)?;
-        f.write_str(self.more())
-    }
+/// Adds a task, such as `task 1`.
+pub(crate) fn put_task(out: &mut Out, task: TaskNo) {
+    out.put("task ");
+    out.number(u64::from(task.get()));
 }
 
-/// The heading of a task: `task 1`, and with names `task 1: low[30321]`.
-#[derive(Clone, Copy)]
-pub(crate) struct Heading<'a> {
-    pub task: TaskNo,
-    pub thread: Option<Thread<'a>>,
-}
-
-impl fmt::Display for Heading<'_> {
-    fn fmt<W: fmt::Write>(&self, f: &mut fmt::Formatter<W>) -> fmt::Result {
-        write!(f, "task {}", self.task.get())?;
-        match self.thread {
-            Some(thread) => write!(f, ": {thread}"),
-            None => Ok(()),
-        }
+/// Adds the heading of a task: `task 1`, and with names `task 1: low[30321]`.
+pub(crate) fn put_heading(out: &mut Out, task: TaskNo, names: Option<Piece<'_>>) {
+    put_task(out, task);
+    if let Some(thread) = Thread::of(names, task) {
+        out.put(": ");
+        out.put(thread.name);
+        out.put(thread.more());
     }
 }

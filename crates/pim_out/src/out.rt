@@ -80,7 +80,7 @@ impl Out {
         self.text.clear();
     }
 
-    /// Returns nothing.
+    /// Returns `Ok` if all that was added is there.
     ///
     /// # Errors
     ///
@@ -99,11 +99,8 @@ impl Out {
     ///
     /// `AllocError` if an allocation failed.
     pub fn as_str(&self) -> Result<&str, AllocError> {
-        if self.has_failed {
-            Err(AllocError)
-        } else {
-            Ok(self.text.as_str())
-        }
+        self.check()?;
+        Ok(self.text.as_str())
     }
 
     /// Returns the text.
@@ -112,11 +109,8 @@ impl Out {
     ///
     /// `AllocError` if an allocation failed.
     pub fn finish(self) -> Result<String, AllocError> {
-        let Out { text, has_failed } = self;
-        if has_failed {
-            Err(AllocError)
-        } else {
-            Ok(text)
-        }
+        self.check()?;
+        let Out { text, .. } = self;
+        Ok(text)
     }
 }
