@@ -9,7 +9,7 @@ use pim_manager::{Manager, TrackedManager};
 use std::alloc::{AllocError, Global};
 
 /// The priority of a thread from some step on.
-#[derive(Clone, Copy, Debug, PartialEq, Eq)]
+#[derive(Clone, Copy, PartialEq, Eq)]
 pub struct Turn {
     pub mark: Mark,
     /// Why it has that priority.

@@ -9,7 +9,7 @@ use pim_log::Log;
 use std::alloc::{AllocError, Global};
 
 /// When a thread or a mutex takes part, and what it has as it begins to.
-#[derive(Clone, Copy, Debug, PartialEq, Eq)]
+#[derive(Clone, Copy, PartialEq, Eq)]
 pub struct Part {
     /// The first and the last record in the trace that shows it. 0 to 0 if none does.
     pub span: Span,

@@ -24,7 +24,7 @@ pub struct Sources {
 }
 
 /// A mutex in the course of a program.
-#[derive(Clone, Copy, Debug, PartialEq, Eq)]
+#[derive(Clone, Copy, PartialEq, Eq)]
 pub struct CourseMutex {
     /// Its owner, or 0.
     pub owner: u32,
@@ -41,7 +41,7 @@ pub struct CourseMutex {
 }
 
 /// A thread in the course of a program.
-#[derive(Clone, Copy, Debug, PartialEq, Eq)]
+#[derive(Clone, Copy, PartialEq, Eq)]
 pub struct CourseThread {
     /// The mutex that it waits for, or 0.
     pub awaits: u32,

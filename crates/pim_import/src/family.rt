@@ -3,7 +3,7 @@
 use pim_log::Record;
 
 /// The protocol of a mutex, as a log has it.
-#[derive(Clone, Copy, Debug, PartialEq, Eq)]
+#[derive(Clone, Copy, PartialEq, Eq)]
 pub enum Family {
     /// PTHREAD_PRIO_NONE, also where the log can't know the protocol.
     None,

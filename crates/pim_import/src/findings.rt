@@ -12,7 +12,7 @@ use std::alloc::{AllocError, Global};
 pub const LONGEST: usize = 10;
 
 /// A wait for a mutex.
-#[derive(Clone, Copy, Debug, PartialEq, Eq)]
+#[derive(Clone, Copy, PartialEq, Eq)]
 pub struct FoundWait {
     /// The thread that waited.
     pub thread: u32,
@@ -34,7 +34,7 @@ pub struct FoundWait {
 }
 
 /// To whom a mutex went for which threads waited.
-#[derive(Clone, Copy, Debug, PartialEq, Eq)]
+#[derive(Clone, Copy, PartialEq, Eq)]
 pub struct HandOvers {
     /// To the first waiter.
     pub in_order: u64,
@@ -47,7 +47,7 @@ pub struct HandOvers {
 }
 
 /// What is found of a mutex.
-#[derive(Clone, Copy, Debug, PartialEq, Eq)]
+#[derive(Clone, Copy, PartialEq, Eq)]
 pub struct FoundMutex {
     /// How many waits for it began.
     pub waits: u64,
@@ -67,7 +67,7 @@ pub struct FoundMutex {
 }
 
 /// A wait that lasts.
-#[derive(Clone, Copy, Debug, PartialEq, Eq)]
+#[derive(Clone, Copy, PartialEq, Eq)]
 struct Open {
     mutex: u32,
     owner: u32,

@@ -7,7 +7,7 @@ use crate::level::MAX_LEVEL;
 use pim_base::Prio;
 
 /// How the levels of a log, 0 to 100, become the priorities of a trace, 1 to 99. A higher level has a higher priority.
-#[derive(Clone, Copy, Debug, PartialEq, Eq)]
+#[derive(Clone, Copy, PartialEq, Eq)]
 pub enum Scale {
     /// SCHED_FIFO and SCHED_RR keep their priorities. All policies below have 1, and SCHED_DEADLINE has 99.
     Same,
@@ -18,7 +18,7 @@ pub enum Scale {
 }
 
 /// The priorities of a trace by the levels of a log.
-#[derive(Clone, Copy, Debug, PartialEq, Eq)]
+#[derive(Clone, Copy, PartialEq, Eq)]
 pub struct Priorities {
     pub scale: Scale,
     /// The priority of each level, 0 to 100. A level that the log lacks may share that of another.

@@ -13,7 +13,7 @@ use pim_log::{Event, Log, Record};
 use std::alloc::{AllocError, Global};
 
 /// A request that the log lacks.
-#[derive(Clone, Copy, Debug, PartialEq, Eq, PartialOrd, Ord)]
+#[derive(Clone, Copy, PartialEq, Eq, PartialOrd, Ord)]
 pub struct Request {
     /// The number of the record behind which it belongs. If no wait shows the request, that is the first grant of the mutex
     /// to another since the call began.

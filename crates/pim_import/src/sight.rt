@@ -2,7 +2,7 @@
 ghost use Rattle.std.specs.Prelude.{◌<◌};
 
 /// What happened. Threads and mutexes have the numbers of [`Subjects`](crate::Subjects).
-#[derive(Clone, Copy, Debug, PartialEq, Eq)]
+#[derive(Clone, Copy, PartialEq, Eq)]
 pub enum What {
     /// The thread owns the mutex, and waits for nothing.
     Granted,
@@ -19,7 +19,7 @@ pub enum What {
 }
 
 /// What a record shows of a thread and a mutex.
-#[derive(Clone, Copy, Debug, PartialEq, Eq)]
+#[derive(Clone, Copy, PartialEq, Eq)]
 pub struct Sight {
     pub what: What,
     /// The thread that did it, or to which it happened.
@@ -33,7 +33,7 @@ pub struct Sight {
 }
 
 /// Why a record isn't in the trace.
-#[derive(Clone, Copy, Debug, PartialEq, Eq)]
+#[derive(Clone, Copy, PartialEq, Eq)]
 pub enum LeftOut {
     /// No record has the number: its thread was killed while it put the record.
     Absent,

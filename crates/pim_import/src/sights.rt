@@ -5,7 +5,7 @@ ghost use Rattle.pim_import.specs.LeftOut.{shown_in};
 use crate::sight::{Sight, What};
 
 /// What a record shows, in order. What an earlier record should have told comes first.
-#[derive(Clone, Copy, Debug, PartialEq, Eq)]
+#[derive(Clone, Copy, PartialEq, Eq)]
 pub struct Sights {
     /// The first `count` are shown.
     list: [Sight; MOST_SIGHTS],

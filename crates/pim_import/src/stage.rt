@@ -24,7 +24,7 @@ use std::alloc::{AllocError, Global};
 const ROOM: usize = 1024;
 
 /// Who appears in the trace, and when.
-#[derive(Clone, Copy, Debug, PartialEq, Eq)]
+#[derive(Clone, Copy, PartialEq, Eq)]
 pub struct Entrance {
     /// The number of the step before which it appears, over all pieces, from 0 on.
     pub step: u64,
@@ -323,7 +323,7 @@ pub struct Scene<'a> {
 }
 
 /// A record's place in the log, and its time.
-#[derive(Clone, Copy, Debug, PartialEq, Eq)]
+#[derive(Clone, Copy, PartialEq, Eq)]
 pub struct Now {
     /// The number of the record.
     pub number: u64,

@@ -15,7 +15,7 @@ use std::collections::HashMap;
 pub const MAX_THREADS: u32 = 1 << 22;
 
 /// A thread of a log.
-#[derive(Clone, Copy, Debug, PartialEq, Eq)]
+#[derive(Clone, Copy, PartialEq, Eq)]
 pub struct LoggedThread {
     /// The kernel's number of its process. 0 if no record is the thread's.
     pub process: u32,
@@ -24,7 +24,7 @@ pub struct LoggedThread {
 }
 
 /// A mutex of a log. A mutex that is initialised again is another one.
-#[derive(Clone, Copy, Debug, PartialEq, Eq)]
+#[derive(Clone, Copy, PartialEq, Eq)]
 pub struct LoggedMutex {
     /// The kernel's number of its process, or 0 if processes share it.
     pub process: u32,

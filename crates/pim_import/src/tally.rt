@@ -5,7 +5,7 @@ ghost use Rattle.pim_import.specs.Tallies.{total};
 use crate::sight::LeftOut;
 
 /// How many records are in the trace, and how many are left out for each reason.
-#[derive(Clone, Copy, Debug, PartialEq, Eq)]
+#[derive(Clone, Copy, PartialEq, Eq)]
 pub struct Tally {
     /// The records that the trace shows.
     pub used: u64,

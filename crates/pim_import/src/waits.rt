@@ -19,7 +19,7 @@ use std::alloc::{AllocError, Global};
 use std::collections::HashMap;
 
 /// A thread waited for a mutex in a call.
-#[derive(Clone, Copy, Debug, PartialEq, Eq, PartialOrd, Ord)]
+#[derive(Clone, Copy, PartialEq, Eq, PartialOrd, Ord)]
 pub struct Wait {
     /// When it began to wait: CLOCK_MONOTONIC in nanoseconds.
     pub from: u64,
@@ -38,7 +38,7 @@ pub struct Asked {
 }
 
 /// A wait for a mutex that is free in the log as it begins.
-#[derive(Clone, Copy, Debug, PartialEq, Eq)]
+#[derive(Clone, Copy, PartialEq, Eq)]
 struct Pending {
     request: Request,
     /// The number of the RELEASE of the mutex since the thread's last record, or 0.

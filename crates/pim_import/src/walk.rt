@@ -18,7 +18,7 @@ pub struct Walk {
 }
 
 /// When a record was put, and what becomes of it.
-#[derive(Clone, Copy, Debug, PartialEq, Eq)]
+#[derive(Clone, Copy, PartialEq, Eq)]
 pub struct Moment {
     /// CLOCK_MONOTONIC in nanoseconds.
     pub time: u64,
