@@ -359,6 +359,25 @@ def programs(folder):
          True, 2)
 
 
+def rights_first(folder):
+    """Without the rights pim isn't built, and with them after the performer."""
+    module, done = script_module(), []
+    given = types.SimpleNamespace(stored=None, keep=None, fuzz=1, pim=None, texts=[], cpu=3, seconds=9)
+    owns = {"build": lambda: done.append("performer"), "own_pim": lambda: done.append("pim") or "p"}
+
+    def performed(text, cpu, seconds):
+        done.append((text.bare(), cpu, seconds))
+
+    def refused(*_):
+        raise compare.Fault("no rights", 77)
+    with changed(module, **owns), changed(compare, performed=refused):
+        same("without the rights no pim is built", (fault_of(module.perform_all, given), done),
+             ("no rights", 77), ["performer"])
+    with changed(module, **owns), changed(compare, performed=performed), changed(fuzz, main=lambda *_: 0):
+        module.perform_all(given)
+    same("the rights are tried before pim is built", (done[1:],), ["performer", ("pim 1\n", 3, 9), "pim"])
+
+
 def outputs(folder):
     """What is performed is kept under the text's name, and read again."""
     module, asked = script_module(), []
@@ -438,5 +457,5 @@ def expected_lines():
 # ---- all
 
 PARTS = (lines_read, commands, performers, differences, causes_beside, random_texts, several_causes, shorter_texts,
-         fuzz_of, unknown_to_both, walks, options, programs, outputs, several_texts, before_texts, endings,
+         fuzz_of, unknown_to_both, walks, options, programs, rights_first, outputs, several_texts, before_texts, endings,
          expected_lines)
