@@ -165,14 +165,23 @@ static void refuse_library(const char *library) {
     exit(FAULT);
 }
 
-static void preload(const char *library, const char *log) {
-    const char *others = getenv("LD_PRELOAD");
+/* Sets a variable to two texts, with the sign between them if both say something. */
+static void set_joined(const char *name, const char *first, char sign, const char *second) {
     char *value = NULL;
-    if (!others) others = "";
-    int length = asprintf(&value, "%s%s%s", library, *others ? " " : "", others);
-    if (length < 0 || setenv("LD_PRELOAD", value, 1) != 0 || setenv("PIM_RECORD", log, 1) != 0)
-        refuse(FAULT, library, strerror(ENOMEM));
+    bool are_both = *first && *second;
+    int length = asprintf(&value, "%s%.*s%s", first, are_both, &sign, second);
+    if (length < 0 || setenv(name, value, 1) != 0) refuse(FAULT, name, strerror(ENOMEM));
     free(value);
+}
+
+/* AddressSanitizer ends a program in which another library comes before its own, unless it is told
+ * not to. The recorder's library comes first, and calls the sanitizer's functions as it would those
+ * of the C library. */
+static void preload(const char *library, const char *log) {
+    const char *others = getenv("LD_PRELOAD"), *options = getenv("ASAN_OPTIONS");
+    set_joined("LD_PRELOAD", library, ' ', others ? others : "");
+    set_joined("ASAN_OPTIONS", options ? options : "", ':', "verify_asan_link_order=0");
+    set_joined("PIM_RECORD", log, ' ', "");
 }
 
 /* Returns a copy of a variable that the program isn't to see, or NULL where it isn't set. */
