@@ -17,6 +17,9 @@ IMPORTER, PIM = ROOT / "crates/pim_importer/out/pim_importer", ROOT / "crates/pi
 PICTURE = ROOT / "crates/pim_picture/out/pim_picture"
 DURATION, MOMENT = r"\d+\.\d{3} (?:s|ms|us)", r"\d+\.\d{6} s"
 
+# The only line of a wait that the program missed may have: high waits for low alone, and in at least one of its rounds.
+MISSED = rf"high\[\d+\], at 80, waited {DURATION} from {MOMENT} on for mutex 1 \(none\) of low\[\d+\], at 10: " \
+         "not bounded: mutex 1 is a NONE one"
 # Of each program what its findings have: the status, lines in order (expressions over the whole line, of which further
 # ones may lie between), and lines that may not be there.
 FINDINGS = {
@@ -53,6 +56,7 @@ FINDINGS = {
         "left out: 1 record of releases that the system refused"],
         ["not bounded", "deadlock", "left out: 1 record of releases by"]),
     "relock": (0, ["no thread waited for a mutex"], ["added", "deadlock"]),
+    "missed": (1, [MISSED, r"should inherit: mutex 1 \(none\), from missed\+0x[0-9a-f]+: .*"], ["deadlock"]),
     "forks": (0, ["no thread waited for a mutex"], ["deadlock"]),
     "aborts": (0, [
         rf"aborts\[\d+\], at SCHED_OTHER, waits {DURATION} from {MOMENT} to the end for mutex 1 \(none\) of "
@@ -150,6 +154,15 @@ class Import:
             names.append(f"{self.log.name}.{len(names) + 1}.pim")
         return [self.log.with_name(name) for name in names]
 
+    def fault(self):
+        """Returns why the import of a log isn't one, or None."""
+        return self.uncounted() or self.waits_for_itself() or self.rejected()
+
+    def waits_for_itself(self):
+        """Returns the line of a thread that waits for a mutex of its own. One that locks its own mutex again has no line."""
+        waits = (re.match(r"(.*\[\d+\]), at .* wait(?:s|ed) .* of (.*\[\d+\]), at ", line) for line in self.lines)
+        return next((wait[0] for wait in waits if wait and wait[1] == wait[2]), None)
+
     def uncounted(self):
         """Returns how many numbers of the log are neither in the trace nor left out: none."""
         used = int(re.search(r" of (\d+) records? make", self.lines[-1])[1])
@@ -209,14 +222,17 @@ def programs(folder):
             continue
         found = Import(log)
         why = None if found.status == status else f"status {found.status}: {found.said}"
-        check(name, why or missing(found.lines, wanted, unwanted) or found.uncounted() or found.rejected())
+        check(name, why or missing(found.lines, wanted, unwanted) or found.fault())
         if command == "chain":
             options(found)
+        if command == "missed":
+            others = [line for line in found.lines if " waited " in line and not re.fullmatch(MISSED, line)]
+            check("each wait of high in missed is for low", difference((others,), ([],)))
     for command in RACING:
         log, _ended = record_own(folder, command)
         found = Import(log)
         why = None if found.status in (0, 1) else f"status {found.status}: {found.said}"
-        check(f"pim accepts what is imported of {command}", why or found.uncounted() or found.rejected())
+        check(f"pim accepts what is imported of {command}", why or found.fault())
 
 
 def stored(folder):
@@ -225,9 +241,9 @@ def stored(folder):
         log = pathlib.Path(shutil.copy(ROOT / f"record/recorded/{name}.log", folder))
         (status, wanted, unwanted), found = FINDINGS[command], Import(log)
         why = None if found.status == status else f"status {found.status}: {found.said}"
-        check(f"the findings of {name}.log", why or missing(found.lines, wanted, unwanted) or found.uncounted() or found.rejected())
+        check(f"the findings of {name}.log", why or missing(found.lines, wanted, unwanted) or found.fault())
     found = Import(shutil.copy(ROOT / "record/recorded/random.log", folder))
-    check("pim accepts what is imported of random.log", found.uncounted() or found.rejected())
+    check("pim accepts what is imported of random.log", found.fault())
 
 
 def kernel(folder):
@@ -436,7 +452,7 @@ def real(folder):
         log, _ended = record(folder, *command)
         found = Import(log)
         why = None if found.status in (0, 1) else f"status {found.status}: {found.said}"
-        check(f"pim accepts what is imported of {name}", why or found.uncounted() or found.rejected())
+        check(f"pim accepts what is imported of {name}", why or found.fault())
 
 
 # ---- long traces
@@ -474,7 +490,7 @@ def long(folder):
     found = Import(log)
     pieces = [piece.read_text().splitlines()[1:] for piece in found.pieces()]
     few = None if len(pieces) > 2 else f"{len(pieces)} pieces: {found.said}"
-    check("pim accepts each piece of a long trace", few or found.uncounted() or found.rejected())
+    check("pim accepts each piece of a long trace", few or found.fault())
     names = pathlib.Path(f"{log}.names").read_text().splitlines()
     restoring = [int(line.split()[2]) for line in names if line.startswith("piece ")]
     wrong = []

@@ -1,5 +1,5 @@
 //! The course of a recorded program: who owns and awaits what, record by record.
-ghost use Rattle.std.specs.Prelude.{◌≡◌};
+ghost use Rattle.std.specs.Prelude.{◌≡◌, ◌≢◌, ◌⊎◌};
 ghost use Rattle.pim_import.specs.LeftOut.{mutex_in};
 
 use crate::family::ceiling_in;
@@ -45,6 +45,8 @@ pub struct CourseMutex {
 pub struct CourseThread {
     /// The mutex that it waits for, or 0.
     pub awaits: u32,
+    /// Another thread: the owner of that mutex when it began to wait, or 0 if no record says it.
+    pub awaited_owner: u32,
     /// The ownership in which its wait began.
     pub episode: u32,
     /// Its own mutex, which it locks again, or 0.
@@ -76,16 +78,17 @@ const FREE: CourseMutex = CourseMutex {
     ceiling: 0,
 };
 
-/// A thread at its begin.
+/// A thread at its begin, but for its level.
 const IDLE: CourseThread = CourseThread {
     awaits: 0,
+    awaited_owner: 0,
     episode: 0,
     awaits_own: 0,
     level: 0,
 };
 
 impl Course {
-    /// Returns the course of a log at its begin: all mutexes are free.
+    /// Returns the course of a log at its begin: all mutexes are free, and each thread has the level of its first record.
     ///
     /// # Errors
     ///
@@ -97,9 +100,15 @@ impl Course {
                 mutexes[place].ceiling = subjects.mutexes[place].ceiling;
             }
         }
+        let mut threads = vec![in alloc; IDLE; subjects.threads.len()]?;
+        for place in 0..threads.len() {
+            if place < subjects.threads.len() {
+                threads[place].level = subjects.threads[place].level;
+            }
+        }
         Ok(Course {
             mutexes,
-            threads: vec![in alloc; IDLE; subjects.threads.len()]?,
+            threads,
             episodes: 0,
             shown: Sights::none(),
         })
@@ -137,7 +146,7 @@ impl Course {
             Event::Thread => self.begin(record),
             Event::Priority => self.set_level(subject, record.detail),
             Event::Ceiling => self.set_ceiling(record, subject),
-            Event::Request => self.request(&sources.subjects, record, subject),
+            Event::Request => self.request(sources, record, subject),
             Event::Granted => self.grant(&sources.subjects, record, subject),
             Event::Failed => self.fail(record.thread, subject),
             Event::Release => self.release(sources, record, subject),
@@ -147,8 +156,10 @@ impl Course {
 
     /// Goes on by a request that the log lacks: the thread waits for the mutex.
     pub fn add_request(&mut self, thread: u32, mutex: u32) {
-        if self.thread(thread).awaits == 0 && self.mutex(mutex).owner != thread {
-            self.wait(thread, mutex);
+        let is = self.mutex(mutex);
+        if self.thread(thread).awaits == 0 && is.owner != thread {
+            let owner = first_other(thread, [is.owner, is.last_owner, 0]);
+            self.wait(thread, mutex, owner);
         }
     }
 
@@ -217,12 +228,12 @@ impl Course {
     }
 
     /// A thread asks for a mutex, and another owned it as it asked.
-    fn request(&mut self, subjects: &Subjects, record: &Record, mutex: u32) -> LeftOut {
+    fn request(&mut self, sources: &Sources, record: &Record, mutex: u32) -> LeftOut {
         let thread = record.thread;
         let is = self.mutex(mutex);
         if is.owner == thread && is.depth > 0 {
             let mut own = self.thread(thread);
-            own.awaits_own = if is_recursive(subjects, mutex) {
+            own.awaits_own = if is_recursive(&sources.subjects, mutex) {
                 0
             } else {
                 mutex
@@ -235,15 +246,16 @@ impl Course {
         }
         self.correct_ceiling(record, mutex);
         self.correct_wait(thread, mutex);
-        self.wait(thread, mutex);
+        self.wait(thread, mutex, owner_asked(sources, record, &is));
         LeftOut::Uncontended
     }
 
-    /// A thread waits for a mutex. If that is free, the wait belongs to its next ownership.
-    fn wait(&mut self, thread: u32, mutex: u32) {
+    /// A thread waits for a mutex of this owner. If the mutex is free in the log, the wait belongs to its next ownership.
+    fn wait(&mut self, thread: u32, mutex: u32, owner: u32) {
         let episode = self.episode_of(mutex);
         let mut is = self.thread(thread);
         is.awaits = mutex;
+        is.awaited_owner = owner;
         is.episode = episode;
         self.put_thread(thread, is);
         let mut awaited = self.mutex(mutex);
@@ -370,6 +382,31 @@ impl Course {
         self.shown
             .add(sight(What::Released(next), thread, mutex, episode));
     }
+}
+
+/// Returns who owns the mutex of a REQUEST when it is made, or 0 if no record says it: the thread that it names. If the
+/// owner hadn't yet written who it is, that is the owner of the log; else who is granted the mutex next, or had it last.
+fn owner_asked(sources: &Sources, record: &Record, mutex: &CourseMutex) -> u32
+    ensures { (result ≡ 0) ⊎ (result ≢ «record».now.thread) }
+{
+    let asked = sources.following.asked_owner(record.number);
+    if record.value == 0 {
+        first_other(record.thread, [mutex.owner, asked, mutex.last_owner])
+    } else {
+        first_other(record.thread, [asked, mutex.owner, 0])
+    }
+}
+
+/// Returns the first of these threads that isn't 0 and isn't the one that waits, or 0.
+fn first_other(waiter: u32, threads: [u32; 3]) -> u32
+    ensures { (result ≡ 0) ⊎ (result ≢ waiter) }
+{
+    for thread in threads {
+        if thread != 0 && thread != waiter {
+            return thread;
+        }
+    }
+    0
 }
 
 fn is_recursive(subjects: &Subjects, mutex: u32) -> bool {

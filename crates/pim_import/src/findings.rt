@@ -19,9 +19,9 @@ pub struct FoundWait {
     /// Its level as it began to wait.
     pub level: u8,
     pub mutex: u32,
-    /// Who owned the mutex as the wait began, or had just released it. 0 if no record says it.
+    /// Another thread: who owned the mutex as the wait began. 0 if no record says it.
     pub owner: u32,
-    /// The level of that thread then.
+    /// The level of that thread then. 0, the lowest, if it isn't known.
     pub owner_level: u8,
     /// When the wait began: CLOCK_MONOTONIC in nanoseconds.
     pub began: u64,
@@ -29,7 +29,8 @@ pub struct FoundWait {
     pub lasted: u64,
     /// Whether the thread waits still at the end of the log.
     pub is_open: bool,
-    /// Whether nothing bounds the wait: the mutex is a NONE one, and its owner's level was lower.
+    /// Whether nothing bounds the wait: the mutex is a NONE one, and its owner's level was lower, or its owner isn't known
+    /// and a level is lower.
     pub is_unbounded: bool,
 }
 
@@ -182,20 +183,15 @@ impl Findings {
     }
 
     fn begin_wait(&mut self, course: &Course, sight: &Sight, now: &Now) {
-        let mutex = course.mutex(sight.mutex);
-        let owner = if mutex.owner == 0 {
-            mutex.last_owner
-        } else {
-            mutex.owner
-        };
+        let thread = course.thread(sight.thread);
         let place = sight.thread as usize;
         if place < self.open.len() {
             self.open[place] = Open {
                 mutex: sight.mutex,
-                owner,
+                owner: thread.awaited_owner,
                 began: now.time,
-                level: course.thread(sight.thread).level,
-                owner_level: course.thread(owner).level,
+                level: thread.level,
+                owner_level: course.thread(thread.awaited_owner).level,
             };
         }
     }
@@ -224,7 +220,7 @@ impl Findings {
             began: open.began,
             lasted: now.time.saturating_sub(open.began),
             is_open,
-            is_unbounded: is_none && open.owner != 0 && open.owner_level < open.level,
+            is_unbounded: is_none && open.owner_level < open.level,
         })
     }
 

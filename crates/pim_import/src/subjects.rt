@@ -21,6 +21,8 @@ pub struct LoggedThread {
     pub process: u32,
     /// The kernel's number of the thread.
     pub task: u32,
+    /// The level that its first record says.
+    pub level: u8,
 }
 
 /// A mutex of a log. A mutex that is initialised again is another one.
@@ -66,6 +68,7 @@ struct Places {
 const NO_THREAD: LoggedThread = LoggedThread {
     process: 0,
     task: 0,
+    level: 0,
 };
 
 impl Subjects {
@@ -193,6 +196,9 @@ impl Subjects {
         ensures { IfErr result (NamesOnly «record».now.number) }
     {
         self.keep_level(Some(level_in(record.detail, 1)));
+        if (record.thread as usize) < self.threads.len() {
+            self.threads[record.thread as usize].level = level_in(record.detail, 0);
+        }
         let place = (record.process, record.object);
         put(&mut places.threads, place, record.thread)?;
         put(&mut places.tasks, record.task, record.thread)?;

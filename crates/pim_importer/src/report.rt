@@ -89,14 +89,14 @@ fn put_wait(out: &mut Out, told: &Told, wait: &FoundWait) {
         " on for "
     });
     put_mutex(out, told, wait.mutex);
-    if wait.owner == 0 {
-        out.put(", whose owner isn't known\n");
-        return;
-    }
     out.put(" of ");
-    put_thread(out, told, wait.owner);
-    out.put(", at ");
-    put_level(out, wait.owner_level);
+    if wait.owner == 0 {
+        out.put("an unknown thread");
+    } else {
+        put_thread(out, told, wait.owner);
+        out.put(", at ");
+        put_level(out, wait.owner_level);
+    }
     put_bound(out, told, wait);
 }
 
@@ -105,7 +105,11 @@ fn put_bound(out: &mut Out, told: &Told, wait: &FoundWait) {
     if wait.is_unbounded {
         out.put(": not bounded: mutex ");
         out.number(u64::from(told.imported.numbering.mutexes.of(wait.mutex)));
-        out.put(" is a NONE one\n");
+        out.put(" is a NONE one");
+        if wait.owner == 0 {
+            out.put(", whoever owned it");
+        }
+        out.put("\n");
         return;
     }
     if wait.owner_level >= wait.level {

@@ -1,0 +1,109 @@
+"""What tests/record does with logs by hand of which pim-import must say whose a mutex was: what a
+REQUEST names, where its record may come before the GRANTED of the owner."""
+import pathlib
+import re
+
+from checks import check, difference
+from record_import import Import
+from record_laws import (CHILD, CONDITION, FORK, GRANTED, INHERIT, MUTEX, RELEASE, REQUEST,
+                         SHARED, THREAD, WAIT, log_of)
+
+NONE, OTHER, FIFO_10, FIFO_40, FIFO_80 = 4, 0, 0x0A01, 0x2801, 0x5001
+HIGH, LOW, MIDDLE = 1, 2, 3  # tasks 100, 101, 102
+SECOND = 1_000_000_000
+WAITED = r"\[100\], at .*, waited (.*) from .* on for mutex \d \(\w+\) of (.*?): (.*)"
+NOT_BOUNDED, WHOEVER = "not bounded: mutex 1 is a NONE one", ", whoever owned it"
+
+
+def begin(thread, detail):
+    return [(thread, THREAD, thread, 0, detail, 0)]
+
+
+def granted(thread, took=1, how=0, detail=NONE):
+    return [(thread, GRANTED, MUTEX, took, detail, how)]
+
+
+def released(thread, how=0, detail=NONE):
+    return [(thread, RELEASE, MUTEX, 0, detail, how)]
+
+
+def once(thread, detail=NONE):
+    return granted(thread, detail=detail) + released(thread, detail=detail)
+
+
+def asks(names, detail=NONE):
+    """High asks for the mutex of the task that it names, or 0, and gets it 10 ns later for each record between."""
+    return [(HIGH, REQUEST, MUTEX, names, detail, 0)]
+
+
+def relocked(thread):
+    """The wait of a thread at a condition variable has returned, and it waits there again."""
+    return granted(thread, 0, WAIT) + [(thread, CONDITION, 0x6000, 0, 0, 0)] + released(thread, WAIT)
+
+
+BOTH = begin(HIGH, FIFO_80) + begin(LOW, FIFO_10)
+ALL = BOTH + begin(MIDDLE, FIFO_40)
+# Of each log by hand the waits of high, which is at 80: how many ns, of whom, and why it is bounded or not.
+OWNERS = {
+    "an owner that has its GRANTED behind the REQUEST":
+        (BOTH + once(HIGH) + asks(101) + relocked(LOW) + once(HIGH), [(40, "[101], at 10", NOT_BOUNDED)]),
+    "an owner whose first record is behind the REQUEST":
+        (begin(HIGH, FIFO_80) + once(HIGH) + asks(101) + begin(LOW, FIFO_10) + once(LOW) + once(HIGH),
+         [(40, "[101], at 10", NOT_BOUNDED)]),
+    "an owner that hasn't written who it is yet":
+        (BOTH + once(HIGH) + asks(0) + once(LOW) + once(HIGH), [(30, "[101], at 10", NOT_BOUNDED)]),
+    "an owner of the log, where the REQUEST names none":
+        (ALL + once(LOW) + granted(MIDDLE) + asks(0) + released(MIDDLE) + once(LOW) + once(HIGH),
+         [(40, "[102], at 40", NOT_BOUNDED)]),
+    "an owner that had released the mutex, and none is named":
+        (BOTH + once(LOW) + asks(0) + once(HIGH), [(10, "[101], at 10", NOT_BOUNDED)]),
+    "an owner that is named, though another has its GRANTED first":
+        (ALL + once(LOW) + granted(MIDDLE) + asks(101) + released(MIDDLE) + once(HIGH),
+         [(20, "[101], at 10", NOT_BOUNDED)]),
+    "no thread but the one that waits":
+        (begin(HIGH, FIFO_80) + once(HIGH) + asks(0) + once(HIGH), [(10, "an unknown thread", NOT_BOUNDED + WHOEVER)]),
+    "a thread that isn't in the log":
+        (begin(HIGH, FIFO_80) + once(HIGH, SHARED) + asks(999, SHARED) + once(HIGH, SHARED),
+         [(10, "an unknown thread", "bounded by inheritance")]),
+    "no thread but the one that waits, of an INHERIT mutex":
+        (begin(HIGH, FIFO_80) + once(HIGH, INHERIT) + asks(0, INHERIT) + once(HIGH, INHERIT),
+         [(10, "an unknown thread", "bounded by inheritance")]),
+    "no thread but the one that waits, at SCHED_OTHER":
+        (begin(HIGH, OTHER) + once(HIGH) + asks(0) + once(HIGH), [(10, "an unknown thread", "no inversion")]),
+}
+def duration(nanoseconds):
+    for unit, name in ((SECOND, "s"), (1_000_000, "ms"), (1_000, "us")):
+        if nanoseconds >= unit or name == "us":
+            return f"{nanoseconds // unit}.{nanoseconds % unit * 1000 // unit:03} {name}"
+    return None
+
+
+def waits(lines):
+    """Returns how long each wait was, of whom, and why it is bounded or not."""
+    found = (re.fullmatch(WAITED, line) for line in lines)
+    return [wait.groups() for wait in found if wait]
+
+
+def tell(folder, name, data, wanted):
+    """Checks the waits that are found in a log, also while the mutex is free in the log, and the status."""
+    log = pathlib.Path(folder, "hand")
+    log.write_bytes(data)
+    found = Import(log, "--all")
+    status = int(any(why.startswith("not bounded") for _, _, why in wanted))
+    why = found.said or difference((found.status, waits(found.lines)),
+                                   (status, [(duration(took), owner, why) for took, owner, why in wanted]))
+    check(f"whose a mutex was: {name}", why or found.fault())
+
+
+def forked(folder):
+    """A child's copy of a mutex names the thread of its parent, which isn't the owner."""
+    rows = begin(LOW, FIFO_10) + granted(LOW) + [(LOW, FORK, 0, 0, 0, 0)] + begin(HIGH, FIFO_80) \
+        + [(HIGH, CHILD, 3, LOW, 0, 0)] + asks(101) + once(HIGH)
+    tell(folder, "a child's copy of its parent's", log_of(rows, processes=(200, 100, 100)),
+         [(10, "an unknown thread", "not bounded: mutex 2 is a NONE one, whoever owned it")])
+
+
+def owners(folder):
+    for name, (rows, wanted) in OWNERS.items():
+        tell(folder, name, log_of(rows), wanted)
+    forked(folder)
