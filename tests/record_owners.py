@@ -1,11 +1,12 @@
 """What tests/record does with logs by hand of which pim-import must say whose a mutex was: what a
-REQUEST names, where its record may come before the GRANTED of the owner."""
+REQUEST names, where its record may come before the GRANTED of the owner, and calls that lasted for
+longer than a record can say."""
 import pathlib
 import re
 
 from checks import check, difference
 from record_import import Import
-from record_laws import (CHILD, CONDITION, FORK, GRANTED, INHERIT, MUTEX, RELEASE, REQUEST,
+from record_laws import (CHILD, CONDITION, FORK, GRANTED, INHERIT, INIT, MUTEX, RELEASE, REQUEST, SATURATED,
                          SHARED, THREAD, WAIT, log_of)
 
 NONE, OTHER, FIFO_10, FIFO_40, FIFO_80 = 4, 0, 0x0A01, 0x2801, 0x5001
@@ -71,6 +72,22 @@ OWNERS = {
     "no thread but the one that waits, at SCHED_OTHER":
         (begin(HIGH, OTHER) + once(HIGH) + asks(0) + once(HIGH), [(10, "an unknown thread", "no inversion")]),
 }
+# Calls of high that took longer than a record can say: the records, their times in seconds, and the waits of high. The
+# last record but one is the GRANTED of that call, so that it began before 10 - 4.294967295 s.
+LONG = {
+    "a call of ten seconds that found the mutex free":
+        (BOTH + granted(LOW) + released(LOW), (1, 1, 1, 9.5), [(9_000_000_000, "[101], at 10", NOT_BOUNDED)]),
+    "a long call for a mutex that had been free since":
+        (BOTH + once(LOW), (1, 1, 1, 2), []),
+    "a long call, and an owner since it began":
+        (ALL + once(LOW) + once(MIDDLE), (1, 1, 1, 1, 2, 6, 9),
+         [(4_000_000_000, "[102], at 40", NOT_BOUNDED)]),
+    "a long call behind a record of its thread":
+        (BOTH + granted(LOW) + [(HIGH, INIT, 0x7000, 0, NONE, 0)] + released(LOW), (1, 1, 1, 2, 9.5),
+         [(8_000_000_000, "[101], at 10", NOT_BOUNDED)]),
+}
+
+
 def duration(nanoseconds):
     for unit, name in ((SECOND, "s"), (1_000_000, "ms"), (1_000, "us")):
         if nanoseconds >= unit or name == "us":
@@ -106,4 +123,11 @@ def forked(folder):
 def owners(folder):
     for name, (rows, wanted) in OWNERS.items():
         tell(folder, name, log_of(rows), wanted)
+    for name, (rows, seconds, wanted) in LONG.items():
+        times = [int(second * SECOND) for second in (*seconds, 10, 11)]
+        tell(folder, name, log_of(rows + once_long(), times=times), wanted)
     forked(folder)
+
+
+def once_long():
+    return granted(HIGH, SATURATED) + released(HIGH)

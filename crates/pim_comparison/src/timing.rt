@@ -213,9 +213,9 @@ fn call_asleep(track: &Track, time: u64) -> Option<Call> {
 
 /// Returns when the call began that a record of a grant ends, or 0 if the record doesn't say.
 fn begin_of(record: &Record) -> u64 {
-    match record.value {
-        0 | u32::MAX => 0,
-        took => record.time.saturating_sub(u64::from(took)),
+    match record.took() {
+        Some(took) => record.time.saturating_sub(u64::from(took)),
+        None => 0,
     }
 }
 

@@ -9,14 +9,14 @@ use crate::course::Sources;
 use crate::lists::push;
 use crate::subjects::Subjects;
 use crate::waits::{Asked, Wait, asked_in};
-use pim_log::{Event, Log, Record};
+use pim_log::{Event, LONGEST_CALL, Log, Record};
 use std::alloc::{AllocError, Global};
 
 /// A request that the log lacks.
 #[derive(Clone, Copy, PartialEq, Eq, PartialOrd, Ord)]
 pub struct Request {
     /// The number of the record behind which it belongs. If no wait shows the request, that is the first grant of the mutex
-    /// to another since the call began.
+    /// to another since the call began, or a later record of the thread before its call.
     pub after: u64,
     /// When the thread began to wait, by a wait that shows it. 0: when that record was put.
     pub time: u64,
@@ -38,6 +38,8 @@ pub struct Requests {
 struct Grants {
     /// The numbers of the records, those of mutex 0 first.
     numbers: Vec<u64>,
+    /// By the place of a grant the time of the RELEASE that ends it, or 0.
+    ends: Vec<u64>,
     /// Where those of each mutex begin.
     begins: Vec<u32>,
     /// Behind the last one so far.
@@ -65,7 +67,7 @@ impl Requests {
     }
 
     /// Returns the requests that the log lacks: those that the waits show, and those of calls that lasted while another was
-    /// granted the mutex, if no wait shows them. If there are some of these, that takes eight bytes a grant until it
+    /// granted the mutex, if no wait shows them. If there are some of these, that takes sixteen bytes a grant until it
     /// returns.
     ///
     /// # Errors
@@ -111,16 +113,18 @@ fn add_silent(
 ) -> Result<(), AllocError> {
     let mut grants = Grants::of(alloc, log, subjects)?;
     let mut asked = vec![in alloc; 0; subjects.threads.len()]?;
+    let mut last = vec![in alloc; 0u64; subjects.threads.len()]?;
     for number in 1..log.header().end() {
         if let Some(record) = log.record(number) {
             let mutex = subjects.of_record(number);
             let is_lacking = lacks_request(&mut asked, &record, mutex);
             if is_lacking && to.ends.binary_search(&number).is_err() {
-                if let Some(after) = grants.first_since(log, &record, mutex) {
+                if let Some(grant) = grants.first_since(log, &record, mutex) {
+                    let own = last.get(record.thread as usize).copied().unwrap_or(0);
                     push(
                         &mut to.list,
                         Request {
-                            after,
+                            after: grant.max(own),
                             time: 0,
                             thread: record.thread,
                             mutex,
@@ -128,7 +132,10 @@ fn add_silent(
                     )?;
                 }
             }
-            grants.pass(&record, mutex);
+            grants.pass(log, &record, mutex);
+            if (record.thread as usize) < last.len() {
+                last[record.thread as usize] = number;
+            }
         }
     }
     Ok(())
@@ -143,7 +150,8 @@ fn lacks_some(alloc: Global, log: &Log, subjects: &Subjects) -> Result<bool, All
             let subject = subjects.of_record(number);
             let mutex = subject as usize;
             if mutex < latest.len() {
-                if lacks_request(&mut asked, &record, subject) && latest[mutex] > began(&record) {
+                let is_lacking = lacks_request(&mut asked, &record, subject);
+                if is_lacking && may_have_lasted(&record, latest[mutex]) {
                     return Ok(true);
                 }
                 if record.event == Event::Granted {
@@ -155,9 +163,16 @@ fn lacks_some(alloc: Global, log: &Log, subjects: &Subjects) -> Result<bool, All
     Ok(false)
 }
 
-/// Returns when the call began that ends with this record.
-fn began(record: &Record) -> u64 {
-    record.time.saturating_sub(record.value as u64)
+/// Returns whether the call that ends with this record may have lasted at this time, which is before the record. 0 is the
+/// time of nothing.
+fn may_have_lasted(record: &Record, time: u64) -> bool {
+    time > 0 && (record.took().is_none() || time > latest_begin(record))
+}
+
+/// Returns when the call began that ends with this record. If the record doesn't say it, the call began then or earlier.
+fn latest_begin(record: &Record) -> u64 {
+    let took = record.took().unwrap_or(LONGEST_CALL);
+    record.time.saturating_sub(took as u64)
 }
 
 /// Returns whether a call ends with this record that may have waited, and put no REQUEST.
@@ -175,12 +190,12 @@ fn lacks_request(asked: &mut Vec<u32>, record: &Record, mutex: u32) -> bool {
             let has_asked = asked[thread] == mutex;
             asked[thread] = 0;
             let call = record.how & 127;
-            !has_asked && call != TRYLOCK && call != CONDITION && record.value > 0
+            !has_asked && call != TRYLOCK && call != CONDITION && record.took() != Some(0)
         }
         Event::Failed => {
             let has_asked = asked[thread] == mutex;
             asked[thread] = 0;
-            !has_asked && record.how == TIMED_OUT && record.value > 0
+            !has_asked && record.how == TIMED_OUT && record.took() != Some(0)
         }
         _ => false,
     }
@@ -200,6 +215,7 @@ impl Grants {
         let mut passed = vec![in alloc; 0; mutexes]?;
         copy(&begins, &mut passed);
         let mut numbers = vec![in alloc; 0; total as usize]?;
+        let ends = vec![in alloc; 0; total as usize]?;
         for number in 1..log.header().end() {
             if is_grant(log, number) {
                 let mutex = subjects.of_record(number);
@@ -213,54 +229,96 @@ impl Grants {
         copy(&begins, &mut passed);
         Ok(Grants {
             numbers,
+            ends,
             begins,
             passed,
         })
     }
 
     /// Goes past a record.
-    fn pass(&mut self, record: &Record, mutex: u32) {
-        if record.event == Event::Granted {
-            add(&mut self.passed, mutex, 1);
+    fn pass(&mut self, log: &Log, record: &Record, mutex: u32) {
+        match &record.event {
+            Event::Granted => add(&mut self.passed, mutex, 1),
+            Event::Release => self.end(log, record, mutex),
+            _ => {}
         }
     }
 
-    /// Returns the number of the first grant of the mutex since the call of this record began, and before the record.
+    /// Ends the last grant of a mutex, if this RELEASE is by its thread.
+    fn end(&mut self, log: &Log, record: &Record, mutex: u32) {
+        let passed = get(&self.passed, mutex);
+        if passed <= get(&self.begins, mutex) {
+            return;
+        }
+        let place = passed as usize - 1;
+        if place < self.ends.len() && self.thread(log, passed - 1) == record.thread {
+            self.ends[place] = record.time;
+        }
+    }
+
+    /// Returns the number of the first grant of the mutex to another since the call of this record began, and before the
+    /// record. If the record doesn't say when that was, the mutex may be owned at the latest time at which the call began.
+    /// That grant is later than the begin of the call, which found the mutex free.
     fn first_since(&self, log: &Log, record: &Record, mutex: u32) -> Option<u64> {
-        let began = began(record);
-        let begin = get(&self.begins, mutex);
+        let latest = latest_begin(record);
         let end = get(&self.passed, mutex);
-        let (mut low, mut high) = (begin, end);
+        let next = self.first_after(log, mutex, latest);
+        let place = match next.checked_sub(1) {
+            Some(before)
+                if record.took().is_none()
+                    && before >= get(&self.begins, mutex)
+                    && self.lasts_at(before, latest) => { before }
+            _ => next,
+        };
+        if place >= end || self.thread(log, place) == record.thread {
+            return None;
+        }
+        self.numbers.get(place as usize).copied()
+    }
+
+    /// Returns whether the grant at this place had no RELEASE by this time.
+    fn lasts_at(&self, place: u32, time: u64) -> bool {
+        match self.ends.get(place as usize) {
+            Some(end) => *end == 0 || *end > time,
+            None => false,
+        }
+    }
+
+    /// Returns the place of the first grant of a mutex after this time, or the end of its grants so far.
+    fn first_after(&self, log: &Log, mutex: u32, time: u64) -> u32 {
+        let (mut low, mut high) = (get(&self.begins, mutex), get(&self.passed, mutex));
         // Halves what is left, which has at most 2^32 places.
         for _round in 0..33 {
             if low >= high {
                 break;
             }
             let middle = low + (high - low) / 2;
-            if self.time(log, middle) > began {
+            if self.time(log, middle) > time {
                 high = middle;
             } else {
                 low = middle + 1;
             }
         }
-        if low >= end {
-            return None;
-        }
-        let number = self.numbers.get(low as usize).copied()?;
-        if log.record(number)?.thread == record.thread {
-            return None;
-        }
-        Some(number)
+        low
     }
 
     fn time(&self, log: &Log, place: u32) -> u64 {
-        match self.numbers.get(place as usize) {
-            Some(number) => match log.record(*number) {
-                Some(record) => record.time,
-                None => 0,
-            },
+        match self.grant(log, place) {
+            Some(record) => record.time,
             None => 0,
         }
+    }
+
+    fn thread(&self, log: &Log, place: u32) -> u32 {
+        match self.grant(log, place) {
+            Some(record) => record.thread,
+            None => 0,
+        }
+    }
+
+    /// Returns the GRANTED at this place.
+    fn grant(&self, log: &Log, place: u32) -> Option<Record> {
+        log.record(self.numbers.get(place as usize).copied()?)
     }
 }
 

@@ -319,9 +319,9 @@ impl Pending {
 
 /// Returns when the call began that a GRANTED ends, or 0 if the record doesn't say it.
 fn began(record: &Record) -> u64 {
-    match record.value {
-        0 | u32::MAX => 0,
-        took => record.time.saturating_sub(u64::from(took)),
+    match record.took() {
+        Some(took) => record.time.saturating_sub(u64::from(took)),
+        None => 0,
     }
 }
 

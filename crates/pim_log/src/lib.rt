@@ -26,4 +26,4 @@ pub use event::Event;
 pub use fault::{HeaderFault, LogFault, SlotFault};
 pub use header::{HEADER_BYTES, Header, used_bytes};
 pub use log::Log;
-pub use record::Record;
+pub use record::{LONGEST_CALL, Record};

@@ -1,4 +1,5 @@
 //! A record of a log.
+ghost use Rattle.std.specs.Prelude.{◌≡◌, ◌<◌, IfSome};
 
 use crate::event::Event;
 
@@ -25,4 +26,25 @@ pub struct Record {
     pub task: u32,
     /// The log's number of the thread, which no other thread has.
     pub thread: u32,
+}
+
+/// A duration that has no room in a record, in nanoseconds, or a longer one.
+pub const LONGEST_CALL: u32 = u32::MAX;
+
+/// The call of a record: the relock of a wait at a condition variable, whose begin no record has.
+const CONDITION: u8 = 4;
+
+impl Record {
+    /// Returns how long the call took that this GRANTED or FAILED ends, in nanoseconds. `None` if the record doesn't say
+    /// it: the call took [`LONGEST_CALL`] or longer, or it is the relock of a wait.
+    pub fn took(&self) -> Option<u32>
+        ensures { IfSome result (λ took. (took ≡ self.now.value) × (took < 4294967295)) }
+    {
+        let is_relock = self.event == Event::Granted && self.how & 127 == CONDITION;
+        if is_relock || self.value == LONGEST_CALL {
+            None
+        } else {
+            Some(self.value)
+        }
+    }
 }
