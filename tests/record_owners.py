@@ -6,7 +6,7 @@ import re
 
 from checks import check, difference
 from record_import import Import
-from record_laws import (CHILD, CONDITION, FORK, GRANTED, INHERIT, INIT, MUTEX, RELEASE, REQUEST, SATURATED,
+from record_laws import (CHILD, CONDITION, EXIT, FORK, GRANTED, INHERIT, INIT, MUTEX, RELEASE, REQUEST, SATURATED,
                          SHARED, THREAD, WAIT, log_of)
 
 NONE, OTHER, FIFO_10, FIFO_40, FIFO_80 = 4, 0, 0x0A01, 0x2801, 0x5001
@@ -120,6 +120,25 @@ def forked(folder):
          [(10, "an unknown thread", "not bounded: mutex 2 is a NONE one, whoever owned it")])
 
 
+# The kernel's events of a thread that runs at 10 (89 of the kernel's) from 1 to 300 us, and at 40 from 1.45 ms on.
+EVENTS = "pim-kernel 1\nkernel 6.18.44 x86_64\nclock mono\nprocess 100\nbegan 1000\ncpus 1\n" \
+         "1000 0 9 switch 120 R 100 89\n300000 0 100 switch 89 R 9 120\n1450000 0 9 switch 120 R 100 59\n" \
+         "2000000 0 100 switch 89 S 9 120\nend 2000000 4 0\n"
+
+
+def ceiling(folder):
+    """A thread at 10 owns a PROTECT mutex of ceiling 40 from 10 us to 1.5 ms. The reason is as in a report."""
+    log, protect = pathlib.Path(folder, "hand"), 40 << 8 | 0x44
+    rows = begin(1, FIFO_10) + granted(1, detail=protect) + released(1, detail=protect) + [(1, EXIT, 0, 0, 0, 0)]
+    log.write_bytes(log_of(rows, times=[2_000, 10_000, 1_500_000, 1_600_000]))
+    events = log.with_name("hand.kernel")
+    events.write_text(EVENTS)
+    found = Import(log)
+    wanted = "[100] ran at 10 for 290.000 us from 0.000009 s on, POSIX gives 40 (ceiling 1)"
+    check("a ceiling is a reason", found.said or difference(found.lines[:1], [wanted]))
+    events.unlink()
+
+
 def owners(folder):
     for name, (rows, wanted) in OWNERS.items():
         tell(folder, name, log_of(rows), wanted)
@@ -127,6 +146,7 @@ def owners(folder):
         times = [int(second * SECOND) for second in (*seconds, 10, 11)]
         tell(folder, name, log_of(rows + once_long(), times=times), wanted)
     forked(folder)
+    ceiling(folder)
 
 
 def once_long():

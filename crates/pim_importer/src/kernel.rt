@@ -138,7 +138,7 @@ pub fn put_reason(out: &mut Out, reason: Reason) {
     match reason {
         Reason::Base => out.put("base"),
         Reason::Ceiling(mutex) => {
-            out.put("ceiling mutex ");
+            out.put("ceiling ");
             out.number(u64::from(mutex.get()));
         }
         Reason::Waiter(task, mutex) => {
