@@ -1,14 +1,16 @@
 """The part of tests/record that imports: each program of record/programs with the findings that it must have, real
 programs, damaged logs, and what the program pim-import says and writes."""
 import json
+import os
 import pathlib
 import random
 import re
 import shutil
 import struct
 import subprocess
+import tempfile
 
-from checks import ROOT, check, difference, own_program, skip
+from checks import ROOT, Faulty, check, difference, own_program, skip
 from picture_cpus import cut, plainly
 from picture_tracks import Tracks
 
@@ -128,6 +130,7 @@ MANY = [
     "kernel: 14 futex calls of 3 threads and 1 boost in 769.000 us on 1 CPU",
     "lost: 4 events of the kernel; left out are 1.000 us in 1 stretch",
     "left out: 1 wait during which events were lost"]
+UNWRITTEN = "the results can't be written"
 # Recordings that are kept, of the programs above.
 STORED = {"chain": "chain", "ceiling": "ceiling", "recursive": "recursive", "condition": "condition",
           "forks": "forks", "aborts": "aborts", "deadlock": "deadlock", "inversion inherit 2000": "inversion_inherit"}
@@ -504,6 +507,86 @@ def long(folder):
     check("each step has its time", difference([steps], [written]))
 
 
+# ---- all files or none
+
+def contents(folder):
+    """Returns the bytes of each file of a folder, by its name."""
+    return {path.name: path.read_bytes() for path in pathlib.Path(folder).iterdir()}
+
+
+def whole(folder):
+    """After a fault no file is written, none of an earlier import is replaced, and none has a temporary name."""
+    place = pathlib.Path(folder, "place")
+    place.mkdir()
+    log = pathlib.Path(shutil.copy(ROOT / "record/recorded/chain.log", place))
+    unwritten(log)
+    wanted = Import(log).status, sorted(contents(place))
+    check("an import of chain.log", difference(wanted, (0, ["chain.log", "chain.log.names", "chain.log.pim"])))
+    for name in ("chain.log.2.pim", "chain.log.3.pim"):
+        place.joinpath(name).write_text("of an earlier import\n")
+    place.joinpath("chain.log.pim").write_text("an earlier trace\n")
+    unwritten(log)
+    refused_allocations(log)
+    got = Import(log).status, sorted(contents(place))
+    check("pieces of an earlier import are removed", difference(got, wanted))
+    full_disk(folder)
+
+
+def unwritten(log):
+    """Neither text can be written: standard output is full."""
+    before, said = contents(log.parent), f"pim-import: {UNWRITTEN}\n".encode()
+    for words in ([], ["--json"]):
+        with open("/dev/full", "wb") as full:
+            done = subprocess.run([IMPORTER, *words, log], stdout=full, stderr=subprocess.PIPE, timeout=SECONDS, check=False)
+        got = done.returncode, done.stderr, contents(log.parent) == before
+        check(f"an output that is full {words}", difference(got, (2, said, True)))
+
+
+def refused_allocations(log):
+    """Each allocation fails in turn."""
+    before, faults, quiet, number = contents(log.parent), 0, 0, 0
+    with tempfile.TemporaryDirectory() as folder:
+        faulty = Faulty(folder)
+        while quiet < 8:
+            number += 1
+            status, out, said = faulty.run([IMPORTER, log], "alloc", "fail", number)
+            quiet = quiet + 1 if status == 0 else 0
+            if status and (status, out, said, contents(log.parent)) != (2, b"", b"pim-import: memory\n", before):
+                return check("an allocation that fails", f"{number}: status {status}, {out[-80:]!r}, {said[-80:]!r}")
+            if status == 0:
+                for name, data in before.items():
+                    log.with_name(name).write_bytes(data)
+            faults += status != 0
+    return check(f"{faults} allocations that fail", None if faults > 100 else "too few to be all")
+
+
+def full_disk(folder):
+    """The disk is full as the first file is made, in its middle, and when the names are written."""
+    disk = pathlib.Path(folder, "disk")
+    disk.mkdir()
+    if run("mount", "-t", "tmpfs", "-o", "size=32m", "none", disk).returncode:
+        return skip("a disk that is full", "a small file system can't be mounted")
+    try:
+        log = disk / "log"
+        run(ROOT / "record/out/generate", "-n", "20000", "-c", "80", "-t", "40", "-m", "30", log)
+        log.write_bytes(used(log))
+        Import(log)
+        sizes = {path.name: path.stat().st_size for path in disk.iterdir() if path != log}
+        log.with_name("log.pim").write_text("an earlier trace\n")
+        log.with_name("log.names").write_text("earlier names\n")
+        rest = disk / "rest"
+        for name, room in {"the first file": 0, "the trace": sizes["log.pim"] // 2,
+                           "the names": sizes["log.pim"] + sizes["log.names"] // 2}.items():
+            rest.write_bytes(b"")
+            rest.write_bytes(bytes(os.statvfs(disk).f_bavail * 4096 - room // 4096 * 4096))
+            before, found = contents(disk), Import(log)
+            got = found.status, found.text, found.said, contents(disk) == before
+            check(f"a disk that is full in {name}", difference(got, (2, "", f"pim-import: {UNWRITTEN}\n", True)))
+    finally:
+        run("umount", disk)
+    return None
+
+
 # ---- damaged logs
 
 def used(log):
@@ -570,6 +653,6 @@ def imports(attempt, folder):
     """Each part, of which one that breaks off leaves the others as they are."""
     if not built():
         return check("the importer is built", "it isn't")
-    for part in (programs, stored, kernel, alone, static, real, long, damaged, command_line):
+    for part in (programs, stored, kernel, alone, static, real, long, whole, damaged, command_line):
         attempt(part, folder)
     return None

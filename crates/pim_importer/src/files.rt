@@ -6,6 +6,7 @@ ghost use Rattle.pim_text.specs.Reading.{trace_of};
 use crate::fault::Fault;
 use crate::labels::Labels;
 use crate::names::write_table;
+use crate::results::Results;
 use pim_base::{MAX_STEPS, Protocol};
 use pim_import::{Imported, Piece, Replay};
 use pim_judge::{Output, Text, parse};
@@ -90,7 +91,7 @@ fn fill(file: &mut File, bytes: &mut [u8], from: usize) -> io::Result<()> {
     Ok(())
 }
 
-/// Writes each piece of the trace to its file, and removes further pieces of an earlier import.
+/// Writes each piece of the trace to its file, and marks further pieces of an earlier import as stale.
 ///
 /// # Errors
 ///
@@ -100,17 +101,19 @@ pub fn write_traces(
     alloc: Global,
     log: &str,
     imported: &Imported,
+    results: &mut Results,
 ) -> Result<(), Fault> {
     let pieces = &imported.performed.pieces;
     for place in 0..pieces.len() {
-        let path = path_of(alloc, log, place)?;
-        write_trace(rt, alloc, path.as_str(), &pieces[place])?;
+        let file = results.create(rt, alloc, path_of(alloc, log, place)?)?;
+        write_trace(alloc, file, &pieces[place])?;
     }
     for place in pieces.len()..usize::MAX {
         let path = path_of(alloc, log, place)?;
-        if fs::remove_file(rt, path.as_str()).is_err() {
+        if !is_file(rt, path.as_str()) {
             break;
         }
+        results.add_stale(path)?;
     }
     Ok(())
 }
@@ -125,10 +128,7 @@ pub fn path_of(alloc: Global, log: &str, place: usize) -> Result<String, AllocEr
     }
 }
 
-fn write_trace(rt: &HostRuntime, alloc: Global, path: &str, piece: &Piece) -> Result<(), Fault> {
-    let Ok(file) = fs::create(rt, path) else {
-        return Err(Fault::Write);
-    };
+fn write_trace(alloc: Global, file: File, piece: &Piece) -> Result<(), Fault> {
     let mut writer = Output::new(file);
     let text = declarations_of(alloc, &piece.replay)?;
     match print_trace(alloc, &mut writer, &text, piece.replay.entries()) {
@@ -202,11 +202,9 @@ pub fn write_names(
     log: &str,
     imported: &Imported,
     labels: &Labels,
+    results: &mut Results,
 ) -> Result<(), Fault> {
-    let path = format!(in alloc; "{log}.names")?;
-    let Ok(file) = fs::create(rt, path.as_str()) else {
-        return Err(Fault::Write);
-    };
+    let file = results.create(rt, alloc, format!(in alloc; "{log}.names")?)?;
     let Ok(mut writer) = BufWriter::new(alloc, file) else {
         return Err(Fault::Memory);
     };

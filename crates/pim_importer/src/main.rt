@@ -15,6 +15,7 @@ mod kernel;
 mod labels;
 mod names;
 mod report;
+mod results;
 mod words;
 
 use crate::alone::{alone_of, path_alone, report_alone};
@@ -26,6 +27,7 @@ use crate::json_report::json_of;
 use crate::kernel::{Kernel, events_of, kernel_of, waits_in};
 use crate::labels::Labels;
 use crate::report::report_of;
+use crate::results::Results;
 use pim_import::{Imported, import_log};
 use pim_log::Log;
 use std::alloc::Global;
@@ -70,17 +72,45 @@ fn import(rt: &HostRuntime, alloc: Global, arguments: &Arguments) -> Result<u8, 
     let imported = import_log(alloc, &log, arguments.is_all, &waits)?;
     let labels = Labels::of(alloc, &log, &imported.sources.subjects)?;
     let kernel = kernel_of(alloc, arguments, &log, &imported, events)?;
-    write_traces(rt, alloc, arguments.log.as_str(), &imported)?;
-    write_names(rt, alloc, arguments.log.as_str(), &imported, &labels)?;
     let text = if arguments.is_json {
         json_of(alloc, &log, &imported, &labels, kernel.as_ref())?
     } else {
         report_of(alloc, &log, &imported, &labels, kernel.as_ref())?.into_bytes()
     };
-    if print(rt, &text).is_err() {
+    let mut results = Results::new(alloc);
+    let written = write_all(
+        rt,
+        alloc,
+        arguments,
+        &imported,
+        &labels,
+        &text,
+        &mut results,
+    );
+    if written.is_err() {
+        results.remove(rt);
+    }
+    written?;
+    Ok(status_of(&imported, kernel.as_ref()))
+}
+
+/// Writes the files and the text. The files have their names when all of them and the text are written.
+fn write_all(
+    rt: &HostRuntime,
+    alloc: Global,
+    arguments: &Arguments,
+    imported: &Imported,
+    labels: &Labels,
+    text: &str,
+    results: &mut Results,
+) -> Result<(), Fault> {
+    let log = arguments.log.as_str();
+    write_traces(rt, alloc, log, imported, results)?;
+    write_names(rt, alloc, log, imported, labels, results)?;
+    if print(rt, text).is_err() {
         return Err(Fault::Write);
     }
-    Ok(status_of(&imported, kernel.as_ref()))
+    results.keep(rt)
 }
 
 /// Writes what the kernel's events alone say, and returns the exit status: nothing is judged.
