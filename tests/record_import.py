@@ -72,12 +72,13 @@ FINDINGS = {
 # Recordings that are kept with the kernel's events: their status, their first lines, how many differences and threads each
 # must have. In lost_boost of conform/programs the owner's boost to 40 is lost as its base is set to 20. By lines 376 and 377
 # of its events the owner, 855, runs at 20 (79 of the kernel's) from 4204640730200 on, and unlocks at 4204645748165, 5.017965
-# ms later, while the third task of the trace, at 40, waits. The log began at 4203879842099. The boosts of chain are those of
-# POSIX. In relock, 30687 sleeps in the FUTEX_LOCK_PI of its relock from 3057318320920 on, and has the mutex at
+# ms later, while the third task of the trace, at 40, waits: 859, from 4203920529818 to 4204645775843. The log began at
+# 4203879842099. The boosts of chain are those of POSIX. In relock, 30687 sleeps in the FUTEX_LOCK_PI of its relock from 3057318320920 on, and has the mutex at
 # 3057338375905. The log began at 3057312124803.
 KERNEL = {
     "kernel_lost_boost": (1, [
-        "lost_boost[855] ran at 20 for 5.017 ms from 0.760888 s on, POSIX gives 40 (waiter 3 mutex 1)",
+        "lost_boost[855] ran at 20 for 5.017 ms from 0.760888 s on, POSIX gives 40 (waiter 3 mutex 1); "
+        "meanwhile lost_boost[859] waited 725.246 ms, from 0.040687 s on",
         "    line 376: 4204640730200 3 910 switch 69 X 855 79",
         "    line 379: 4204645769181 3 855 switch 79 R 859 59"], 1, 3),
     "kernel_chain": (0, [], 0, 3),
@@ -314,6 +315,9 @@ def kernel_options(log, events):
     keys = ("ran_at", "priority", "reason", "began", "ran", "first_line", "last_line")
     wanted = [20, 40, "waiter 3 mutex 1", 4204640730200, 5017965, 376, 379]
     check("--json has what differs", difference([one[key] for key in keys], wanted))
+    wait = one["lengthened"]
+    check("--json has the wait that it lengthened", difference(
+        [wait["thread"]["task"], wait["began"], wait["lasted"]], [859, 4203920529818, 725246025]))
     other = events.rename(events.with_name("events"))
     check("without LOG.kernel nothing is compared", difference([Import(log).status, " ran at " in Import(log).text], [0, False]))
     check("--kernel names another file", difference([Import(log, "--kernel", other).status], [1]))

@@ -4,10 +4,10 @@ ghost use Rattle.pim_comparison.specs.Orders.{IsLongestFirst};
 
 use crate::courses::{Course, courses_of};
 use crate::lists::push;
-use crate::timing::Timing;
+use crate::timing::{Timing, first_from};
 use pim_base::Reason;
 use pim_import::Imported;
-use pim_kernel::{Difference, Mark, Recording, Track, Tracks, differences, widen};
+use pim_kernel::{Call, Difference, Mark, Recording, Track, Tracks, differences, widen};
 use pim_log::Log;
 use std::alloc::{AllocError, Global};
 use std::collections::HashMap;
@@ -22,6 +22,19 @@ pub struct Found {
     pub level: u8,
     /// Why it gives that, in the numbers of the trace.
     pub reason: Reason,
+    /// The wait that it lengthened, if the thread ran at too low a priority for one that waited.
+    pub lengthened: Option<Lengthened>,
+}
+
+/// A wait that a thread lengthened which ran at too low a priority.
+#[derive(Clone, Copy, Debug, PartialEq, Eq)]
+pub struct Lengthened {
+    /// The thread that waited, by its number in the log.
+    pub thread: u32,
+    /// When its call of FUTEX_LOCK_PI began: CLOCK_MONOTONIC in nanoseconds.
+    pub began: u64,
+    /// How long the call lasted, in nanoseconds. `None` if the kernel's events have no end of it.
+    pub lasted: Option<u64>,
 }
 
 /// What came of a comparison.
@@ -128,22 +141,33 @@ impl Compared {
         self.threads = self.threads.saturating_add(1);
         let spans = sources.timing.unknown.as_slice();
         let list = differences_of(alloc, track, course, spans, (imported.ended, tolerance))?;
-        self.take(thread, course, &list)
+        self.take(imported, sources, thread, &list)
     }
 
     fn take(
         &mut self,
+        imported: &Imported,
+        sources: &Sources,
         thread: usize,
-        course: &Course,
         list: &[Difference],
     ) -> Result<(), AllocError> {
+        let Some(course) = sources.courses.get(thread) else {
+            return Ok(());
+        };
         for difference in list {
             if let Some(turn) = course.turns.get(difference.mark) {
+                let level = turn.mark.level.unwrap_or(0);
+                let is_too_low = difference.level < level;
                 let found = Found {
                     thread: thread.min(u32::MAX as usize) as u32,
                     difference: *difference,
-                    level: turn.mark.level.unwrap_or(0),
+                    level,
                     reason: turn.reason,
+                    lengthened: if is_too_low {
+                        wait_during(imported, &sources.tracks, turn.waiter, difference)
+                    } else {
+                        None
+                    },
                 };
                 push(&mut self.found, found)?;
             }
@@ -157,6 +181,41 @@ impl Compared {
     {
         self.found
             .sort_unstable_by_key(|found| u64::MAX - found.difference.ran);
+    }
+}
+
+/// Returns the wait of a thread that overlaps with a difference of another, by the kernel's events.
+fn wait_during(
+    imported: &Imported,
+    tracks: &Tracks,
+    waiter: Option<u32>,
+    difference: &Difference,
+) -> Option<Lengthened> {
+    let thread = waiter?;
+    let subject = imported.sources.subjects.threads.get(thread as usize)?;
+    let track = tracks.of_task(subject.task)?;
+    let calls = track.calls.as_slice();
+    for place in (0..first_from(calls, difference.end).min(calls.len())).rev() {
+        let call = calls[place];
+        if call.end <= difference.begin {
+            break;
+        }
+        if !call.is_unlock && call.slept != 0 && call.slept < difference.end {
+            return Some(wait_of_call(thread, &call));
+        }
+    }
+    None
+}
+
+fn wait_of_call(thread: u32, call: &Call) -> Lengthened {
+    Lengthened {
+        thread,
+        began: call.begin,
+        lasted: if call.end == u64::MAX {
+            None
+        } else {
+            Some(call.end.saturating_sub(call.begin))
+        },
     }
 }
 

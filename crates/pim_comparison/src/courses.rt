@@ -14,6 +14,8 @@ pub struct Turn {
     pub mark: Mark,
     /// Why it has that priority.
     pub reason: Reason,
+    /// The thread that waits, by its number in the log, if that is the reason.
+    pub waiter: Option<u32>,
 }
 
 /// The priorities of a thread, the earliest first. The first allows any.
@@ -60,7 +62,10 @@ impl Walk {
         let mut courses = Vec::new(alloc);
         for _thread in &imported.sources.subjects.threads {
             let mut turns = Vec::new(alloc);
-            push(&mut turns, make_turn(None, Reason::Base, (0, 0), false))?;
+            push(
+                &mut turns,
+                make_turn(None, (Reason::Base, None), (0, 0), false),
+            )?;
             push(&mut courses, Course { turns })?;
         }
         Ok(Walk {
@@ -164,13 +169,25 @@ impl Walk {
             Some(prio) => self.levels.get(prio.get() as usize).copied(),
             None => None,
         };
-        let next = make_turn(level, reason, bounds, is_set);
+        let next = make_turn(level, (reason, self.waiter_in(reason)), bounds, is_set);
         push(&mut self.courses[thread].turns, next)
+    }
+
+    /// Returns the thread whose wait is the reason for a priority now.
+    fn waiter_in(&self, reason: Reason) -> Option<u32> {
+        match reason {
+            Reason::Waiter(task, _mutex) => { self.threads.get(task.get() as usize).copied() }
+            Reason::Base | Reason::Ceiling(_) => None,
+        }
     }
 }
 
-fn make_turn(level: Option<u8>, reason: Reason, bounds: (u64, u64), is_set: bool) -> Turn {
-    let (earliest, latest) = bounds;
+fn make_turn(
+    level: Option<u8>,
+    (reason, waiter): (Reason, Option<u32>),
+    (earliest, latest): (u64, u64),
+    is_set: bool,
+) -> Turn {
     Turn {
         mark: Mark {
             earliest,
@@ -179,6 +196,7 @@ fn make_turn(level: Option<u8>, reason: Reason, bounds: (u64, u64), is_set: bool
             is_set,
         },
         reason,
+        waiter,
     }
 }
 

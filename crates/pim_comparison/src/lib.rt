@@ -23,5 +23,5 @@ mod lists;
 mod timing;
 mod waits;
 
-pub use comparing::{Compared, Found, compare};
+pub use comparing::{Compared, Found, Lengthened, compare};
 pub use waits::waits_of;

@@ -236,7 +236,7 @@ fn last_return(track: &Track, from: u64, to: u64) -> Option<u64> {
 }
 
 /// Returns the place of the first call that begins at this time or later.
-fn first_from(calls: &[Call], time: u64) -> usize {
+pub fn first_from(calls: &[Call], time: u64) -> usize {
     let mut low = 0usize;
     let mut high = calls.len();
     for _half in 0..64 {

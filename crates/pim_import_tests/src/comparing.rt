@@ -2,7 +2,7 @@
 
 use crate::inversion::{KERNEL, log_bytes};
 use pim_base::{MutexNo, Reason, TaskNo};
-use pim_comparison::{Compared, Found, compare, waits_of};
+use pim_comparison::{Compared, Found, Lengthened, compare, waits_of};
 use pim_import::{Wait, import_log};
 use pim_kernel::{Difference, Recording};
 use pim_log::Log;
@@ -46,11 +46,18 @@ fn late_boost_is_found(rt: HostRuntime) -> Result<(), Fail> {
         first_line: 8,
         last_line: 13,
     };
+    // The call of task 702 began at 310,000 and returned at 925,000.
+    let lengthened = Some(Lengthened {
+        thread: 2,
+        began: 310_000,
+        lasted: Some(615_000),
+    });
     let found = Found {
         thread: 1,
         difference,
         level: 40,
         reason: Reason::Waiter(TaskNo(2), MutexNo(1)),
+        lengthened,
     };
     assert!(rt; compared.found.as_slice() == [found].as_slice());
     let counts = [

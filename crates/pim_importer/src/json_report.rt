@@ -3,7 +3,7 @@
 use crate::kernel::{Kernel, put_reason};
 use crate::labels::Labels;
 use crate::words::{Told, family_of, found_of, mutexes, put_place};
-use pim_comparison::Found;
+use pim_comparison::{Found, Lengthened};
 use pim_import::{FoundMutex, FoundWait, Imported, LeftOut, blocker_of};
 use pim_log::Log;
 use pim_out::{JsonOut, Out};
@@ -88,6 +88,21 @@ fn put_found(alloc: Global, out: &mut JsonOut, told: &Told, found: &Found) {
     out.number("ran", found.difference.ran);
     out.number("first_line", found.difference.first_line);
     out.number("last_line", found.difference.last_line);
+    if let Some(wait) = &found.lengthened {
+        put_lengthened(alloc, out, told, wait);
+    }
+    out.end_object();
+}
+
+/// Writes the wait that a difference lengthened, without its length if the kernel's events have no end of it.
+fn put_lengthened(alloc: Global, out: &mut JsonOut, told: &Told, wait: &Lengthened) {
+    out.key("lengthened");
+    out.begin_object();
+    put_thread(alloc, out, told, "thread", wait.thread);
+    out.number("began", wait.began);
+    if let Some(lasted) = wait.lasted {
+        out.number("lasted", lasted);
+    }
     out.end_object();
 }
 

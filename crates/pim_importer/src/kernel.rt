@@ -5,7 +5,7 @@ use crate::fault::Fault;
 use crate::files::{is_file, read_file};
 use crate::words::{Told, put_count, put_duration, put_level, put_moment, put_thread};
 use pim_base::Reason;
-use pim_comparison::{Compared, Found, compare, waits_of};
+use pim_comparison::{Compared, Found, Lengthened, compare, waits_of};
 use pim_import::{Imported, Wait};
 use pim_kernel::{Recording, TextFault, line_at};
 use pim_log::Log;
@@ -130,7 +130,30 @@ fn put_difference(out: &mut Out, told: &Told, found: &Found) {
     put_level(out, found.level);
     out.put(" (");
     put_reason(out, found.reason);
-    out.put(")\n");
+    out.put(")");
+    if let Some(wait) = &found.lengthened {
+        put_lengthened(out, told, wait);
+    }
+    out.put(
+        "
+",
+    );
+}
+
+/// Writes the wait that a difference lengthened.
+fn put_lengthened(out: &mut Out, told: &Told, wait: &Lengthened) {
+    out.put("; meanwhile ");
+    put_thread(out, told, wait.thread);
+    match wait.lasted {
+        Some(lasted) => {
+            out.put(" waited ");
+            put_duration(out, lasted);
+        }
+        None => out.put(" waited to the end"),
+    }
+    out.put(", from ");
+    put_moment(out, told, wait.began);
+    out.put(" on");
 }
 
 /// Writes why a thread should have its priority, as a report of `pim` does.
