@@ -511,6 +511,47 @@ def long(folder):
     check("each step has its time", difference([steps], [written]))
 
 
+# ---- where mutexes were initialised
+
+# A program, or a child that it forks, initialises a mutex in the line with the word INIT.
+INITIALISES = """#include <pthread.h>
+#include <sys/wait.h>
+#include <unistd.h>
+static pthread_mutex_t mutex;
+static void *work(void *unused) {
+    pthread_mutex_lock(&mutex);
+    usleep(20000);
+    pthread_mutex_unlock(&mutex);
+    return unused;
+}
+int main(int count, char **arguments) {
+    pthread_t one, other;
+    (void)arguments;
+    if (count > 1 && fork() > 0) return wait(NULL) < 0;
+    pthread_mutex_init(&mutex, NULL); /* INIT */
+    pthread_create(&one, NULL, work, NULL);
+    pthread_create(&other, NULL, work, NULL);
+    return pthread_join(one, NULL) || pthread_join(other, NULL);
+}
+"""
+
+
+def places(folder):
+    """The place of a mutex is in the line of the call that initialised it, also in a process that was forked."""
+    source, program = pathlib.Path(folder, "initialises.c"), pathlib.Path(folder, "initialises")
+    source.write_text(INITIALISES)
+    if not shutil.which("addr2line") or run("cc", "-g", "-O0", "-pthread", source, "-o", program).returncode:
+        return skip("the place of a mutex", "there is no addr2line, or no compiler")
+    line = next(number for number, text in enumerate(INITIALISES.splitlines(), 1) if "INIT" in text)
+    for name, words in {"a program": [], "a forked process": ["fork"]}.items():
+        log, _ended = record(folder, program, *words)
+        found = re.search(r"^owned: mutex 1 \(none\), from initialises\+(0x[0-9a-f]+),", Import(log).text, re.M)
+        place = run("addr2line", "-e", program, found[1]).stdout.decode() if found else ""
+        got = re.fullmatch(r".*/initialises\.c:(\d+).*\n", place)
+        check(f"the place of a mutex of {name}", difference([got and int(got[1])], [line]))
+    return None
+
+
 # ---- all files or none
 
 def contents(folder):
@@ -657,6 +698,6 @@ def imports(attempt, folder):
     """Each part, of which one that breaks off leaves the others as they are."""
     if not built():
         return check("the importer is built", "it isn't")
-    for part in (programs, stored, kernel, alone, static, real, long, whole, damaged, command_line):
+    for part in (programs, stored, kernel, alone, static, real, long, places, whole, damaged, command_line):
         attempt(part, folder)
     return None

@@ -23,6 +23,13 @@ pub struct Module {
     path: String,
 }
 
+/// A process that another one forked.
+#[derive(Clone, Copy)]
+struct Child {
+    process: u32,
+    parent: u32,
+}
+
 /// What the texts of a thread belong to.
 #[derive(Clone, Copy, PartialEq, Eq)]
 enum Pending {
@@ -40,9 +47,11 @@ enum Pending {
 pub struct Labels {
     /// By thread.
     names: Vec<ThreadName>,
-    /// By mutex where in the code it was initialised, or 0.
+    /// By mutex where in the code the call that initialised it returned to, or 0.
     places: Vec<u64>,
     modules: Vec<Module>,
+    /// The forked processes. Each has the modules of its parent, and may have loaded others.
+    children: Vec<Child>,
     /// By thread what its next record belongs to.
     pending: Vec<Pending>,
 }
@@ -66,6 +75,7 @@ impl Labels {
             names: vec![in alloc; UNNAMED; subjects.threads.len()]?,
             places: vec![in alloc; 0; subjects.mutexes.len()]?,
             modules: Vec::new(alloc),
+            children: Vec::new(alloc),
             pending: vec![in alloc; Pending::Nothing; subjects.threads.len()]?,
         };
         for number in 1..log.header().end() {
@@ -118,9 +128,28 @@ impl Labels {
             Event::Init => {
                 self.pending[thread] = Pending::Init(subjects.of_record(record.number));
             }
+            Event::Child => {
+                self.pending[thread] = Pending::Nothing;
+                self.add_child(subjects, record)?;
+            }
             _ => self.pending[thread] = Pending::Nothing,
         }
         Ok(())
+    }
+
+    /// Adds the process of a CHILD, which names a thread of its parent.
+    fn add_child(&mut self, subjects: &Subjects, record: &Record) -> Result<(), AllocError> {
+        let Some(parent) = subjects.threads.get(record.value as usize) else {
+            return Ok(());
+        };
+        let child = Child {
+            process: record.process,
+            parent: parent.process,
+        };
+        match self.children.push(child) {
+            Ok(()) => Ok(()),
+            Err(_) => Err(AllocError),
+        }
     }
 
     /// Adds a part of a text.
@@ -153,10 +182,10 @@ impl Labels {
     }
 
     /// Writes where a mutex was initialised, or where it is if it was initialised statically: the file and the offset
-    /// there, or an address.
+    /// there, or an address. A place in the code is the last byte of the call, whose line `addr2line` finds.
     pub fn put_place(&self, out: &mut Out, number: u32, mutex: &LoggedMutex) {
         let place = self.places.get(number as usize).copied().unwrap_or(0);
-        let address = if place == 0 { mutex.address } else { place };
+        let address = if place == 0 { mutex.address } else { place - 1 };
         match self.module_of(mutex.process, address) {
             Some(module) => {
                 let file = module.path.as_str().rsplit('/').next().unwrap_or("?");
@@ -168,8 +197,32 @@ impl Labels {
         }
     }
 
-    /// Returns the file that is loaded at an address.
+    /// Returns the file that is loaded at an address of a process, or was when it was forked.
     fn module_of(&self, process: u32, address: u64) -> Option<&Module> {
+        let mut process = process;
+        for _fork in 0..self.children.len() {
+            let own = self.own_module_of(process, address);
+            let parent = self.parent_of(process);
+            if own.is_some() || parent == 0 {
+                return own;
+            }
+            process = parent;
+        }
+        self.own_module_of(process, address)
+    }
+
+    /// Returns the process that forked this one, or 0.
+    fn parent_of(&self, process: u32) -> u32 {
+        for child in &self.children {
+            if child.process == process {
+                return child.parent;
+            }
+        }
+        0
+    }
+
+    /// Returns the file that a process loaded at an address.
+    fn own_module_of(&self, process: u32, address: u64) -> Option<&Module> {
         let mut found: Option<&Module> = None;
         for module in &self.modules {
             let is_there = module.address <= address && address - module.address < MODULE_BYTES;
