@@ -585,6 +585,13 @@ def unwritten(log):
             done = subprocess.run([IMPORTER, *words, log], stdout=full, stderr=subprocess.PIPE, timeout=SECONDS, check=False)
         got = done.returncode, done.stderr, contents(log.parent) == before
         check(f"an output that is full {words}", difference(got, (2, said, True)))
+    for name in ("chain.log.names", "chain.log.names.part"):
+        with tempfile.TemporaryDirectory() as folder:
+            other = shutil.copy(log, folder)
+            pathlib.Path(folder, name).mkdir()
+            found = Import(other)
+            got = found.status, found.text, found.said.encode(), sorted(path.name for path in pathlib.Path(folder).iterdir())
+            check(f"a folder {name}", difference(got, (2, "", said, sorted(["chain.log", name]))))
 
 
 def refused_allocations(log):

@@ -34,8 +34,11 @@ impl Results {
     ///
     /// # Errors
     ///
-    /// Returns `Write` if the file can't be made, and `Memory` if out of memory.
+    /// Returns `Write` if the file can't be made or a folder has its name, and `Memory` if out of memory.
     pub fn create(&mut self, rt: &HostRuntime, alloc: Global, path: String) -> Result<File, Fault> {
+        if is_folder(rt, path.as_str()) {
+            return Err(Fault::Write);
+        }
         let temporary = format!(in alloc; "{path}.part")?;
         if self.parts.push(Part { temporary, path }).is_err() {
             return Err(Fault::Memory);
@@ -85,5 +88,13 @@ impl Results {
             // One that can't be removed, or was never made, changes nothing for a reader of the others.
             let _removed = fs::remove_file(rt, part.temporary.as_str());
         }
+    }
+}
+
+/// Returns whether a path is that of a folder, whose name no file can get.
+fn is_folder(rt: &HostRuntime, path: &str) -> bool {
+    match fs::metadata(rt, path) {
+        Ok(metadata) => metadata.is_dir(),
+        Err(_) => false,
     }
 }
