@@ -7,7 +7,7 @@ import re
 from checks import check, difference
 from record_import import Import
 from record_laws import (CHILD, CONDITION, EXIT, FORK, GRANTED, INHERIT, INIT, MUTEX, RELEASE, REQUEST, SATURATED,
-                         SHARED, THREAD, WAIT, log_of)
+                         SHARED, THREAD, WAIT, log_of_three)
 
 NONE, OTHER, FIFO_10, FIFO_40, FIFO_80 = 4, 0, 0x0A01, 0x2801, 0x5001
 HIGH, LOW, MIDDLE = 1, 2, 3  # tasks 100, 101, 102
@@ -116,7 +116,7 @@ def forked(folder):
     """A child's copy of a mutex names the thread of its parent, which isn't the owner."""
     rows = begin(LOW, FIFO_10) + granted(LOW) + [(LOW, FORK, 0, 0, 0, 0)] + begin(HIGH, FIFO_80) \
         + [(HIGH, CHILD, 3, LOW, 0, 0)] + asks(101) + once(HIGH)
-    tell(folder, "a child's copy of its parent's", log_of(rows, processes=(200, 100, 100)),
+    tell(folder, "a child's copy of its parent's", log_of_three(rows, processes={1: 200}),
          [(10, "an unknown thread", "not bounded: mutex 2 is a NONE one, whoever owned it")])
 
 
@@ -130,7 +130,7 @@ def ceiling(folder):
     """A thread at 10 owns a PROTECT mutex of ceiling 40 from 10 us to 1.5 ms. The reason is as in a report."""
     log, protect = pathlib.Path(folder, "hand"), 40 << 8 | 0x44
     rows = begin(1, FIFO_10) + granted(1, detail=protect) + released(1, detail=protect) + [(1, EXIT, 0, 0, 0, 0)]
-    log.write_bytes(log_of(rows, times=[2_000, 10_000, 1_500_000, 1_600_000]))
+    log.write_bytes(log_of_three(rows, times=[2_000, 10_000, 1_500_000, 1_600_000]))
     events = log.with_name("hand.kernel")
     events.write_text(EVENTS)
     found = Import(log)
@@ -141,10 +141,10 @@ def ceiling(folder):
 
 def owners(folder):
     for name, (rows, wanted) in OWNERS.items():
-        tell(folder, name, log_of(rows), wanted)
+        tell(folder, name, log_of_three(rows), wanted)
     for name, (rows, seconds, wanted) in LONG.items():
         times = [int(second * SECOND) for second in (*seconds, 10, 11)]
-        tell(folder, name, log_of(rows + once_long(), times=times), wanted)
+        tell(folder, name, log_of_three(rows + once_long(), times=times), wanted)
     forked(folder)
     ceiling(folder)
 

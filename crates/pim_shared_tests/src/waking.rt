@@ -137,12 +137,10 @@ const ROUNDS: [(u16, u16, u64); 4] = [(5, 0, 2), (5, 1, 2), (300, 0, 0), (300, 1
 fn one_call_wakes_all_tasks_that_wait(rt: HostRuntime) {
     for (rounds, lookers, pause) in ROUNDS {
         for (room, settled, answer) in ROWS {
+            let wanted = ((settled, settled), (answer, true));
             for _round in 0..rounds {
                 let shown = woken(&rt, rt.alloc(), room, lookers, pause);
-                assert!(rt;
-                    shown == ((settled, settled), (answer, true)),
-                    "room {room}"
-                );
+                assert!(rt; shown == wanted, "room {room}");
             }
         }
     }
