@@ -609,7 +609,7 @@ def refused_allocations(log):
                 for name, data in before.items():
                     log.with_name(name).write_bytes(data)
             faults += status != 0
-    return check(f"{faults} allocations that fail", None if faults > 100 else "too few to be all")
+    return check(f"{faults} allocations that fail", None if faults > 30 else "too few to be all")
 
 
 def full_disk(folder):
