@@ -164,9 +164,8 @@ impl Labels {
             }
             Pending::Module(place) => {
                 if place < self.modules.len() {
-                    for byte in &bytes[..(length as usize).min(22)] {
-                        self.modules[place].path.push(shown(*byte))?;
-                    }
+                    let end = (length as usize).min(22);
+                    push_text(&mut self.modules[place].path, &bytes[..end])?;
                 }
             }
             Pending::Nothing | Pending::Init(_) => {}
@@ -246,6 +245,14 @@ fn text_in(record: &Record) -> ([u8; 22], u8) {
     bytes[16..20].copy_from_slice(&record.value.to_le_bytes());
     bytes[20..].copy_from_slice(&record.detail.to_le_bytes());
     (bytes, record.how.min(22))
+}
+
+/// Adds bytes to the path of a file.
+fn push_text(path: &mut String, bytes: &[u8]) -> Result<(), AllocError> {
+    for byte in bytes {
+        path.push(shown(*byte))?;
+    }
+    Ok(())
 }
 
 /// Adds bytes to a text.

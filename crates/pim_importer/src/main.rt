@@ -1,8 +1,9 @@
 //! The program `pim-import`: makes a trace of a log of pim-record, and says what is found in it.
 //!
-//! It reads the log, passes it to `pim_import::import_log`, and writes the trace, the names and the findings. All
-//! decisions about the log are in `pim_import`, and are proved there. Of the kernel's events without a log it writes what
-//! `pim_waits` finds. This crate has what no contract can say: the files, the texts and the process.
+//! It reads the log, passes it to `pim_import::import_log`, and writes the trace, the names and the findings. The decisions
+//! about the log are in `pim_import`; docs/RECORDING.md says what is proved of them, and the rest is tested. Of the
+//! kernel's events without a log it writes what `pim_waits` finds. This crate has what no contract can say: the files, the
+//! texts and the process.
 #![tactic(auto)]
 
 mod alone;
@@ -70,43 +71,48 @@ fn import(rt: &HostRuntime, alloc: Global, arguments: &Arguments) -> Result<u8, 
     let events = events_of(rt, alloc, arguments)?;
     let waits = waits_in(alloc, events.as_ref())?;
     let imported = import_log(alloc, &log, arguments.is_all, &waits)?;
-    let labels = Labels::of(alloc, &log, &imported.sources.subjects)?;
     let kernel = kernel_of(alloc, arguments, &log, &imported, events)?;
+    tell(rt, alloc, arguments, &log, &imported, kernel.as_ref())
+}
+
+/// Writes the traces, the names and the findings, and returns the exit status.
+fn tell(
+    rt: &HostRuntime,
+    alloc: Global,
+    arguments: &Arguments,
+    log: &Log,
+    imported: &Imported,
+    kernel: Option<&Kernel>,
+) -> Result<u8, Fault> {
+    let labels = Labels::of(alloc, log, &imported.sources.subjects)?;
     let text = if arguments.is_json {
-        json_of(alloc, &log, &imported, &labels, kernel.as_ref())?
+        json_of(alloc, log, imported, &labels, kernel)?
     } else {
-        report_of(alloc, &log, &imported, &labels, kernel.as_ref())?.into_bytes()
+        report_of(alloc, log, imported, &labels, kernel)?.into_bytes()
     };
     let mut results = Results::new(alloc);
-    let written = write_all(
-        rt,
-        alloc,
-        arguments,
-        &imported,
-        &labels,
-        &text,
-        &mut results,
-    );
-    if written.is_err() {
-        results.remove(rt);
+    let path = arguments.log.as_str();
+    match write_all(rt, alloc, path, imported, &labels, &text, &mut results) {
+        Ok(()) => Ok(status_of(imported, kernel)),
+        Err(fault) => {
+            results.remove(rt);
+            Err(fault)
+        }
     }
-    written?;
-    Ok(status_of(&imported, kernel.as_ref()))
 }
 
 /// Writes the files and the text. The files have their names when all of them and the text are written.
 fn write_all(
     rt: &HostRuntime,
     alloc: Global,
-    arguments: &Arguments,
+    path: &str,
     imported: &Imported,
     labels: &Labels,
-    text: &str,
+    text: &[u8],
     results: &mut Results,
 ) -> Result<(), Fault> {
-    let log = arguments.log.as_str();
-    write_traces(rt, alloc, log, imported, results)?;
-    write_names(rt, alloc, log, imported, labels, results)?;
+    write_traces(rt, alloc, path, imported, results)?;
+    write_names(rt, alloc, path, imported, labels, results)?;
     if print(rt, text).is_err() {
         return Err(Fault::Write);
     }

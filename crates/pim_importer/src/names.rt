@@ -8,11 +8,13 @@ use std::io;
 use std::io::Write;
 
 /// What the table is made from, and how many of those who appear are in it.
-#[derive(Clone, Copy)]
+#[derive(Drop)]
 struct Table<'a> {
     imported: &'a Imported,
     labels: &'a Labels,
     entered: usize,
+    /// The last line of a thread or a mutex.
+    line: Out,
 }
 
 /// Writes the table. Its lines:
@@ -37,16 +39,17 @@ pub fn write_table<W: Write>(
         imported,
         labels,
         entered: 0,
+        line: Out::new(alloc),
     };
     let mut before = 0u64;
     let mut number = 0u64;
     for piece in &imported.performed.pieces {
         number = number.saturating_add(1);
         writeln!(out, "piece {number} {}", piece.restoring)?;
-        table.write_steps(out, alloc, piece, before)?;
+        table.write_steps(out, piece, before)?;
         before = before.saturating_add(own_steps(piece));
     }
-    table.write_entrances(out, alloc, u64::MAX)
+    table.write_entrances(out, u64::MAX)
 }
 
 fn own_steps(piece: &Piece) -> u64 {
@@ -55,17 +58,11 @@ fn own_steps(piece: &Piece) -> u64 {
 
 impl<'a> Table<'a> {
     /// Writes the steps of a piece, each behind those who appear before it.
-    fn write_steps<W: Write>(
-        &mut self,
-        out: &mut W,
-        alloc: Global,
-        piece: &Piece,
-        before: u64,
-    ) -> io::Result<()> {
+    fn write_steps<W: Write>(&mut self, out: &mut W, piece: &Piece, before: u64) -> io::Result<()> {
         for step in 0..piece.times.len() {
             if step >= piece.restoring {
                 let own = (step - piece.restoring) as u64;
-                self.write_entrances(out, alloc, before.saturating_add(own))?;
+                self.write_entrances(out, before.saturating_add(own))?;
             }
             let number = step.saturating_add(1);
             writeln!(out, "step {number} {}", piece.times[step])?;
@@ -74,68 +71,59 @@ impl<'a> Table<'a> {
     }
 
     /// Writes who appears up to a step.
-    fn write_entrances<W: Write>(
-        &mut self,
-        out: &mut W,
-        alloc: Global,
-        step: u64,
-    ) -> io::Result<()> {
+    fn write_entrances<W: Write>(&mut self, out: &mut W, step: u64) -> io::Result<()> {
         let entrances = &self.imported.performed.entrances;
         for place in self.entered..entrances.len() {
             if entrances[place].step > step {
                 break;
             }
-            self.write_entrance(out, alloc, &entrances[place])?;
+            self.write_entrance(out, &entrances[place])?;
             self.entered = place.saturating_add(1);
         }
         Ok(())
     }
 
-    fn write_entrance<W: Write>(
-        &self,
-        out: &mut W,
-        alloc: Global,
-        entrance: &Entrance,
-    ) -> io::Result<()> {
-        let mut line = Out::new(alloc);
+    fn write_entrance<W: Write>(&mut self, out: &mut W, entrance: &Entrance) -> io::Result<()> {
+        self.line.clear();
         if entrance.thread != 0 {
-            self.put_task(&mut line, entrance.thread);
+            self.put_task(entrance.thread);
         }
         if entrance.mutex != 0 {
-            self.put_mutex(&mut line, entrance.mutex);
+            self.put_mutex(entrance.mutex);
         }
-        out.write_all(line.as_str()?.as_bytes())
+        out.write_all(self.line.as_str()?.as_bytes())
     }
 
-    fn put_task(&self, line: &mut Out, thread: u32) {
+    fn put_task(&mut self, thread: u32) {
         if let Some(is) = self.imported.sources.subjects.threads.get(thread as usize) {
             let number = self.imported.numbering.threads.of(thread);
-            line.put("task ");
-            line.number(u64::from(number));
-            line.put(" ");
-            line.number(u64::from(is.process));
-            line.put("/");
-            line.number(u64::from(is.task));
-            line.put(" ");
-            self.labels.put_name(line, thread);
-            line.put("\n");
+            self.line.put("task ");
+            self.line.number(u64::from(number));
+            self.line.put(" ");
+            self.line.number(u64::from(is.process));
+            self.line.put("/");
+            self.line.number(u64::from(is.task));
+            self.line.put(" ");
+            self.labels.put_name(&mut self.line, thread);
+            self.line.put("\n");
         }
     }
 
-    fn put_mutex(&self, line: &mut Out, mutex: u32) {
+    fn put_mutex(&mut self, mutex: u32) {
         if let Some(is) = self.imported.sources.subjects.mutex(mutex) {
             let number = self.imported.numbering.mutexes.of(mutex);
-            line.put("mutex ");
-            line.number(u64::from(number));
-            line.put(" ");
-            line.put(family_of(&self.imported.sources, mutex).name());
-            line.put(" ");
-            line.address(is.address);
-            line.put(" ");
-            line.number(u64::from(is.process));
-            line.put(" ");
-            self.labels.put_place(line, mutex, is);
-            line.put("\n");
+            self.line.put("mutex ");
+            self.line.number(u64::from(number));
+            self.line.put(" ");
+            self.line
+                .put(family_of(&self.imported.sources, mutex).name());
+            self.line.put(" ");
+            self.line.address(is.address);
+            self.line.put(" ");
+            self.line.number(u64::from(is.process));
+            self.line.put(" ");
+            self.labels.put_place(&mut self.line, mutex, is);
+            self.line.put("\n");
         }
     }
 }
