@@ -6,7 +6,7 @@ use pim_log::LogFault;
 use std::alloc::AllocError;
 use thiserror::Error;
 
-/// Why a log isn't imported. No file is written or replaced then.
+/// Why a log isn't imported. No file is written or replaced then, unless a whole one can't be renamed.
 #[derive(Debug, Error, Drop)]
 pub enum Fault {
     /// The log can't be read.

@@ -66,6 +66,14 @@ pub fn is_file(rt: &HostRuntime, path: &str) -> bool {
     fs::open(rt, path).is_ok()
 }
 
+/// Returns whether a file or anything else is known to be at a path.
+fn is_there(rt: &HostRuntime, path: &str) -> bool {
+    match fs::exists(rt, path) {
+        Ok(is_there) => is_there,
+        Err(_) => false,
+    }
+}
+
 /// Returns whether there is no file, nor anything else, at a path.
 pub fn is_missing(rt: &HostRuntime, path: &str) -> bool {
     match fs::exists(rt, path) {
@@ -110,7 +118,7 @@ pub fn write_traces(
     }
     for place in pieces.len()..usize::MAX {
         let path = path_of(alloc, log, place)?;
-        if !is_file(rt, path.as_str()) {
+        if !is_there(rt, path.as_str()) {
             break;
         }
         results.add_stale(path)?;
@@ -208,9 +216,13 @@ pub fn write_names(
     let Ok(mut writer) = BufWriter::new(alloc, file) else {
         return Err(Fault::Memory);
     };
-    let written = write_table(&mut writer, alloc, imported, labels);
-    if written.is_err() || writer.flush().is_err() {
-        return Err(Fault::Write);
+    let written = match write_table(&mut writer, alloc, imported, labels) {
+        Ok(()) => writer.flush(),
+        failed => failed,
+    };
+    match written {
+        Ok(()) => Ok(()),
+        Err(error) if error.kind() == io::ErrorKind::OutOfMemory => Err(Fault::Memory),
+        Err(_) => Err(Fault::Write),
     }
-    Ok(())
 }

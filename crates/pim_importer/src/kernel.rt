@@ -134,10 +134,7 @@ fn put_difference(out: &mut Out, told: &Told, found: &Found) {
     if let Some(wait) = &found.lengthened {
         put_lengthened(out, told, wait);
     }
-    out.put(
-        "
-",
-    );
+    out.put("\n");
 }
 
 /// Writes the wait that a difference lengthened.

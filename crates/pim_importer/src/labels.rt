@@ -50,7 +50,7 @@ pub struct Labels {
     /// By mutex where in the code the call that initialised it returned to, or 0.
     places: Vec<u64>,
     modules: Vec<Module>,
-    /// The forked processes. Each has the modules of its parent, and may have loaded others.
+    /// The forked processes. Each has the modules of its parent, also those that the parent loaded later, and its own.
     children: Vec<Child>,
     /// By thread what its next record belongs to.
     pending: Vec<Pending>,
@@ -196,18 +196,19 @@ impl Labels {
         }
     }
 
-    /// Returns the file that is loaded at an address of a process, or was when it was forked.
+    /// Returns the file that is loaded at an address of a process: of its files, and those of the processes that forked
+    /// it, the nearest that begins there or before.
     fn module_of(&self, process: u32, address: u64) -> Option<&Module> {
+        let mut nearest = self.own_module_of(process, address);
         let mut process = process;
         for _fork in 0..self.children.len() {
-            let own = self.own_module_of(process, address);
-            let parent = self.parent_of(process);
-            if own.is_some() || parent == 0 {
-                return own;
+            process = self.parent_of(process);
+            if process == 0 {
+                break;
             }
-            process = parent;
+            nearest = nearer(nearest, self.own_module_of(process, address));
         }
-        self.own_module_of(process, address)
+        nearest
     }
 
     /// Returns the process that forked this one, or 0.
@@ -234,6 +235,17 @@ impl Labels {
             }
         }
         found
+    }
+}
+
+/// Returns of two files the one that begins later.
+fn nearer<'a>(one: Option<&'a Module>, other: Option<&'a Module>) -> Option<&'a Module> {
+    let Some(first) = one else {
+        return other;
+    };
+    match other {
+        Some(second) if first.address < second.address => other,
+        _ => one,
     }
 }
 

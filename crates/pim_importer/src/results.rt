@@ -46,10 +46,12 @@ impl Results {
         let Some(part) = self.parts.last() else {
             return Err(Fault::Memory);
         };
-        match fs::create(rt, part.temporary.as_str()) {
-            Ok(file) => Ok(file),
-            Err(_) => Err(Fault::Write),
+        if let Ok(file) = fs::create(rt, part.temporary.as_str()) {
+            return Ok(file);
         }
+        // A file that isn't made here isn't removed either.
+        let _unmade = self.parts.pop();
+        Err(Fault::Write)
     }
 
     /// Adds a file of an earlier import, which [`keep`](Results::keep) removes.
@@ -68,7 +70,7 @@ impl Results {
     ///
     /// # Errors
     ///
-    /// Returns `Write` if one can't have its name.
+    /// Returns `Write` if one can't have its name. Those before it have theirs then.
     pub fn keep(&self, rt: &HostRuntime) -> Result<(), Fault> {
         for part in &self.parts {
             if fs::rename(rt, part.temporary.as_str(), part.path.as_str()).is_err() {
@@ -85,7 +87,7 @@ impl Results {
     /// Removes the files that have their temporary names still.
     pub fn remove(&self, rt: &HostRuntime) {
         for part in &self.parts {
-            // One that can't be removed, or was never made, changes nothing for a reader of the others.
+            // One that can't be removed changes nothing for a reader of the others.
             let _removed = fs::remove_file(rt, part.temporary.as_str());
         }
     }
