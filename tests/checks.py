@@ -152,6 +152,11 @@ def compiled(source, folder, *flags):
     return made
 
 
+def files_of(folder, name):
+    """Returns the texts of the files NAME.END of a folder, by END."""
+    return {path.name[len(name) + 1:]: path.read_text() for path in folder.glob(f"{name}.*")}
+
+
 class Faulty:
     """Runs of a command in which a call fails, is interrupted or does less than was asked."""
 

@@ -1,16 +1,12 @@
 """What tests/picture does with suite/pictures, whose README.md says what the files are."""
 import json
 import pathlib
+import re
 import tempfile
 
-from checks import ROOT, check, difference
+from checks import ROOT, check, difference, files_of
 
 SUITE = ROOT / "suite/pictures"
-
-
-def parts_of(name):
-    """Returns the texts of the files of a case, by the ends of their names."""
-    return {path.name[len(name) + 1:]: path.read_text() for path in SUITE.glob(f"{name}.*")}
 
 
 def played(run, folder, parts):
@@ -21,7 +17,7 @@ def played(run, folder, parts):
             pathlib.Path(f"{path}.{end}").write_text(parts[end])
             words += [f"--{end}", f"{path}.{end}"]
     status, out, err = run(parts["pim"], *words)
-    return status, out, err.replace("pim-picture: ", "", 1).replace(f"{path}.names: ", "")
+    return status, out, re.sub(rf"{re.escape(str(path))}\.(names|kernel): ", "", err.replace("pim-picture: ", "", 1))
 
 
 def why(parts, got):
@@ -36,7 +32,7 @@ def why(parts, got):
 
 
 def tracks_differ(got, wanted):
-    events = [(*told.pop("traceEvents"), "no event") for told in (got, wanted)]
+    events = [(*tracks.pop("traceEvents"), "no event") for tracks in (got, wanted)]
     return difference(*events) or difference((got,), (wanted,))
 
 
@@ -52,7 +48,7 @@ def changed(parts, line):
 def suite(run):
     """Draws each case."""
     for name in sorted(path.stem for path in SUITE.glob("*.pim")):
-        parts = parts_of(name)
+        parts = files_of(SUITE, name)
         changes = [line for line in parts.pop("changes", "").splitlines() if not line.startswith("#")]
         with tempfile.TemporaryDirectory() as folder:
             check(f"the picture {name}", why(parts, played(run, folder, parts)))

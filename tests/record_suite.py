@@ -1,14 +1,13 @@
 """What tests/record does with suite/recordings: logs and kernel's events by hand, and what pim-import says and writes
 of them. suite/recordings/README.md says what the files are. Longer logs are made here."""
 import pathlib
-import subprocess
 
-from checks import ROOT, check, difference
+from checks import ROOT, answer, check, difference, files_of
+from record_import import IMPORTER
 from record_logs import change, log_of, read_text, reader
 
 SUITE = ROOT / "suite/recordings"
-IMPORTER = ROOT / "crates/pim_importer/out/pim_importer"
-SECONDS, MILLISECOND = 60, 1_000_000
+MILLISECOND = 1_000_000
 
 
 class Case:
@@ -65,17 +64,11 @@ def said_otherwise(got, wanted):
 
 # ---- the files
 
-def parts_of(name):
-    """Returns the texts of the files of a case, by the ends of their names."""
-    paths = [path for path in SUITE.glob(f"{name}.*")]
-    return {path.name[len(name) + 1:]: path.read_text() for path in paths}
-
-
 def stored():
     """Returns a case for each name in suite/recordings, and for each change of a damaged one."""
     cases = []
     for name in sorted({path.name.split(".")[0] for path in SUITE.glob("*.*")} - {"README"}):
-        parts = parts_of(name)
+        parts = files_of(SUITE, name)
         log, kernel, changes = (parts.pop(end, None) for end in ("log.txt", "kernel", "changes"))
         options = parts.pop("options", "").split()
         log, kernel = log and read_text(log), None if kernel is None else kernel.encode()
@@ -177,8 +170,10 @@ def passed_over(visits):
 
 
 class Pieces(Case):
-    """The second piece begins with a lock by an owner. Behind it all others queue in the order of their requests. So many
-    of these steps restore the state."""
+    """The second piece begins with a lock by an owner. After it all others queue in the order of their requests.
+
+    As many of these steps as the case says restore the state.
+    """
 
     def __init__(self, name, visits, owner, restoring):
         super().__init__(name, passed_over(visits))
@@ -188,8 +183,8 @@ class Pieces(Case):
     def written_otherwise(self):
         steps = [line for line in self.lines("2.pim") if line[0].isdigit()]
         pieces = [line for line in self.lines("names") if line.startswith("piece ")]
-        got = (pieces, self.lines("3.pim"), *steps[:1 + WAITERS])
-        return difference(got, (["piece 1 0", f"piece 2 {self.restoring}"], [], *self.begin))
+        why = difference((pieces, self.lines("3.pim")), (["piece 1 0", f"piece 2 {self.restoring}"], []))
+        return why or lines_differ(steps[:1 + WAITERS], self.begin)
 
 
 CROWDED = "more than 256 threads, or more than 256 mutexes, contend at one time\n"
@@ -229,5 +224,5 @@ def prefixes():
 def suite(folder):
     """Plays each case with the program that is built."""
     for case in [*stored(), *made(), *prefixes()]:
-        done = subprocess.run([str(IMPORTER), *case.prepare(folder)], capture_output=True, timeout=SECONDS)
-        check(f"the recording {case.name}", case.why(done.returncode, done.stdout.decode(), done.stderr.decode()))
+        status, out, err = answer([str(IMPORTER), *case.prepare(folder)])
+        check(f"the recording {case.name}", case.why(status, out.decode(), err.decode()))
