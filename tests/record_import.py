@@ -69,12 +69,12 @@ FINDINGS = {
         ["not bounded"]),
     "many": (0, [r"trace: .*; priorities as they are, SCHED_OTHER at 1"], ["not bounded", "deadlock"]),
 }
-# Recordings that are kept with the kernel's events: their status, their first lines, how many differences and threads each
-# must have. In lost_boost of conform/programs the owner's boost to 40 is lost as its base is set to 20. By lines 376 and 377
-# of its events the owner, 855, runs at 20 (79 of the kernel's) from 4204640730200 on, and unlocks at 4204645748165, 5.017965
-# ms later, while the third task of the trace, at 40, waits: 859, from 4203920529818 to 4204645775843. The log began at
-# 4203879842099. The boosts of chain are those of POSIX. In relock, 30687 sleeps in the FUTEX_LOCK_PI of its relock from 3057318320920 on, and has the mutex at
-# 3057338375905. The log began at 3057312124803.
+# Recordings that are kept with the kernel's events: their status, their first lines, how many differences and threads
+# each must have. In lost_boost of conform/programs the owner's boost to 40 is lost as its base is set to 20. By lines 376
+# and 377 of its events the owner, 855, runs at 20 (79 of the kernel's) from 4204640730200 on, and unlocks at
+# 4204645748165, 5.017965 ms later, while the third task of the trace, at 40, waits: 859, from 4203920529818 to
+# 4204645775843. The log began at 4203879842099. The boosts of chain are those of POSIX. In relock, 30687 sleeps in the
+# FUTEX_LOCK_PI of its relock from 3057318320920 on, and has the mutex at 3057338375905. The log began at 3057312124803.
 KERNEL = {
     "kernel_lost_boost": (1, [
         "lost_boost[855] ran at 20 for 5.017 ms from 0.760888 s on, POSIX gives 40 (waiter 3 mutex 1); "
@@ -594,6 +594,12 @@ def unwritten(log):
             check(f"a folder {name}", difference(got, (2, "", said, sorted(["chain.log", name]))))
 
 
+def put_back(log, before):
+    """Writes the files of a log's folder as they were."""
+    for name, data in before.items():
+        log.with_name(name).write_bytes(data)
+
+
 def refused_allocations(log):
     """Each allocation fails in turn."""
     before, faults, quiet, number = contents(log.parent), 0, 0, 0
@@ -602,12 +608,11 @@ def refused_allocations(log):
         while quiet < 8:
             number += 1
             status, out, said = faulty.run([IMPORTER, log], "alloc", "fail", number)
-            quiet = quiet + 1 if status == 0 else 0
-            if status and (status, out, said, contents(log.parent)) != (2, b"", b"pim-import: memory\n", before):
-                return check("an allocation that fails", f"{number}: status {status}, {out[-80:]!r}, {said[-80:]!r}")
             if status == 0:
-                for name, data in before.items():
-                    log.with_name(name).write_bytes(data)
+                put_back(log, before)
+            elif (status, out, said, contents(log.parent)) != (2, b"", b"pim-import: memory\n", before):
+                return check("an allocation that fails", f"{number}: status {status}, {out[-80:]!r}, {said[-80:]!r}")
+            quiet = quiet + 1 if status == 0 else 0
             faults += status != 0
     return check(f"{faults} allocations that fail", None if faults > 30 else "too few to be all")
 

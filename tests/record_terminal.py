@@ -109,7 +109,6 @@ class Terminal:
         self.close()
         return None if status is None else -os.WTERMSIG(status) if os.WIFSIGNALED(status) else os.WEXITSTATUS(status)
 
-
     def kill(self):
         """Kills what runs of the job, and the shell."""
         for process in filter(None, (self.program, self.job, self.shell)):
@@ -291,6 +290,13 @@ def tried(name, part, folder, kernel, tracefs):
     check(f"at a terminal{' with --kernel' if kernel else ''}: {name}", why)
 
 
+def end_left():
+    """Ends the jobs that a part has left, as one that broke off."""
+    for job in [*LEFT]:
+        job.kill()
+        job.close()
+
+
 def terminal(attempt, folder):
     """Each part at a terminal, without --kernel and with it. One that breaks off leaves the others as they are."""
     tracefs = Tracefs()
@@ -301,8 +307,6 @@ def terminal(attempt, folder):
         for kernel in ways:
             for name, part in PARTS.items():
                 attempt(tried, name, part, folder, kernel, tracefs)
-                for job in [*LEFT]:
-                    job.kill()
-                    job.close()
+                end_left()
     finally:
         tracefs.end()
