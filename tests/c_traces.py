@@ -36,7 +36,7 @@ def locked_often():
 
 
 def suite(machine):
-    """The texts that tests/suite replays on this machine."""
+    """The traces of suite/ and examples/, which tests/suite replays on the machine that it runs on."""
     texts = (file.read_bytes() for folder in ("suite/traces", "examples") for file in sorted((ROOT / folder).glob("*.pim")))
     replayed("the suite", program(), machine, texts)
 
