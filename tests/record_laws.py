@@ -16,8 +16,11 @@ MUTEX, WAIT, OWNER_DIED, SATURATED = 0x5000, 4, 0x80, 2**32 - 1
 
 
 def log_of_three(rows, processes=None, missing=0, times=None):
-    """Returns a log of three threads, which lacks so many numbers behind the rows. Thread t is of process 100.
-    Record n is of the time 1000 + 10 n, or of the nth of the times."""
+    """Returns a log of three threads, in which `missing` numbers follow that no record has.
+
+    Each thread is of process 100, unless `processes` has another. Record n is of the time 1000 + 10 n, or of the nth of
+    the times.
+    """
     return log_of(rows, 3, times, processes=processes, numbers=len(rows) + 1 + missing)
 
 

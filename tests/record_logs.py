@@ -65,7 +65,7 @@ WITH_LEVEL = ("fifo", "rr", "kept")
 
 
 def row_of(words):
-    """Returns the row of a record, and its text, by the words behind its time."""
+    """Returns the row of a record, and its text, by the words after its time."""
     thread, event = int(words[0]), EVENTS[words[1]]
     target = value = detail = how = 0
     text, rest = b"", iter(words[2:])
