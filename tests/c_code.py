@@ -1,4 +1,4 @@
-"""Checks of libpim's calls, and of the C around it: the files of c/heap, c/threads and c/pthreads, and refused blocks."""
+"""Checks of libpim's calls, and of the C around it: c/heap, c/threads, c/pthreads, and blocks that are refused."""
 import re
 
 from c_common import C, HERE, OUT, expect, run, said

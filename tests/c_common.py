@@ -13,7 +13,8 @@ README = (C / "README.md").read_text()
 def run(*command, text=None, **settings):
     """Returns status and standard output of a run, with standard error where the status isn't 0."""
     try:
-        done = subprocess.run([str(word) for word in command], input=text, capture_output=True, timeout=SECONDS, **settings)
+        words = [str(word) for word in command]
+        done = subprocess.run(words, input=text, capture_output=True, timeout=SECONDS, **settings)
     except subprocess.TimeoutExpired:
         return 124, b"it hangs"
     return done.returncode, done.stdout + (done.stderr if done.returncode else b"")

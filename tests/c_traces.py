@@ -37,8 +37,8 @@ def locked_often():
 
 def suite(machine):
     """The traces of suite/ and examples/, which tests/suite replays on the machine that it runs on."""
-    texts = (file.read_bytes() for folder in ("suite/traces", "examples") for file in sorted((ROOT / folder).glob("*.pim")))
-    replayed("the suite", program(), machine, texts)
+    files = [file for folder in ("suite/traces", "examples") for file in sorted((ROOT / folder).glob("*.pim"))]
+    replayed("the suite", program(), machine, (file.read_bytes() for file in files))
 
 
 def replays(machine):

@@ -78,7 +78,8 @@ def lines_read():
 
 def commands(folder):
     """Commands that are run: their outputs, statuses, and what ends one that hangs."""
-    same("a command's outputs", compare.run(["sh", "-c", "cat; echo ' why ' >&2; exit 3"], "in", SECONDS), 3, "in", "why")
+    done = compare.run(["sh", "-c", "cat; echo ' why ' >&2; exit 3"], "in", SECONDS)
+    same("a command's outputs", done, 3, "in", "why")
     slow = script(folder, "slow", "exec sleep 100")
     began = time.monotonic()
     same("a command that hangs is ended", fault_of(compare.run, [str(slow)], "", 1), "slow didn't end within 1 s", 2)
@@ -457,5 +458,5 @@ def expected_lines():
 # ---- all
 
 PARTS = (lines_read, commands, performers, differences, causes_beside, random_texts, several_causes, shorter_texts,
-         fuzz_of, unknown_to_both, walks, options, programs, rights_first, outputs, several_texts, before_texts, endings,
-         expected_lines)
+         fuzz_of, unknown_to_both, walks, options, programs, rights_first, outputs, several_texts, before_texts,
+         endings, expected_lines)

@@ -70,8 +70,8 @@ FINDINGS = {
     "many": (0, [r"trace: .*; priorities as they are, SCHED_OTHER at 1"], ["not bounded", "deadlock"]),
 }
 # Recordings that are kept with the kernel's events: their status, their first lines, how many differences and threads
-# each must have. In lost_boost of conform/programs the owner's boost to 40 is lost as its base is set to 20. By lines 376
-# and 377 of its events the owner, 855, runs at 20 (79 of the kernel's) from 4204640730200 on, and unlocks at
+# each must have. In lost_boost of conform/programs the owner's boost to 40 is lost as its base is set to 20. By lines
+# 376 and 377 of its events the owner, 855, runs at 20 (79 of the kernel's) from 4204640730200 on, and unlocks at
 # 4204645748165, 5.017965 ms later, while the third task of the trace, at 40, waits: 859, from 4203920529818 to
 # 4204645775843. The log began at 4203879842099. The boosts of chain are those of POSIX. In relock, 30687 sleeps in the
 # FUTEX_LOCK_PI of its relock from 3057318320920 on, and has the mutex at 3057338375905. The log began at 3057312124803.
@@ -163,7 +163,10 @@ class Import:
         return self.uncounted() or self.waits_for_itself() or self.rejected()
 
     def waits_for_itself(self):
-        """Returns the line of a thread that waits for a mutex of its own. One that locks its own mutex again has no line."""
+        """Returns the line of a thread that waits for a mutex of its own, or None.
+
+        A thread that locks its own mutex again has no such line either.
+        """
         waits = (re.match(r"(.*\[\d+\]), at .* wait(?:s|ed) .* of (.*\[\d+\]), at ", line) for line in self.lines)
         return next((wait[0] for wait in waits if wait and wait[1] == wait[2]), None)
 
@@ -409,7 +412,7 @@ def alone_damaged(log, events):
 
 
 def static(folder):
-    """A static program is recorded with --kernel, and high waits for low, which is boosted to 30, most of the 40 ms of low."""
+    """A static program is recorded with --kernel: high waits for low, boosted to 30, for most of the 40 ms of low."""
     program, log = pathlib.Path(folder, "static"), pathlib.Path(folder, "run")
     source = ROOT / "record/programs/inversion.c"
     if run("cc", "-O2", "-pthread", "-static", source, "-o", program).returncode:
@@ -582,7 +585,8 @@ def unwritten(log):
     before, said = contents(log.parent), f"pim-import: {UNWRITTEN}\n".encode()
     for words in ([], ["--json"]):
         with open("/dev/full", "wb") as full:
-            done = subprocess.run([IMPORTER, *words, log], stdout=full, stderr=subprocess.PIPE, timeout=SECONDS, check=False)
+            how = {"stdout": full, "stderr": subprocess.PIPE, "timeout": SECONDS, "check": False}
+            done = subprocess.run([IMPORTER, *words, log], **how)
         got = done.returncode, done.stderr, contents(log.parent) == before
         check(f"an output that is full {words}", difference(got, (2, said, True)))
     for name in ("chain.log.names", "chain.log.names.part"):
@@ -590,7 +594,8 @@ def unwritten(log):
             other = shutil.copy(log, folder)
             pathlib.Path(folder, name).mkdir()
             found = Import(other)
-            got = found.status, found.text, found.said.encode(), sorted(path.name for path in pathlib.Path(folder).iterdir())
+            left = sorted(path.name for path in pathlib.Path(folder).iterdir())
+            got = found.status, found.text, found.said.encode(), left
             check(f"a folder {name}", difference(got, (2, "", said, sorted(["chain.log", name]))))
 
 

@@ -24,7 +24,7 @@ reader = module(ROOT / "record/pim-log")
 
 
 def log_of(rows, chunks=2, times=None, tasks=None, processes=None, **fields):
-    """Returns a log: thread, event, object, value, detail and how of each record; or thread, event and a part of a text.
+    """Returns a log of rows: thread, event, object, value, detail and how; or thread, event and a part of a text.
 
     Each thread has a chunk. Unless it is said, record n is of the time 1000 + 10 n, and thread t is task 99 + t of
     process 100. The fields are those of the header.
