@@ -64,7 +64,7 @@ impl Walk {
             let mut turns = Vec::new(alloc);
             push(
                 &mut turns,
-                make_turn(None, (Reason::Base, None), (0, 0), false),
+                make_turn(None, Reason::Base, None, (0, 0), false),
             )?;
             push(&mut courses, Course { turns })?;
         }
@@ -169,14 +169,18 @@ impl Walk {
             Some(prio) => self.levels.get(prio.get() as usize).copied(),
             None => None,
         };
-        let next = make_turn(level, (reason, self.waiter_in(reason)), bounds, is_set);
+        let waiter = self.waiter_in(&reason);
+        let next = make_turn(level, reason, waiter, bounds, is_set);
         push(&mut self.courses[thread].turns, next)
     }
 
     /// Returns the thread whose wait is the reason for a priority now.
-    fn waiter_in(&self, reason: Reason) -> Option<u32> {
+    fn waiter_in(&self, reason: &Reason) -> Option<u32> {
         match reason {
-            Reason::Waiter(task, _mutex) => { self.threads.get(task.get() as usize).copied() }
+            Reason::Waiter(task, _mutex) => match self.threads.get(task.get() as usize) {
+                Some(thread) if *thread != 0 => Some(*thread),
+                _ => None,
+            },
             Reason::Base | Reason::Ceiling(_) => None,
         }
     }
@@ -184,7 +188,8 @@ impl Walk {
 
 fn make_turn(
     level: Option<u8>,
-    (reason, waiter): (Reason, Option<u32>),
+    reason: Reason,
+    waiter: Option<u32>,
     (earliest, latest): (u64, u64),
     is_set: bool,
 ) -> Turn {
