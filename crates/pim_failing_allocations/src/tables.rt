@@ -43,50 +43,49 @@ fn copied_tables_out_of_memory(rt: HostRuntime) -> Result<(), Fail> {
     expect_right(&rt, is_copy)
 }
 
-fn insert(rt: &impl Abort, queue: &mut Queue, waiter: Waiter) {
+/// Lets task 1 wait at 10, with ticket 7.
+fn insert(rt: &impl Abort, queue: &mut Queue) {
+    let (task, ticket) = (TaskNo(1), 7);
+    let prio = Prio::new(10).expect(rt, "a priority");
     assert!(rt; queue.has_room());
-    assert!(rt; !queue.contains(waiter.task) && !queue.has_ticket(waiter.ticket));
-    queue.insert(waiter);
+    assert!(rt; !queue.contains(task) && !queue.has_ticket(ticket));
+    queue.insert(Waiter { task, prio, ticket });
 }
 
-/// Returns a queue with room for 2, in which the waiter waits, unless an allocation failed.
-fn queue_of(rt: &impl Abort, alloc: Global, waiter: Waiter) -> Result<Queue, AllocError> {
+/// Returns a queue with room for 2, in which task 1 waits, unless an allocation failed.
+fn queue_of_one(rt: &impl Abort, alloc: Global) -> Result<Queue, AllocError> {
     let mut queue = Queue::new(alloc, 2)?;
-    insert(rt, &mut queue, waiter);
+    insert(rt, &mut queue);
     Ok(queue)
 }
 
-fn waiter() -> Result<Waiter, Fail> {
-    Ok(Waiter {
-        task: TaskNo(1),
-        prio: Prio::new(10).ok_or("a priority")?,
-        ticket: 7,
-    })
+/// Returns whether task 1 waits, with its priority and its ticket, and there is room for another one.
+fn has_one(queue: &Queue) -> bool {
+    match queue.as_slice() {
+        [one] => {
+            one.task == TaskNo(1) && one.prio.get() == 10 && one.ticket == 7 && queue.has_room()
+        }
+        _ => false,
+    }
 }
 
-fn has_one(queue: &Queue, waiter: Waiter) -> bool {
-    queue.as_slice() == [waiter].as_slice() && queue.has_room()
-}
-
-/// Returns whether the waiter is the one of the queue, or `None` if there is no queue.
-fn has_one_if_made(made: Result<Queue, AllocError>, waiter: Waiter) -> Option<bool> {
+/// Returns whether the queue has its one waiter, or `None` if there is no queue.
+fn has_one_if_made(made: Result<Queue, AllocError>) -> Option<bool> {
     let queue = made.ok()?;
-    Some(has_one(&queue, waiter))
+    Some(has_one(&queue))
 }
 
 #[test]
 fn queue_out_of_memory(rt: HostRuntime) -> Result<(), Fail> {
-    let waiter = waiter()?;
-    let made = queue_of(&rt, rt.alloc(), waiter);
-    expect_right(&rt, has_one_if_made(made, waiter))
+    let made = queue_of_one(&rt, rt.alloc());
+    expect_right(&rt, has_one_if_made(made))
 }
 
 #[test]
 fn copied_queue_out_of_memory(rt: HostRuntime) -> Result<(), Fail> {
-    let waiter = waiter()?;
-    let queue = queue_of(&rt, rt.alloc(), waiter).map_err(|_error| BEFORE)?;
-    let is_copy = has_one_if_made(queue.try_clone(rt.alloc()), waiter);
-    let is_unchanged = has_one(&queue, waiter);
+    let queue = queue_of_one(&rt, rt.alloc()).map_err(|_error| BEFORE)?;
+    let is_copy = has_one_if_made(queue.try_clone(rt.alloc()));
+    let is_unchanged = has_one(&queue);
     drop(queue);
     assert!(rt; is_unchanged);
     expect_right(&rt, is_copy)
