@@ -276,7 +276,6 @@ async function leftEdge() {
 /** Shows which replies of long lines are cut or covered on a narrow page, and whether the caret is. */
 async function narrowReplies() {
   await page.size(390, 844, false)
-  await page.load('about:blank')
   await page.load(`${address}#trace=${encodeURIComponent(input.narrow)}`)
   await settled()
   const seen = () => page.evaluate(`(() => {
