@@ -821,6 +821,7 @@ async function keysOfLines() {
       const place = lines.slice(0, ${line}).join('\\n').length
       it.setSelectionRange(place, place); it.onclick(); document.getElementById('editor').scrollTop = 21 * ${line} - 200 }`)
     await settled()
+    await page.evaluate(TWO_FRAMES) // what was drawn before the keys is laid out before them, too
     show(`keys, ${name}`, await watched(names))
     show(`words wrongly hidden, ${name}`, await page.evaluate(WRONGLY_HIDDEN))
   }
