@@ -2,12 +2,14 @@
 ghost use Rattle.std.specs.Prelude.{IfOk};
 ghost use Rattle.pim_comparison.specs.Orders.{IsLongestFirst};
 
-use crate::courses::{Course, courses_of};
+use crate::courses::{Course, Waiter, courses_of};
+use crate::difference::{Difference, differences};
 use crate::lists::push;
+use crate::mark::{Mark, widen};
 use crate::timing::{Timing, first_from};
 use pim_base::Reason;
 use pim_import::Imported;
-use pim_kernel::{Call, Difference, Mark, Recording, Track, Tracks, differences, widen};
+use pim_kernel::{Call, Recording, Track, Tracks};
 use pim_log::Log;
 use std::alloc::{AllocError, Global};
 use std::collections::HashMap;
@@ -27,7 +29,7 @@ pub struct Found {
 }
 
 /// A wait that a thread lengthened which ran at too low a priority.
-#[derive(Clone, Copy, Debug, PartialEq, Eq)]
+#[derive(Clone, Copy, PartialEq, Eq)]
 pub struct Lengthened {
     /// The thread that waited, by its number in the log.
     pub thread: u32,
@@ -125,7 +127,7 @@ impl Compared {
         thread: usize,
         tolerance: u64,
     ) -> Result<(), AllocError> {
-        let Some(logged) = imported.sources.subjects.threads.get(thread) else {
+        let Some(logged) = imported.sources.ids.threads.get(thread) else {
             return Ok(());
         };
         let Some(track) = sources.tracks.of_task(logged.task) else {
@@ -184,23 +186,25 @@ impl Compared {
     }
 }
 
-/// Returns the wait of a thread that overlaps with a difference of another, by the kernel's events.
+/// Returns the wait of a thread for a mutex that overlaps with a difference of another, by the kernel's events.
 fn wait_during(
     imported: &Imported,
     tracks: &Tracks,
-    waiter: Option<u32>,
+    waiter: Option<Waiter>,
     difference: &Difference,
 ) -> Option<Lengthened> {
-    let thread = waiter?;
-    let subject = imported.sources.subjects.threads.get(thread as usize)?;
-    let track = tracks.of_task(subject.task)?;
+    let Waiter { thread, mutex } = waiter?;
+    let ids = &imported.sources.ids;
+    let address = ids.mutex(mutex)?.address;
+    let track = tracks.of_task(ids.threads.get(thread as usize)?.task)?;
     let calls = track.calls.as_slice();
     for place in (0..first_from(calls, difference.end).min(calls.len())).rev() {
         let call = calls[place];
         if call.end <= difference.begin {
             break;
         }
-        if !call.is_unlock && call.slept != 0 && call.slept < difference.end {
+        let is_wait = !call.is_unlock && call.address == address && call.slept != 0;
+        if is_wait && call.slept < difference.end {
             return Some(wait_of_call(thread, &call));
         }
     }
@@ -250,7 +254,7 @@ fn marks_of(alloc: Global, course: &Course, ended: u64) -> Result<Vec<Mark>, All
 /// Returns how many threads of the log had each number of the kernel's.
 fn counts_of(alloc: Global, imported: &Imported) -> Result<HashMap<u32, u32>, AllocError> {
     let mut counts = HashMap::new(alloc);
-    for thread in &imported.sources.subjects.threads {
+    for thread in &imported.sources.ids.threads {
         let before: u32 = counts.get(&thread.task).copied().unwrap_or(0);
         if counts
             .insert(thread.task, before.saturating_add(1))

@@ -1,11 +1,12 @@
 //! The priority of each thread after each step of a trace.
 
 use crate::lists::push;
+use crate::mark::Mark;
 use crate::timing::Timing;
 use pim_base::{Op, Prio, Protocol, Reason, Step, TaskNo};
-use pim_import::{Entrance, Imported, Piece};
-use pim_kernel::Mark;
+use pim_import::{Appearance, Imported};
 use pim_manager::{Manager, TrackedManager};
+use pim_replay::Piece;
 use std::alloc::{AllocError, Global};
 
 /// The priority of a thread from some step on.
@@ -14,8 +15,16 @@ pub struct Turn {
     pub mark: Mark,
     /// Why it has that priority.
     pub reason: Reason,
-    /// The thread that waits, by its number in the log, if that is the reason.
-    pub waiter: Option<u32>,
+    /// Who waits for what, if that is the reason.
+    pub waiter: Option<Waiter>,
+}
+
+/// A thread that waits for a mutex, by their numbers in the log. While the thread that it boosts has the same priority,
+/// another may have become the first waiter in its place.
+#[derive(Clone, Copy, PartialEq, Eq)]
+pub struct Waiter {
+    pub thread: u32,
+    pub mutex: u32,
 }
 
 /// The priorities of a thread, the earliest first. The first allows any.
@@ -31,6 +40,8 @@ struct Walk {
     courses: Vec<Course>,
     /// By task the thread that has its number now, or 0.
     threads: Vec<u32>,
+    /// By mutex of the trace that of the log which has its number now, or 0.
+    mutexes: Vec<u32>,
     /// How many of those who appear have appeared.
     entered: usize,
     /// How many steps there were, without those that restore a state.
@@ -50,7 +61,7 @@ pub fn courses_of(
     timing: &Timing,
 ) -> Result<Vec<Course>, AllocError> {
     let mut walk = Walk::new(alloc, imported)?;
-    for piece in &imported.performed.pieces {
+    for piece in &imported.built.pieces {
         walk.follow(alloc, imported, timing, piece)?;
     }
     let Walk { courses, .. } = walk;
@@ -60,7 +71,7 @@ pub fn courses_of(
 impl Walk {
     fn new(alloc: Global, imported: &Imported) -> Result<Walk, AllocError> {
         let mut courses = Vec::new(alloc);
-        for _thread in &imported.sources.subjects.threads {
+        for _thread in &imported.sources.ids.threads {
             let mut turns = Vec::new(alloc);
             push(
                 &mut turns,
@@ -71,6 +82,7 @@ impl Walk {
         Ok(Walk {
             courses,
             threads: vec![in alloc; 0; 257]?,
+            mutexes: vec![in alloc; 0; 257]?,
             entered: 0,
             steps: 0,
             levels: levels_of(imported),
@@ -116,35 +128,37 @@ impl Walk {
         manager: &Manager,
         bounds: (u64, u64),
     ) -> Result<(), AllocError> {
-        let entrances = imported.performed.entrances.as_slice();
-        for place in self.entered..entrances.len() {
-            let entrance = entrances[place];
-            if entrance.step > self.steps {
+        let appearances = imported.built.appearances.as_slice();
+        for place in self.entered..appearances.len() {
+            let appearance = appearances[place];
+            if appearance.step > self.steps {
                 break;
             }
             self.entered = place + 1;
-            self.appear(imported, manager, &entrance, bounds)?;
+            self.appear(imported, manager, &appearance, bounds)?;
         }
         Ok(())
     }
 
-    /// Lets a thread appear. The one that had its number leaves.
+    /// Lets a thread or a mutex appear. The one that had its number leaves.
     fn appear(
         &mut self,
         imported: &Imported,
         manager: &Manager,
-        entrance: &Entrance,
+        appearance: &Appearance,
         bounds: (u64, u64),
     ) -> Result<(), AllocError> {
-        if entrance.thread == 0 {
+        put(
+            &mut self.mutexes,
+            imported.numbering.mutexes.of(appearance.mutex),
+            appearance.mutex,
+        );
+        if appearance.thread == 0 {
             return Ok(());
         }
-        let task = TaskNo(imported.numbering.threads.of(entrance.thread));
+        let task = TaskNo(imported.numbering.threads.of(appearance.thread));
         self.note(task, None, Reason::Base, bounds, false)?;
-        let place = task.get() as usize;
-        if place < self.threads.len() {
-            self.threads[place] = entrance.thread;
-        }
+        put(&mut self.threads, task.get(), appearance.thread);
         let reason = manager.reason(task).unwrap_or(Reason::Base);
         self.note(task, manager.effective(task), reason, bounds, false)
     }
@@ -158,10 +172,7 @@ impl Walk {
         bounds: (u64, u64),
         is_set: bool,
     ) -> Result<(), AllocError> {
-        let thread = match self.threads.get(task.get() as usize) {
-            Some(thread) => *thread as usize,
-            None => 0,
-        };
+        let thread = get(&self.threads, task.get()) as usize;
         if thread == 0 || thread >= self.courses.len() {
             return Ok(());
         }
@@ -174,22 +185,36 @@ impl Walk {
         push(&mut self.courses[thread].turns, next)
     }
 
-    /// Returns the thread whose wait is the reason for a priority now.
-    fn waiter_in(&self, reason: &Reason) -> Option<u32> {
-        match reason {
-            Reason::Waiter(task, _mutex) => match self.threads.get(task.get() as usize) {
-                Some(thread) if *thread != 0 => Some(*thread),
-                _ => None,
-            },
-            Reason::Base | Reason::Ceiling(_) => None,
+    /// Returns whose wait is the reason for a priority now.
+    fn waiter_in(&self, reason: &Reason) -> Option<Waiter> {
+        let Reason::Waiter(task, mutex) = reason else {
+            return None;
+        };
+        let thread = get(&self.threads, task.get());
+        let mutex = get(&self.mutexes, mutex.get());
+        if thread != 0 && mutex != 0 {
+            Some(Waiter { thread, mutex })
+        } else {
+            None
         }
+    }
+}
+
+/// Returns who has a number of the trace now, or 0.
+fn get(list: &[u32], number: u16) -> u32 {
+    list.get(number as usize).copied().unwrap_or(0)
+}
+
+fn put(list: &mut Vec<u32>, number: u16, one: u32) {
+    if (number as usize) < list.len() {
+        list[number as usize] = one;
     }
 }
 
 fn make_turn(
     level: Option<u8>,
     reason: Reason,
-    waiter: Option<u32>,
+    waiter: Option<Waiter>,
     (earliest, latest): (u64, u64),
     is_set: bool,
 ) -> Turn {
@@ -225,7 +250,7 @@ fn set_by(step: &Step, manager: &Manager) -> TaskNo {
 fn levels_of(imported: &Imported) -> [u8; 100] {
     let mut levels = [0u8; 100];
     for level in 0..101u8 {
-        if imported.sources.subjects.levels[level as usize] {
+        if imported.sources.ids.levels[level as usize] {
             let prio = imported.priorities.of_level(level).get() as usize;
             if prio < 100 {
                 levels[prio] = level;

@@ -1,8 +1,8 @@
 //! Whether the threads of a recorded program ran at the priorities that POSIX gives them.
 //!
-//! A trace of [`import_log`](pim_import::import_log) says which priority each thread should have after each step, and a
-//! [`Recording`](pim_kernel::Recording) at which it ran. [`compare`] returns where these differ for longer than a
-//! tolerance.
+//! A trace of [`import_log`](pim_import::import_log) says which priority each thread should have
+//! after each step, and a [`Recording`](pim_kernel::Recording) at which it ran. [`compare`]
+//! returns where these differ for longer than a tolerance.
 //!
 //! ```text
 //! let recording = Recording::read(alloc, &bytes)?;
@@ -11,17 +11,23 @@
 //! compared.found.first(); // Some: a thread that ran at another priority, and for how long
 //! ```
 //!
-//! `waits.rt` has the waits that the kernel's events show, so that the trace has those that the log lacks.
-//! `timing.rt` has when each step was done: a release at FUTEX_UNLOCK_PI, a grant at the return of FUTEX_LOCK_PI, where the
-//! kernel's events have these calls, else a grant at some time in its call. `courses.rt` has the priority of each thread
-//! after each step. It is proved that the longest difference comes first; that each one is right is tested.
+//! `waits.rt` has the waits that the kernel's events show, so that the trace has those that the
+//! log lacks. `timing.rt` has when each step was done: a release at FUTEX_UNLOCK_PI, a grant at
+//! the return of FUTEX_LOCK_PI, where the kernel's events have these calls, else a grant at some
+//! time in its call. `courses.rt` has the priority of each thread after each step, as [`Mark`]s.
+//! [`differences`] compares the marks of a thread with the stretches in which it ran. It is proved
+//! that the longest difference comes first; that each one is right is tested.
 #![tactic(auto)]
 
 mod comparing;
 mod courses;
+mod difference;
 mod lists;
+mod mark;
 mod timing;
 mod waits;
 
 pub use comparing::{Compared, Found, Lengthened, compare};
+pub use difference::{Difference, differences};
+pub use mark::{Mark, widen};
 pub use waits::waits_of;

@@ -48,7 +48,7 @@ impl Timing {
     }
 
     fn take_times(&mut self, imported: &Imported) -> Result<(), AllocError> {
-        for piece in &imported.performed.pieces {
+        for piece in &imported.built.pieces {
             for time in &piece.times {
                 put(&mut self.bounds, *time, (*time, *time))?;
             }
@@ -63,7 +63,7 @@ impl Timing {
         imported: &Imported,
         tracks: &Tracks,
     ) -> Result<(), AllocError> {
-        let threads = imported.sources.subjects.threads.len();
+        let threads = imported.sources.ids.threads.len();
         let mut last: Vec<u64> = vec![in alloc; 0; threads]?;
         for number in 1..log.header().end() {
             let Some(record) = log.record(number) else {
@@ -102,7 +102,7 @@ impl Timing {
             Event::Granted => {
                 let earliest = match last_return(track, record.time, next.time) {
                     Some(end) => end,
-                    None => begin_of(next).max(record.time),
+                    None => next.began().unwrap_or(0).max(record.time),
                 };
                 self.put(next.time, (earliest, next.time))
             }
@@ -157,7 +157,7 @@ impl Timing {
             if self.bounds.get(&request.time).is_none() {
                 continue;
             }
-            let threads = &imported.sources.subjects.threads;
+            let threads = &imported.sources.ids.threads;
             let Some(thread) = threads.get(request.thread as usize) else {
                 continue;
             };
@@ -173,7 +173,7 @@ impl Timing {
 
     /// Finds the waits whose requests neither the log nor the trace has.
     fn take_unknown(&mut self, imported: &Imported, tracks: &Tracks) -> Result<(), AllocError> {
-        for thread in &imported.sources.subjects.threads {
+        for thread in &imported.sources.ids.threads {
             if let Some(track) = tracks.of_task(thread.task) {
                 for call in &track.calls {
                     let is_wait = !call.is_unlock && call.slept != 0;
@@ -209,14 +209,6 @@ fn call_asleep(track: &Track, time: u64) -> Option<Call> {
     let place = first_from(calls, time).checked_sub(1)?;
     let call = *calls.get(place)?;
     if call.slept == time { Some(call) } else { None }
-}
-
-/// Returns when the call began that a record of a grant ends, or 0 if the record doesn't say.
-fn begin_of(record: &Record) -> u64 {
-    match record.took() {
-        Some(took) => record.time.saturating_sub(u64::from(took)),
-        None => 0,
-    }
 }
 
 /// Returns when the last lock call that began between two times returned, if it returned by then.

@@ -1,7 +1,7 @@
 //! The waits that the kernel's events show.
 
 use crate::lists::push;
-use pim_import::Wait;
+use pim_course::Wait;
 use pim_kernel::{Recording, Track, Tracks, What};
 use std::alloc::{AllocError, Global};
 use std::collections::HashMap;

@@ -1,52 +1,9 @@
-//! Why spans don't get numbers, why a program isn't replayed, and why a log isn't imported.
+//! Why a log isn't imported.
 ghost use Rattle.std.specs.Prelude.{◌≡◌};
-ghost use Rattle.pim_import.specs.declared.fault.SharingFault.TheVariants as sharing;
-ghost use Rattle.pim_import.specs.declared.fault.ReplayFault.TheVariants as replay;
 ghost use Rattle.pim_import.specs.declared.fault.ImportFault.TheVariants as import;
 
 use std::alloc::AllocError;
 use thiserror::Error;
-
-/// Why spans don't get numbers.
-#[derive(Clone, Copy, Debug, PartialEq, Eq, Error)]
-pub enum SharingFault {
-    /// The span at this index begins before the one in front of it.
-    #[error("index {0}: it begins before the one in front of it")]
-    OutOfOrder(usize),
-    /// When the span at this index begins, as many earlier ones last as there are numbers.
-    #[error("index {0}: too many last at one time")]
-    Crowded(usize),
-    /// Out of memory.
-    #[error("out of memory")]
-    Memory,
-}
-
-impl From<AllocError> for SharingFault {
-    ghost from_gives = { λ _ fault. fault ≡ sharing.Memory };
-
-    fn from(_error: AllocError) -> SharingFault {
-        SharingFault::Memory
-    }
-}
-
-/// Why an observation isn't replayed.
-#[derive(Clone, Copy, Debug, PartialEq, Eq, Error)]
-pub enum ReplayFault {
-    /// The model's reply to the last step isn't how the program was observed to go on.
-    #[error("the record contradicts those before it")]
-    Contradiction,
-    /// Out of memory.
-    #[error("out of memory")]
-    Memory,
-}
-
-impl From<AllocError> for ReplayFault {
-    ghost from_gives = { λ _ fault. fault ≡ replay.Memory };
-
-    fn from(_error: AllocError) -> ReplayFault {
-        ReplayFault::Memory
-    }
-}
 
 /// Why a log isn't imported.
 #[derive(Clone, Copy, Debug, PartialEq, Eq, Error)]
@@ -54,12 +11,12 @@ pub enum ImportFault {
     /// The record with this number contradicts those before it.
     #[error("record {0}: it contradicts the records before it")]
     Contradiction(u64),
-    /// The thread of the record with this number has a number above [`MAX_THREADS`](crate::MAX_THREADS).
+    /// The thread of the record with this number has a number above [`MAX_THREADS`](pim_facts::MAX_THREADS).
     #[error("record {0}: it has more threads than can be imported, which are 4194304")]
     TooManyThreads(u64),
     /// More threads take part at one time than a trace has numbers for. Or the mutexes need more numbers: those of one
     /// protocol as many as take part at one time, and the three protocols share none.
-    #[error("more than 256 threads, or more than 256 mutexes, contend at one time")]
+    #[error("more than 256 threads contend at one time, or the mutexes need more than 256 numbers")]
     Crowded,
     /// Threads have more priorities than a trace has: 1 to 99 of SCHED_FIFO or SCHED_RR, and others.
     #[error("threads and ceilings have more than 99 priorities")]

@@ -3,25 +3,24 @@
 ghost use Rattle.std.specs.Prelude.{◌≡◌, ◌↔◌, IsTrue};
 ghost use Rattle.pim_import.specs.LeftOut.{ChangesNoPriority, MayBeLeftOut, IsNotHandedOver, IsUnawaited};
 
-use crate::course::{Course, CourseMutex, Sources};
-use crate::family::Family;
-use crate::numbering::family_of;
-use crate::sight::{Sight, What};
+use pim_course::{Course, CourseMutex, Sources, family_of};
+use pim_facts::{Fact, Family, What};
 
-/// Returns whether a trace may be without a sight, which the last record of the course shows: it changes no priority.
-pub(crate) fn may_be_left_out(course: &Course, sources: &Sources, sight: &Sight) -> bool
-    ensures { IsTrue result ↔ MayBeLeftOut course.now sources.now sight.now }
+/// Returns whether a trace may be without a fact, which the last record of the course shows: it
+/// changes no priority.
+pub(crate) fn may_be_left_out(course: &Course, sources: &Sources, fact: &Fact) -> bool
+    ensures { IsTrue result ↔ MayBeLeftOut course.now sources.now fact.now }
 {
-    let mutex = course.mutex(sight.mutex);
-    changes_no_priority(family_of(sources, sight.mutex), &mutex, sight)
+    let mutex = course.mutex(fact.mutex);
+    changes_no_priority(family_of(sources, fact.mutex), &mutex, fact)
 }
 
-/// Returns whether a sight of a mutex of this protocol, which is so after it, changes no priority.
-fn changes_no_priority(family: Family, mutex: &CourseMutex, sight: &Sight) -> bool
-    ensures { IsTrue result ↔ ChangesNoPriority sight.now.what family mutex.now sight.now }
+/// Returns whether a fact of a mutex of this protocol, which is so after it, changes no priority.
+fn changes_no_priority(family: Family, mutex: &CourseMutex, fact: &Fact) -> bool
+    ensures { IsTrue result ↔ ChangesNoPriority fact.now.what family mutex.now fact.now }
 {
-    match sight.what {
-        What::Granted => is_unawaited(family, mutex) && is_not_handed_over(sight),
+    match fact.what {
+        What::Granted => is_unawaited(family, mutex) && is_not_handed_over(fact),
         What::Released(_) => is_unawaited(family, mutex),
         What::Waits | What::GaveUp => mutex.owner == 0,
         What::Ceiling(_) => mutex.owner == 0 || family != Family::Protect,
@@ -36,9 +35,10 @@ fn is_unawaited(family: Family, mutex: &CourseMutex) -> bool
     mutex.waiting == 0 && family != Family::Protect
 }
 
-/// Returns whether the thread didn't wait for the mutex before the ownership that it is granted.
-fn is_not_handed_over(sight: &Sight) -> bool
-    ensures { IsTrue result ↔ IsNotHandedOver sight.now }
+/// Returns whether the thread didn't wait for the mutex before the critical section that it is
+/// granted.
+fn is_not_handed_over(fact: &Fact) -> bool
+    ensures { IsTrue result ↔ IsNotHandedOver fact.now }
 {
-    sight.since == 0 || sight.since == sight.episode
+    fact.since == 0 || fact.since == fact.section
 }

@@ -1,16 +1,14 @@
 //! The numbers that threads and mutexes have in a trace.
-ghost use Rattle.std.specs.Prelude.{◌≡◌, IfErr};
+ghost use Rattle.std.specs.Prelude.{IfErr};
 ghost use Rattle.pim_import.specs.Faults.{NamesNone};
-ghost use Rattle.pim_import.specs.LeftOut.{family_in};
 
-use crate::cast::{Cast, Part};
-use crate::course::Sources;
-use crate::family::Family;
-use crate::fault::{ImportFault, SharingFault};
+use crate::fault::ImportFault;
 use crate::lists::push;
-use crate::sharing::share;
-use crate::span::Span;
+use crate::participants::{Participant, Participants};
 use pim_base::{MAX_MUTEXES, MAX_TASKS};
+use pim_course::{Sources, family_of};
+use pim_facts::Family;
+use pim_replay::{SharingFault, Span, share};
 use std::alloc::{AllocError, Global};
 
 /// The numbers that threads and mutexes have in a trace.
@@ -38,20 +36,24 @@ impl Numbering {
     /// # Errors
     ///
     /// Returns `Crowded` if more than 256 threads or mutexes take part at one time, and `Memory` if out of memory.
-    pub fn of(alloc: Global, sources: &Sources, cast: &Cast) -> Result<Numbering, ImportFault>
+    pub fn of(
+        alloc: Global,
+        sources: &Sources,
+        participants: &Participants,
+    ) -> Result<Numbering, ImportFault>
         ensures { IfErr result NamesNone }
     {
-        let mut threads = Numbers::new(alloc, cast.threads.len())?;
-        let everyone = in_order(alloc, &cast.threads)?;
-        threads.give(alloc, &everyone, &cast.threads, MAX_TASKS as usize)?;
-        let mut mutexes = Numbers::new(alloc, cast.mutexes.len())?;
-        let all = in_order(alloc, &cast.mutexes)?;
+        let mut threads = Numbers::new(alloc, participants.threads.len())?;
+        let everyone = in_order(alloc, &participants.threads)?;
+        threads.give(alloc, &everyone, &participants.threads, MAX_TASKS as usize)?;
+        let mut mutexes = Numbers::new(alloc, participants.mutexes.len())?;
+        let all = in_order(alloc, &participants.mutexes)?;
         if all.len() <= MAX_MUTEXES as usize {
-            mutexes.give(alloc, &all, &cast.mutexes, MAX_MUTEXES as usize)?;
+            mutexes.give(alloc, &all, &participants.mutexes, MAX_MUTEXES as usize)?;
         } else {
             for family in [Family::None, Family::Inherit, Family::Protect] {
                 let some = of_family(alloc, sources, &all, family)?;
-                mutexes.give(alloc, &some, &cast.mutexes, MAX_MUTEXES as usize)?;
+                mutexes.give(alloc, &some, &participants.mutexes, MAX_MUTEXES as usize)?;
             }
         }
         Ok(Numbering { threads, mutexes })
@@ -86,14 +88,14 @@ impl Numbers {
         &mut self,
         alloc: Global,
         some: &[(u64, u32)],
-        parts: &[Part],
+        participants: &[Participant],
         limit: usize,
     ) -> Result<(), ImportFault>
         ensures { IfErr result NamesNone }
     {
         let given = self.firsts.len();
         let room = limit.saturating_sub(given);
-        let numbers = numbers_of(alloc, some, parts, room)?;
+        let numbers = numbers_of(alloc, some, participants, room)?;
         for place in 0..some.len() {
             let (_begin, one) = some[place];
             let number = match numbers.get(place) {
@@ -116,7 +118,7 @@ impl Numbers {
 fn numbers_of(
     alloc: Global,
     some: &[(u64, u32)],
-    parts: &[Part],
+    participants: &[Participant],
     room: usize,
 ) -> Result<Vec<usize>, ImportFault>
     ensures { IfErr result NamesNone }
@@ -129,8 +131,8 @@ fn numbers_of(
             first: place as u64,
             last: u64::MAX,
         };
-        let span = match parts.get(one as usize) {
-            Some(part) if is_shared => part.span,
+        let span = match participants.get(one as usize) {
+            Some(participant) if is_shared => participant.span,
             _ => own,
         };
         push(&mut spans, span)?;
@@ -143,11 +145,11 @@ fn numbers_of(
 }
 
 /// Returns those who take part, in the order in which they begin to, each with the record that shows it first.
-fn in_order(alloc: Global, parts: &[Part]) -> Result<Vec<(u64, u32)>, AllocError> {
+fn in_order(alloc: Global, participants: &[Participant]) -> Result<Vec<(u64, u32)>, AllocError> {
     let mut some = Vec::new(alloc);
-    let count = parts.len().min(u32::MAX as usize) as u32;
+    let count = participants.len().min(u32::MAX as usize) as u32;
     for one in 0..count {
-        let first = parts[one as usize].span.first;
+        let first = participants[one as usize].span.first;
         if first != 0 {
             push(&mut some, (first, one))?;
         }
@@ -170,14 +172,4 @@ fn of_family(
         }
     }
     Ok(some)
-}
-
-/// Returns the protocol of a mutex of the log.
-pub fn family_of(sources: &Sources, mutex: u32) -> Family
-    ensures { result ≡ family_in sources.now mutex }
-{
-    match sources.subjects.mutexes.get(mutex as usize) {
-        Some(is) => is.family,
-        None => Family::None,
-    }
 }

@@ -2,7 +2,7 @@
 ghost use Rattle.std.specs.Prelude.{◌≡◌, ◌+◌, ◌-◌, ◌^◌, ◌<◌};
 ghost use Rattle.pim_import.specs.Tallies.{total};
 
-use crate::sight::LeftOut;
+use pim_facts::LeftOut;
 
 /// How many records are in the trace, and how many are left out for each reason.
 #[derive(Clone, Copy, PartialEq, Eq)]

@@ -2,9 +2,10 @@
 
 use crate::inversion::{KERNEL, log_bytes};
 use pim_base::{MutexNo, Reason, TaskNo};
-use pim_comparison::{Compared, Found, Lengthened, compare, waits_of};
-use pim_import::{Wait, import_log};
-use pim_kernel::{Difference, Recording};
+use pim_comparison::{Compared, Difference, Found, Lengthened, compare, waits_of};
+use pim_course::Wait;
+use pim_import::import_log;
+use pim_kernel::Recording;
 use pim_log::Log;
 use std::alloc::Global;
 use std::test::*;

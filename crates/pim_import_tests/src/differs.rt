@@ -1,6 +1,7 @@
-//! pim_kernel: a task that ran at a level that no mark allows. The marks are finer than those of a log.
+//! pim_comparison: a task that ran at a level that no mark allows. The marks are finer than those of a log.
 
-use pim_kernel::*;
+use pim_comparison::{Difference, Mark, differences, widen};
+use pim_kernel::Stretch;
 use std::alloc::{AllocError, Global};
 use std::test::*;
 

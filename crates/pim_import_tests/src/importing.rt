@@ -2,7 +2,9 @@
 
 use crate::inversion::log_bytes;
 use pim_base::{Entry, MutexNo, Op, Protocol, Reply, Step, TaskNo};
-use pim_import::{Family, Imported, LeftOut, blocker_of, family_of, import_log};
+use pim_course::family_of;
+use pim_facts::{Family, LeftOut};
+use pim_import::{Imported, blocker_of, import_log};
 use pim_log::Log;
 use std::alloc::Global;
 use std::test::*;
@@ -30,7 +32,7 @@ fn imported(alloc: Global) -> Result<Imported, Fail> {
 #[test]
 fn log_has_a_trace(rt: HostRuntime) -> Result<(), Fail> {
     let imported = imported(rt.alloc())?;
-    let piece = imported.performed.pieces.first().ok_or("a piece")?;
+    let piece = imported.built.pieces.first().ok_or("a piece")?;
     let lock = Op::Lock(MutexNo(1));
     let wanted = [
         entry(1, lock, Reply::Granted),
@@ -43,14 +45,14 @@ fn log_has_a_trace(rt: HostRuntime) -> Result<(), Fail> {
     assert!(rt; piece.times.as_slice() == times.as_slice() && piece.restoring == 0);
     assert!(rt; piece.replay.protocols() == [Protocol::Inherit].as_slice());
     // Two threads and a mutex.
-    assert!(rt; imported.performed.entrances.len() == 3 && imported.ended == 990_000);
+    assert!(rt; imported.built.appearances.len() == 3 && imported.ended == 990_000);
     Ok(())
 }
 
 #[test]
 fn log_has_findings(rt: HostRuntime) -> Result<(), Fail> {
     let imported = imported(rt.alloc())?;
-    let findings = &imported.performed.findings;
+    let findings = &imported.built.findings;
     let wait = findings.longest.first().ok_or("a wait")?;
     let facts = (wait.thread, wait.owner, wait.began, wait.lasted);
     assert!(rt; facts == (2, 1, 300_000, 630_000));
@@ -58,7 +60,7 @@ fn log_has_findings(rt: HostRuntime) -> Result<(), Fail> {
     assert!(rt; (found.waits, found.longest, found.longest_owner) == (1, 700_000, 1));
     assert!(rt; !findings.is_bad() && family_of(&imported.sources, 1) == Family::Inherit);
     assert!(rt; blocker_of(&imported, 2) == (0, 0));
-    let tally = &imported.performed.tally;
+    let tally = &imported.built.tally;
     assert!(rt; (tally.used, tally.left_out(LeftOut::Remark)) == (5, 3));
     let numbers = &imported.numbering.threads;
     assert!(rt; (numbers.of(1), numbers.of(2), numbers.count()) == (1, 2, 2));

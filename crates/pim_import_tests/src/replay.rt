@@ -1,7 +1,7 @@
-//! pim_import: what was observed of a small program, and the steps that a manager makes of it.
+//! pim_replay: what was observed of a small program, and the steps that a manager makes of it.
 
 use pim_base::{Entry, MutexNo, Op, Prio, Protocol, Reply, Step, TaskNo};
-use pim_import::{Observation, Replay, ReplayFault};
+use pim_replay::{Observation, Replay, ReplayFault};
 use std::alloc::Global;
 use std::test::Fail;
 

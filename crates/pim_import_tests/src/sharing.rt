@@ -1,6 +1,6 @@
-//! pim_import: spans of a few records and their numbers, and levels of a log and their priorities.
+//! pim_replay: spans of a few records and their numbers, and levels of a log and their priorities.
 
-use pim_import::{Priorities, Scale, SharingFault, Span, share};
+use pim_replay::{Priorities, Scale, SharingFault, Span, share};
 use std::alloc::{AllocError, Global};
 use std::test::*;
 

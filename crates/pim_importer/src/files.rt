@@ -4,14 +4,15 @@ ghost use Rattle.pim_base.specs.Texts.{IsWithinLimits};
 ghost use Rattle.pim_text.specs.Reading.{trace_of};
 
 use crate::fault::Fault;
-use crate::labels::Labels;
 use crate::names::write_table;
 use crate::results::Results;
 use pim_base::{MAX_STEPS, Protocol};
-use pim_import::{Imported, Piece, Replay};
+use pim_import::Imported;
 use pim_judge::{Output, Text, parse};
 use pim_log::{HEADER_BYTES, used_bytes};
 use pim_out::Out;
+use pim_replay::{Piece, Replay};
+use pim_report::Labels;
 use pim_runs::print_trace;
 use std::alloc::{AllocError, Global};
 use std::fs::{File, OpenFile};
@@ -111,7 +112,7 @@ pub fn write_traces(
     imported: &Imported,
     results: &mut Results,
 ) -> Result<(), Fault> {
-    let pieces = &imported.performed.pieces;
+    let pieces = &imported.built.pieces;
     for place in 0..pieces.len() {
         let file = results.create(rt, alloc, path_of(alloc, log, place)?)?;
         write_trace(alloc, file, &pieces[place])?;

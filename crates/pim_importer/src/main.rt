@@ -1,36 +1,29 @@
 //! The program `pim-import`: makes a trace of a log of pim-record, and says what is found in it.
 //!
-//! It reads the log, passes it to `pim_import::import_log`, and writes the trace, the names and the findings. The decisions
-//! about the log are in `pim_import`; docs/RECORDING.md says what is proved of them, and the rest is tested. Of the
-//! kernel's events without a log it writes what `pim_waits` finds. This crate has what no contract can say: the files, the
-//! texts and the process.
+//! It reads the log, passes it to `pim_import::import_log`, and writes the trace, the names and the
+//! findings. The decisions about the log are in `pim_course` and `pim_import`; docs/RECORDING.md says
+//! what is proved of them, and the rest is tested. Of the kernel's events without a log it writes what
+//! `pim_waits` finds. `pim_report` has the texts. This crate has what no contract can say: the files
+//! and the process.
 #![tactic(auto)]
 
 mod alone;
-mod alone_json;
 mod arguments;
 mod fault;
 mod files;
-mod json_report;
 mod kernel;
-mod labels;
 mod names;
-mod report;
 mod results;
-mod words;
 
-use crate::alone::{alone_of, path_alone, report_alone};
-use crate::alone_json::json_alone;
+use crate::alone::{alone_of, path_alone};
 use crate::arguments::{Arguments, Asked, read_arguments};
 use crate::fault::Fault;
 use crate::files::{read_log, write_names, write_traces};
-use crate::json_report::json_of;
-use crate::kernel::{Kernel, events_of, kernel_of, waits_in};
-use crate::labels::Labels;
-use crate::report::report_of;
+use crate::kernel::{events_of, kernel_of, waits_in};
 use crate::results::Results;
 use pim_import::{Imported, import_log};
 use pim_log::Log;
+use pim_report::{Kernel, Labels, json_alone, json_of, report_alone, report_of};
 use std::alloc::Global;
 use std::io;
 use std::process::ExitCode;
@@ -84,7 +77,7 @@ fn tell(
     imported: &Imported,
     kernel: Option<&Kernel>,
 ) -> Result<u8, Fault> {
-    let labels = Labels::of(alloc, log, &imported.sources.subjects)?;
+    let labels = Labels::of(alloc, log, &imported.sources.ids)?;
     let text = if arguments.is_json {
         json_of(alloc, log, imported, &labels, kernel)?
     } else {
@@ -139,7 +132,7 @@ fn status_of(imported: &Imported, kernel: Option<&Kernel>) -> u8 {
         Some(kernel) => !kernel.compared.found.is_empty(),
         None => false,
     };
-    if differs || imported.performed.findings.is_bad() {
+    if differs || imported.built.findings.is_bad() {
         FOUND
     } else {
         0

@@ -1,8 +1,10 @@
 //! The table of names: which thread and which mutex has each number, and when each step happened.
 
-use crate::labels::Labels;
-use pim_import::{Entrance, Imported, Piece, family_of};
+use pim_course::family_of;
+use pim_import::{Appearance, Imported};
 use pim_out::Out;
+use pim_replay::Piece;
+use pim_report::Labels;
 use std::alloc::Global;
 use std::io;
 use std::io::Write;
@@ -43,13 +45,13 @@ pub fn write_table<W: Write>(
     };
     let mut before = 0u64;
     let mut number = 0u64;
-    for piece in &imported.performed.pieces {
+    for piece in &imported.built.pieces {
         number = number.saturating_add(1);
         writeln!(out, "piece {number} {}", piece.restoring)?;
         table.write_steps(out, piece, before)?;
         before = before.saturating_add(own_steps(piece));
     }
-    table.write_entrances(out, u64::MAX)
+    table.write_appearances(out, u64::MAX)
 }
 
 fn own_steps(piece: &Piece) -> u64 {
@@ -62,7 +64,7 @@ impl<'a> Table<'a> {
         for step in 0..piece.times.len() {
             if step >= piece.restoring {
                 let own = (step - piece.restoring) as u64;
-                self.write_entrances(out, before.saturating_add(own))?;
+                self.write_appearances(out, before.saturating_add(own))?;
             }
             let number = step.saturating_add(1);
             writeln!(out, "step {number} {}", piece.times[step])?;
@@ -71,31 +73,35 @@ impl<'a> Table<'a> {
     }
 
     /// Writes who appears up to a step.
-    fn write_entrances<W: Write>(&mut self, out: &mut W, step: u64) -> io::Result<()> {
-        let entrances = &self.imported.performed.entrances;
-        for place in self.entered..entrances.len() {
-            if entrances[place].step > step {
+    fn write_appearances<W: Write>(&mut self, out: &mut W, step: u64) -> io::Result<()> {
+        let appearances = &self.imported.built.appearances;
+        for place in self.entered..appearances.len() {
+            if appearances[place].step > step {
                 break;
             }
-            self.write_entrance(out, &entrances[place])?;
+            self.write_appearance(out, &appearances[place])?;
             self.entered = place.saturating_add(1);
         }
         Ok(())
     }
 
-    fn write_entrance<W: Write>(&mut self, out: &mut W, entrance: &Entrance) -> io::Result<()> {
+    fn write_appearance<W: Write>(
+        &mut self,
+        out: &mut W,
+        appearance: &Appearance,
+    ) -> io::Result<()> {
         self.line.clear();
-        if entrance.thread != 0 {
-            self.put_task(entrance.thread);
+        if appearance.thread != 0 {
+            self.put_task(appearance.thread);
         }
-        if entrance.mutex != 0 {
-            self.put_mutex(entrance.mutex);
+        if appearance.mutex != 0 {
+            self.put_mutex(appearance.mutex);
         }
         out.write_all(self.line.as_str()?.as_bytes())
     }
 
     fn put_task(&mut self, thread: u32) {
-        if let Some(is) = self.imported.sources.subjects.threads.get(thread as usize) {
+        if let Some(is) = self.imported.sources.ids.threads.get(thread as usize) {
             let number = self.imported.numbering.threads.of(thread);
             self.line.put("task ");
             self.line.number(u64::from(number));
@@ -110,7 +116,7 @@ impl<'a> Table<'a> {
     }
 
     fn put_mutex(&mut self, mutex: u32) {
-        if let Some(is) = self.imported.sources.subjects.mutex(mutex) {
+        if let Some(is) = self.imported.sources.ids.mutex(mutex) {
             let number = self.imported.numbering.mutexes.of(mutex);
             self.line.put("mutex ");
             self.line.number(u64::from(number));

@@ -1,4 +1,4 @@
-//! The files that are written: all of them, or none.
+//! The files that are written: none has its name before all are written.
 
 use crate::fault::Fault;
 use std::alloc::Global;

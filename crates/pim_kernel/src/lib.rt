@@ -1,8 +1,9 @@
 //! What the kernel did while a program was recorded: the file `run.kernel` of `pim-record --kernel`.
 //!
 //! record/KERNEL.md specifies the file. [`Recording::read`] reads it, line by line, or reports the first line that is
-//! wrong. It is proved that the bytes have that line; that it is the first wrong one is tested. [`Tracks::of`] has for each task the [`Stretch`]es during which it ran, each with the priority in force at its
-//! begin and at its end, and the lines that show these; and the futex calls that it made.
+//! wrong. It is proved that the bytes have that line; that it is the first wrong one is tested. [`Tracks::of`] has for each
+//! task the [`Stretch`]es during which it ran, each with the priority in force at its begin and at its end, and the lines
+//! that show these; and the futex calls that it made.
 //!
 //! ```text
 //! let recording = Recording::read(alloc, &bytes)?;
@@ -13,13 +14,11 @@
 //! Priorities are levels: 1 to 99 of SCHED_FIFO and SCHED_RR, 0 of the policies below, 100 of SCHED_DEADLINE.
 #![tactic(auto)]
 
-mod difference;
 mod event;
 mod fault;
 mod line;
 mod lists;
 mod losses;
-mod mark;
 mod recording;
 mod stretch;
 mod stretches;
@@ -27,11 +26,9 @@ mod track;
 mod tracks;
 mod words;
 
-pub use difference::{Difference, differences};
 pub use event::{Boost, Event, Loss, Switch, What};
 pub use fault::{LineFault, TextFault};
 pub use losses::Losses;
-pub use mark::{Mark, widen};
 pub use recording::{Recording, line_at};
 pub use stretch::Stretch;
 pub use stretches::Stretches;

@@ -28,7 +28,7 @@ pub struct Record {
     pub thread: u32,
 }
 
-/// A duration that has no room in a record, in nanoseconds, or a longer one.
+/// What a record has for a call that took this long or longer, in nanoseconds.
 pub const LONGEST_CALL: u32 = u32::MAX;
 
 /// The call of a record: the relock of a wait at a condition variable, whose begin no record has.
@@ -45,6 +45,15 @@ impl Record {
             None
         } else {
             Some(self.value)
+        }
+    }
+
+    /// Returns when the call began that this GRANTED or FAILED ends: CLOCK_MONOTONIC in nanoseconds. `None` if the record
+    /// doesn't say how long the call [`took`](Record::took).
+    pub fn began(&self) -> Option<u64> {
+        match self.took() {
+            Some(took) => Some(self.time.saturating_sub(u64::from(took))),
+            None => None,
         }
     }
 }

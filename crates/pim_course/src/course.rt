@@ -1,0 +1,437 @@
+//! The course of a recorded program: who owns and awaits what, record by record.
+ghost use Rattle.std.specs.Prelude.{◌≡◌, ◌≢◌, ◌⊎◌};
+ghost use Rattle.pim_course.specs.Courses.{family_in, mutex_in};
+
+use crate::next_owners::NextOwners;
+use crate::requests::Requests;
+use pim_facts::{Fact, Facts, Family, Ids, LeftOut, What, ceiling_in, level_in};
+use pim_log::{Event, Record};
+use std::alloc::{AllocError, Global};
+
+/// What is known of a log before its course is followed.
+#[derive(Drop)]
+pub struct Sources {
+    /// Whom each record is about.
+    pub ids: Ids,
+    /// Who owns a mutex after each release.
+    pub next_owners: NextOwners,
+    /// The requests that the log lacks.
+    pub requests: Requests,
+}
+
+/// A mutex in the course of a program.
+#[derive(Clone, Copy, PartialEq, Eq)]
+pub struct CourseMutex {
+    /// Its owner, or 0.
+    pub owner: u32,
+    /// The one before it that isn't its owner any more, or 0.
+    pub last_owner: u32,
+    /// How often its owner has locked it. 0 from the release on until the next owner is known to have it.
+    pub depth: u32,
+    /// How many threads wait for it.
+    pub waiting: u32,
+    /// The critical section that lasts, or, where it is free, the next one if a thread waits for
+    /// it. Else 0.
+    pub section: u32,
+    /// The level of its ceiling.
+    pub ceiling: u8,
+}
+
+/// A thread in the course of a program.
+#[derive(Clone, Copy, PartialEq, Eq)]
+pub struct CourseThread {
+    /// The mutex that it waits for, or 0.
+    pub awaits: u32,
+    /// Another thread: the owner of that mutex when it began to wait, or else the last one. 0 if no record says it.
+    pub awaited_owner: u32,
+    /// The critical section in which its wait began.
+    pub section: u32,
+    /// Its own mutex, which it locks again, or 0.
+    pub awaits_own: u32,
+    /// Its level.
+    pub level: u8,
+}
+
+/// The course of a program up to a record.
+#[derive(Drop)]
+pub struct Course {
+    /// By number, as in [`Ids`].
+    pub mutexes: Vec<CourseMutex>,
+    /// By number, as in [`Ids`].
+    pub threads: Vec<CourseThread>,
+    /// How many critical sections there were, with those that are to come.
+    pub sections: u32,
+    /// What the record shows up to which the course is followed.
+    pub shown: Facts,
+}
+
+/// What isn't known of a mutex.
+const FREE: CourseMutex = CourseMutex {
+    owner: 0,
+    last_owner: 0,
+    depth: 0,
+    waiting: 0,
+    section: 0,
+    ceiling: 0,
+};
+
+/// A thread at its begin, but for its level.
+const IDLE: CourseThread = CourseThread {
+    awaits: 0,
+    awaited_owner: 0,
+    section: 0,
+    awaits_own: 0,
+    level: 0,
+};
+
+impl Course {
+    /// Returns the course of a log at its begin: all mutexes are free, and each thread has the level of its first record.
+    ///
+    /// # Errors
+    ///
+    /// Returns `AllocError` if out of memory.
+    pub fn new(alloc: Global, ids: &Ids) -> Result<Course, AllocError> {
+        let mut mutexes = vec![in alloc; FREE; ids.mutexes.len()]?;
+        for place in 0..mutexes.len() {
+            if place < ids.mutexes.len() {
+                mutexes[place].ceiling = ids.mutexes[place].ceiling;
+            }
+        }
+        let mut threads = vec![in alloc; IDLE; ids.threads.len()]?;
+        for place in 0..threads.len() {
+            if place < ids.threads.len() {
+                threads[place].level = ids.threads[place].level;
+            }
+        }
+        Ok(Course {
+            mutexes,
+            threads,
+            sections: 0,
+            shown: Facts::none(),
+        })
+    }
+
+    /// Returns a mutex. One that there isn't is free.
+    pub fn mutex(&self, mutex: u32) -> CourseMutex
+        ensures { result ≡ mutex_in self.now mutex }
+    {
+        self.mutexes.get(mutex as usize).copied().unwrap_or(FREE)
+    }
+
+    /// Returns a thread. One that there isn't does nothing.
+    pub fn thread(&self, thread: u32) -> CourseThread {
+        self.threads.get(thread as usize).copied().unwrap_or(IDLE)
+    }
+
+    fn put_mutex(&mut self, mutex: u32, is: CourseMutex) {
+        if (mutex as usize) < self.mutexes.len() {
+            self.mutexes[mutex as usize] = is;
+        }
+    }
+
+    fn put_thread(&mut self, thread: u32, is: CourseThread) {
+        if (thread as usize) < self.threads.len() {
+            self.threads[thread as usize] = is;
+        }
+    }
+
+    /// Goes on by a record. Adds what it shows to `shown`, and returns why the record is left out if none of that is in
+    /// the trace.
+    pub fn advance(&mut self, sources: &Sources, record: &Record) -> LeftOut {
+        let id = sources.ids.of_record(record.number);
+        match &record.event {
+            Event::Thread => self.begin(record),
+            Event::Priority => self.set_level(id, record.detail),
+            Event::Ceiling => self.set_ceiling(record, id),
+            Event::Request => self.request(sources, record, id),
+            Event::Granted => self.grant(&sources.ids, record, id),
+            Event::Failed => self.fail(record.thread, id),
+            Event::Release => self.release(sources, record, id),
+            _ => LeftOut::Remark,
+        }
+    }
+
+    /// Goes on by a request that the log lacks: the thread waits for the mutex.
+    pub fn add_request(&mut self, thread: u32, mutex: u32) {
+        let is = self.mutex(mutex);
+        if self.thread(thread).awaits == 0 && is.owner != thread {
+            let owner = first_other(thread, [is.owner, is.last_owner, 0, 0]);
+            self.wait(thread, mutex, owner);
+        }
+    }
+
+    /// A thread has its first record, which tells its level.
+    fn begin(&mut self, record: &Record) -> LeftOut {
+        let mut is = self.thread(record.thread);
+        is.level = level_in(record.detail, 0);
+        self.put_thread(record.thread, is);
+        LeftOut::Remark
+    }
+
+    fn set_level(&mut self, thread: u32, detail: u16) -> LeftOut {
+        let mut is = self.thread(thread);
+        let level = level_in(detail, is.level);
+        if thread == 0 || level == is.level {
+            return LeftOut::Unchanged;
+        }
+        is.level = level;
+        self.put_thread(thread, is);
+        self.shown.add(fact(What::Level(level), thread, 0, 0));
+        LeftOut::Absentee
+    }
+
+    fn set_ceiling(&mut self, record: &Record, mutex: u32) -> LeftOut {
+        if self.correct_ceiling(record, mutex) {
+            LeftOut::Uncontended
+        } else {
+            LeftOut::Unchanged
+        }
+    }
+
+    /// Learns the ceiling of a PROTECT mutex, and returns whether the record says another than was known.
+    fn correct_ceiling(&mut self, record: &Record, mutex: u32) -> bool {
+        let Some(ceiling) = ceiling_in(record) else {
+            return false;
+        };
+        let mut is = self.mutex(mutex);
+        if is.ceiling == ceiling {
+            return false;
+        }
+        is.ceiling = ceiling;
+        self.put_mutex(mutex, is);
+        let corrected = fact(What::Ceiling(ceiling), record.thread, mutex, is.section);
+        self.shown.add(corrected);
+        true
+    }
+
+    /// Lets a thread stop waiting whose record shows that it doesn't wait any more, unless it waits for this mutex.
+    fn correct_wait(&mut self, thread: u32, but: u32) {
+        let awaits = self.thread(thread).awaits;
+        if awaits != 0 && awaits != but {
+            self.stop_waiting(thread);
+        }
+    }
+
+    /// A thread stops waiting without the mutex.
+    fn stop_waiting(&mut self, thread: u32) {
+        let mut is = self.thread(thread);
+        let (mutex, section) = (is.awaits, is.section);
+        is.awaits = 0;
+        self.put_thread(thread, is);
+        let mut awaited = self.mutex(mutex);
+        awaited.waiting = awaited.waiting.saturating_sub(1);
+        self.put_mutex(mutex, awaited);
+        self.shown.add(fact(What::GaveUp, thread, mutex, section));
+    }
+
+    /// A thread asks for a mutex, and another owned it as it asked.
+    fn request(&mut self, sources: &Sources, record: &Record, mutex: u32) -> LeftOut {
+        let thread = record.thread;
+        let is = self.mutex(mutex);
+        if is.owner == thread && is.depth > 0 {
+            let mut own = self.thread(thread);
+            own.awaits_own = if is_recursive(&sources.ids, mutex) {
+                0
+            } else {
+                mutex
+            };
+            self.put_thread(thread, own);
+            return LeftOut::Again;
+        }
+        if mutex == 0 || self.thread(thread).awaits == mutex || is.owner == thread {
+            return LeftOut::Again;
+        }
+        self.correct_ceiling(record, mutex);
+        self.correct_wait(thread, mutex);
+        self.wait(thread, mutex, owner_asked(sources, record, &is));
+        LeftOut::Uncontended
+    }
+
+    /// A thread waits for a mutex of this owner. If the mutex is free in the log, the wait belongs
+    /// to its next critical section.
+    fn wait(&mut self, thread: u32, mutex: u32, owner: u32) {
+        let section = self.section_of(mutex);
+        let mut is = self.thread(thread);
+        is.awaits = mutex;
+        is.awaited_owner = owner;
+        is.section = section;
+        self.put_thread(thread, is);
+        let mut awaited = self.mutex(mutex);
+        awaited.waiting = awaited.waiting.saturating_add(1);
+        self.put_mutex(mutex, awaited);
+        self.shown.add(fact(What::Waits, thread, mutex, section));
+    }
+
+    /// Returns the critical section of a mutex that lasts, or else the next one.
+    fn section_of(&mut self, mutex: u32) -> u32 {
+        let mut is = self.mutex(mutex);
+        if is.section == 0 {
+            self.sections = self.sections.saturating_add(1);
+            is.section = self.sections;
+            self.put_mutex(mutex, is);
+        }
+        is.section
+    }
+
+    /// A thread has a mutex.
+    fn grant(&mut self, ids: &Ids, record: &Record, mutex: u32) -> LeftOut {
+        let thread = record.thread;
+        let is = self.mutex(mutex);
+        self.forget_own(thread);
+        if mutex == 0 || is.owner == thread && is.depth > 0 {
+            return self.grant_again(ids, thread, mutex);
+        }
+        self.correct_ceiling(record, mutex);
+        self.correct_wait(thread, mutex);
+        if is.owner != 0 && is.owner != thread {
+            self.hand_over(is.owner, mutex, thread);
+        }
+        self.take(thread, mutex);
+        LeftOut::Uncontended
+    }
+
+    fn forget_own(&mut self, thread: u32) {
+        let mut is = self.thread(thread);
+        is.awaits_own = 0;
+        self.put_thread(thread, is);
+    }
+
+    /// A thread has once more what it owns. Only of a recursive mutex are the locks counted.
+    fn grant_again(&mut self, ids: &Ids, thread: u32, mutex: u32) -> LeftOut {
+        let mut is = self.mutex(mutex);
+        if is_recursive(ids, mutex) && thread != 0 {
+            is.depth = is.depth.saturating_add(1);
+            self.put_mutex(mutex, is);
+        }
+        LeftOut::Again
+    }
+
+    /// A thread owns a mutex that is free, or that was handed to it.
+    fn take(&mut self, thread: u32, mutex: u32) {
+        let section = self.section_of(mutex);
+        let mut owner = self.thread(thread);
+        let mut is = self.mutex(mutex);
+        let mut since = 0;
+        if owner.awaits == mutex {
+            since = owner.section;
+            owner.awaits = 0;
+            is.waiting = is.waiting.saturating_sub(1);
+        }
+        is.owner = thread;
+        is.depth = 1;
+        self.put_thread(thread, owner);
+        self.put_mutex(mutex, is);
+        let granted = fact(What::Granted, thread, mutex, section);
+        self.shown.add(Fact { since, ..granted });
+    }
+
+    /// A call of a thread wasn't granted the mutex.
+    fn fail(&mut self, thread: u32, mutex: u32) -> LeftOut {
+        self.forget_own(thread);
+        if mutex == 0 || self.thread(thread).awaits != mutex {
+            return LeftOut::Refused;
+        }
+        self.stop_waiting(thread);
+        LeftOut::Uncontended
+    }
+
+    /// A thread releases a mutex.
+    fn release(&mut self, sources: &Sources, record: &Record, mutex: u32) -> LeftOut {
+        let thread = record.thread;
+        let mut is = self.mutex(mutex);
+        if mutex == 0 || is.owner != thread {
+            return LeftOut::NotOwner;
+        }
+        if sources.next_owners.is_refused(record.number) {
+            return LeftOut::Revoked;
+        }
+        if is.depth > 1 {
+            is.depth -= 1;
+            self.put_mutex(mutex, is);
+            return LeftOut::Again;
+        }
+        self.own_what_was_handed(thread, mutex);
+        self.correct_wait(thread, 0);
+        let next = sources.next_owners.next_owner(record.number);
+        self.hand_over(thread, mutex, next);
+        LeftOut::Uncontended
+    }
+
+    /// A thread releases a mutex that was handed to it, and no record says that it had it.
+    fn own_what_was_handed(&mut self, thread: u32, mutex: u32) {
+        if self.thread(thread).awaits == mutex {
+            self.take(thread, mutex);
+        }
+    }
+
+    /// A mutex goes to the next owner if that waits for it, and else is free.
+    fn hand_over(&mut self, thread: u32, mutex: u32, next: u32) {
+        let mut is = self.mutex(mutex);
+        let section = is.section;
+        is.last_owner = thread;
+        is.depth = 0;
+        if next != 0 && self.thread(next).awaits == mutex {
+            is.owner = next;
+        } else {
+            is.owner = 0;
+            is.section = 0;
+        }
+        self.put_mutex(mutex, is);
+        self.shown
+            .add(fact(What::Released(next), thread, mutex, section));
+    }
+}
+
+/// Returns who owns the mutex of a REQUEST when it is made, or 0 if no record says it: the thread that it names. If the
+/// owner hadn't yet written who it is, or not any more, that is the owner of the log; else who is granted the mutex next,
+/// if its call had begun; else who had it last; else who is granted it next.
+fn owner_asked(sources: &Sources, record: &Record, mutex: &CourseMutex) -> u32
+    ensures { (result ≡ 0) ⊎ (result ≢ «record».now.thread) }
+{
+    let asked = sources.next_owners.asked_owner(record.number);
+    if record.value == 0 {
+        let next = sources.next_owners.next_granted(record.number);
+        first_other(record.thread, [mutex.owner, asked, mutex.last_owner, next])
+    } else {
+        first_other(record.thread, [asked, mutex.owner, 0, 0])
+    }
+}
+
+/// Returns the first of these threads that isn't 0 and isn't the one that waits, or 0.
+fn first_other(waiter: u32, threads: [u32; 4]) -> u32
+    ensures { (result ≡ 0) ⊎ (result ≢ waiter) }
+{
+    for thread in threads {
+        if thread != 0 && thread != waiter {
+            return thread;
+        }
+    }
+    0
+}
+
+/// Returns the protocol of a mutex of the log.
+pub fn family_of(sources: &Sources, mutex: u32) -> Family
+    ensures { result ≡ family_in sources.now mutex }
+{
+    match sources.ids.mutexes.get(mutex as usize) {
+        Some(is) => is.family,
+        None => Family::None,
+    }
+}
+
+fn is_recursive(ids: &Ids, mutex: u32) -> bool {
+    match ids.mutex(mutex) {
+        Some(is) => is.is_recursive,
+        None => false,
+    }
+}
+
+fn fact(what: What, thread: u32, mutex: u32, section: u32) -> Fact {
+    Fact {
+        what,
+        thread,
+        mutex,
+        section,
+        since: 0,
+    }
+}

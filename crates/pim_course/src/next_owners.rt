@@ -1,0 +1,196 @@
+//! Who owns a mutex next, and whose it is when a thread asks for it.
+
+use pim_facts::Ids;
+use pim_log::{Event, Log, Record};
+use std::alloc::{AllocError, Global};
+use std::collections::HashMap;
+
+/// The next owner after each release, found from the end of the log to its begin, and the owner that each request names.
+#[derive(Drop)]
+pub struct NextOwners {
+    /// By the number of a RELEASE the thread that is granted the mutex next, 0 where none is, or
+    /// [`REFUSED`]. By the number of a REQUEST what [`asked_owner`](NextOwners::asked_owner)
+    /// returns, or, with [`LATER`], what only [`next_granted`](NextOwners::next_granted) does.
+    next: Vec<u32>,
+}
+
+/// Stands for a release that never was: of a wait at a condition variable that was refused.
+const REFUSED: u32 = u32::MAX;
+
+/// Is added to the number of a thread whose call began after the REQUEST.
+const LATER: u32 = 1 << 31;
+
+/// What is known, from the end of the log on, of the threads and mutexes.
+#[derive(Drop)]
+struct Coming {
+    /// By mutex the thread that is granted it next, or 0.
+    owners: Vec<u32>,
+    /// By mutex when the call of that thread began, as far as its record says it, else 0.
+    began: Vec<u64>,
+    /// By thread the mutex whose release fails next, or 0.
+    failing: Vec<u32>,
+}
+
+impl NextOwners {
+    /// Returns who owns each mutex after each of its releases, and as each of its requests is made. Takes four bytes a
+    /// record.
+    ///
+    /// # Errors
+    ///
+    /// Returns `AllocError` if out of memory.
+    pub fn of(alloc: Global, log: &Log, ids: &Ids) -> Result<NextOwners, AllocError> {
+        let end = log.header().end();
+        let mut next = named_owners(alloc, log, ids)?;
+        let mut coming = Coming {
+            owners: vec![in alloc; 0; ids.mutexes.len()]?,
+            began: vec![in alloc; 0; ids.mutexes.len()]?,
+            failing: vec![in alloc; 0; ids.threads.len()]?,
+        };
+        for number in (1..end).rev() {
+            if let Some(record) = log.record(number) {
+                let named = next.get(number as usize).copied().unwrap_or(0);
+                let found = coming.read(ids, &record, named);
+                if (number as usize) < next.len() {
+                    next[number as usize] = found;
+                }
+            }
+        }
+        Ok(NextOwners { next })
+    }
+
+    /// Returns the thread that is granted the mutex after the RELEASE with this number, or 0 if none is.
+    pub fn next_owner(&self, number: u64) -> u32 {
+        match self.next.get(number as usize) {
+            Some(next) if *next != REFUSED => *next,
+            _ => 0,
+        }
+    }
+
+    /// Returns the thread that the REQUEST with this number names as the owner. If it names none, that is the one that is
+    /// granted the mutex next, if its call had begun as the REQUEST was made, and it isn't the thread of the REQUEST. 0 if
+    /// no record says it.
+    pub fn asked_owner(&self, number: u64) -> u32 {
+        let asked = self.next.get(number as usize).copied().unwrap_or(0);
+        if asked & LATER == 0 { asked } else { 0 }
+    }
+
+    /// Returns the thread that is granted the mutex next after the REQUEST with this number, which names no thread. 0 if
+    /// none is, or that of the REQUEST.
+    pub fn next_granted(&self, number: u64) -> u32 {
+        self.next.get(number as usize).copied().unwrap_or(0) & !LATER
+    }
+
+    /// Returns whether the RELEASE with this number never was.
+    pub fn is_refused(&self, number: u64) -> bool {
+        self.next.get(number as usize) == Some(&REFUSED)
+    }
+}
+
+impl Coming {
+    /// Records what a record says, and returns what is kept of it. A REQUEST names this thread.
+    fn read(&mut self, ids: &Ids, record: &Record, named: u32) -> u32 {
+        let mutex = ids.of_record(record.number);
+        match &record.event {
+            Event::Request if named != 0 => named,
+            Event::Request => self.next_if_asked(ids, record, mutex),
+            Event::Granted => {
+                set(&mut self.owners, mutex, record.thread);
+                if (mutex as usize) < self.began.len() {
+                    self.began[mutex as usize] = record.began().unwrap_or(0);
+                }
+                0
+            }
+            Event::Failed => {
+                if get(&self.owners, mutex) == record.thread {
+                    set(&mut self.owners, mutex, 0);
+                }
+                0
+            }
+            Event::ReleaseFailed => {
+                set(&mut self.failing, record.thread, mutex);
+                0
+            }
+            Event::Release => self.read_release(record, mutex),
+            _ => 0,
+        }
+    }
+
+    /// Returns the next owner of the mutex of a REQUEST if it may be the owner already: another thread, with the number
+    /// that the REQUEST names, if it names one. Else [`LATER`] is added if its call began after the REQUEST.
+    fn next_if_asked(&self, ids: &Ids, record: &Record, mutex: u32) -> u32 {
+        let next = get(&self.owners, mutex);
+        let task = match ids.threads.get(next as usize) {
+            Some(thread) => thread.task,
+            None => 0,
+        };
+        let is_named = record.value == 0 || record.value == task;
+        if next == 0 || next == record.thread || !is_named {
+            return 0;
+        }
+        let began = self.began.get(mutex as usize).copied().unwrap_or(0);
+        if record.value == 0 && began > record.time {
+            next | LATER
+        } else {
+            next
+        }
+    }
+
+    /// Returns what is kept of a RELEASE. The RELEASE_FAILED behind it is the next record of its thread.
+    fn read_release(&mut self, record: &Record, mutex: u32) -> u32 {
+        let is_failing = get(&self.failing, record.thread) == mutex && mutex != 0;
+        set(&mut self.failing, record.thread, 0);
+        if is_failing && record.how & 127 == CONDITION {
+            REFUSED
+        } else {
+            get(&self.owners, mutex)
+        }
+    }
+}
+
+/// Returns by the number of each REQUEST the thread that it names as the owner, or 0. A thread of another process isn't
+/// the owner, unless they share the mutex: a forked child has copies of mutexes that name its parent's thread.
+fn named_owners(alloc: Global, log: &Log, ids: &Ids) -> Result<Vec<u32>, AllocError> {
+    let end = log.header().end();
+    let mut owners = vec![in alloc; 0; end as usize]?;
+    let mut threads: HashMap<u32, u32> = HashMap::new(alloc);
+    for number in 1..end {
+        let Some(record) = log.record(number) else {
+            continue;
+        };
+        if record.event == Event::Thread && threads.insert(record.task, record.thread).is_err() {
+            return Err(AllocError);
+        }
+        if record.event == Event::Request && (number as usize) < owners.len() {
+            let named = threads.get(&record.value).copied().unwrap_or(0);
+            if may_own(ids, &record, named) {
+                owners[number as usize] = named;
+            }
+        }
+    }
+    Ok(owners)
+}
+
+/// Returns whether a thread can own the mutex of a REQUEST: it is of the process, or processes share the mutex.
+fn may_own(ids: &Ids, record: &Record, thread: u32) -> bool {
+    let is_shared = match ids.mutex(ids.of_record(record.number)) {
+        Some(mutex) => mutex.process == 0,
+        None => false,
+    };
+    match ids.threads.get(thread as usize) {
+        Some(named) => is_shared || named.process == record.process,
+        None => false,
+    }
+}
+
+/// The call of a RELEASE or a GRANTED: a wait at a condition variable.
+const CONDITION: u8 = 4;
+
+fn get(list: &[u32], place: u32) -> u32 {
+    list.get(place as usize).copied().unwrap_or(0)
+}
+
+fn set(list: &mut Vec<u32>, place: u32, value: u32) {
+    if (place as usize) < list.len() {
+        list[place as usize] = value;
+    }
+}

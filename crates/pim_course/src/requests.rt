@@ -1,0 +1,357 @@
+//! The requests that a log lacks.
+//!
+//! A call that finds its mutex free puts no REQUEST. Where another thread was quicker the call waits all the same, which
+//! shows as a call that lasts while another is granted the mutex. The kernel's events show more: see `waits.rt`.
+ghost use Rattle.std.specs.Prelude.{◌≡◌, IfOk};
+ghost use Rattle.pim_course.specs.Requests.{IsInOrder};
+
+use crate::course::Sources;
+use crate::lists::push;
+use crate::waits::{Asked, Wait, asked_in};
+use pim_facts::Ids;
+use pim_log::{Event, LONGEST_CALL, Log, Record};
+use std::alloc::{AllocError, Global};
+
+/// A request that the log lacks.
+#[derive(Clone, Copy, PartialEq, Eq, PartialOrd, Ord)]
+pub struct Request {
+    /// The number of the record behind which it belongs. If no wait shows the request, that is the first grant of the mutex
+    /// to another since the call began, or a later record of the thread before its call. Of a call whose begin isn't known
+    /// it may also be the grant that lasted at the latest time at which it may have begun.
+    pub after: u64,
+    /// When the thread began to wait, by a wait that shows it. 0: when that record was put.
+    pub time: u64,
+    pub thread: u32,
+    pub mutex: u32,
+}
+
+/// The requests that a log lacks.
+#[derive(Drop)]
+pub struct Requests {
+    /// In the order of the records behind which they belong.
+    pub list: Vec<Request>,
+    /// How many of them waits show.
+    pub of_waits: u64,
+}
+
+/// The grants of each mutex, in order.
+#[derive(Drop)]
+struct Grants {
+    /// The numbers of the records, those of mutex 0 first.
+    numbers: Vec<u64>,
+    /// By the place of a grant the time of the RELEASE that ends it, or 0.
+    ends: Vec<u64>,
+    /// Where those of each mutex begin.
+    begins: Vec<u32>,
+    /// Behind the last one so far.
+    passed: Vec<u32>,
+}
+
+/// ETIMEDOUT of Linux.
+const TIMED_OUT: u8 = 110;
+
+/// The call of a GRANTED: trylock, which doesn't wait.
+const TRYLOCK: u8 = 1;
+
+/// The call of a GRANTED: the relock of a wait at a condition variable, whose begin isn't known.
+const CONDITION: u8 = 4;
+
+impl Requests {
+    /// Returns no request.
+    pub fn none(alloc: Global) -> Requests
+        ensures ordered { IsInOrder result.list.items }
+    {
+        Requests {
+            list: Vec::new(alloc),
+            of_waits: 0,
+        }
+    }
+
+    /// Returns the requests that the log lacks: those that the waits show, and those of calls that lasted while another was
+    /// granted the mutex, if no wait shows them. If there are some of these, that takes sixteen bytes a grant until it
+    /// returns.
+    ///
+    /// # Errors
+    ///
+    /// Returns `AllocError` if out of memory.
+    pub fn of(
+        alloc: Global,
+        log: &Log,
+        sources: &Sources,
+        waits: &[Wait],
+    ) -> Result<Requests, AllocError>
+        ensures ordered { IfOk result (λ requests. IsInOrder requests.list.items) }
+    {
+        let mut asked = if waits.is_empty() {
+            Asked::none(alloc)
+        } else {
+            asked_in(alloc, log, sources, waits)?
+        };
+        let of_waits = asked.list.len() as u64;
+        if misses_some(alloc, log, &sources.ids)? {
+            add_silent(alloc, log, &sources.ids, &mut asked)?;
+        }
+        let Asked { mut list, .. } = asked;
+        sort(&mut list)?;
+        Ok(Requests { list, of_waits })
+    }
+}
+
+/// Puts the requests into the order of the records behind which they belong.
+fn sort(list: &mut Vec<Request>) -> Result<(), AllocError>
+    ensures { IfOk result (λ _. IsInOrder list.new.items) }
+{
+    list.sort_by_key(|request| request.after)?;
+    Ok(())
+}
+
+/// Adds the requests of calls that lasted while another was granted the mutex, but those that end where a wait does.
+fn add_silent(alloc: Global, log: &Log, ids: &Ids, to: &mut Asked) -> Result<(), AllocError> {
+    let mut grants = Grants::of(alloc, log, ids)?;
+    let mut asked = vec![in alloc; 0; ids.threads.len()]?;
+    let mut last = vec![in alloc; 0u64; ids.threads.len()]?;
+    for number in 1..log.header().end() {
+        if let Some(record) = log.record(number) {
+            let mutex = ids.of_record(number);
+            let is_missing = misses_request(&mut asked, &record, mutex);
+            if is_missing && to.ends.binary_search(&number).is_err() {
+                if let Some(grant) = grants.first_since(log, &record, mutex) {
+                    let own = last.get(record.thread as usize).copied().unwrap_or(0);
+                    push(
+                        &mut to.list,
+                        Request {
+                            after: grant.max(own),
+                            time: 0,
+                            thread: record.thread,
+                            mutex,
+                        },
+                    )?;
+                }
+            }
+            grants.pass(log, &record, mutex);
+            if (record.thread as usize) < last.len() {
+                last[record.thread as usize] = number;
+            }
+        }
+    }
+    Ok(())
+}
+
+/// Returns whether a call that put no REQUEST lasted while its mutex was granted.
+fn misses_some(alloc: Global, log: &Log, ids: &Ids) -> Result<bool, AllocError> {
+    let mut asked = vec![in alloc; 0; ids.threads.len()]?;
+    let mut latest = vec![in alloc; 0u64; ids.mutexes.len()]?;
+    for number in 1..log.header().end() {
+        if let Some(record) = log.record(number) {
+            let id = ids.of_record(number);
+            let mutex = id as usize;
+            if mutex < latest.len() {
+                let is_missing = misses_request(&mut asked, &record, id);
+                if is_missing && may_have_lasted(&record, latest[mutex]) {
+                    return Ok(true);
+                }
+                if record.event == Event::Granted {
+                    latest[mutex] = latest[mutex].max(record.time);
+                }
+            }
+        }
+    }
+    Ok(false)
+}
+
+/// Returns whether the call that ends with this record may have lasted at this time, which is before the record. 0 is the
+/// time of nothing.
+fn may_have_lasted(record: &Record, time: u64) -> bool {
+    time > 0 && (record.took().is_none() || time > latest_begin(record))
+}
+
+/// Returns when the call began that ends with this record. If the record doesn't say it, the call began then or earlier.
+fn latest_begin(record: &Record) -> u64 {
+    match record.began() {
+        Some(began) => began,
+        None => record.time.saturating_sub(LONGEST_CALL as u64),
+    }
+}
+
+/// Returns whether a call ends with this record that may have waited, and put no REQUEST.
+fn misses_request(asked: &mut Vec<u32>, record: &Record, mutex: u32) -> bool {
+    let thread = record.thread as usize;
+    if thread >= asked.len() {
+        return false;
+    }
+    match &record.event {
+        Event::Request => {
+            asked[thread] = mutex;
+            false
+        }
+        Event::Granted => {
+            let has_asked = asked[thread] == mutex;
+            asked[thread] = 0;
+            let call = record.how & 127;
+            !has_asked && call != TRYLOCK && call != CONDITION && record.took() != Some(0)
+        }
+        Event::Failed => {
+            let has_asked = asked[thread] == mutex;
+            asked[thread] = 0;
+            !has_asked && record.how == TIMED_OUT && record.took() != Some(0)
+        }
+        _ => false,
+    }
+}
+
+impl Grants {
+    /// Returns the grants of each mutex of the log.
+    fn of(alloc: Global, log: &Log, ids: &Ids) -> Result<Grants, AllocError> {
+        let mutexes = ids.mutexes.len();
+        let mut begins = vec![in alloc; 0; mutexes]?;
+        for number in 1..log.header().end() {
+            if is_grant(log, number) {
+                add(&mut begins, ids.of_record(number), 1);
+            }
+        }
+        let total = begin_each(&mut begins);
+        let mut passed = vec![in alloc; 0; mutexes]?;
+        copy(&begins, &mut passed);
+        let mut numbers = vec![in alloc; 0; total as usize]?;
+        let ends = vec![in alloc; 0; total as usize]?;
+        for number in 1..log.header().end() {
+            if is_grant(log, number) {
+                let mutex = ids.of_record(number);
+                let place = get(&passed, mutex) as usize;
+                if place < numbers.len() {
+                    numbers[place] = number;
+                }
+                add(&mut passed, mutex, 1);
+            }
+        }
+        copy(&begins, &mut passed);
+        Ok(Grants {
+            numbers,
+            ends,
+            begins,
+            passed,
+        })
+    }
+
+    /// Goes past a record.
+    fn pass(&mut self, log: &Log, record: &Record, mutex: u32) {
+        match &record.event {
+            Event::Granted => add(&mut self.passed, mutex, 1),
+            Event::Release => self.end(log, record, mutex),
+            _ => {}
+        }
+    }
+
+    /// Ends the last grant of a mutex, if this RELEASE is by its thread.
+    fn end(&mut self, log: &Log, record: &Record, mutex: u32) {
+        let passed = get(&self.passed, mutex);
+        if passed <= get(&self.begins, mutex) {
+            return;
+        }
+        let place = passed as usize - 1;
+        if place < self.ends.len() && self.thread(log, passed - 1) == record.thread {
+            self.ends[place] = record.time;
+        }
+    }
+
+    /// Returns the number of the first grant of the mutex to another since the call of this record began, and before the
+    /// record. If the record doesn't say when that was, the mutex may be owned at the latest time at which the call began.
+    /// That grant is later than the begin of the call, which found the mutex free.
+    fn first_since(&self, log: &Log, record: &Record, mutex: u32) -> Option<u64> {
+        let latest = latest_begin(record);
+        let end = get(&self.passed, mutex);
+        let next = self.first_after(log, mutex, latest);
+        let place = match next.checked_sub(1) {
+            Some(before)
+                if record.took().is_none()
+                    && before >= get(&self.begins, mutex)
+                    && self.lasts_at(before, latest) => { before }
+            _ => next,
+        };
+        if place >= end || self.thread(log, place) == record.thread {
+            return None;
+        }
+        self.numbers.get(place as usize).copied()
+    }
+
+    /// Returns whether the grant at this place had no RELEASE by this time.
+    fn lasts_at(&self, place: u32, time: u64) -> bool {
+        match self.ends.get(place as usize) {
+            Some(end) => *end == 0 || *end > time,
+            None => false,
+        }
+    }
+
+    /// Returns the place of the first grant of a mutex after this time, or the end of its grants so far.
+    fn first_after(&self, log: &Log, mutex: u32, time: u64) -> u32 {
+        let (mut low, mut high) = (get(&self.begins, mutex), get(&self.passed, mutex));
+        // Halves what is left, which has at most 2^32 places.
+        for _round in 0..33 {
+            if low >= high {
+                break;
+            }
+            let middle = low + (high - low) / 2;
+            if self.time(log, middle) > time {
+                high = middle;
+            } else {
+                low = middle + 1;
+            }
+        }
+        low
+    }
+
+    fn time(&self, log: &Log, place: u32) -> u64 {
+        match self.grant(log, place) {
+            Some(record) => record.time,
+            None => 0,
+        }
+    }
+
+    fn thread(&self, log: &Log, place: u32) -> u32 {
+        match self.grant(log, place) {
+            Some(record) => record.thread,
+            None => 0,
+        }
+    }
+
+    /// Returns the GRANTED at this place.
+    fn grant(&self, log: &Log, place: u32) -> Option<Record> {
+        log.record(self.numbers.get(place as usize).copied()?)
+    }
+}
+
+fn is_grant(log: &Log, number: u64) -> bool {
+    match log.record(number) {
+        Some(record) => record.event == Event::Granted,
+        None => false,
+    }
+}
+
+/// Turns how many each has into where each begins, and returns how many there are in all.
+fn begin_each(counts: &mut Vec<u32>) -> u32 {
+    let mut begin = 0u32;
+    for place in 0..counts.len() {
+        let count = counts[place];
+        counts[place] = begin;
+        begin = begin.saturating_add(count);
+    }
+    begin
+}
+
+fn copy(from: &[u32], to: &mut Vec<u32>) {
+    for place in 0..to.len() {
+        if place < from.len() {
+            to[place] = from[place];
+        }
+    }
+}
+
+fn get(list: &[u32], place: u32) -> u32 {
+    list.get(place as usize).copied().unwrap_or(0)
+}
+
+fn add(list: &mut Vec<u32>, place: u32, count: u32) {
+    if (place as usize) < list.len() {
+        list[place as usize] = list[place as usize].saturating_add(count);
+    }
+}

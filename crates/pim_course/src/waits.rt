@@ -1,0 +1,338 @@
+//! The requests that a log lacks, found by waits that the kernel's events show.
+//!
+//! A wait belongs between two records of its thread. Records get their time before their number. So when a record is put,
+//! all waits have begun that are earlier than its time. Who owned the mutex then?
+//!
+//! 1. The owner of the log, if it names one.
+//! 2. Else the next owner, if its call had begun: its GRANTED came late. The request belongs behind that record.
+//! 3. Else the last owner, if it released the mutex since the thread's last record: RELEASE is put before the release. The
+//!    request belongs before that record.
+//!
+//! If none of that holds, the request isn't added.
+
+use crate::course::{Course, Sources};
+use crate::lists::push;
+use crate::requests::Request;
+use crate::walk::Walk;
+use pim_log::{Event, Log, Record};
+use std::alloc::{AllocError, Global};
+use std::collections::HashMap;
+
+/// A thread waited for a mutex in a call.
+#[derive(Clone, Copy, PartialEq, Eq, PartialOrd, Ord)]
+pub struct Wait {
+    /// When it began to wait: CLOCK_MONOTONIC in nanoseconds.
+    pub from: u64,
+    /// The kernel's number of the thread.
+    pub task: u32,
+    /// Where the mutex is in the memory of its process.
+    pub address: u64,
+}
+
+/// The requests that a log lacks, as far as waits show them.
+#[derive(Drop)]
+pub struct Asked {
+    pub list: Vec<Request>,
+    /// The numbers of the records at which these waits end, in ascending order.
+    pub ends: Vec<u64>,
+}
+
+/// A wait for a mutex that is free in the log as it begins.
+#[derive(Clone, Copy, PartialEq, Eq)]
+struct Pending {
+    request: Request,
+    /// The number of the RELEASE of the mutex since the thread's last record, or 0.
+    release: u64,
+}
+
+/// What is known on the way through a log.
+#[derive(Drop)]
+struct Search {
+    alloc: Global,
+    /// The earliest first.
+    waits: Vec<Wait>,
+    /// How many of them have begun.
+    begun: usize,
+    /// By the kernel's number the thread that has it.
+    threads: HashMap<u32, u32>,
+    /// By process and address the mutex that is there.
+    mutexes: HashMap<(u32, u64), u32>,
+    /// The highest number of a mutex so far.
+    named: u32,
+    /// By thread the number of its last record, or 0.
+    last: Vec<u64>,
+    /// By mutex the number of its last RELEASE, or 0.
+    released: Vec<u64>,
+    pending: Vec<Pending>,
+    /// By thread whether a request was found since its last record.
+    has_asked: Vec<bool>,
+    found: Asked,
+}
+
+/// Returns the requests that a log lacks and that these waits show.
+///
+/// # Errors
+///
+/// Returns `AllocError` if out of memory.
+pub fn asked_in(
+    alloc: Global,
+    log: &Log,
+    sources: &Sources,
+    waits: &[Wait],
+) -> Result<Asked, AllocError> {
+    let mut search = Search::new(alloc, sources, waits)?;
+    let mut walk = Walk::new(alloc, &sources.ids)?;
+    let end = log.header().end();
+    for number in 1..end {
+        if let Some(record) = log.record(number) {
+            if record.event != Event::Text {
+                search.begin(sources, &mut walk.course, number, record.time)?;
+            }
+            let _moment = walk.read(log, sources, number);
+            search.pass(sources, &mut walk, &record)?;
+        }
+    }
+    // If the log was full, what happened behind its end isn't known.
+    if log.header().lost == 0 {
+        search.begin(sources, &mut walk.course, end, u64::MAX)?;
+    }
+    search.end()
+}
+
+impl Asked {
+    /// Returns no request.
+    pub fn none(alloc: Global) -> Asked {
+        Asked {
+            list: Vec::new(alloc),
+            ends: Vec::new(alloc),
+        }
+    }
+}
+
+impl Search {
+    fn new(alloc: Global, sources: &Sources, waits: &[Wait]) -> Result<Search, AllocError> {
+        let threads = sources.ids.threads.len();
+        let mut sorted = Vec::new(alloc);
+        for wait in waits {
+            push(&mut sorted, *wait)?;
+        }
+        sorted.sort_unstable();
+        Ok(Search {
+            alloc,
+            waits: sorted,
+            begun: 0,
+            threads: HashMap::new(alloc),
+            mutexes: HashMap::new(alloc),
+            named: 0,
+            last: vec![in alloc; 0; threads]?,
+            released: vec![in alloc; 0; sources.ids.mutexes.len()]?,
+            pending: Vec::new(alloc),
+            has_asked: vec![in alloc; false; threads]?,
+            found: Asked::none(alloc),
+        })
+    }
+
+    /// Lets those waits begin that are earlier than this time, which the record with this number has.
+    fn begin(
+        &mut self,
+        sources: &Sources,
+        course: &mut Course,
+        number: u64,
+        time: u64,
+    ) -> Result<(), AllocError> {
+        for place in self.begun..self.waits.len() {
+            let Some(wait) = self.waits.get(place).copied() else {
+                break;
+            };
+            if wait.from >= time {
+                break;
+            }
+            self.begun = place.saturating_add(1);
+            self.ask(sources, course, &wait, number.saturating_sub(1))?;
+        }
+        Ok(())
+    }
+
+    /// A wait begins behind the record with this number. If its thread waits already, the log has the request.
+    fn ask(
+        &mut self,
+        sources: &Sources,
+        course: &mut Course,
+        wait: &Wait,
+        after: u64,
+    ) -> Result<(), AllocError> {
+        let thread = self.threads.get(&wait.task).copied().unwrap_or(0);
+        let mutex = self.mutex_at(sources, thread, wait.address);
+        let owner = course.mutex(mutex).owner;
+        let is_waiting = course.thread(thread).awaits != 0 || self.is_pending(thread);
+        if thread == 0 || mutex == 0 || owner == thread || is_waiting {
+            return Ok(());
+        }
+        let request = Request {
+            after,
+            time: wait.from,
+            thread,
+            mutex,
+        };
+        if owner != 0 {
+            course.add_request(thread, mutex);
+            return self.add(request);
+        }
+        let release = get(&self.released, mutex);
+        let is_since = release > get(&self.last, thread);
+        let release = if is_since { release } else { 0 };
+        push(&mut self.pending, Pending { request, release })
+    }
+
+    /// Returns the mutex that is at an address in the process of a thread, or 0.
+    fn mutex_at(&self, sources: &Sources, thread: u32, address: u64) -> u32 {
+        let Some(is) = sources.ids.threads.get(thread as usize) else {
+            return 0;
+        };
+        match self.mutexes.get(&(is.process, address)) {
+            Some(own) => *own,
+            None => self.mutexes.get(&(0, address)).copied().unwrap_or(0),
+        }
+    }
+
+    fn is_pending(&self, thread: u32) -> bool {
+        for one in &self.pending {
+            if one.request.thread == thread {
+                return true;
+            }
+        }
+        false
+    }
+
+    fn add(&mut self, request: Request) -> Result<(), AllocError> {
+        if (request.thread as usize) < self.has_asked.len() {
+            self.has_asked[request.thread as usize] = true;
+        }
+        push(&mut self.found.list, request)
+    }
+
+    /// Goes past a record, by which the way went on last.
+    fn pass(
+        &mut self,
+        sources: &Sources,
+        walk: &mut Walk,
+        record: &Record,
+    ) -> Result<(), AllocError> {
+        let id = sources.ids.of_record(record.number);
+        self.learn(sources, record, id)?;
+        self.settle(&mut walk.course, record, id)?;
+        let thread = record.thread as usize;
+        if thread < self.has_asked.len() && self.has_asked[thread] {
+            self.has_asked[thread] = false;
+            push(&mut self.found.ends, record.number)?;
+        }
+        set(&mut self.last, record.thread, record.number);
+        if record.event == Event::Release {
+            set(&mut self.released, id, record.number);
+        }
+        Ok(())
+    }
+
+    /// Learns who has the number of a thread, and which mutex is at an address.
+    fn learn(&mut self, sources: &Sources, record: &Record, id: u32) -> Result<(), AllocError> {
+        if get(&self.last, record.thread) == 0 {
+            put(&mut self.threads, record.task, record.thread)?;
+        }
+        let is_thread = matches!(&record.event, Event::Thread | Event::Name | Event::Priority);
+        if is_thread || id <= self.named {
+            return Ok(());
+        }
+        self.named = id;
+        match sources.ids.mutex(id) {
+            Some(is) => put(&mut self.mutexes, (is.process, is.address), id),
+            None => Ok(()),
+        }
+    }
+
+    /// Adds the requests whose place a record shows, and drops those whose place isn't known by the end of the wait.
+    fn settle(&mut self, course: &mut Course, record: &Record, id: u32) -> Result<(), AllocError> {
+        if self.pending.is_empty() {
+            return Ok(());
+        }
+        let pending = std::mem::replace(&mut self.pending, Vec::new(self.alloc));
+        for one in &pending {
+            let request = one.request;
+            match one.place(record, id) {
+                Some(0) => {}
+                Some(after) => {
+                    if request.thread != record.thread {
+                        course.add_request(request.thread, request.mutex);
+                    }
+                    self.add(Request { after, ..request })?;
+                }
+                None => push(&mut self.pending, *one)?,
+            }
+        }
+        Ok(())
+    }
+
+    /// Adds the requests of the waits that last at the end, and returns all.
+    fn end(mut self) -> Result<Asked, AllocError> {
+        for one in &self.pending {
+            if one.release > 0 {
+                let after = one.release - 1;
+                push(
+                    &mut self.found.list,
+                    Request {
+                        after,
+                        ..one.request
+                    },
+                )?;
+            }
+        }
+        Ok(self.found)
+    }
+}
+
+impl Pending {
+    /// Returns the number of the record behind which the request belongs, 0 if that will not be known, or `None` as long
+    /// as a later record may say it.
+    fn place(&self, record: &Record, id: u32) -> Option<u64> {
+        let before = self.release.saturating_sub(1);
+        if record.thread == self.request.thread {
+            return Some(before);
+        }
+        if record.event != Event::Granted || id != self.request.mutex {
+            return None;
+        }
+        if began(record) <= self.request.time {
+            return Some(record.number);
+        }
+        if before > 0 { Some(before) } else { None }
+    }
+}
+
+/// Returns when the call began that a GRANTED ends, or 0 if the record doesn't say it.
+fn began(record: &Record) -> u64 {
+    match record.took() {
+        Some(took) => record.time.saturating_sub(u64::from(took)),
+        None => 0,
+    }
+}
+
+fn get(list: &[u64], place: u32) -> u64 {
+    list.get(place as usize).copied().unwrap_or(0)
+}
+
+fn set(list: &mut Vec<u64>, place: u32, value: u64) {
+    if (place as usize) < list.len() {
+        list[place as usize] = value;
+    }
+}
+
+/// Puts a value at a key of a map.
+fn put<K: Eq + std::hash::Hash + Drop, V: Drop>(
+    map: &mut HashMap<K, V>,
+    key: K,
+    value: V,
+) -> Result<(), AllocError> {
+    match map.insert(key, value) {
+        Ok(_) => Ok(()),
+        Err(_) => Err(AllocError),
+    }
+}

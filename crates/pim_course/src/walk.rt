@@ -1,0 +1,84 @@
+//! The way through a log, record by record.
+ghost use Rattle.std.specs.Prelude.{◌≡◌};
+ghost use Rattle.pim_facts.specs.Shown.{shown_in};
+
+use crate::course::{Course, Sources};
+use pim_facts::{Fact, Ids, LeftOut};
+use pim_log::Log;
+use std::alloc::{AllocError, Global};
+
+/// The way through a log, up to a record.
+#[derive(Drop)]
+pub struct Walk {
+    /// What the program has after that record.
+    pub course: Course,
+    /// How many of the requests that the log lacks were added.
+    added: usize,
+}
+
+/// When a record was put, and what becomes of it.
+#[derive(Clone, Copy, PartialEq, Eq)]
+pub struct Moment {
+    /// CLOCK_MONOTONIC in nanoseconds.
+    pub time: u64,
+    /// Why the record is left out if nothing that it shows is in the trace.
+    pub otherwise: LeftOut,
+}
+
+impl Walk {
+    /// Returns the way at its begin.
+    ///
+    /// # Errors
+    ///
+    /// Returns `AllocError` if out of memory.
+    pub fn new(alloc: Global, ids: &Ids) -> Result<Walk, AllocError> {
+        Ok(Walk {
+            course: Course::new(alloc, ids)?,
+            added: 0,
+        })
+    }
+
+    /// Returns what the record or the request shows by which the way went on last.
+    pub fn shown(&self) -> &[Fact]
+        ensures { result.now ≡ shown_in self.now.course.shown }
+    {
+        self.course.shown.as_slice()
+    }
+
+    /// Goes on by the record with this number.
+    pub fn read(&mut self, log: &Log, sources: &Sources, number: u64) -> Moment {
+        self.course.shown.clear();
+        match log.record(number) {
+            Some(record) => Moment {
+                time: record.time,
+                otherwise: self.course.advance(sources, &record),
+            },
+            None => Moment {
+                time: 0,
+                otherwise: LeftOut::Absent,
+            },
+        }
+    }
+
+    /// Returns how many requests the log lacks behind the record with this number.
+    pub fn missing(&self, sources: &Sources, number: u64) -> usize {
+        let list = &sources.requests.list;
+        for place in self.added..list.len() {
+            if list[place].after != number {
+                return place - self.added;
+            }
+        }
+        list.len().saturating_sub(self.added)
+    }
+
+    /// Goes on by the next request that the log lacks. Returns when it was made, or 0 if nothing says it.
+    pub fn add(&mut self, sources: &Sources) -> u64 {
+        self.course.shown.clear();
+        let Some(request) = sources.requests.list.get(self.added) else {
+            return 0;
+        };
+        self.added = self.added.saturating_add(1);
+        self.course.add_request(request.thread, request.mutex);
+        request.time
+    }
+}

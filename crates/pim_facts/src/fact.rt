@@ -1,0 +1,120 @@
+//! What a record of a log shows.
+ghost use Rattle.std.specs.Prelude.{◌<◌};
+
+/// What happened. Threads and mutexes have the numbers of [`Ids`](crate::Ids).
+#[derive(Clone, Copy, PartialEq, Eq)]
+pub enum What {
+    /// The thread owns the mutex, and waits for nothing.
+    Granted,
+    /// The thread waits for the mutex.
+    Waits,
+    /// The thread stopped waiting without the mutex.
+    GaveUp,
+    /// The thread released the mutex. This thread, if it isn't 0, is the next to own it.
+    Released(u32),
+    /// The thread has this level from now on.
+    Level(u8),
+    /// The PROTECT mutex has this level as its ceiling from now on.
+    Ceiling(u8),
+}
+
+/// What a record shows of a thread and a mutex.
+#[derive(Clone, Copy, PartialEq, Eq)]
+pub struct Fact {
+    pub what: What,
+    /// The thread that did it, or to which it happened.
+    pub thread: u32,
+    /// The mutex, or 0.
+    pub mutex: u32,
+    /// The critical section that it is a part of, or 0. It lasts from when the mutex is granted
+    /// until it is free.
+    pub section: u32,
+    /// Of a grant the critical section in which the thread began to wait for the mutex, or 0 if it
+    /// didn't wait.
+    pub since: u32,
+}
+
+/// Why a record isn't in the trace.
+#[derive(Clone, Copy, PartialEq, Eq)]
+pub enum LeftOut {
+    /// No record has the number: its thread was killed while it put the record.
+    Absent,
+    /// It names a thread, a file, a place or a process, or a mutex that begins or ends.
+    Remark,
+    /// It sets a priority or a ceiling that was so before.
+    Unchanged,
+    /// Its thread owns the mutex already, and locks it again or unlocks it once.
+    Again,
+    /// Nobody waited for the mutex while it was owned.
+    Uncontended,
+    /// It is a call that wasn't granted the mutex, and didn't wait.
+    Refused,
+    /// It is a release by a thread that isn't the owner.
+    NotOwner,
+    /// It is a release that the system refused.
+    Revoked,
+    /// It sets the priority of a thread that takes no part then.
+    Absentee,
+}
+
+impl LeftOut {
+    /// Each reason, in the order of their numbers.
+    pub const ALL: [LeftOut; 9] = [
+        LeftOut::Absent,
+        LeftOut::Remark,
+        LeftOut::Unchanged,
+        LeftOut::Again,
+        LeftOut::Uncontended,
+        LeftOut::Refused,
+        LeftOut::NotOwner,
+        LeftOut::Revoked,
+        LeftOut::Absentee,
+    ];
+
+    /// Returns the number of the reason, from 0 on.
+    pub fn number(self) -> usize
+        ensures { result < 9 }
+    {
+        match self {
+            LeftOut::Absent => 0,
+            LeftOut::Remark => 1,
+            LeftOut::Unchanged => 2,
+            LeftOut::Again => 3,
+            LeftOut::Uncontended => 4,
+            LeftOut::Refused => 5,
+            LeftOut::NotOwner => 6,
+            LeftOut::Revoked => 7,
+            LeftOut::Absentee => 8,
+        }
+    }
+
+    /// Returns a word for the reason.
+    pub fn name(self) -> &'static str {
+        match self {
+            LeftOut::Absent => "absent",
+            LeftOut::Remark => "remark",
+            LeftOut::Unchanged => "unchanged",
+            LeftOut::Again => "again",
+            LeftOut::Uncontended => "uncontended",
+            LeftOut::Refused => "refused",
+            LeftOut::NotOwner => "not_owner",
+            LeftOut::Revoked => "revoked",
+            LeftOut::Absentee => "absentee",
+        }
+    }
+
+    /// Returns what the records are that were left out so.
+    pub fn text(self) -> &'static str {
+        match self {
+            LeftOut::Absent => "never written: a thread was killed as it put one",
+            LeftOut::Remark => "with names of threads, mutexes, files, places and processes",
+            LeftOut::Unchanged => "of priorities and ceilings that were so already",
+            LeftOut::Again => "of locks and unlocks of a mutex that their thread keeps",
+            LeftOut::Uncontended => "of ownerships for which nobody waited",
+            LeftOut::Refused => "of calls that weren't granted the mutex and didn't wait",
+            LeftOut::NotOwner => "of releases by a thread that isn't the owner",
+            LeftOut::Revoked => "of releases that the system refused",
+            LeftOut::Absentee => "of priorities of threads that take no part",
+        }
+    }
+}

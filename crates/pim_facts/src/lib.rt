@@ -1,0 +1,28 @@
+//! What the records of a log are about, and what they show.
+//!
+//! [`Ids`] has the threads and the mutexes of a log, and which of them each record is about.
+//! A mutex that is initialised again is another one, and so is one at the same address in another
+//! process. A [`Fact`] is what a record shows of a thread and a mutex: a grant, a wait, a
+//! release, another level or ceiling. [`LeftOut`] says why a record isn't in a trace.
+//!
+//! ```text
+//! let log = Log::read(alloc, &bytes)?;
+//! let ids = Ids::of(alloc, &log)?;
+//! ids.mutex(ids.of_record(12)); // Some: the mutex that record 12 is about
+//! ```
+#![tactic(auto)]
+
+mod fact;
+mod facts;
+mod family;
+mod fault;
+mod ids;
+mod level;
+mod lists;
+
+pub use fact::{Fact, LeftOut, What};
+pub use facts::Facts;
+pub use family::{Family, ceiling_in};
+pub use fault::IdsFault;
+pub use ids::{Ids, LoggedMutex, LoggedThread, MAX_THREADS};
+pub use level::level_in;

@@ -1,9 +1,0 @@
-use Rattle.pim_import.specs.Replays.{Continues, StaysTheSame}
-use Rattle.pim_import.proofs.replay.Replay.rejoin.Given as goal
-
--- the program is the same, and there are further steps
-abbrev pub invariant-loop-round : goal.invariant-loop-round
-invariant-loop-round l = record {
-  same : StaysTheSame l.fn.self l.self;
-  continues : Continues l.fn.self l.self;
-}

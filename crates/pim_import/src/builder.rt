@@ -1,0 +1,395 @@
+//! The trace as it is made: who has which number at a time, and the pieces.
+ghost use Rattle.std.specs.Prelude.{IfOk, IfErr, ◌≡◌, false};
+ghost use Rattle.pim_import.specs.Faults.{NamesNone, NamesOnly};
+ghost use Rattle.pim_import.specs.LeftOut.{IsSetting};
+
+use crate::fault::ImportFault;
+use crate::lists::push;
+use crate::numbering::Numbering;
+use crate::participants::{Participant, Participants};
+use pim_base::{MAX_STEPS, MutexNo, Prio, Protocol, TaskNo};
+use pim_course::{Sources, family_of};
+use pim_facts::{Fact, Family, What};
+use pim_manager::MakeFault;
+use pim_replay::{Observation, Piece, Priorities, Replay, ReplayFault, restored};
+use std::alloc::{AllocError, Global};
+
+/// A piece ends where fewer steps than this are left. An observation makes fewer: at most two for each task that waits
+/// and two more, and there are at most 256 tasks.
+const ROOM: usize = 1024;
+
+/// Who appears in the trace, and when.
+#[derive(Clone, Copy, PartialEq, Eq)]
+pub struct Appearance {
+    /// The number of the step before which it appears, over all pieces, from 0 on.
+    pub step: u64,
+    /// The thread, or 0.
+    pub thread: u32,
+    /// The mutex of the log, or 0.
+    pub mutex: u32,
+}
+
+/// The trace as it is made.
+#[derive(Drop)]
+pub struct TraceBuilder {
+    alloc: Global,
+    /// By task the thread that has its number now.
+    threads: Vec<u32>,
+    /// By mutex the mutex of the log that has its number now.
+    mutexes: Vec<u32>,
+    /// The piece that is being made.
+    replay: Replay,
+    times: Vec<u64>,
+    restoring: usize,
+    /// The pieces before.
+    pieces: Vec<Piece>,
+    /// The steps of the pieces before, without those that restore a state.
+    steps_before: u64,
+    appearances: Vec<Appearance>,
+}
+
+impl TraceBuilder {
+    /// Returns the trace at its begin. Each number is that of the first who has it.
+    ///
+    /// # Errors
+    ///
+    /// Returns `Memory` if out of memory.
+    pub fn new(alloc: Global, context: &Context) -> Result<TraceBuilder, ImportFault>
+        ensures { IfErr result NamesNone }
+    {
+        let bases = bases_of(alloc, context)?;
+        let protocols = protocols_of(alloc, context)?;
+        Ok(TraceBuilder {
+            alloc,
+            threads: vec![in alloc; 0; bases.len()]?,
+            mutexes: vec![in alloc; 0; protocols.len()]?,
+            replay: replay_of(alloc, bases, protocols)?,
+            times: Vec::new(alloc),
+            restoring: 0,
+            pieces: Vec::new(alloc),
+            steps_before: 0,
+            appearances: Vec::new(alloc),
+        })
+    }
+
+    /// Returns the thread that is first in the queue of a mutex of the log.
+    pub fn first_waiter(&self, context: &Context, mutex: u32) -> Option<u32> {
+        let number = self.mutex_of(context, mutex)?;
+        let (first, _wait) = self.replay.first_queued(number)?;
+        Some(self.thread_at(first))
+    }
+
+    /// Ends the trace, and returns its pieces and who appears in it.
+    ///
+    /// # Errors
+    ///
+    /// Returns `Memory` if out of memory.
+    pub fn end(self) -> Result<(Vec<Piece>, Vec<Appearance>), ImportFault>
+        ensures { IfErr result NamesNone }
+    {
+        let mut pieces = self.pieces;
+        let piece = Piece {
+            replay: self.replay,
+            times: self.times,
+            restoring: self.restoring,
+        };
+        push(&mut pieces, piece)?;
+        Ok((pieces, self.appearances))
+    }
+}
+
+impl TraceBuilder {
+    /// Makes the steps of a fact, which the record with this number shows, and returns whether it
+    /// is in the trace: a new level or ceiling only is if the thread or the mutex takes part by
+    /// then.
+    ///
+    /// # Errors
+    ///
+    /// Returns `Contradiction` if the log contradicts itself there, and `Memory` if out of memory.
+    pub fn build(&mut self, context: &Context, fact: &Fact, now: &Now) -> Result<bool, ImportFault>
+        ensures unused { IfOk result (λ is_used. is_used ≡ false → IsSetting fact.now.what) }
+        ensures fault { IfErr result (NamesOnly now.now.number) }
+    {
+        self.cut(now)?;
+        match fact.what {
+            What::Level(level) => {
+                let Some(task) = self.task_of(context, fact.thread) else {
+                    return Ok(false);
+                };
+                let prio = context.priorities.of_level(level);
+                self.observe(&Observation::Base(task, prio), now)?;
+                Ok(true)
+            }
+            What::Ceiling(level) => {
+                let Some(mutex) = self.mutex_of(context, fact.mutex) else {
+                    return Ok(false);
+                };
+                let ceiling = context.priorities.of_level(level);
+                self.observe(&Observation::Ceiling(mutex, ceiling), now)?;
+                Ok(true)
+            }
+            What::Granted | What::Waits | What::GaveUp | What::Released(_) => {
+                self.act(context, fact, now)?;
+                Ok(true)
+            }
+        }
+    }
+
+    /// Makes the steps of a fact of a thread and a mutex, which appear first if they haven't.
+    fn act(&mut self, context: &Context, fact: &Fact, now: &Now) -> Result<(), ImportFault>
+        ensures { IfErr result (NamesOnly now.now.number) }
+    {
+        let task = self.enter_thread(context, fact.thread, now)?;
+        let mutex = self.enter_mutex(context, fact.mutex, now)?;
+        let observation = match fact.what {
+            What::Granted => Observation::Granted(task, mutex),
+            What::Waits => Observation::Waits(task, mutex),
+            What::Released(next) => {
+                Observation::Released(task, mutex, self.task_of(context, next))
+            }
+            _ => Observation::GaveUp(task),
+        };
+        self.observe(&observation, now)
+    }
+
+    /// Returns the task that a thread is now.
+    fn task_of(&self, context: &Context, thread: u32) -> Option<TaskNo> {
+        let number = context.numbering.threads.of(thread);
+        let place = (number as usize).checked_sub(1)?;
+        if self.threads.get(place) == Some(&thread) {
+            Some(TaskNo(number))
+        } else {
+            None
+        }
+    }
+
+    /// Returns the number in the trace of a mutex of the log, if it has it now.
+    fn mutex_of(&self, context: &Context, mutex: u32) -> Option<MutexNo> {
+        let number = context.numbering.mutexes.of(mutex);
+        let place = (number as usize).checked_sub(1)?;
+        if self.mutexes.get(place) == Some(&mutex) {
+            Some(MutexNo(number))
+        } else {
+            None
+        }
+    }
+
+    /// Returns the thread that a task is now, or 0.
+    fn thread_at(&self, task: TaskNo) -> u32 {
+        match (task.get() as usize).checked_sub(1) {
+            Some(place) => self.threads.get(place).copied().unwrap_or(0),
+            None => 0,
+        }
+    }
+
+    /// Returns the task of a thread. If another had its number, that one leaves: it gives up its wait, and its mutexes.
+    fn enter_thread(
+        &mut self,
+        context: &Context,
+        thread: u32,
+        now: &Now,
+    ) -> Result<TaskNo, ImportFault>
+        ensures { IfErr result (NamesOnly now.now.number) }
+    {
+        if let Some(task) = self.task_of(context, thread) {
+            return Ok(task);
+        }
+        let task = TaskNo(context.numbering.threads.of(thread));
+        if self.thread_at(task) != 0 {
+            self.leave(task, now)?;
+        }
+        self.appear(thread, 0)?;
+        put(&mut self.threads, task.get(), thread);
+        let prio = context
+            .priorities
+            .of_level(level_of(&context.participants.threads, thread));
+        if self.replay.manager().base(task) != Some(prio) {
+            self.observe(&Observation::Base(task, prio), now)?;
+        }
+        Ok(task)
+    }
+
+    /// Ends the wait of a task, and releases its mutexes.
+    fn leave(&mut self, task: TaskNo, now: &Now) -> Result<(), ImportFault>
+        ensures { IfErr result (NamesOnly now.now.number) }
+    {
+        if self.replay.awaits(task).is_some() {
+            self.observe(&Observation::GaveUp(task), now)?;
+        }
+        for number in 1..=self.replay.manager().mutexes() {
+            let mutex = MutexNo(number);
+            if self.replay.owner(mutex) == Some(task) {
+                self.observe(&Observation::Released(task, mutex, None), now)?;
+            }
+        }
+        Ok(())
+    }
+
+    /// Returns the number in the trace of a mutex of the log. If another had it, that is free and awaited by nobody first.
+    fn enter_mutex(
+        &mut self,
+        context: &Context,
+        mutex: u32,
+        now: &Now,
+    ) -> Result<MutexNo, ImportFault>
+        ensures { IfErr result (NamesOnly now.now.number) }
+    {
+        if let Some(number) = self.mutex_of(context, mutex) {
+            return Ok(number);
+        }
+        let number = MutexNo(context.numbering.mutexes.of(mutex));
+        self.clear(number, now)?;
+        self.appear(0, mutex)?;
+        put(&mut self.mutexes, number.get(), mutex);
+        let ceiling = context
+            .priorities
+            .of_level(level_of(&context.participants.mutexes, mutex));
+        let is_protect = family_of(context.sources, mutex) == Family::Protect;
+        let protocol = self.replay.manager().protocol(number);
+        if is_protect && protocol != Some(Protocol::Protect(ceiling)) {
+            self.observe(&Observation::Ceiling(number, ceiling), now)?;
+        }
+        Ok(number)
+    }
+
+    /// Lets all tasks that wait for a mutex give up, and its owner release it.
+    fn clear(&mut self, mutex: MutexNo, now: &Now) -> Result<(), ImportFault>
+        ensures { IfErr result (NamesOnly now.now.number) }
+    {
+        for number in 1..=self.replay.manager().tasks() {
+            if self.replay.awaits(TaskNo(number)) == Some(mutex) {
+                self.observe(&Observation::GaveUp(TaskNo(number)), now)?;
+            }
+        }
+        if let Some(owner) = self.replay.owner(mutex) {
+            self.observe(&Observation::Released(owner, mutex, None), now)?;
+        }
+        Ok(())
+    }
+
+    /// Keeps who appears.
+    fn appear(&mut self, thread: u32, mutex: u32) -> Result<(), AllocError> {
+        let steps = self.times.len().saturating_sub(self.restoring) as u64;
+        let appearance = Appearance {
+            step: self.steps_before.saturating_add(steps),
+            thread,
+            mutex,
+        };
+        push(&mut self.appearances, appearance)
+    }
+
+    /// Makes the steps of an observation, and keeps when they happened.
+    fn observe(&mut self, observation: &Observation, now: &Now) -> Result<(), ImportFault>
+        ensures { IfErr result (NamesOnly now.now.number) }
+    {
+        match self.replay.observe(observation) {
+            Ok(()) => {}
+            Err(ReplayFault::Contradiction) => return Err(ImportFault::Contradiction(now.number)),
+            Err(ReplayFault::Memory) => return Err(ImportFault::Memory),
+        }
+        let steps = self.replay.entries().len().saturating_sub(self.times.len());
+        for _step in 0..steps {
+            push(&mut self.times, now.time)?;
+        }
+        Ok(())
+    }
+
+    /// Ends the piece if it is nearly full, and begins the next one with the state at its end.
+    fn cut(&mut self, now: &Now) -> Result<(), ImportFault>
+        ensures { IfErr result (NamesOnly now.now.number) }
+    {
+        if self.replay.entries().len().saturating_add(ROOM) <= MAX_STEPS as usize {
+            return Ok(());
+        }
+        let next = match restored(self.alloc, &self.replay) {
+            Ok(next) => next,
+            Err(ReplayFault::Contradiction) => return Err(ImportFault::Contradiction(now.number)),
+            Err(ReplayFault::Memory) => return Err(ImportFault::Memory),
+        };
+        let restoring = next.entries().len();
+        let times = vec![in self.alloc; now.time; restoring]?;
+        let own = self.times.len().saturating_sub(self.restoring) as u64;
+        let piece = Piece {
+            replay: std::mem::replace(&mut self.replay, next),
+            times: std::mem::replace(&mut self.times, times),
+            restoring: self.restoring,
+        };
+        self.restoring = restoring;
+        self.steps_before = self.steps_before.saturating_add(own);
+        push(&mut self.pieces, piece)?;
+        Ok(())
+    }
+}
+
+/// What a trace is made from.
+#[derive(Clone, Copy)]
+pub struct Context<'a> {
+    pub sources: &'a Sources,
+    pub priorities: &'a Priorities,
+    pub participants: &'a Participants,
+    pub numbering: &'a Numbering,
+}
+
+/// A record's place in the log, and its time.
+#[derive(Clone, Copy, PartialEq, Eq)]
+pub struct Now {
+    /// The number of the record.
+    pub number: u64,
+    /// CLOCK_MONOTONIC in nanoseconds.
+    pub time: u64,
+}
+
+fn put(list: &mut Vec<u32>, number: u16, one: u32) {
+    if let Some(place) = (number as usize).checked_sub(1) {
+        if place < list.len() {
+            list[place] = one;
+        }
+    }
+}
+
+fn level_of(participants: &[Participant], one: u32) -> u8 {
+    match participants.get(one as usize) {
+        Some(participant) => participant.level,
+        None => 0,
+    }
+}
+
+/// Returns the priority of each task at the start.
+fn bases_of(alloc: Global, context: &Context) -> Result<Vec<Prio>, AllocError> {
+    let mut bases = Vec::new(alloc);
+    for thread in &context.numbering.threads.firsts {
+        let level = level_of(&context.participants.threads, *thread);
+        push(&mut bases, context.priorities.of_level(level))?;
+    }
+    Ok(bases)
+}
+
+/// Returns the protocol of each mutex at the start.
+fn protocols_of(alloc: Global, context: &Context) -> Result<Vec<Protocol>, AllocError> {
+    let mut protocols = Vec::new(alloc);
+    for mutex in &context.numbering.mutexes.firsts {
+        let level = level_of(&context.participants.mutexes, *mutex);
+        let protocol = match family_of(context.sources, *mutex) {
+            Family::None => Protocol::None,
+            Family::Inherit => Protocol::Inherit,
+            Family::Protect => Protocol::Protect(context.priorities.of_level(level)),
+        };
+        push(&mut protocols, protocol)?;
+    }
+    Ok(protocols)
+}
+
+/// Returns a replay at its start. There are no more tasks and mutexes than a manager has room for.
+fn replay_of(
+    alloc: Global,
+    bases: Vec<Prio>,
+    protocols: Vec<Protocol>,
+) -> Result<Replay, ImportFault>
+    ensures { IfErr result NamesNone }
+{
+    match Replay::new(alloc, bases, protocols) {
+        Ok(replay) => Ok(replay),
+        Err(MakeFault::Memory) => Err(ImportFault::Memory),
+        Err(_) => Err(ImportFault::Crowded),
+    }
+}

@@ -1,0 +1,77 @@
+//! Which critical sections are in the trace.
+ghost use Rattle.std.specs.Prelude.{◌↔◌, IsTrue};
+ghost use Rattle.pim_import.specs.LeftOut.{IsKept, Keeps};
+
+use crate::left_out::may_be_left_out;
+use pim_course::{Sources, Walk};
+use pim_facts::{Fact, What};
+use pim_log::Log;
+use std::alloc::{AllocError, Global};
+
+/// Which critical sections are in the trace: those for which or during which a thread waited, and
+/// those of PROTECT mutexes; or all.
+#[derive(Drop)]
+pub struct CriticalSections {
+    /// By the number of the critical section.
+    is_kept: Vec<bool>,
+    is_all: bool,
+}
+
+impl CriticalSections {
+    /// Returns which critical sections of the log are in the trace.
+    ///
+    /// # Errors
+    ///
+    /// Returns `AllocError` if out of memory.
+    pub fn of(
+        alloc: Global,
+        log: &Log,
+        sources: &Sources,
+        is_all: bool,
+    ) -> Result<CriticalSections, AllocError> {
+        let end = log.header().end();
+        let room = (end as usize).saturating_add(sources.requests.list.len());
+        let mut sections = CriticalSections {
+            is_kept: vec![in alloc; false; room]?,
+            is_all,
+        };
+        let mut walk = Walk::new(alloc, &sources.ids)?;
+        for number in 1..end {
+            let _moment = walk.read(log, sources, number);
+            sections.look(&walk, sources);
+            for _request in 0..walk.missing(sources, number) {
+                let _time = walk.add(sources);
+                sections.look(&walk, sources);
+            }
+        }
+        Ok(sections)
+    }
+
+    /// Keeps each critical section of which a fact may not be left out, or for which a thread
+    /// waits: a wait is found also where no record says who owns the mutex, or where its owner is
+    /// about to release it.
+    fn look(&mut self, walk: &Walk, sources: &Sources) {
+        for fact in walk.shown() {
+            let place = fact.section as usize;
+            let is_dropped = fact.what != What::Waits
+                && may_be_left_out(&walk.course, sources, fact);
+            if !is_dropped && place < self.is_kept.len() {
+                self.is_kept[place] = true;
+            }
+        }
+    }
+
+    /// Returns whether a fact is in the trace, if the threads and mutexes that it names take part.
+    pub fn has(&self, fact: &Fact) -> bool
+        ensures { IsTrue result ↔ IsKept self.now fact.now }
+    {
+        fact.section == 0 || self.keeps(fact.section)
+    }
+
+    /// Returns whether a critical section is in the trace.
+    pub fn keeps(&self, section: u32) -> bool
+        ensures { IsTrue result ↔ Keeps self.now section }
+    {
+        self.is_all || self.is_kept.get(section as usize) == Some(&true)
+    }
+}

@@ -1,5 +1,0 @@
-mod Unawaited
-mod Beside
-mod Leaving
-mod Renaming
-mod RenamedRuns

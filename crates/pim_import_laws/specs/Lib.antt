@@ -1,2 +1,0 @@
-pub mod LeavingOut
-pub mod Renaming

@@ -1,0 +1,70 @@
+-- What two replays have in common that are compared number by number.
+use Rattle.std.proofs.Common.{◌≡◌, ℕ, zero, suc, ◌+◌, ◌<◌, ◌≤◌, ◌⊎◌, inl, inr, List, length, Option, Some, None}
+use Rattle.std.proofs.Common.{unwrap_or, get_or, slice_get, refl, sym, ◌∙◌, ap, ap₂, arith, rules, eq-or-lt_of_le}
+use Rattle.std.specs.Option.{option_or}
+use Rattle.std.proofs.lemmas.Bool.{cases_lt}
+use Rattle.std.proofs.lemmas.List.{ext_get_or}
+use Rattle.std.proofs.lemmas.Option.{same_Some, slice_get-get_or, slice_get_past}
+use Rattle.pim_base.specs.Lists.{nth}
+use Rattle.pim_base.specs.State.{State, IsState, base_of, owner_of, protocol_of, wait_of}
+use Rattle.pim_base.specs.declared.steps.Protocol.{Protocol}
+use Rattle.pim_base.specs.declared.steps.Wait.{Wait}
+use Rattle.pim_replay.specs.Replays.{ReplayState, awaited, mutex_of, outside_of}
+
+-- f and g agree up to n
+abbrev pub AgreeTo : {X : Type 0} → (ℕ → X) → (ℕ → X) → ℕ → Type 0
+AgreeTo f g n = (k : ℕ) → 1 ≤ k → k ≤ n → f k ≡ g k
+
+pub agree_none : {X : Type 0} (f g : ℕ → X) → AgreeTo f g 0
+agree_none f g k low high = absurd (omega arith)
+
+pub agree_next : {X : Type 0} (f g : ℕ → X) (n : ℕ) → AgreeTo f g n → f (n + 1) ≡ g (n + 1) → AgreeTo f g (n + 1)
+agree_next f g n before here k low high = elim (eq-or-lt_of_le high) [
+  | inl same ↦ rw same here
+  | inr less ↦ before k low (omega (arith, less))
+]
+
+-- lists whose items agree are equal
+pub same_lists :
+    {X : Type 0} (xs ys : List X) (d : X)
+    → length xs ≡ length ys
+    → AgreeTo (λ n. unwrap_or (nth xs n) d) (λ n. unwrap_or (nth ys n) d) (length xs)
+    → xs ≡ ys
+same_lists xs ys d lengths agree = ext_get_or d xs ys lengths (λ i h. item xs i h ∙ at i h ∙ sym (item ys i (omega (arith, lengths))))
+  where
+    item : (zs : List _) (i : ℕ) → i < length zs → get_or zs i d ≡ unwrap_or (slice_get zs i) d
+    item zs i h = ap (λ o. unwrap_or o d) (sym (slice_get-get_or zs i d h))
+
+    at : (i : ℕ) → i < length xs → unwrap_or (slice_get xs i) d ≡ unwrap_or (slice_get ys i) d
+    at i h = agree (suc i) (omega arith) (omega arith)
+
+-- a task that there isn't waits for nothing
+pub nth-past : {X : Type 0} (xs : List X) (n : ℕ) → length xs < n → nth xs n ≡ None
+nth-past xs zero h = absurd (omega arith)
+nth-past xs (suc i) h = slice_get_past xs i (omega arith)
+
+awaited-past : (r : ReplayState) (t : ℕ) → IsState r.state → length r.outside ≡ length r.state.base → length r.state.base < t → awaited r t ≡ None
+awaited-past r t lists outside past =
+    ap₂ option_or
+    (ap (λ o. mutex_of (unwrap_or o None)) (nth-past r.state.wait t (omega (arith, lists.waits))))
+    (ap (λ o. mutex_of (unwrap_or o None)) (nth-past r.outside t (omega (arith, outside))))
+
+awaited-zero : (r : ReplayState) → awaited r 0 ≡ None
+awaited-zero r = refl
+
+-- so all tasks wait for the same if those do that there are
+pub same_waits :
+    (r s : ReplayState)
+    → IsState r.state
+    → IsState s.state
+    → length r.outside ≡ length r.state.base
+    → length s.outside ≡ length s.state.base
+    → length r.state.base ≡ length s.state.base
+    → AgreeTo (awaited r) (awaited s) (length r.state.base)
+    → (t : ℕ)
+    → awaited r t ≡ awaited s t
+same_waits r s lists_r lists_s outside_r outside_s tasks agree zero = awaited-zero r ∙ sym (awaited-zero s)
+same_waits r s lists_r lists_s outside_r outside_s tasks agree (suc i) = elim (cases_lt (length r.state.base) (suc i)) [
+  | inl past ↦ awaited-past r (suc i) lists_r outside_r past ∙ sym (awaited-past s (suc i) lists_s outside_s (omega (arith, tasks, past)))
+  | inr known ↦ agree (suc i) (omega arith) known
+]

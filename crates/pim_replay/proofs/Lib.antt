@@ -1,0 +1,12 @@
+pub mod SharingLemmas
+pub mod CrowdedLemmas
+pub mod Replaying
+pub mod Stopping
+pub mod PriorityLemmas
+pub mod Comparing
+pub mod Ordering
+mod Unawaited
+mod Beside
+mod Leaving
+mod Renaming
+mod RenamedRuns

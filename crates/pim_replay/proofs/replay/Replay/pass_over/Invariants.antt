@@ -1,0 +1,9 @@
+use Rattle.pim_replay.specs.Replays.{Continues, StaysTheSame}
+use Rattle.pim_replay.proofs.replay.Replay.pass_over.Given as goal
+
+-- the program is the same, and there are further steps
+abbrev pub invariant-loop-round : goal.invariant-loop-round
+invariant-loop-round l = record {
+  same : StaysTheSame l.fn.self l.self;
+  continues : Continues l.fn.self l.self;
+}

@@ -1,0 +1,9 @@
+use Rattle.std.proofs.Common.{refl, rules}
+use Rattle.pim_replay.specs.Replays.{IsOtherwise}
+use Rattle.pim_replay.proofs.Stopping.{stopped}
+use Rattle.pim_replay.proofs.replay.Replay.require.Goals as goal
+
+pub returns-else-eq-clause-fault : goal.returns-else-eq-clause-fault
+returns-else-eq-clause-fault c =
+    stopped c.args.self.now c.make.new.self c.args.step c.in_ok-given.given (IsOtherwise c.args.step c.args.reply)
+    c.in_ok-given.ensures.made c.in_ok-given.ensures.reply (refl, λ is. search (rules, c.if-eq.false, c.eq.ensures, is))

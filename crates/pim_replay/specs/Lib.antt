@@ -1,0 +1,5 @@
+pub mod Sharing
+pub mod Replays
+pub mod Priorities
+pub mod LeavingOut
+pub mod Renaming

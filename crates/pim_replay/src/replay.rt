@@ -1,0 +1,371 @@
+//! The steps by which a manager does what a recorded program did.
+
+ghost use Rattle.std.specs.Prelude.{◌≡◌, ◌↔◌, ℕ, length, Some, None, OnErr, IfOk, IfErr, IfSome, IsTrue};
+ghost use Rattle.pim_base.specs.Reports.{verdict_of};
+ghost use Rattle.pim_base.specs.Runs.{IsRun};
+ghost use Rattle.pim_base.specs.State.{IsState, IsTask, IsMutex, start, base_of, protocol_of, owner_of, wait_of};
+ghost use Rattle.pim_base.specs.Steps.{reply_of};
+ghost use Rattle.pim_base.specs.declared.lines.Verdict.{Verdict};
+ghost use Rattle.pim_replay.specs.Replays.{Continues, trace_of_replay, awaited, mutex_of, outside_of, at_start};
+ghost use Rattle.pim_replay.specs.Replays.{with_step, with_outside, StaysTheSame, Stops, IsOtherwise};
+
+use crate::fault::ReplayFault;
+use pim_base::{Entry, MutexNo, Prio, Protocol, Reply, Step, TaskNo, Wait, nth};
+use pim_manager::{MakeFault, Manager};
+use std::alloc::{AllocError, Global};
+use std::marker::Model;
+
+/// The steps by which a manager did what was observed of a recorded program, each with its reply.
+///
+/// In the program a mutex may go to any task, and a task that waits may be passed over. A manager gives it to the first
+/// waiter. So tasks that were passed over leave the queue, and join it again behind the new owner. Until then, and if a
+/// wait would close a cycle of waits, they wait in the program and are in no queue.
+///
+/// In contracts it is the state at the start and now, the steps between, and the waits of tasks that are in no queue. The
+/// type keeps that the steps, with their replies, are a run of the model.
+#[derive(Drop)]
+pub struct Replay {
+    bases: Vec<Prio>,
+    protocols: Vec<Protocol>,
+    manager: Manager,
+    entries: Vec<Entry>,
+    /// What each task waits for outside of the queues.
+    outside: Vec<Option<Wait>>,
+    /// How many tasks wait there.
+    outsiders: usize,
+}
+
+impl Model for Replay {
+    ghost use Rattle.std.specs.Prelude.{◌≡◌, length};
+    ghost use Rattle.pim_base.specs.Runs.{IsRun};
+    ghost use Rattle.pim_base.specs.State.{start};
+    ghost use Rattle.pim_replay.specs.Replays.{ReplayState};
+
+    ghost Value = { ReplayState };
+
+    ghost view = { λ r. record {
+      start = start r.bases.items r.protocols.items 1;
+      state = r.manager;
+      entries = r.entries.items;
+      outside = r.outside.items;
+    } };
+
+    ghost invariant = { λ r. IsRun (start r.bases.items r.protocols.items 1) r.entries.items r.manager
+        × (length r.outside.items ≡ length r.manager.base) };
+}
+
+impl Replay {
+    /// Returns the replay of a program with these bases and protocols, at its start: all mutexes are free.
+    ///
+    /// # Errors
+    ///
+    /// Returns the errors of `Manager::new`.
+    pub fn new(
+        alloc: Global,
+        bases: Vec<Prio>,
+        protocols: Vec<Protocol>,
+    ) -> Result<Replay, MakeFault>
+        ensures { IfOk result (λ replay. replay ≡ at_start (start bases.items protocols.items 1)) }
+    {
+        let manager = Manager::new(alloc, &bases, &protocols)?;
+        let outside = vec![in alloc; None; bases.len()]?;
+        Ok(Replay {
+            bases,
+            protocols,
+            manager,
+            entries: Vec::new(alloc),
+            outside,
+            outsiders: 0,
+        })
+    }
+
+    /// Returns the steps, each with its reply, in order. They are a run of the model, so `pim` accepts the trace that they
+    /// are.
+    pub fn entries(&self) -> &[Entry]
+        ensures entries { result.now ≡ self.now.entries }
+        ensures run { IsRun self.now.start self.now.entries self.now.state }
+        ensures accepted { verdict_of (trace_of_replay self.now) ≡ Verdict.Accepted (length self.now.entries) }
+    {
+        self.entries.as_slice()
+    }
+
+    /// Returns the manager after the steps.
+    pub fn manager(&self) -> &Manager
+        ensures { result.now ≡ self.now.state }
+    {
+        &self.manager
+    }
+
+    /// Returns the base priority of each task at the start, that of task 1 first.
+    pub fn bases(&self) -> &[Prio]
+        ensures { result.now ≡ self.now.start.base }
+    {
+        self.bases.as_slice()
+    }
+
+    /// Returns the protocol of each mutex at the start, that of mutex 1 first.
+    pub fn protocols(&self) -> &[Protocol]
+        ensures { result.now ≡ self.now.start.protocol }
+    {
+        self.protocols.as_slice()
+    }
+
+    /// Returns the mutex that the task waits for in the program. An unknown task doesn't wait.
+    pub fn awaits(&self, task: TaskNo) -> Option<MutexNo>
+        ensures { result ≡ awaited self.now task }
+    {
+        match self.queued(task) {
+            Some(mutex) => Some(mutex),
+            None => self.outside_wait(task).map(|wait| wait.mutex),
+        }
+    }
+
+    /// Returns the mutex in whose queue the task is.
+    pub(crate) fn queued(&self, task: TaskNo) -> Option<MutexNo>
+        ensures { result ≡ mutex_of (wait_of self.now.state task) }
+    {
+        // By its contract the proof knows that the state is steady.
+        let _steady = self.manager.tasks();
+        self.manager.waits_for(task).flatten()
+    }
+
+    /// Returns the owner of the mutex. An unknown mutex has none.
+    pub fn owner(&self, mutex: MutexNo) -> Option<TaskNo>
+        ensures { result ≡ owner_of self.now.state mutex }
+    {
+        // By its contract the proof knows that the state is steady.
+        let _steady = self.manager.tasks();
+        self.manager.owner(mutex).flatten()
+    }
+
+    /// Returns the first task in the queue of the mutex, with its wait.
+    pub fn first_queued(&self, mutex: MutexNo) -> Option<(TaskNo, Wait)>
+        ensures { IfSome result (λ first.
+            (wait_of self.now.state first.0 ≡ Some first.1) × (first.1.mutex ≡ mutex)) }
+    {
+        // By its contract the proof knows that the state is steady.
+        let _steady = self.manager.tasks();
+        let first = self.manager.waiters(mutex)?.first()?;
+        let wait = Wait {
+            mutex,
+            ticket: first.ticket,
+        };
+        Some((first.task, wait))
+    }
+
+    /// Returns the first task behind this one, by ticket and number, that waits for the mutex outside of its queue.
+    pub(crate) fn first_outside(
+        &self,
+        mutex: MutexNo,
+        ticket: u64,
+        task: TaskNo,
+    ) -> Option<(TaskNo, Wait)>
+        ensures { IfSome result (λ first.
+            (outside_of self.now first.0 ≡ Some first.1) × (first.1.mutex ≡ mutex)) }
+    {
+        let mut first: Option<(TaskNo, Wait)> = None;
+        if self.outsiders == 0 {
+            return first;
+        }
+        for number in 1..=self.manager.tasks() {
+            if let Some(wait) = self.outside_wait(TaskNo(number)) {
+                let is_behind = ticket < wait.ticket
+                    || ticket == wait.ticket && task.get() < number;
+                if wait.mutex == mutex && is_behind && is_before(&wait, &first) {
+                    first = Some((TaskNo(number), wait));
+                }
+            }
+        }
+        first
+    }
+
+    /// Returns whether there is such a task, and it is in no queue.
+    pub(crate) fn is_idle(&self, task: TaskNo) -> bool
+        ensures idle { IsTrue result → IsTask self.now.state task × (wait_of self.now.state task ≡ None) }
+        ensures busy { IsTask self.now.state task × (wait_of self.now.state task ≡ None) → IsTrue result }
+    {
+        self.manager.waits_for(task) == Some(None)
+    }
+
+    /// Returns whether there is such a mutex, and it has no owner.
+    pub(crate) fn is_free(&self, mutex: MutexNo) -> bool
+        ensures { IsTrue result ↔ IsMutex self.now.state mutex × (owner_of self.now.state mutex ≡ None) }
+    {
+        self.manager.owner(mutex) == Some(None)
+    }
+
+    /// Returns the task if it doesn't wait, else the first task that doesn't.
+    pub(crate) fn idle_task(&self, task: TaskNo) -> TaskNo {
+        if self.is_idle(task) {
+            return task;
+        }
+        for number in 1..=self.manager.tasks() {
+            if self.is_idle(TaskNo(number)) {
+                return TaskNo(number);
+            }
+        }
+        task
+    }
+
+    /// Returns whether each mutex has the owner and the protocol that it has in another replay, and each task its base and
+    /// the mutex that it waits for. Reads each of them once.
+    pub(crate) fn has_program_of(&self, other: &Replay) -> bool
+        ensures { IsTrue result → StaysTheSame other.now self.now }
+    {
+        self.has_mutexes_of(other) && self.has_tasks_of(other)
+    }
+
+    /// Returns whether each mutex has the owner and the protocol that it has in another replay.
+    fn has_mutexes_of(&self, other: &Replay) -> bool
+        ensures owners { IsTrue result → self.now.state.owner ≡ other.now.state.owner }
+        ensures protocols { IsTrue result → self.now.state.protocol ≡ other.now.state.protocol }
+    {
+        // By their contracts the proof knows that the states are steady.
+        let (_own, _others) = (self.manager.tasks(), other.manager.tasks());
+        let count = self.manager.mutexes();
+        if other.manager.mutexes() != count {
+            return false;
+        }
+        for place in 0..count {
+            if !self.has_mutex_of(other, MutexNo(place + 1)) {
+                return false;
+            }
+        }
+        true
+    }
+
+    /// Returns whether the mutex has the owner and the protocol that it has in another replay.
+    fn has_mutex_of(&self, other: &Replay, mutex: MutexNo) -> bool
+        requires own { IsMutex self.now.state mutex }
+        requires others { IsMutex other.now.state mutex }
+        ensures owner { IsTrue result → owner_of self.now.state mutex ≡ owner_of other.now.state mutex }
+        ensures protocol { IsTrue result → protocol_of self.now.state mutex ≡ protocol_of other.now.state mutex }
+    {
+        self.owner(mutex) == other.owner(mutex)
+            && self.manager.protocol(mutex) == other.manager.protocol(mutex)
+    }
+
+    /// Returns whether each task has the base that it has in another replay, and waits for the same mutex.
+    fn has_tasks_of(&self, other: &Replay) -> bool
+        ensures bases { IsTrue result → self.now.state.base ≡ other.now.state.base }
+        ensures waits { IsTrue result → (t : ℕ) → awaited self.now t ≡ awaited other.now t }
+    {
+        let count = self.manager.tasks();
+        if other.manager.tasks() != count {
+            return false;
+        }
+        for place in 0..count {
+            if !self.has_task_of(other, TaskNo(place + 1)) {
+                return false;
+            }
+        }
+        true
+    }
+
+    /// Returns whether the task has the base that it has in another replay, and waits for the same mutex.
+    fn has_task_of(&self, other: &Replay, task: TaskNo) -> bool
+        requires own { IsTask self.now.state task }
+        requires others { IsTask other.now.state task }
+        ensures base { IsTrue result → base_of self.now.state task ≡ base_of other.now.state task }
+        ensures waits { IsTrue result → awaited self.now task ≡ awaited other.now task }
+    {
+        self.manager.base(task) == other.manager.base(task)
+            && self.awaits(task) == other.awaits(task)
+    }
+
+    /// Makes the step, and keeps it with its reply.
+    ///
+    /// # Errors
+    ///
+    /// Returns `AllocError` if out of memory. Nothing has changed then.
+    pub(crate) fn make(&mut self, step: Step) -> Result<Reply, AllocError>
+        ensures reply { IfOk result (λ reply. reply ≡ reply_of self.old.state step) }
+        ensures made { IfOk result (λ _. self.new ≡ with_step self.old step) }
+        ensures err { OnErr result (self.new ≡ self.old) }
+        ensures lists { IsState self.old.state }
+    {
+        // By its contract the proof knows that the state is steady.
+        let _steady = self.manager.tasks();
+        let step = &step;
+        if self.entries.reserve(1).is_err() {
+            return Err(AllocError);
+        }
+        let reply = self.manager.step(*step).reply;
+        self.entries.push_reserved(entry(*step, reply));
+        let Some(last) = self.entries.last() else {
+            unreachable!()
+        };
+        Ok(last.reply)
+    }
+
+    /// Makes a step to which the model must give this reply.
+    ///
+    /// # Errors
+    ///
+    /// Returns `Contradiction` if that is another one: the step is made all the same. Returns `Memory` if out of memory.
+    pub(crate) fn require(&mut self, step: Step, reply: Reply) -> Result<(), ReplayFault>
+        ensures made { IfOk result (λ _. (reply_of self.old.state step ≡ reply) × (self.new ≡ with_step self.old step)) }
+        ensures fault { IfErr result (Stops self.old (IsOtherwise step reply) self.new) }
+        ensures continues { Continues self.old self.new }
+    {
+        let given = self.make(step)?;
+        if given == reply {
+            Ok(())
+        } else {
+            Err(ReplayFault::Contradiction)
+        }
+    }
+
+    /// Returns how many tasks there are.
+    pub(crate) fn tasks(&self) -> u16
+        ensures count { result ≡ length self.now.state.base }
+        ensures lists { IsState self.now.state }
+        ensures outside { length self.now.outside ≡ length self.now.state.base }
+    {
+        self.manager.tasks()
+    }
+
+    /// Returns whether a task waits outside of the queues.
+    pub(crate) fn has_outsiders(&self) -> bool {
+        self.outsiders > 0
+    }
+
+    /// Returns what the task waits for outside of the queues.
+    pub(crate) fn outside_wait(&self, task: TaskNo) -> Option<Wait>
+        ensures { result ≡ outside_of self.now task }
+    {
+        nth(&self.outside, task.get()).flatten()
+    }
+
+    /// Keeps what the task waits for outside of the queues. An unknown task waits for nothing.
+    pub(crate) fn put_outside(&mut self, task: TaskNo, wait: Option<Wait>)
+        ensures kept { self.new ≡ with_outside self.old task wait }
+        ensures there { IsTask self.old.state task → outside_of self.new task ≡ wait }
+    {
+        if let Some(place) = (task.get() as usize).checked_sub(1) {
+            if place < self.outside.len() {
+                let removed = usize::from(self.outside[place].is_some());
+                let added = usize::from(wait.is_some());
+                self.outside[place] = wait;
+                self.outsiders = self.outsiders.saturating_add(added).saturating_sub(removed);
+            }
+        }
+    }
+}
+
+/// Returns whether the wait is before the first one so far, if there is one.
+fn is_before(wait: &Wait, first: &Option<(TaskNo, Wait)>) -> bool {
+    match first {
+        Some((_, first)) => wait.ticket < first.ticket,
+        None => true,
+    }
+}
+
+/// Returns the entry of a step and its reply.
+///
+/// It is a function since the generated proof copies a step only as an argument.
+fn entry(step: Step, reply: Reply) -> Entry
+    ensures { result ≡ record { step = step; reply = reply } }
+{
+    Entry { step, reply }
+}

@@ -1,0 +1,205 @@
+//! The findings as JSON.
+
+use crate::kernel::{Kernel, put_reason};
+use crate::labels::Labels;
+use crate::words::{Told, family_of, found_of, mutexes, put_place};
+use pim_comparison::{Found, Lengthened};
+use pim_facts::LeftOut;
+use pim_findings::{FoundMutex, FoundWait};
+use pim_import::{Imported, blocker_of};
+use pim_log::Log;
+use pim_out::{JsonOut, Out};
+use std::alloc::{AllocError, Global};
+
+/// Returns the findings as one JSON object, and a line feed. Times are nanoseconds, of CLOCK_MONOTONIC where they say
+/// when; priorities are 1 to 99 of SCHED_FIFO and SCHED_RR, 0 of policies below and 100 of SCHED_DEADLINE.
+///
+/// # Errors
+///
+/// Returns `AllocError` if out of memory.
+pub fn json_of(
+    alloc: Global,
+    log: &Log,
+    imported: &Imported,
+    labels: &Labels,
+    kernel: Option<&Kernel>,
+) -> Result<Vec<u8>, AllocError> {
+    let told = Told {
+        imported,
+        labels,
+        began: log.header().began,
+    };
+    let mut out = JsonOut::new(alloc);
+    put_all(alloc, &mut out, &told, log, kernel);
+    out.finish_line()
+}
+
+fn put_all(alloc: Global, out: &mut JsonOut, told: &Told, log: &Log, kernel: Option<&Kernel>) {
+    let findings = &told.imported.built.findings;
+    out.begin_object();
+    out.number("began", log.header().began);
+    out.number("ended", told.imported.ended);
+    if let Some(kernel) = kernel {
+        put_kernel(alloc, out, told, kernel);
+    }
+    out.number("waits", findings.waits);
+    out.key("longest_waits");
+    out.begin_array();
+    for wait in &findings.longest {
+        put_wait(alloc, out, told, wait);
+    }
+    out.end_array();
+    out.key("mutexes");
+    out.begin_array();
+    for mutex in 0..mutexes(told) {
+        let found = found_of(told, mutex);
+        if found.waits > 0 {
+            put_mutex(alloc, out, told, mutex, &found);
+        }
+    }
+    out.end_array();
+    put_deadlocks(alloc, out, told);
+    put_left_out(out, told, log);
+    out.end_object();
+}
+
+/// Writes where threads ran at another priority, the longest difference first.
+fn put_kernel(alloc: Global, out: &mut JsonOut, told: &Told, kernel: &Kernel) {
+    out.key("differences");
+    out.begin_array();
+    for found in &kernel.compared.found {
+        put_found(alloc, out, told, found);
+    }
+    out.end_array();
+    out.number("threads_compared", kernel.compared.threads);
+    out.number("waits_not_in_the_trace", kernel.compared.unknown);
+    out.number("kernel_events_lost", kernel.lost);
+    out.boolean("kernel_events_whole", kernel.is_whole);
+}
+
+fn put_found(alloc: Global, out: &mut JsonOut, told: &Told, found: &Found) {
+    let mut reason = Out::new(alloc);
+    put_reason(&mut reason, found.reason);
+    out.begin_object();
+    put_thread(alloc, out, told, "thread", found.thread);
+    out.number("ran_at", u64::from(found.difference.level));
+    out.number("priority", u64::from(found.level));
+    out.text("reason", &reason);
+    out.number("began", found.difference.begin);
+    out.number("ended", found.difference.end);
+    out.number("ran", found.difference.ran);
+    out.number("first_line", found.difference.first_line);
+    out.number("last_line", found.difference.last_line);
+    if let Some(wait) = &found.lengthened {
+        put_lengthened(alloc, out, told, wait);
+    }
+    out.end_object();
+}
+
+/// Writes the wait that a difference lengthened, without its length if the kernel's events have no end of it.
+fn put_lengthened(alloc: Global, out: &mut JsonOut, told: &Told, wait: &Lengthened) {
+    out.key("lengthened");
+    out.begin_object();
+    put_thread(alloc, out, told, "thread", wait.thread);
+    out.number("began", wait.began);
+    if let Some(lasted) = wait.lasted {
+        out.number("lasted", lasted);
+    }
+    out.end_object();
+}
+
+fn put_thread(alloc: Global, out: &mut JsonOut, told: &Told, key: &str, thread: u32) {
+    let mut name = Out::new(alloc);
+    told.labels.put_name(&mut name, thread);
+    out.key(key);
+    out.begin_object();
+    out.text("name", &name);
+    if let Some(is) = told.imported.sources.ids.threads.get(thread as usize) {
+        out.number("process", u64::from(is.process));
+        out.number("task", u64::from(is.task));
+    }
+    let number = told.imported.numbering.threads.of(thread);
+    out.number("number", u64::from(number));
+    out.end_object();
+}
+
+/// Writes the number that a mutex has in the trace.
+fn put_number(out: &mut JsonOut, told: &Told, key: &str, mutex: u32) {
+    let number = told.imported.numbering.mutexes.of(mutex);
+    out.number(key, u64::from(number));
+}
+
+fn put_wait(alloc: Global, out: &mut JsonOut, told: &Told, wait: &FoundWait) {
+    out.begin_object();
+    put_thread(alloc, out, told, "thread", wait.thread);
+    out.number("priority", u64::from(wait.level));
+    out.number("began", wait.began);
+    out.number("lasted", wait.lasted);
+    out.boolean("at_the_end", wait.is_open);
+    put_number(out, told, "mutex", wait.mutex);
+    out.string("protocol", family_of(told, wait.mutex).name());
+    if wait.owner != 0 {
+        put_thread(alloc, out, told, "owner", wait.owner);
+        out.number("owner_priority", u64::from(wait.owner_level));
+    }
+    out.boolean("bounded", !wait.is_unbounded);
+    out.end_object();
+}
+
+fn put_mutex(alloc: Global, out: &mut JsonOut, told: &Told, mutex: u32, found: &FoundMutex) {
+    let mut place = Out::new(alloc);
+    put_place(&mut place, told, mutex);
+    out.begin_object();
+    put_number(out, told, "number", mutex);
+    out.string("protocol", family_of(told, mutex).name());
+    out.text("place", &place);
+    out.number("waits", found.waits);
+    out.number("waits_not_bounded", found.unbounded);
+    out.number("time_not_bounded", found.unbounded_time);
+    out.number("to_the_first_waiter", found.hand_overs.in_order);
+    out.number("to_a_later_waiter", found.hand_overs.to_later);
+    out.number("to_its_last_owner", found.hand_overs.to_last_owner);
+    out.number("to_a_newcomer", found.hand_overs.to_newcomer);
+    out.number("longest_ownership", found.longest);
+    out.end_object();
+}
+
+/// Writes the deadlocks: of each the threads, with the mutex that each waits for, which the next one owns.
+fn put_deadlocks(alloc: Global, out: &mut JsonOut, told: &Told) {
+    out.key("deadlocks");
+    out.begin_array();
+    let mut is_first = true;
+    for thread in &told.imported.built.findings.deadlocked {
+        if *thread == 0 {
+            out.end_array();
+            is_first = true;
+            continue;
+        }
+        if is_first {
+            out.begin_array();
+            is_first = false;
+        }
+        out.begin_object();
+        put_thread(alloc, out, told, "thread", *thread);
+        let (mutex, _owner) = blocker_of(told.imported, *thread);
+        put_number(out, told, "mutex", mutex);
+        out.end_object();
+    }
+    out.end_array();
+}
+
+fn put_left_out(out: &mut JsonOut, told: &Told, log: &Log) {
+    let built = &told.imported.built;
+    out.number("records_used", built.tally.used);
+    out.key("records_left_out");
+    out.begin_object();
+    for reason in LeftOut::ALL {
+        out.number(reason.name(), built.tally.left_out(reason));
+    }
+    out.end_object();
+    let requests = &told.imported.sources.requests;
+    out.number("requests_added", requests.list.len() as u64);
+    out.number("requests_added_by_the_kernel", requests.of_waits);
+    out.number("records_lost", log.header().lost);
+    out.number("pieces", built.pieces.len() as u64);
+}

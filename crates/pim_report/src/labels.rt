@@ -1,0 +1,279 @@
+//! What the log says of its threads, mutexes and files: names and places.
+
+use pim_facts::{Ids, LoggedMutex};
+use pim_log::{Event, Log, Record};
+use pim_out::Out;
+use std::alloc::{AllocError, Global};
+
+/// A name of a thread, of at most 22 bytes. Linux has at most 15.
+#[derive(Clone, Copy)]
+pub struct ThreadName {
+    bytes: [u8; 22],
+    length: u8,
+}
+
+/// A loaded file.
+#[derive(Drop)]
+pub struct Module {
+    /// Its process.
+    process: u32,
+    /// Where it is in memory.
+    address: u64,
+    /// Its path.
+    path: String,
+}
+
+/// A process that another one forked.
+#[derive(Clone, Copy)]
+struct Child {
+    process: u32,
+    parent: u32,
+}
+
+/// What the texts of a thread belong to.
+#[derive(Clone, Copy, PartialEq, Eq)]
+enum Pending {
+    Nothing,
+    /// The name of a thread.
+    Name(u32),
+    /// The path of a module, by its place in the list.
+    Module(usize),
+    /// The place of the initialisation of a mutex.
+    Init(u32),
+}
+
+/// What the log says of its threads, mutexes and files.
+#[derive(Drop)]
+pub struct Labels {
+    /// By thread.
+    names: Vec<ThreadName>,
+    /// By mutex where in the code the call that initialised it returned to, or 0.
+    places: Vec<u64>,
+    modules: Vec<Module>,
+    /// The forked processes. Each has the modules of its parent, also those that the parent loaded later, and its own.
+    children: Vec<Child>,
+    /// By thread what its next record belongs to.
+    pending: Vec<Pending>,
+}
+
+const UNNAMED: ThreadName = ThreadName {
+    bytes: [0; 22],
+    length: 0,
+};
+
+/// An address further than this from the begin of a file isn't in it.
+const MODULE_BYTES: u64 = 1 << 24;
+
+impl Labels {
+    /// Returns what the log says.
+    ///
+    /// # Errors
+    ///
+    /// Returns `AllocError` if out of memory.
+    pub fn of(alloc: Global, log: &Log, ids: &Ids) -> Result<Labels, AllocError> {
+        let mut labels = Labels {
+            names: vec![in alloc; UNNAMED; ids.threads.len()]?,
+            places: vec![in alloc; 0; ids.mutexes.len()]?,
+            modules: Vec::new(alloc),
+            children: Vec::new(alloc),
+            pending: vec![in alloc; Pending::Nothing; ids.threads.len()]?,
+        };
+        for number in 1..log.header().end() {
+            if let Some(record) = log.record(number) {
+                labels.read(alloc, ids, &record)?;
+            }
+        }
+        Ok(labels)
+    }
+
+    fn read(&mut self, alloc: Global, ids: &Ids, record: &Record) -> Result<(), AllocError> {
+        let thread = record.thread as usize;
+        if thread >= self.pending.len() {
+            return Ok(());
+        }
+        let pending = self.pending[thread];
+        match &record.event {
+            Event::Text => return self.read_text(pending, record),
+            Event::Place => {
+                if let Pending::Init(mutex) = pending {
+                    if (mutex as usize) < self.places.len() {
+                        self.places[mutex as usize] = record.object;
+                    }
+                }
+                self.pending[thread] = Pending::Nothing;
+            }
+            Event::Name => {
+                let named = ids.of_record(record.number);
+                if (named as usize) < self.names.len() {
+                    self.names[named as usize] = UNNAMED;
+                }
+                self.pending[thread] = Pending::Name(named);
+            }
+            Event::Module => {
+                self.pending[thread] = Pending::Module(self.modules.len());
+                let module = Module {
+                    process: record.process,
+                    address: record.object,
+                    path: String::new(alloc),
+                };
+                if self.modules.push(module).is_err() {
+                    return Err(AllocError);
+                }
+            }
+            Event::Init => {
+                self.pending[thread] = Pending::Init(ids.of_record(record.number));
+            }
+            Event::Child => {
+                self.pending[thread] = Pending::Nothing;
+                self.add_child(ids, record)?;
+            }
+            _ => self.pending[thread] = Pending::Nothing,
+        }
+        Ok(())
+    }
+
+    /// Adds the process of a CHILD, which names a thread of its parent.
+    fn add_child(&mut self, ids: &Ids, record: &Record) -> Result<(), AllocError> {
+        let Some(parent) = ids.threads.get(record.value as usize) else {
+            return Ok(());
+        };
+        let child = Child {
+            process: record.process,
+            parent: parent.process,
+        };
+        match self.children.push(child) {
+            Ok(()) => Ok(()),
+            Err(_) => Err(AllocError),
+        }
+    }
+
+    /// Adds a part of a text.
+    fn read_text(&mut self, pending: Pending, record: &Record) -> Result<(), AllocError> {
+        let (bytes, length) = text_in(record);
+        match pending {
+            Pending::Name(thread) => {
+                let thread = thread as usize;
+                if 0 < thread && thread < self.names.len() && self.names[thread].length == 0 {
+                    self.names[thread] = ThreadName { bytes, length };
+                }
+            }
+            Pending::Module(place) => {
+                if place < self.modules.len() {
+                    let end = (length as usize).min(22);
+                    push_text(&mut self.modules[place].path, &bytes[..end])?;
+                }
+            }
+            Pending::Nothing | Pending::Init(_) => {}
+        }
+        Ok(())
+    }
+
+    /// Writes the name of a thread, or nothing if it has none.
+    pub fn put_name(&self, out: &mut Out, thread: u32) {
+        if let Some(name) = self.names.get(thread as usize) {
+            put_text(out, &name.bytes[..(name.length as usize).min(22)]);
+        }
+    }
+
+    /// Writes where a mutex was initialised, or where it is if it was initialised statically: the file and the offset
+    /// there, or an address. A place in the code is the last byte of the call, whose line `addr2line` finds.
+    pub fn put_place(&self, out: &mut Out, number: u32, mutex: &LoggedMutex) {
+        let place = self.places.get(number as usize).copied().unwrap_or(0);
+        let address = if place == 0 { mutex.address } else { place - 1 };
+        match self.module_of(mutex.process, address) {
+            Some(module) => {
+                let file = module.path.as_str().rsplit('/').next().unwrap_or("?");
+                out.put(file);
+                out.put("+");
+                out.address(address.saturating_sub(module.address));
+            }
+            None => out.address(address),
+        }
+    }
+
+    /// Returns the file that is loaded at an address of a process: of its files, and those of the processes that forked
+    /// it, the nearest that begins there or before.
+    fn module_of(&self, process: u32, address: u64) -> Option<&Module> {
+        let mut nearest = self.own_module_of(process, address);
+        let mut process = process;
+        for _fork in 0..self.children.len() {
+            process = self.parent_of(process);
+            if process == 0 {
+                break;
+            }
+            nearest = nearer(nearest, self.own_module_of(process, address));
+        }
+        nearest
+    }
+
+    /// Returns the process that forked this one, or 0.
+    fn parent_of(&self, process: u32) -> u32 {
+        for child in &self.children {
+            if child.process == process {
+                return child.parent;
+            }
+        }
+        0
+    }
+
+    /// Returns the file that a process loaded at an address.
+    fn own_module_of(&self, process: u32, address: u64) -> Option<&Module> {
+        let mut found: Option<&Module> = None;
+        for module in &self.modules {
+            let is_there = module.address <= address && address - module.address < MODULE_BYTES;
+            let is_nearer = match found {
+                Some(other) => other.address < module.address,
+                None => true,
+            };
+            if (process == 0 || module.process == process) && is_there && is_nearer {
+                found = Some(module);
+            }
+        }
+        found
+    }
+}
+
+/// Returns of two files the one that begins later.
+fn nearer<'a>(one: Option<&'a Module>, other: Option<&'a Module>) -> Option<&'a Module> {
+    let Some(first) = one else {
+        return other;
+    };
+    match other {
+        Some(second) if first.address < second.address => other,
+        _ => one,
+    }
+}
+
+/// Returns the bytes of a part of a text, and how many there are.
+fn text_in(record: &Record) -> ([u8; 22], u8) {
+    let mut bytes = [0; 22];
+    bytes[..8].copy_from_slice(&record.time.to_le_bytes());
+    bytes[8..16].copy_from_slice(&record.object.to_le_bytes());
+    bytes[16..20].copy_from_slice(&record.value.to_le_bytes());
+    bytes[20..].copy_from_slice(&record.detail.to_le_bytes());
+    (bytes, record.how.min(22))
+}
+
+/// Adds bytes to the path of a file.
+fn push_text(path: &mut String, bytes: &[u8]) -> Result<(), AllocError> {
+    for byte in bytes {
+        path.push(shown(*byte))?;
+    }
+    Ok(())
+}
+
+/// Adds bytes to a text.
+fn put_text(out: &mut Out, bytes: &[u8]) {
+    for byte in bytes {
+        out.put_char(shown(*byte));
+    }
+}
+
+/// Returns a letter, digit or sign of ASCII as it is, and a dot for each other byte.
+fn shown(byte: u8) -> char {
+    if byte.is_ascii_graphic() {
+        byte as char
+    } else {
+        '.'
+    }
+}

@@ -1,0 +1,299 @@
+//! The findings as lines of text.
+
+use crate::kernel::{Kernel, put_compared, put_differences};
+use crate::labels::Labels;
+use crate::words::{
+    Told, family_of, found_of, mutexes, put_count, put_duration, put_level, put_moment, put_mutex,
+    put_place, put_thread,
+};
+use pim_facts::{Family, LeftOut};
+use pim_findings::{FoundMutex, FoundWait};
+use pim_import::{Imported, blocker_of};
+use pim_log::Log;
+use pim_out::Out;
+use pim_replay::Scale;
+use std::alloc::{AllocError, Global};
+
+/// What a log of pim-record can't know.
+const UNKNOWN: &str = "\
+not known: locks other than POSIX mutexes, waits at the end of a condition wait, and what the kernel did
+";
+
+/// What it can't know that the kernel's events don't show either.
+const STILL_UNKNOWN: &str = "\
+not known: locks other than POSIX mutexes, and waits for NONE and PROTECT mutexes at the end of a condition wait
+";
+
+/// Returns the findings, a line each: where the kernel's events differ, the longest waits, the mutexes to convert,
+/// hand-overs out of order, the longest ownerships, deadlocks, what was left out, and what the trace has.
+///
+/// # Errors
+///
+/// Returns `AllocError` if out of memory.
+pub fn report_of(
+    alloc: Global,
+    log: &Log,
+    imported: &Imported,
+    labels: &Labels,
+    kernel: Option<&Kernel>,
+) -> Result<String, AllocError> {
+    let told = Told {
+        imported,
+        labels,
+        began: log.header().began,
+    };
+    let mut out = Out::new(alloc);
+    if let Some(kernel) = kernel {
+        put_differences(&mut out, &told, kernel);
+    }
+    put_waits(&mut out, &told);
+    put_conversions(&mut out, &told);
+    put_hand_overs(&mut out, &told);
+    put_ownerships(&mut out, &told);
+    put_deadlocks(&mut out, &told);
+    put_left_out(&mut out, &told, log);
+    put_added(&mut out, &told);
+    put_unknown(&mut out, kernel);
+    put_summary(&mut out, &told, log);
+    out.finish()
+}
+
+/// Writes the longest waits, the longest first.
+fn put_waits(out: &mut Out, told: &Told) {
+    let findings = &told.imported.built.findings;
+    for wait in &findings.longest {
+        put_wait(out, told, wait);
+    }
+    let listed = findings.longest.len() as u64;
+    if findings.waits == 0 {
+        out.put("no thread waited for a mutex\n");
+    } else if findings.waits > listed {
+        out.put("and ");
+        put_count(out, findings.waits - listed, "wait");
+        out.put(", none of them longer\n");
+    }
+}
+
+fn put_wait(out: &mut Out, told: &Told, wait: &FoundWait) {
+    put_thread(out, told, wait.thread);
+    out.put(", at ");
+    put_level(out, wait.level);
+    out.put(if wait.is_open {
+        ", waits "
+    } else {
+        ", waited "
+    });
+    put_duration(out, wait.lasted);
+    out.put(" from ");
+    put_moment(out, told, wait.began);
+    out.put(if wait.is_open {
+        " to the end for "
+    } else {
+        " on for "
+    });
+    put_mutex(out, told, wait.mutex);
+    out.put(" of ");
+    if wait.owner == 0 {
+        out.put("an unknown thread");
+    } else {
+        put_thread(out, told, wait.owner);
+        out.put(", at ");
+        put_level(out, wait.owner_level);
+    }
+    put_bound(out, told, wait);
+}
+
+/// Writes what bounds a wait.
+fn put_bound(out: &mut Out, told: &Told, wait: &FoundWait) {
+    if wait.is_unbounded {
+        out.put(": not bounded: mutex ");
+        out.number(u64::from(told.imported.numbering.mutexes.of(wait.mutex)));
+        out.put(" is a NONE one");
+        if wait.owner == 0 {
+            out.put(", whoever owned it");
+        }
+        out.put("\n");
+        return;
+    }
+    if wait.owner_level >= wait.level {
+        out.put(": no inversion\n");
+        return;
+    }
+    out.put(match family_of(told, wait.mutex) {
+        Family::Inherit => ": bounded by inheritance\n",
+        Family::Protect => ": bounded by the ceiling\n",
+        Family::None => "\n",
+    });
+}
+
+/// Writes the NONE mutexes at which a thread waited for a lower one.
+fn put_conversions(out: &mut Out, told: &Told) {
+    for mutex in 0..mutexes(told) {
+        let found = found_of(told, mutex);
+        if found.unbounded > 0 {
+            out.put("should inherit: ");
+            put_mutex(out, told, mutex);
+            out.put(", from ");
+            put_place(out, told, mutex);
+            out.put(": ");
+            put_count(out, found.unbounded, "wait");
+            out.put(" not bounded, ");
+            put_duration(out, found.unbounded_time);
+            out.put(" in all\n");
+        }
+    }
+}
+
+/// Writes the mutexes that passed over their first waiters.
+fn put_hand_overs(out: &mut Out, told: &Told) {
+    for mutex in 0..mutexes(told) {
+        let given = found_of(told, mutex).hand_overs;
+        if given.to_later > 0 || given.to_last_owner > 0 || given.to_newcomer > 0 {
+            out.put("out of order: ");
+            put_mutex(out, told, mutex);
+            out.put(" went ");
+            put_count(out, given.to_last_owner, "time");
+            out.put(" to its last owner again, ");
+            out.number(given.to_newcomer);
+            out.put(" to a newcomer, ");
+            out.number(given.to_later);
+            out.put(" to a later waiter, and ");
+            out.number(given.in_order);
+            out.put(" to the first\n");
+        }
+    }
+}
+
+/// Writes the longest ownership of each mutex that was waited for.
+fn put_ownerships(out: &mut Out, told: &Told) {
+    for mutex in 0..mutexes(told) {
+        let found = found_of(told, mutex);
+        if found.waits > 0 {
+            put_ownership(out, told, mutex, &found);
+        }
+    }
+}
+
+fn put_ownership(out: &mut Out, told: &Told, mutex: u32, found: &FoundMutex) {
+    out.put("owned: ");
+    put_mutex(out, told, mutex);
+    out.put(", from ");
+    put_place(out, told, mutex);
+    out.put(", ");
+    if !found.was_owned() {
+        out.put("by no thread that is known");
+    } else if found.longest_owner == 0 {
+        out.put("to the end");
+    } else {
+        put_duration(out, found.longest);
+        out.put(" at most, by ");
+        put_thread(out, told, found.longest_owner);
+    }
+    out.put("; ");
+    put_count(out, found.waits, "wait");
+    out.put("\n");
+}
+
+/// Writes the deadlocks that stood at the end.
+fn put_deadlocks(out: &mut Out, told: &Told) {
+    let mut is_first = true;
+    for thread in &told.imported.built.findings.deadlocked {
+        if *thread == 0 {
+            out.put("\n");
+            is_first = true;
+            continue;
+        }
+        out.put(if is_first { "deadlock: " } else { ", " });
+        is_first = false;
+        put_thread(out, told, *thread);
+        let (mutex, owner) = blocker_of(told.imported, *thread);
+        out.put(" waits for ");
+        put_mutex(out, told, mutex);
+        out.put(" of ");
+        put_thread(out, told, owner);
+    }
+}
+
+/// Writes what was left out, and why.
+fn put_left_out(out: &mut Out, told: &Told, log: &Log) {
+    for reason in LeftOut::ALL {
+        let count = told.imported.built.tally.left_out(reason);
+        if count > 0 {
+            out.put("left out: ");
+            put_count(out, count, "record");
+            out.put(" ");
+            out.put(reason.text());
+            out.put("\n");
+        }
+    }
+    let header = log.header();
+    if header.lost > 0 {
+        out.put("lost: ");
+        put_count(out, header.lost, "record");
+        out.put(" for which the log had no room\n");
+    }
+    if header.left_out > 0 {
+        out.put("unseen: ");
+        put_count(out, header.left_out, "call");
+        out.put(" that the recorder couldn't see whole\n");
+    }
+}
+
+/// Writes how many requests were added that the log lacks.
+fn put_added(out: &mut Out, told: &Told) {
+    let requests = &told.imported.sources.requests;
+    let count = requests.list.len() as u64;
+    if count == 0 {
+        return;
+    }
+    out.put("added: ");
+    put_count(out, count, "request");
+    out.put(" that the log lacks");
+    if requests.of_waits > 0 {
+        out.put(", ");
+        out.number(requests.of_waits);
+        out.put(" by the kernel's calls");
+    }
+    out.put("\n");
+}
+
+/// Writes what isn't known, and how much of the kernel's events was compared.
+fn put_unknown(out: &mut Out, kernel: Option<&Kernel>) {
+    match kernel {
+        Some(kernel) => {
+            put_compared(out, kernel);
+            out.put(STILL_UNKNOWN);
+        }
+        None => out.put(UNKNOWN),
+    }
+}
+
+/// Writes what the trace has.
+fn put_summary(out: &mut Out, told: &Told, log: &Log) {
+    let built = &told.imported.built;
+    let mut steps = 0u64;
+    for piece in &built.pieces {
+        steps = steps.saturating_add(piece.replay.entries().len() as u64);
+    }
+    let numbering = &told.imported.numbering;
+    out.put("trace: ");
+    put_count(out, numbering.threads.count(), "thread");
+    out.put(" and ");
+    put_count(out, numbering.mutexes.count(), "mutex");
+    out.put(" of ");
+    put_count(out, built.tally.used, "record");
+    out.put(" make ");
+    put_count(out, steps, "step");
+    let pieces = built.pieces.len() as u64;
+    if pieces > 1 {
+        out.put(" in ");
+        put_count(out, pieces, "piece");
+    }
+    out.put(" of ");
+    put_duration(out, told.imported.ended.saturating_sub(log.header().began));
+    out.put(match told.imported.priorities.scale {
+        Scale::Same => "; priorities as they are, SCHED_OTHER at 1\n",
+        Scale::OneHigher => "; priorities one higher, SCHED_OTHER at 1\n",
+        Scale::Ranks => "; priorities are ranks\n",
+    });
+}

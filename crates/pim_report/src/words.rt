@@ -1,0 +1,113 @@
+//! How threads, mutexes and times are written.
+
+use crate::labels::Labels;
+use pim_facts::Family;
+use pim_findings::FoundMutex;
+use pim_import::Imported;
+use pim_out::Out;
+
+/// What the texts are made from.
+#[derive(Clone, Copy)]
+pub struct Told<'a> {
+    pub imported: &'a Imported,
+    pub labels: &'a Labels,
+    /// CLOCK_MONOTONIC at the log's begin, in nanoseconds.
+    pub began: u64,
+}
+
+/// Returns a number above that of each mutex of the log.
+pub fn mutexes(told: &Told) -> u32 {
+    let count = told.imported.built.findings.mutexes.len();
+    count.min(u32::MAX as usize) as u32
+}
+
+/// Returns what is found of a mutex.
+pub fn found_of(told: &Told, mutex: u32) -> FoundMutex {
+    told.imported.built.findings.mutex(mutex)
+}
+
+/// Writes how many there are of something, such as `1 wait` or `2 waits`.
+pub fn put_count(out: &mut Out, count: u64, word: &str) {
+    out.number(count);
+    out.put(" ");
+    out.put(word);
+    if count != 1 {
+        out.put(match word {
+            "mutex" | "stretch" => "es",
+            _ => "s",
+        });
+    }
+}
+
+/// Writes a thread: its name and its number in the kernel.
+pub fn put_thread(out: &mut Out, told: &Told, thread: u32) {
+    told.labels.put_name(out, thread);
+    match told.imported.sources.ids.threads.get(thread as usize) {
+        Some(is) => {
+            out.put("[");
+            out.number(u64::from(is.task));
+            out.put("]");
+        }
+        None => out.put("?"),
+    }
+}
+
+/// Writes a mutex: its number in the trace and its protocol.
+pub fn put_mutex(out: &mut Out, told: &Told, mutex: u32) {
+    out.put("mutex ");
+    out.number(u64::from(told.imported.numbering.mutexes.of(mutex)));
+    out.put(" (");
+    out.put(family_of(told, mutex).name());
+    out.put(")");
+}
+
+/// Returns the protocol of a mutex.
+pub fn family_of(told: &Told, mutex: u32) -> Family {
+    pim_course::family_of(&told.imported.sources, mutex)
+}
+
+/// Writes where a mutex comes from.
+pub fn put_place(out: &mut Out, told: &Told, mutex: u32) {
+    match told.imported.sources.ids.mutex(mutex) {
+        Some(is) => told.labels.put_place(out, mutex, is),
+        None => out.put("?"),
+    }
+}
+
+/// Writes a priority of SCHED_FIFO and SCHED_RR, or the policy of a thread that has none.
+pub fn put_level(out: &mut Out, level: u8) {
+    match level {
+        0 => out.put("SCHED_OTHER"),
+        100 => out.put("SCHED_DEADLINE"),
+        _ => out.number(u64::from(level)),
+    }
+}
+
+/// Writes a time in seconds from the begin of the log on, to a microsecond.
+pub fn put_moment(out: &mut Out, told: &Told, time: u64) {
+    put_since(out, told.began, time);
+}
+
+/// Writes how many seconds a time is after another, to a microsecond.
+pub fn put_since(out: &mut Out, began: u64, time: u64) {
+    let since = time.saturating_sub(began);
+    out.number(since / 1_000_000_000);
+    out.put(".");
+    out.six_digits(since / 1_000 % 1_000_000);
+    out.put(" s");
+}
+
+/// Writes a duration with three digits behind the point.
+pub fn put_duration(out: &mut Out, nanoseconds: u64) {
+    let (thousandths, unit) = if nanoseconds >= 1_000_000_000 {
+        (nanoseconds / 1_000_000, " s")
+    } else if nanoseconds >= 1_000_000 {
+        (nanoseconds / 1_000, " ms")
+    } else {
+        (nanoseconds, " us")
+    };
+    out.number(thousandths / 1_000);
+    out.put(".");
+    out.three_digits(thousandths % 1_000);
+    out.put(unit);
+}
