@@ -17,7 +17,6 @@
 #include <unistd.h>
 
 enum {
-    CHUNK_BYTES = CHUNK_RECORDS * (int)sizeof(struct record),
     LEAST_CHUNKS = 16384, /* room for 256 MB, as pim-record gives */
     NESTED = 2,
     CEILING = 90,

@@ -1,7 +1,9 @@
-/* pim-launch LIBRARY PROGRAM [ARGUMENT..]: runs the program with the library preloaded, or says in
- * one line why it can't be recorded, and runs nothing. pim-record calls it. With PIM_KERNEL, the
- * name of a file, it stays, and records the kernel's events there until the program ends: without
- * the library where the program can't have it, or where PIM_RECORD names no log. */
+/* pim-launch LIBRARY PROGRAM [ARGUMENT..]: runs the program with the library preloaded, or says
+ * in one line why it can't be recorded, and runs nothing. pim-record calls it. It stays until
+ * the program ends. PIM_RECORD is the log's file, of PIM_RECORD_BYTES. With PIM_KERNEL, the
+ * name of a file, it records the kernel's events there: without the library where the program
+ * can't have it, or where PIM_RECORD names no log. The library finds the name of the
+ * collector's socket in PIM_RECORD. */
 #define _GNU_SOURCE
 #include <dlfcn.h>
 #include <elf.h>
@@ -18,7 +20,8 @@
 #include <sys/xattr.h>
 #include <unistd.h>
 
-#include "kernel/record.h"
+#include "library/log.h"
+#include "parent/parent.h"
 
 enum { FAULT = 2, NOT_RUNNABLE = 126, NOT_FOUND = 127, MOST_SCRIPTS = 5, LINE_BYTES = 256 };
 
@@ -177,11 +180,11 @@ static void set_joined(const char *name, const char *first, char sign, const cha
 /* AddressSanitizer ends a program in which another library comes before its own, unless it is told
  * not to. The recorder's library comes first, and calls the sanitizer's functions as it would those
  * of the C library. */
-static void preload(const char *library, const char *log) {
+static void preload(const char *library, const char *collector) {
     const char *others = getenv("LD_PRELOAD"), *options = getenv("ASAN_OPTIONS");
     set_joined("LD_PRELOAD", library, ' ', others ? others : "");
     set_joined("ASAN_OPTIONS", options ? options : "", ':', "verify_asan_link_order=0");
-    set_joined("PIM_RECORD", log, ' ', "");
+    set_joined("PIM_RECORD", collector, ' ', "");
 }
 
 /* Returns a copy of a variable that the program isn't to see, or NULL where it isn't set. */
@@ -192,32 +195,41 @@ static char *take_variable(const char *name) {
     return copy;
 }
 
+/* Returns the log's length by the text of its variable. */
+static uint64_t bytes_of(const char *text) {
+    char *rest = NULL;
+    uint64_t bytes = text ? strtoull(text, &rest, 10) : 0;
+    if (bytes < HEADER_BYTES + CHUNK_BYTES || *rest)
+        refuse(FAULT, "PIM_RECORD_BYTES", "not a size");
+    return bytes;
+}
+
 int main(int count, char **arguments) {
+    static struct wanted wanted;
     char path[PATH_MAX];
     const char *what = NULL;
-    const char *log = take_variable("PIM_RECORD");
-    const char *kernel = take_variable("PIM_KERNEL");
-    const char *kilobytes = take_variable("PIM_KERNEL_KB");
-    bool is_with_kernel = kernel && kilobytes;
-    if (count < 3 || !(log || is_with_kernel)) {
+    wanted.log = take_variable("PIM_RECORD");
+    const char *bytes = take_variable("PIM_RECORD_BYTES");
+    wanted.kernel = take_variable("PIM_KERNEL");
+    wanted.kilobytes = take_variable("PIM_KERNEL_KB");
+    if (!wanted.kilobytes) wanted.kernel = NULL;
+    if (count < 3 || !(wanted.log || wanted.kernel)) {
         fprintf(stderr, "pim-launch: pim-record calls it\n");
         return FAULT;
     }
     look_up(arguments[2], path);
-    if (log) what = unlogged(arguments[2], path);
-    if (what && !is_with_kernel) refuse_unlogged(path, what);
-    if (what) log = NULL;
-    if (log) refuse_library(arguments[1]);
-    if (log)
-        preload(arguments[1], log);
-    else
-        unsetenv("PIM_RECORD_BYTES");
-    if (is_with_kernel) record_kernel(kernel, log, kilobytes);
+    if (wanted.log) what = unlogged(arguments[2], path);
+    if (what && !wanted.kernel) refuse_unlogged(path, what);
+    if (what) wanted.log = NULL;
+    if (wanted.log) wanted.bytes = bytes_of(bytes);
+    if (wanted.log) refuse_library(arguments[1]);
+    const char *collector = run_recorded(&wanted);
+    if (collector) preload(arguments[1], collector);
     if (what)
         fprintf(stderr, "pim-record: %s is %s: only the kernel's events are recorded\n", path,
                 what);
     execvp(arguments[2], arguments + 2);
     int error = errno;
-    if (is_with_kernel) withdraw_recording();
+    withdraw_recording();
     refuse(error == ENOENT ? NOT_FOUND : NOT_RUNNABLE, arguments[2], strerror(error));
 }

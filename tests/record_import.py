@@ -523,18 +523,19 @@ INITIALISES = """#include <pthread.h>
 static pthread_mutex_t mutex;
 static void *work(void *unused) {
     pthread_mutex_lock(&mutex);
-    usleep(20000);
     pthread_mutex_unlock(&mutex);
     return unused;
 }
 int main(int count, char **arguments) {
-    pthread_t one, other;
+    pthread_t other;
     (void)arguments;
     if (count > 1 && fork() > 0) return wait(NULL) < 0;
     pthread_mutex_init(&mutex, NULL); /* INIT */
-    pthread_create(&one, NULL, work, NULL);
+    pthread_mutex_lock(&mutex);
     pthread_create(&other, NULL, work, NULL);
-    return pthread_join(one, NULL) || pthread_join(other, NULL);
+    while (*(volatile int *)&mutex != 2) usleep(1000); /* until it waits: glibc's word says so */
+    pthread_mutex_unlock(&mutex);
+    return pthread_join(other, NULL);
 }
 """
 

@@ -344,7 +344,7 @@ def killed(reader, folder, tracefs):
     check("its file says that it isn't whole", difference((faults[-1:],), ([END_MISSING],)))
     child = started(folder, "sh", "-c", SAYS_AND_SLEEPS)
     program = int(first_line(child))
-    os.kill(guard_of(child.pid, program), signal.SIGKILL)
+    os.kill(guard_of(child.pid), signal.SIGKILL)
     child.kill()
     ended(child)
     left = tracefs.own()
@@ -379,9 +379,9 @@ def others(reader, folder, tracefs):
                 (tracefs.instances / name).rmdir()
 
 
-def guard_of(recorder, program):
-    """Returns the second process of a recording, which removes the instance when the recorder is gone."""
-    guard, = children_of(recorder) - {program}
+def guard_of(recorder):
+    """Returns the process of a recording that removes the instance when the recorder is gone."""
+    guard, = [process for process in children_of(recorder) if proc_text(process, "comm") == "pim-guard\n"]
     return guard
 
 
@@ -402,12 +402,13 @@ def guards(folder, tracefs):
     for name, number in (("killed", signal.SIGKILL), ("stopped", signal.SIGSTOP)):
         child = started(folder, PROGRAMS / "keys")
         program = int(first_line(child).split()[1][:-1])
-        os.kill(guard_of(child.pid, program), number)
+        os.kill(guard_of(child.pid), number)
         child.send_signal(signal.SIGTERM)
         got = (ended(child), tracefs.own())
         check(f"a {name} guard leaves no instance", difference(got, (-signal.SIGTERM, [])))
     child = started(folder, PROGRAMS / "keys")
-    guard = guard_of(child.pid, int(first_line(child).split()[1][:-1]))
+    first_line(child)
+    guard = guard_of(child.pid)
     os.kill(guard, signal.SIGTERM)
     child.kill()
     ended(child)
@@ -425,7 +426,8 @@ def streams(folder, tracefs):
     child = started(folder, PROGRAMS / "keys", pass_fds=[its, high])
     os.close(its)
     os.close(high)
-    guard = guard_of(child.pid, int(first_line(child).split()[1][:-1]))
+    first_line(child)
+    guard = guard_of(child.pid)
     instance, = tracefs.own()
     with open(tracefs.instances / instance / "trace_pipe"):  # so the guard can't remove it
         before = pauses_of(guard)
@@ -499,7 +501,7 @@ def no_room(reader, folder):
     faults = [fault for fault in faults_of(recording.data) if fault != "the last line isn't whole"]
     check("it is the beginning of a recording", difference((faults,), ([END_MISSING],)))
     nothing(Recording(reader, folder, "echo", "it ran", preexec_fn=no_file), "a log that can't be made", 2,
-            "the program was not run")
+            "nothing was run")
     path = pathlib.Path(folder, "n" * 250)
     done = run(RECORD / "pim-record", "--kernel", "-o", path, "echo", "it ran")
     wanted = f"pim-record: {path}.kernel: File name too long; nothing was run\n"

@@ -24,7 +24,8 @@ reader = module(ROOT / "record/pim-log")
 
 
 def log_of(rows, chunks=2, times=None, tasks=None, processes=None, **fields):
-    """Returns a log of rows: thread, event, object, value, detail and how; or thread, event and a part of a text.
+    """Returns a log of rows: thread, event, object, value, detail and how; or thread, event and a part of a text; or
+    None, for a number that no record has.
 
     Each thread has a chunk. Unless it is said, record n is of the time 1000 + 10 n, and thread t is task 99 + t of
     process 100. The fields are those of the header.
@@ -38,12 +39,15 @@ def log_of(rows, chunks=2, times=None, tasks=None, processes=None, **fields):
     struct.pack_into("<QQQQQ", data, 192, *(head[name] for name in ("taken", "threads", "lost", "first", "left_out")))
     data[256:260] = b"./p\0"
     at = {}
-    for thread in {row[0] for row in rows}:
+    for thread in {row[0] for row in rows if row}:
         at[thread] = 4096 + CHUNK_BYTES * (thread - 1)
         process = (processes or {}).get(thread, head["process"])
         task = (tasks or {}).get(thread, head["process"] + thread - 1)
         struct.pack_into("<8sIIIIQ", data, at[thread], b"pimChunk", process, task, thread, 0, 0)
-    for number, (thread, event, *rest) in enumerate(rows, 1):
+    for number, row in enumerate(rows, 1):
+        if row is None:
+            continue
+        thread, event, *rest = row
         at[thread] += 32
         time = times[number - 1] if times else 1000 + 10 * number
         if len(rest) == 1:

@@ -53,6 +53,11 @@ OWNERS = {
          [(40, "[101], at 10", NOT_BOUNDED)]),
     "an owner that hasn't written who it is yet":
         (BOTH + once(HIGH) + asks(0) + once(LOW) + once(HIGH), [(30, "[101], at 10", NOT_BOUNDED)]),
+    "an owner that hasn't written who it is yet, whose call had begun":
+        (ALL + once(LOW) + asks(0) + granted(MIDDLE, took=15) + released(MIDDLE) + once(HIGH),
+         [(30, "[102], at 40", NOT_BOUNDED)]),
+    "an owner that is about to release the mutex, which a third thread steals":
+        (ALL + once(LOW) + asks(0) + once(MIDDLE) + once(HIGH), [(30, "[101], at 10", NOT_BOUNDED)]),
     "an owner of the log, where the REQUEST names none":
         (ALL + once(LOW) + granted(MIDDLE) + asks(0) + released(MIDDLE) + once(LOW) + once(HIGH),
          [(40, "[102], at 40", NOT_BOUNDED)]),

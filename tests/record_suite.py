@@ -187,7 +187,7 @@ class Pieces(Case):
         return why or lines_differ(steps[:1 + WAITERS], self.begin)
 
 
-CROWDED = "more than 256 threads, or more than 256 mutexes, contend at one time\n"
+CROWDED = "more than 256 threads contend at one time, or the mutexes need more than 256 numbers\n"
 SHARED = "trace: 300 threads and 150 mutexes of 750 records make 600 steps of 1.050 s; " \
          "priorities as they are, SCHED_OTHER at 1"
 RANKS = "trace: 0 threads and 0 mutexes of 0 records make 0 steps of 99.000 ms; priorities are ranks"

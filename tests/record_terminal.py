@@ -142,15 +142,13 @@ def stops_again(folder, kernel, _):
     job = Terminal(folder, kernel)
     job.presses(SUSPEND)
     got = [job.is_stopped()]
-    if kernel:
-        os.kill(guard_of(job.job, job.program), signal.SIGSTOP)  # so that it doesn't continue pim-record meanwhile
+    os.kill(guard_of(job.job), signal.SIGSTOP)  # so that it doesn't continue pim-record meanwhile
     os.kill(job.program, signal.SIGCONT)
     got.append(job.prints("goes on"))
     os.kill(job.program, signal.SIGTSTP)
     until(lambda: stopped(job.program))
     os.write(job.orders, b"-")
-    if kernel:
-        os.kill(job.job, signal.SIGCONT)
+    os.kill(job.job, signal.SIGCONT)
     got.append(job.is_stopped())
     os.write(job.orders, b"f")
     got.append(job.prints("goes on", 2))
@@ -203,7 +201,7 @@ def program_alone(folder, kernel, _):
         got.append(job.is_stopped(number))
         os.write(job.orders, b"-")
         time.sleep(0.2)
-        got.append(stopped(job.job) and (not kernel or few_files(guard_of(job.job, job.program))))
+        got.append(stopped(job.job) and few_files(guard_of(job.job)))
         os.kill(job.program, signal.SIGCONT)
         got += [job.prints("goes on"), job.runs()]
         job.presses(INTERRUPT)
@@ -231,8 +229,7 @@ def stays(folder, kernel, _):
 def unguarded(folder, kernel, _):
     """If the guard was killed, a shell still stops and continues the program."""
     job, got = Terminal(folder, kernel), []
-    if kernel:
-        os.kill(guard_of(job.job, job.program), signal.SIGKILL)
+    os.kill(guard_of(job.job), signal.SIGKILL)
     for times in (1, 2):
         job.presses(SUSPEND)
         got.append(job.is_stopped())

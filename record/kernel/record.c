@@ -4,27 +4,20 @@
 #include <errno.h>
 #include <fcntl.h>
 #include <inttypes.h>
-#include <sched.h>
 #include <signal.h>
-#include <stdbool.h>
 #include <stdio.h>
 #include <stdlib.h>
 #include <string.h>
-#include <sys/prctl.h>
-#include <sys/resource.h>
-#include <sys/socket.h>
-#include <sys/wait.h>
 #include <time.h>
 #include <unistd.h>
 
 #include "events.h"
-#include "guard.h"
 #include "instance.h"
 #include "text.h"
 
 enum { NO_RIGHTS = 77, FAULT = 2, MOST_PAGES = 4096 };
 
-static const int64_t SECOND = 1000000000, PERIOD = 50000000;
+static const int64_t SECOND = 1000000000;
 
 /* An event may become readable later than a newer one of another CPU: the newest are held back. */
 static const uint64_t HELD_BACK = 1000000000;
@@ -32,7 +25,7 @@ static const uint64_t HELD_BACK = 1000000000;
 static const char INITIAL_PID_NAMESPACE[] = "pid:[4026531836]";
 
 static struct recording {
-    const char *path, *log; /* the log is NULL where none is made */
+    const char *path;
     struct instance instance;
     struct layouts layouts;
     struct text text;
@@ -40,8 +33,7 @@ static struct recording {
     int cpus;
     int *pages;            /* of each CPU: a descriptor that pages are read from */
     struct queue *queues;
-    struct guard guard;
-    int channel;
+    struct guard *guard;
 } recording;
 
 static uint64_t now(void) {
@@ -55,7 +47,7 @@ static uint64_t now(void) {
 static void end_instance(void) {
     put_setting(&recording.instance, "tracing_on", "0");
     for (int cpu = 0; cpu < recording.cpus; cpu++) close(recording.pages[cpu]);
-    end_guard(&recording.guard, &recording.instance);
+    end_guard(recording.guard, &recording.instance);
 }
 
 static _Noreturn void refuse(const char *what) {
@@ -158,74 +150,7 @@ static void put_rest(void) {
     put_end(&recording.text, end);
 }
 
-/* ---- the program ---- */
-
-/* Makes the child what a program is that a shell executes, and lets it wait for the parent. */
-static void be_program(pid_t recorder, const sigset_t *mask, const struct sigaction *of_children,
-                       int channel) {
-    char go;
-    prctl(PR_SET_PDEATHSIG, SIGKILL); /* a program that nobody records any more isn't to run on */
-    if (getppid() != recorder || read(channel, &go, 1) != 1) _exit(FAULT);
-    sigaction(SIGCHLD, of_children, NULL);
-    sigprocmask(SIG_SETMASK, mask, NULL);
-    recording.channel = channel;
-}
-
-void withdraw_recording(void) {
-    if (recording.channel > 0) send(recording.channel, "x", 1, MSG_NOSIGNAL);
-}
-
-/* Leaves a real-time priority: the recorder is never to keep the program's threads from a CPU. */
-static void be_ordinary(void) {
-    const struct sched_param none = { 0 };
-    int policy = sched_getscheduler(0);
-    bool is_real_time = policy != SCHED_OTHER && policy != SCHED_BATCH && policy != SCHED_IDLE;
-    if (is_real_time) sched_setscheduler(0, SCHED_OTHER, &none);
-}
-
-/* Returns whether the program goes on, and puts its status if not. If it is stopped, this process
- * stops too, so that a shell sees it. */
-static bool goes_on(pid_t program, int *status) {
-    pid_t changed = waitpid(program, status, WNOHANG | WUNTRACED);
-    if (changed == 0) return true;
-    if (changed < 0 || !WIFSTOPPED(*status)) return false;
-    stop_as_program(&recording.guard, program, WSTOPSIG(*status));
-    return true;
-}
-
-/* Passes a signal on. If a stop was sent to the whole group, its end may have come to the program
- * already; then it is pending here, and holds. */
-static void pass_on(pid_t program, int number) {
-    bool is_stop = number == SIGTSTP || number == SIGTTIN || number == SIGTTOU;
-    sigset_t pending;
-    kill(program, number);
-    sigpending(&pending);
-    if (is_stop && sigismember(&pending, SIGCONT)) kill(program, SIGCONT);
-}
-
-/* Records until the program ends, and returns its status. A signal that a process sent is passed
- * on; a terminal has sent it to the program, too. */
-static int record_until_end(pid_t program, const sigset_t *awaited) {
-    const struct timespec period = { 0, PERIOD };
-    int status = 0;
-    while (goes_on(program, &status)) {
-        siginfo_t info;
-        int number = sigtimedwait(awaited, &info, &period);
-        if (number > 0 && number != SIGCHLD && info.si_code <= 0) pass_on(program, number);
-        uint64_t limit = now() - HELD_BACK;
-        for (int cpu = 0; cpu < recording.cpus; cpu++) read_pages(cpu);
-        put_events(limit);
-    }
-    return status;
-}
-
-/* Returns whether the program was run: it was executed, and the library could make its log. */
-static bool is_run(int status, int channel) {
-    char none;
-    if (recv(channel, &none, 1, MSG_DONTWAIT) == 1) return false; /* withdraw_recording sent it */
-    bool is_refused = WIFEXITED(status) && WEXITSTATUS(status) == FAULT;
-    return !is_refused || !recording.log || access(recording.log, F_OK) == 0;
-}
+/* ---- the end ---- */
 
 static void say_lost(void) {
     const struct text *text = &recording.text;
@@ -237,21 +162,7 @@ static void say_lost(void) {
             ((double)text->lost_to - began) / (double)SECOND, recording.path);
 }
 
-static _Noreturn void end_as(int status) {
-    const struct rlimit none = { 0, 0 };
-    sigset_t its;
-    if (WIFEXITED(status)) exit(WEXITSTATUS(status));
-    setrlimit(RLIMIT_CORE, &none); /* the program has left its own */
-    signal(WTERMSIG(status), SIG_DFL);
-    sigemptyset(&its);
-    sigaddset(&its, WTERMSIG(status));
-    raise(WTERMSIG(status));
-    sigprocmask(SIG_UNBLOCK, &its, NULL);
-    exit(128 + WTERMSIG(status));
-}
-
-/* Ends what was begun, and the process. */
-static _Noreturn void give_up(const char *failed) {
+_Noreturn void give_up_kernel(const char *failed) {
     int error = errno;
     end_instance();
     if (recording.text.file) unlink(recording.path);
@@ -261,8 +172,7 @@ static _Noreturn void give_up(const char *failed) {
     exit(FAULT);
 }
 
-/* Returns the name of what is missing, or NULL. */
-static const char *turn_on(pid_t program) {
+const char *turn_on_kernel(pid_t program) {
     char number[32];
     snprintf(number, sizeof number, "%d", (int)program);
     if (!put_setting(&recording.instance, "set_event_pid", number)) return "set_event_pid";
@@ -274,30 +184,29 @@ static const char *turn_on(pid_t program) {
     return put_setting(&recording.instance, "tracing_on", "1") ? NULL : "tracing_on";
 }
 
-/* Lets the program begin, records it, and ends this process as it ended. */
-static _Noreturn void record_program(pid_t program, const sigset_t *awaited, int channel) {
-    be_ordinary();
-    signal(SIGXFSZ, SIG_IGN); /* a file that may not grow isn't whole; the program runs on */
-    const char *failed = turn_on(program);
-    if (failed) give_up(failed); /* the program's process sees the end of its channel */
-    send(channel, "x", 1, MSG_NOSIGNAL);
-    int status = record_until_end(program, awaited);
-    put_rest();
+void read_kernel(void) {
+    uint64_t limit = now() - HELD_BACK;
+    for (int cpu = 0; cpu < recording.cpus; cpu++) read_pages(cpu);
+    put_events(limit);
+}
+
+void end_kernel(bool is_kept) {
+    if (is_kept) put_rest();
     end_instance();
     bool is_whole = close_text(&recording.text);
-    if (!is_run(status, channel)) {
+    if (!is_kept) {
         unlink(recording.path);
-        end_as(status);
+        return;
     }
     if (!is_whole)
         fprintf(stderr, "pim-record: %s isn't whole: %s\n", recording.path, strerror(errno));
     say_lost();
-    end_as(status);
 }
 
-static void begin(const char *path, const char *kilobytes) {
+void begin_kernel(const char *path, const char *kilobytes, struct guard *guard) {
     char namespace[64] = "";
     recording.path = path;
+    recording.guard = guard;
     errno = 0;
     if (readlink("/proc/self/ns/pid", namespace, sizeof namespace - 1) > 0 &&
         strcmp(namespace, INITIAL_PID_NAMESPACE) != 0)
@@ -306,33 +215,9 @@ static void begin(const char *path, const char *kilobytes) {
     sigfillset(&all);
     sigprocmask(SIG_SETMASK, &all, &before);
     if (!make_instance(&recording.instance)) refuse("tracefs");
-    const char *failed = start_guard(&recording.guard, &recording.instance) ? NULL : "fork";
+    const char *failed = start_guard(guard, &recording.instance) ? NULL : "fork";
     sigprocmask(SIG_SETMASK, &before, NULL);
     if (!failed) failed = set_up(kilobytes);
     if (!failed && !open_text(&recording.text, path)) failed = path;
-    if (failed) give_up(failed);
-}
-
-void record_kernel(const char *path, const char *log, const char *kilobytes) {
-    static const int passed_on[] = { SIGHUP,  SIGINT,  SIGQUIT, SIGTERM, SIGUSR1,
-                                     SIGUSR2, SIGALRM, SIGTSTP, SIGTTIN, SIGTTOU };
-    struct sigaction of_children, usual = { .sa_handler = SIG_DFL };
-    sigset_t awaited, blocked, before;
-    int channel[2];
-    pid_t recorder = getpid(), program = -1;
-    recording.log = log;
-    begin(path, kilobytes);
-    sigemptyset(&awaited);
-    sigaddset(&awaited, SIGCHLD);
-    for (size_t i = 0; i < sizeof passed_on / sizeof *passed_on; i++)
-        sigaddset(&awaited, passed_on[i]);
-    blocked = awaited;
-    sigaddset(&blocked, SIGCONT); /* whether it came is asked after a stop */
-    sigprocmask(SIG_BLOCK, &blocked, &before);
-    sigaction(SIGCHLD, &usual, &of_children);
-    if (socketpair(AF_UNIX, SOCK_STREAM | SOCK_CLOEXEC, 0, channel) == 0) program = fork();
-    if (program < 0) give_up("fork");
-    close(channel[program != 0]);
-    if (program != 0) record_program(program, &awaited, channel[0]);
-    be_program(recorder, &before, &of_children, channel[1]);
+    if (failed) give_up_kernel(failed);
 }

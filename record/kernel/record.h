@@ -1,15 +1,27 @@
-/* Runs a program while the kernel's events of its threads are recorded. */
+/* Records the kernel's events of a program's threads. */
 #ifndef RECORD_H
 #define RECORD_H
 
-/* Forks. Returns in the child, in which the program is to be executed, once its events are recorded
- * into a new file. The parent goes on recording until the child has ended, and ends as it did; it
- * removes the file where the library refused to make its log, unless `log` is NULL: then none is to
- * be made. With the rights missing, ends the process with a line that says so. `kilobytes` is the
- * room for events of each CPU. */
-void record_kernel(const char *path, const char *log, const char *kilobytes);
+#include <stdbool.h>
+#include <sys/types.h>
 
-/* Says, in the child, that it couldn't execute the program: the file is removed. */
-void withdraw_recording(void);
+#include "../parent/guard.h"
+
+/* Prepares the recording into a new file, and starts its guard. With the rights missing, ends the
+ * process with a line that says so. `kilobytes` is the room for events of each CPU. */
+void begin_kernel(const char *path, const char *kilobytes, struct guard *guard);
+
+/* Begins the recording of a program. Returns NULL, or the name of what is missing. */
+const char *turn_on_kernel(pid_t program);
+
+/* Ends what was begun, and the process, with a line that says what is missing. */
+_Noreturn void give_up_kernel(const char *missing);
+
+/* Reads and writes the events that are there. */
+void read_kernel(void);
+
+/* Ends the recording, and the guard. The file is removed if it isn't kept; if it is, what it
+ * lacks is reported. */
+void end_kernel(bool is_kept);
 
 #endif

@@ -1,8 +1,7 @@
 #define _GNU_SOURCE
-#include "log.h"
+#include "shared.h"
 
 #include "inner.h"
-#include "real.h"
 
 #include <errno.h>
 #include <fcntl.h>
@@ -10,86 +9,171 @@
 #include <stdlib.h>
 #include <string.h>
 #include <sys/mman.h>
-#include <sys/resource.h>
-#include <sys/stat.h>
+#include <sys/socket.h>
 #include <sys/syscall.h>
+#include <sys/un.h>
 #include <unistd.h>
 
 #ifndef MADV_POPULATE_WRITE
 #define MADV_POPULATE_WRITE 23
 #endif
 
-enum { CHUNK_BYTES = CHUNK_RECORDS * (int)sizeof(struct record), MOST_LOGS = 10000 };
-
 struct header *log_header;
 __thread struct cursor log_cursor;
 
-static char log_path[4096];
-static bool is_first_program;      /* of those that the recording has started */
+static struct shared *shared; /* the memory, up to the end of its first part of slots */
+static char *_Atomic parts[MOST_SLOTS / PART_SLOTS]; /* where the slots are; NULL: not mapped yet */
+static uint64_t slots;        /* for how many chunks the memory has room */
+static _Atomic uint64_t touched; /* slots below this one were touched by this process */
+static bool is_first_program; /* of those that the recording has started */
 static uint64_t number_when_begun;
 
-/* Nothing runs unrecorded: the process ends before its main function. */
-static _Noreturn void refuse(const char *what, const char *why) {
-    dprintf(STDERR_FILENO, "pim-record: %s: %s; the program was not run\n", what, why);
-    real.exit_now(2);
-    abort();
+/* ---- the collector ---- */
+
+/* Connects with the collector of an abstract name. Returns the descriptor, or -1. */
+static int reach(const char *name) {
+    struct sockaddr_un address = { .sun_family = AF_UNIX };
+    size_t length = strlen(name);
+    errno = ENAMETOOLONG;
+    if (length >= sizeof address.sun_path) return -1;
+    memcpy(address.sun_path + 1, name, length); /* behind the zero byte of an abstract name */
+    socklen_t bytes = (socklen_t)(offsetof(struct sockaddr_un, sun_path) + 1 + length);
+    int collector = socket(AF_UNIX, SOCK_SEQPACKET | SOCK_CLOEXEC, 0);
+    if (collector < 0 || connect(collector, (struct sockaddr *)&address, bytes) == 0)
+        return collector;
+    int error = errno;
+    close(collector);
+    errno = error;
+    return -1;
+}
+
+/* Receives the answer and, if it is a good one, the descriptor of the memory. Returns that or
+ * -1. */
+static int receive(int collector, struct answer *answer) {
+    _Alignas(struct cmsghdr) char space[CMSG_SPACE(sizeof(int))];
+    struct iovec part = { answer, sizeof *answer };
+    struct msghdr message = {
+        .msg_iov = &part, .msg_iovlen = 1, .msg_control = space, .msg_controllen = sizeof space };
+    int memory = -1;
+    ssize_t length = recvmsg(collector, &message, MSG_CMSG_CLOEXEC);
+    if (length >= 0) errno = EPROTO;
+    if (length != sizeof *answer) return -1;
+    struct cmsghdr *part_of_it = CMSG_FIRSTHDR(&message);
+    if (part_of_it && part_of_it->cmsg_type == SCM_RIGHTS)
+        memcpy(&memory, CMSG_DATA(part_of_it), sizeof memory);
+    return memory;
+}
+
+/* Maps the memory, and touches what isn't a slot. Linux does so from 5.14 on; with an older one
+ * the calls that use it do. */
+static bool map_memory(int memory, const struct answer *answer) {
+    const int rights = PROT_READ | PROT_WRITE;
+    void *mapped = mmap(NULL, shared_bytes(PART_SLOTS), rights, MAP_SHARED, memory, 0);
+    if (mapped == MAP_FAILED) return false;
+    madvise(mapped, sizeof *shared, MADV_POPULATE_WRITE);
+    shared = mapped;
+    slots = answer->slots;
+    atomic_store(&parts[0], (char *)shared->slots);
+    return true;
+}
+
+/* Gets and maps the memory of a log. Returns whether there is one. */
+static bool ask(const char *name) {
+    const struct request request = { .version = SHARED_VERSION, .process = (uint32_t)getpid() };
+    struct answer answer = { .version = 0 };
+    bool is_mapped = false;
+    int memory = -1, collector = reach(name);
+    bool is_reached = collector >= 0 &&
+                      send(collector, &request, sizeof request, MSG_NOSIGNAL) == sizeof request;
+    if (is_reached) memory = receive(collector, &answer);
+    if (memory >= 0) is_mapped = map_memory(memory, &answer);
+    is_first_program = answer.is_first;
+    if (is_mapped) is_mapped = send(collector, "m", 1, MSG_NOSIGNAL) == 1;
+    if (!is_mapped && answer.version == 0)
+        dprintf(STDERR_FILENO, "pim-record: process %d isn't recorded: the recorder: %s\n",
+                (int)getpid(), strerror(errno));
+    if (memory >= 0) close(memory);
+    if (collector >= 0) close(collector);
+    return is_mapped;
+}
+
+/* ---- slots ---- */
+
+/* Maps a part behind the one before. More than one is seldom used, and a program that locks its
+ * memory locks what is mapped. No descriptor is there any more; but a mapping of shared memory
+ * can be made anew, and longer, from its last page on. */
+static bool map_part(uint64_t part) {
+    char *last_page = atomic_load(&parts[part - 1]) + PART_BYTES - PAGE, *none = NULL;
+    char *mapped = mremap(last_page, 0, PAGE + PART_BYTES, MREMAP_MAYMOVE);
+    if (mapped == MAP_FAILED) return false;
+    if (!atomic_compare_exchange_strong(&parts[part], &none, mapped + PAGE))
+        munmap(mapped, PAGE + PART_BYTES); /* another thread was quicker */
+    return true;
+}
+
+/* Returns where a slot is, or NULL where it can't be mapped. */
+static char *address_of(uint64_t slot) {
+    uint64_t part = slot / PART_SLOTS;
+    for (uint64_t i = atomic_load(&parts[part]) ? part : 1; i <= part; i++)
+        if (!atomic_load(&parts[i]) && !map_part(i)) return NULL;
+    return atomic_load(&parts[part]) + slot % PART_SLOTS * CHUNK_BYTES;
+}
+
+/* Has the pages of slots there, so that a lack of memory ends the log and not the program.
+ * Linux does so from 5.14 on; an older one says EINVAL. */
+static bool touch(uint64_t slot, uint64_t count) {
+    while (count > 0) {
+        uint64_t here = PART_SLOTS - slot % PART_SLOTS;
+        char *memory = address_of(slot);
+        if (here > count) here = count;
+        if (!memory) return false;
+        if (madvise(memory, here * CHUNK_BYTES, MADV_POPULATE_WRITE) != 0 && errno != EINVAL)
+            return false;
+        slot += here;
+        count -= here;
+    }
+    return true;
+}
+
+/* Touches all slots below one. Those that had no chunk yet can be used by all then. */
+static void touch_slots(uint64_t wanted) {
+    uint64_t from = atomic_load(&touched), first = atomic_load(&shared->next_slot);
+    if (wanted > slots) wanted = slots;
+    if (from >= wanted) return;
+    if (from < first) touch(from, (first < wanted ? first : wanted) - from);
+    while (first < wanted &&
+           !atomic_compare_exchange_weak(&shared->next_slot, &first, wanted)) continue;
+    if (first < wanted && !touch(first, wanted - first)) return;
+    for (uint64_t slot = first; slot < wanted; slot++)
+        atomic_fetch_or(&shared->free[slot / 64], UINT64_C(1) << slot % 64);
+    atomic_store(&touched, wanted);
+}
+
+/* Returns how many slots can be used, up to FREE_SLOTS. */
+static unsigned count_free(uint64_t used) {
+    unsigned count = 0;
+    for (uint64_t word = 0; word * 64 < used && count < FREE_SLOTS; word++)
+        count += (unsigned)__builtin_popcountll(atomic_load(&shared->free[word]));
+    return count;
+}
+
+void log_prepare(void) {
+    int error = errno;
+    touch_slots(MANY_SLOTS);
+    uint64_t used = atomic_load(&shared->next_slot);
+    if (used < slots && count_free(used) < FREE_SLOTS) touch_slots(used + FREE_SLOTS);
+    errno = error;
+}
+
+/* Pages that are mapped stay so in a forked process, but each has to be touched there anew. */
+void log_is_forked(void) {
+    atomic_store(&touched, 0);
+    madvise(shared, sizeof *shared, MADV_POPULATE_WRITE);
 }
 
 /* ---- making the log ---- */
 
-static uint64_t bytes_wanted(void) {
-    const char *text = getenv("PIM_RECORD_BYTES");
-    char *rest = NULL;
-    uint64_t bytes = text ? strtoull(text, &rest, 10) : 0;
-    if (bytes < HEADER_BYTES + CHUNK_BYTES || *rest) refuse("PIM_RECORD_BYTES", "not a size");
-    return bytes;
-}
-
-/* Creates NAME for the first program of a recording, NAME.PID for a later one, and NAME.PID.2 and
- * so on for those that a process becomes by exec. Returns the descriptor. */
-static int create_file(const char *name) {
-    int process = (int)getpid();
-    for (int attempt = 0; attempt < MOST_LOGS; attempt++) {
-        int length;
-        if (attempt == 0)
-            length = snprintf(log_path, sizeof log_path, "%s", name);
-        else if (attempt == 1)
-            length = snprintf(log_path, sizeof log_path, "%s.%d", name, process);
-        else
-            length = snprintf(log_path, sizeof log_path, "%s.%d.%d", name, process, attempt);
-        if (length < 0 || (size_t)length >= sizeof log_path) refuse(name, strerror(ENAMETOOLONG));
-        int file = open(log_path, O_RDWR | O_CREAT | O_EXCL | O_CLOEXEC, 0600);
-        is_first_program = attempt == 0;
-        if (file >= 0) return file;
-        if (errno != EEXIST) refuse(log_path, strerror(errno));
-    }
-    refuse(name, "there are too many logs of this name");
-}
-
-static const char log_magic[8] = { 'p', 'i', 'm', 'l', 'o', 'g', '\r', '\n' };
-
-/* A file longer than the process's limit would have it killed by a signal. The magic comes first: so
- * what a program leaves that is killed meanwhile is a log, too, which the next recording replaces. */
-static void *map_file(int file, uint64_t bytes) {
-    struct rlimit limit;
-    if (getrlimit(RLIMIT_FSIZE, &limit) == 0 && limit.rlim_cur < bytes) {
-        unlink(log_path);
-        refuse(log_path, "the log is longer than the limit of a file (ulimit -f)");
-    }
-    void *memory = MAP_FAILED;
-    bool is_marked = write(file, log_magic, sizeof log_magic) == sizeof log_magic;
-    if (is_marked && ftruncate(file, (off_t)bytes) == 0)
-        memory = mmap(NULL, bytes, PROT_READ | PROT_WRITE, MAP_SHARED, file, 0);
-    if (memory != MAP_FAILED && madvise(memory, HEADER_BYTES, MADV_POPULATE_WRITE) != 0)
-        if (errno != EINVAL) memory = MAP_FAILED;
-    if (errno == EFAULT) errno = ENOSPC; /* madvise says so if the file gets no room */
-    if (memory == MAP_FAILED) {
-        int error = errno;
-        unlink(log_path);
-        refuse(log_path, strerror(error));
-    }
-    return memory;
-}
+static const char log_magic[8] = LOG_MAGIC;
 
 static uint32_t read_command(char *into) {
     int file = open("/proc/self/cmdline", O_RDONLY | O_CLOEXEC);
@@ -107,25 +191,23 @@ static uint64_t realtime(void) {
 
 void log_make(void) {
     const char *name = getenv("PIM_RECORD");
-    if (!name) return;
-    uint64_t bytes = bytes_wanted();
-    int file = create_file(name);
-    struct header *header = map_file(file, bytes);
-    close(file);
+    if (!name || !ask(name)) return;
+    struct header *header = &shared->header;
+    memcpy(header->magic, log_magic, sizeof log_magic);
     header->version = LOG_VERSION;
     header->byte_order = LOG_BYTE_ORDER;
     header->header_bytes = HEADER_BYTES;
     header->record_bytes = sizeof(struct record);
     header->chunk_records = CHUNK_RECORDS;
     header->known = inner_known;
-    header->chunks = (bytes - HEADER_BYTES) / CHUNK_BYTES;
     header->process = (uint32_t)getpid();
     header->parent = (uint32_t)getppid();
     header->began_monotonic = log_time();
     header->began_realtime = realtime();
     header->command_bytes = read_command(header->command);
-    atomic_store(&header->next_number, 1);
+    touch_slots(FEW_SLOTS);
     atomic_store(&header->next_thread, 1);
+    atomic_store(&header->next_number, 1); /* last: the collector takes the header from now on */
     log_header = header;
 }
 
@@ -135,38 +217,73 @@ void log_has_begun(void) {
 
 bool log_remove_unused(void) {
     bool is_used = atomic_load(&log_header->next_number) != number_when_begun;
-    return !is_used && !is_first_program && unlink(log_path) == 0;
+    if (is_used || is_first_program) return false;
+    atomic_store(&shared->is_unused, 1);
+    return true;
 }
 
 /* ---- chunks ---- */
 
-/* Takes room on the disk for a chunk, so that a full disk ends the log and not the program. Linux
- * does so from 5.14 on; an older one says EINVAL. */
-static bool has_memory(void *chunk) {
-    return madvise(chunk, CHUNK_BYTES, MADV_POPULATE_WRITE) == 0 || errno == EINVAL;
+/* Returns the number of a slot that the collector has given back, or that was touched ahead, or
+ * `slots`. The lowest come first: they are in the CPU's cache. */
+static uint64_t take_free_slot(void) {
+    uint64_t used = atomic_load(&shared->next_slot);
+    for (uint64_t word = 0; word * 64 < used; word++) {
+        uint64_t bits = atomic_load_explicit(&shared->free[word], memory_order_relaxed);
+        while (bits) {
+            uint64_t lowest = bits & -bits;
+            bits = atomic_fetch_and_explicit(&shared->free[word], ~lowest, memory_order_acquire);
+            if (bits & lowest) return word * 64 + (uint64_t)__builtin_ctzll(lowest);
+        }
+    }
+    return slots;
+}
+
+/* Returns the number of a slot that had no chunk yet, or `slots`: the collector couldn't keep
+ * up. */
+static uint64_t take_fresh_slot(void) {
+    if (atomic_load(&shared->next_slot) >= slots) return slots;
+    return atomic_fetch_add(&shared->next_slot, 1);
+}
+
+/* Returns a slot for a chunk, or NULL. One that nobody has touched ahead is touched here. */
+static struct chunk_head *take_slot(void) {
+    uint64_t slot = take_free_slot();
+    if (slot == slots) slot = take_fresh_slot();
+    if (slot >= slots) return NULL;
+    if (slot >= atomic_load(&touched) && !touch(slot, 1)) return NULL;
+    return (struct chunk_head *)address_of(slot);
 }
 
 bool log_open_chunk(void) {
     struct header *header = log_header;
     int error = errno;
-    uint64_t chunk = header->chunks;
-    if (atomic_load(&header->next_chunk) < chunk) chunk = atomic_fetch_add(&header->next_chunk, 1);
-    struct chunk_head *head =
-        (struct chunk_head *)((char *)header + HEADER_BYTES + chunk * CHUNK_BYTES);
-    bool is_open = chunk < header->chunks && has_memory(head);
-    if (is_open) {
+    uint64_t chunks = atomic_load(&header->chunks), chunk = chunks;
+    if (atomic_load(&header->next_chunk) < chunks) chunk = atomic_fetch_add(&header->next_chunk, 1);
+    struct chunk_head *head = chunk < chunks ? take_slot() : NULL;
+    if (head) {
         if (log_cursor.thread == 0)
             log_cursor.thread = (uint32_t)atomic_fetch_add(&header->next_thread, 1);
         head->process = (uint32_t)getpid();
         head->task = (uint32_t)syscall(SYS_gettid);
         head->thread = log_cursor.thread;
         head->index = log_cursor.chunks++;
+        atomic_store_explicit(&head->place, chunk + 1, memory_order_relaxed);
         atomic_store_explicit(&head->mark, CHUNK_MARK, memory_order_release);
         log_cursor.next = (struct record *)head + 1;
         log_cursor.end = (struct record *)head + CHUNK_RECORDS;
     }
     errno = error;
-    return is_open;
+    return head != NULL;
+}
+
+void log_close_chunk(void) {
+    if (!log_cursor.end || !log_begin()) return;
+    struct chunk_head *head = (struct chunk_head *)(log_cursor.end - CHUNK_RECORDS);
+    bool is_full = log_cursor.next == log_cursor.end; /* the collector has it already, or another */
+    log_cursor.next = log_cursor.end = NULL;
+    if (!is_full) atomic_fetch_or_explicit(&head->place, CHUNK_IS_CLOSED, memory_order_release);
+    log_end();
 }
 
 void log_lose(void) {

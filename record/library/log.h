@@ -1,4 +1,5 @@
-/* The log: a file that is mapped and shared, filled in chunks by thread. FORMAT.md specifies it.
+/* The log: chunks that are filled by thread, in memory that the collector of shared.h writes to
+ * the file. FORMAT.md specifies the file.
  *
  * A record takes its number after its call has been granted a mutex, and before its call releases
  * one. So the numbers are a true order of the grants, and no mutex has two owners in the log. */
@@ -15,6 +16,7 @@ enum {
     LOG_VERSION = 1,
     LOG_BYTE_ORDER = 0x01020304,
     HEADER_BYTES = 4096,
+    CHUNK_BYTES = 16384,
     COMMAND_BYTES = 2048,
     CHUNK_RECORDS = 512,
     TEXT_BYTES = 22,
@@ -83,8 +85,11 @@ struct chunk_head {
     uint32_t task;   /* the kernel's number of the thread */
     uint32_t thread; /* the log's own number of the thread, which no other has */
     uint32_t index;  /* of this chunk among the thread's, from 0 */
-    uint64_t zero;
+    _Atomic uint64_t place; /* in memory: the chunk's place in the file, from 1 on; 0 in the file */
 };
+
+/* Added to the place once the thread puts no more records there. */
+#define CHUNK_IS_CLOSED (UINT64_C(1) << 63)
 
 #define CHUNK_MARK UINT64_C(0x6b6e7568436d6970) /* "pimChunk" in a log of this byte order */
 
@@ -96,7 +101,7 @@ struct header {
     uint32_t record_bytes;
     uint32_t chunk_records;
     uint32_t known; /* what of the C library's inner fields is known: inner.h */
-    uint64_t chunks; /* for how many there is room */
+    _Atomic uint64_t chunks; /* for how many there is room; in memory 0 if the file takes no more */
     uint32_t process;
     uint32_t parent;
     uint64_t began_monotonic;
@@ -114,6 +119,7 @@ struct header {
 
 _Static_assert(sizeof(struct record) == 32, "FORMAT.md: a record has 32 bytes");
 _Static_assert(sizeof(struct text_record) == 32, "FORMAT.md: a part of a text has 32 bytes");
+_Static_assert(CHUNK_RECORDS * sizeof(struct record) == CHUNK_BYTES, "FORMAT.md: a chunk");
 _Static_assert(sizeof(struct chunk_head) == 32, "FORMAT.md: the head of a chunk has 32 bytes");
 _Static_assert(offsetof(struct header, chunks) == 32, "FORMAT.md: the header");
 _Static_assert(offsetof(struct header, next_number) == 128, "FORMAT.md: the header");
@@ -137,18 +143,29 @@ struct cursor {
 extern struct header *log_header; /* NULL: nothing is recorded */
 extern __thread struct cursor log_cursor;
 
-/* Makes the log that the environment names, or ends the process where it can't be made. */
+/* Gets the log's memory from the collector that the environment names. If it can't be reached, or
+ * refuses, the program runs unrecorded. */
 void log_make(void);
 
 /* Remembers which number comes next once all is told of how the program began. */
 void log_has_begun(void);
 
-/* Removes the log of a later program where it says no more than how the program began. Returns
- * whether it did. */
+/* Has the log of a later program removed if it says no more than how the program began. Returns
+ * whether it is. */
 bool log_remove_unused(void);
+
+/* Touches the slots of many chunks, before the threads of a program with threads or of a real-time
+ * priority come to use them. */
+void log_prepare(void);
+
+/* Says that the process is a forked one, which has touched nothing yet. */
+void log_is_forked(void);
 
 /* Gives the thread its next chunk. Returns false where there is no room. */
 bool log_open_chunk(void);
+
+/* Gives the thread's chunk to the collector. A further record begins another chunk. */
+void log_close_chunk(void);
 
 /* Counts a record for which there is no room. */
 void log_lose(void);

@@ -27,6 +27,7 @@ static void in_child(void) {
     process = getpid();
     if (!log_header) return;
     log_cursor = (struct cursor){ .next = NULL };
+    log_is_forked();
     thread_introduce();
     log_put((struct record){ .event = EVENT_CHILD,
                              .object = fork_number,
@@ -52,6 +53,7 @@ static bool begin_exec(const char *path) {
     bool is_told = is_own_record();
     int error = errno;
     if (is_told) log_put_text(EVENT_EXEC, 0, path, LONGEST_TEXT);
+    if (is_told) log_close_chunk(); /* the process may be a forked one, which is gone then */
     errno = error;
     return is_told;
 }
@@ -149,7 +151,10 @@ static void put_end(bool is_status_known, int status) {
 }
 
 EXPORT _Noreturn void _exit(int status) {
-    if (is_own_record()) put_end(true, status);
+    if (is_own_record()) {
+        put_end(true, status);
+        log_close_chunk();
+    }
     real.exit_now(status);
     __builtin_unreachable();
 }

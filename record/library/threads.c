@@ -16,6 +16,11 @@ static bool has_exit_key;
 
 /* ---- a thread's first and last records ---- */
 
+static bool is_real_time(int policy) {
+    policy &= ~SCHED_RESET_ON_FORK;
+    return policy != SCHED_OTHER && policy != SCHED_BATCH && policy != SCHED_IDLE;
+}
+
 static uint16_t detail_of_priority(int policy, int priority) {
     return (uint16_t)(((unsigned)policy & 15) | ((unsigned)priority & 255) << 8);
 }
@@ -31,6 +36,7 @@ void thread_introduce(void) {
     int policy = sched_getscheduler(0);
     sched_getparam(0, &param);
     prctl(PR_GET_NAME, name);
+    if (is_real_time(policy)) log_prepare();
     log_put((struct record){ .event = EVENT_THREAD,
                              .object = (uint64_t)pthread_self(),
                              .detail = detail_of_priority(policy, param.sched_priority) });
@@ -40,13 +46,16 @@ void thread_introduce(void) {
     errno = error;
 }
 
-/* The destructors of the program's keys may lock, too: the record is put in the last round. */
+/* The destructors of the program's keys may lock, too: the record is put in the last round. The
+ * thread's chunk is the collector's then, so that short threads take no more than they wrote. */
 static void ends(void *unused) {
     (void)unused;
-    if (++log_cursor.exits < PTHREAD_DESTRUCTOR_ITERATIONS)
+    if (++log_cursor.exits < PTHREAD_DESTRUCTOR_ITERATIONS) {
         pthread_setspecific(exit_key, &log_cursor);
-    else
-        log_put((struct record){ .event = EVENT_EXIT });
+        return;
+    }
+    log_put((struct record){ .event = EVENT_EXIT });
+    log_close_chunk();
 }
 
 void thread_make_key(void) {
@@ -69,6 +78,7 @@ static uint16_t detail_of_attributes(const pthread_attr_t *attributes) {
 EXPORT int pthread_create(pthread_t *thread, const pthread_attr_t *attributes,
                           void *(*start)(void *), void *argument) {
     bool is_told = is_recorded();
+    if (is_told) log_prepare();
     int error = real.create(thread, attributes, start, argument);
     if (error || !is_told) return error;
     struct record create = { .event = EVENT_CREATE,
@@ -108,6 +118,7 @@ EXPORT int prctl(int option, ...) {
 
 /* The target is a pthread_t, or the kernel's number of a thread. */
 static void put_priority(uint64_t target, uint32_t task, int policy, int priority) {
+    if (is_real_time(policy)) log_prepare();
     log_put((struct record){ .event = EVENT_PRIORITY,
                              .object = target,
                              .value = task,

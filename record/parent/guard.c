@@ -10,6 +10,7 @@
 #include <stdio.h>
 #include <stdlib.h>
 #include <string.h>
+#include <sys/prctl.h>
 #include <sys/socket.h>
 #include <sys/wait.h>
 #include <time.h>
@@ -49,13 +50,15 @@ static bool is_stopped(pid_t process) {
 /* ---- the guard ---- */
 
 static void remove_patiently(const struct instance *instance) {
+    if (!instance) return;
     for (int i = 0; i < TRIES && !remove_instance(instance); i++) usleep(BETWEEN_TRIES_US);
 }
 
 /* Closes all descriptors but those that the guard uses: another process may wait for the end of
  * what the caller has open. */
 static void close_others(int channel, const struct instance *instance) {
-    const int used[] = { channel, instance->tracefs, instance->instances };
+    const int used[] = { channel, instance ? instance->tracefs : channel,
+                         instance ? instance->instances : channel };
     int last = channel;
     for (size_t i = 0; i < 3; i++)
         if (used[i] > last) last = used[i];
@@ -69,6 +72,7 @@ static void close_others(int channel, const struct instance *instance) {
 static _Noreturn void be_guard(pid_t recorder, int channel, const struct instance *instance) {
     struct pollfd end = { .fd = channel, .events = POLLIN };
     pid_t program = 0;
+    prctl(PR_SET_NAME, "pim-guard");
     setsid(); /* to be in no group that a terminal or a shell stops or ends */
     close_others(channel, instance);
     for (;;) {

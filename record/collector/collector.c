@@ -1,0 +1,308 @@
+#define _GNU_SOURCE
+#include "collector.h"
+
+#include "../parent/ordinary.h"
+#include "store.h"
+
+#include <errno.h>
+#include <poll.h>
+#include <signal.h>
+#include <stdio.h>
+#include <stdlib.h>
+#include <string.h>
+#include <sys/prctl.h>
+#include <sys/random.h>
+#include <sys/resource.h>
+#include <sys/socket.h>
+#include <sys/un.h>
+#include <sys/wait.h>
+#include <time.h>
+#include <unistd.h>
+
+enum { MOST_WAITING = 4096, MOST_VISITORS = 256, SHORTEST_MS = 2, LONGEST_MS = 64, BEGUN_MS = 256 };
+
+/* A program that has connected, and hasn't mapped its memory yet. */
+struct visitor {
+    int channel;
+    struct store *store; /* NULL before its request */
+};
+
+static struct state {
+    const char *log;
+    uint64_t bytes;
+    int listener, channel;
+    struct store *first;  /* of the first program, before it has come */
+    struct store *stores; /* of programs that have the memory */
+    struct visitor visitors[MOST_VISITORS];
+    size_t count;         /* of visitors */
+    struct report report;
+    bool is_ended;        /* the program has ended, or who started the collector is gone */
+} state;
+
+static struct store first;
+
+static void release(struct store *ended) {
+    if (ended != &first) free(ended);
+}
+
+static int64_t milliseconds(void) {
+    struct timespec now;
+    clock_gettime(CLOCK_MONOTONIC, &now);
+    return (int64_t)now.tv_sec * 1000 + now.tv_nsec / 1000000;
+}
+
+/* ---- programs that come ---- */
+
+static void send_answer(int channel, const struct answer *answer, int memory) {
+    _Alignas(struct cmsghdr) char space[CMSG_SPACE(sizeof memory)] = { 0 };
+    struct iovec part = { (void *)answer, sizeof *answer };
+    struct msghdr message = { .msg_iov = &part, .msg_iovlen = 1 };
+    if (memory >= 0) {
+        message.msg_control = space;
+        message.msg_controllen = sizeof space;
+        struct cmsghdr *right = CMSG_FIRSTHDR(&message);
+        *right = (struct cmsghdr){
+            .cmsg_level = SOL_SOCKET,
+            .cmsg_type = SCM_RIGHTS,
+            .cmsg_len = CMSG_LEN(sizeof memory) };
+        memcpy(CMSG_DATA(right), &memory, sizeof memory);
+    }
+    sendmsg(channel, &message, MSG_NOSIGNAL | MSG_DONTWAIT);
+}
+
+/* Returns the log of a program that isn't the first, or NULL where none can be made. */
+static struct store *make_later_store(uint32_t process) {
+    struct store *made = malloc(sizeof *made);
+    const char *why = strerror(ENOMEM);
+    if (made) why = store_make_file(made, state.log, process, state.bytes);
+    if (!why && store_make_memory(made)) return made;
+    state.report.failed++;
+    snprintf(state.report.why, sizeof state.report.why, "%s", why ? why : strerror(errno));
+    if (!why) store_remove(made);
+    free(made);
+    return NULL;
+}
+
+/* Returns a log for a program, or NULL where it is another user's, or there is none. */
+static struct store *make_store(int channel, uint32_t process) {
+    struct ucred its = { .uid = (uid_t)-1 };
+    socklen_t length = sizeof its;
+    getsockopt(channel, SOL_SOCKET, SO_PEERCRED, &its, &length);
+    if (its.uid != geteuid()) {
+        state.report.others++;
+        return NULL;
+    }
+    struct store *made = state.first;
+    state.first = NULL;
+    return made ? made : make_later_store(process);
+}
+
+/* Answers a request. Returns whether the visitor is to stay until it has mapped the memory. */
+static bool answer_request(struct visitor *of) {
+    struct request request;
+    if (recv(of->channel, &request, sizeof request, MSG_DONTWAIT) != sizeof request) return false;
+    bool is_first = state.first != NULL;
+    struct answer answer = { .version = SHARED_VERSION, .is_first = is_first };
+    if (request.version == SHARED_VERSION) of->store = make_store(of->channel, request.process);
+    if (of->store) answer.slots = of->store->slots;
+    send_answer(of->channel, &answer, of->store ? of->store->memory : -1);
+    return of->store != NULL;
+}
+
+/* Returns whether the visitor stays. One that goes without its memory mapped leaves no log. */
+static bool hear(struct visitor *of) {
+    char mapped;
+    if (!of->store) return answer_request(of);
+    if (recv(of->channel, &mapped, 1, MSG_DONTWAIT) == 1) {
+        of->store->next = state.stores;
+        state.stores = of->store;
+        state.report.logs++;
+    } else {
+        store_remove(of->store);
+        release(of->store);
+    }
+    return false;
+}
+
+static void hear_visitors(const struct pollfd *polled, size_t count) {
+    size_t kept = 0;
+    for (size_t i = 0; i < count; i++) {
+        struct visitor visitor = state.visitors[i];
+        if (!polled[i].revents || hear(&visitor))
+            state.visitors[kept++] = visitor;
+        else
+            close(visitor.channel);
+    }
+    state.count = kept;
+}
+
+static void let_in(void) {
+    int channel;
+    const int flags = SOCK_CLOEXEC | SOCK_NONBLOCK;
+    while (state.count < MOST_VISITORS &&
+           (channel = accept4(state.listener, NULL, NULL, flags)) >= 0)
+        state.visitors[state.count++] = (struct visitor){ .channel = channel };
+}
+
+/* ---- collecting ---- */
+
+/* Collects from all logs, and ends those that nobody has any more. Returns whether a chunk was
+ * done. */
+static bool collect(bool is_with_begun) {
+    bool is_any_done = false;
+    struct store **place = &state.stores;
+    while (*place) {
+        struct store *store = *place;
+        if (store_collect(store, is_with_begun)) is_any_done = true;
+        if (!store_is_over(store)) {
+            place = &store->next;
+            continue;
+        }
+        store_end(store);
+        *place = store->next;
+        release(store);
+    }
+    return is_any_done;
+}
+
+/* A file that no program had is removed at the end. It stays if pim-record was killed: the next
+ * recording of the name may have replaced it. */
+static void answer_end(void) {
+    char ask;
+    state.is_ended = true;
+    bool is_asked = recv(state.channel, &ask, 1, 0) == 1;
+    if (is_asked && state.first) store_remove(state.first);
+    if (is_asked) state.first = NULL;
+    collect(true);
+    state.report.goes_on = state.stores || state.count > 0;
+    if (is_asked) send(state.channel, &state.report, sizeof state.report, MSG_NOSIGNAL);
+    close(state.channel);
+    state.channel = -1;
+}
+
+/* Waits until something comes, or a time has passed. */
+static void attend(int timeout) {
+    struct pollfd polled[2 + MOST_VISITORS] = {
+        { .fd = state.channel, .events = POLLIN }, { .fd = state.listener, .events = POLLIN } };
+    size_t count = state.count;
+    for (size_t i = 0; i < count; i++)
+        polled[2 + i] = (struct pollfd){ .fd = state.visitors[i].channel, .events = POLLIN };
+    if (poll(polled, 2 + count, timeout) <= 0) return;
+    hear_visitors(polled + 2, count);
+    if (polled[1].revents) let_in();
+    if (polled[0].revents) answer_end();
+}
+
+/* Looks at the logs often while chunks are filled, and seldom while they aren't. */
+static _Noreturn void be_collector(void) {
+    int64_t pause = SHORTEST_MS, next = 0, next_of_begun = 0;
+    while (!state.is_ended || state.stores || state.count > 0) {
+        int64_t left = next - milliseconds();
+        bool is_idle = !state.stores;
+        attend(is_idle ? -1 : left > 0 ? (int)left : 0);
+        int64_t now = milliseconds();
+        if (now < next) continue;
+        bool is_with_begun = now >= next_of_begun;
+        bool is_any_done = collect(is_with_begun);
+        pause = is_any_done ? SHORTEST_MS : pause * 2 < LONGEST_MS ? pause * 2 : LONGEST_MS;
+        next = milliseconds() + pause;
+        if (is_with_begun) next_of_begun = next + BEGUN_MS;
+    }
+    _exit(0);
+}
+
+/* ---- the start ---- */
+
+/* Makes a socket whose name nobody guesses, and which needs no file. */
+static int make_listener(char *name, size_t room) {
+    struct sockaddr_un address = { .sun_family = AF_UNIX };
+    uint64_t random[2];
+    if (getrandom(random, sizeof random, 0) != sizeof random) return -1;
+    int length = snprintf(name, room, "pim-record-%d-%016llx%016llx", (int)getpid(),
+                          (unsigned long long)random[0], (unsigned long long)random[1]);
+    memcpy(address.sun_path + 1, name, (size_t)length);
+    socklen_t bytes = (socklen_t)(offsetof(struct sockaddr_un, sun_path) + 1 + (size_t)length);
+    int listener = socket(AF_UNIX, SOCK_SEQPACKET | SOCK_CLOEXEC | SOCK_NONBLOCK, 0);
+    if (listener < 0) return -1;
+    if (bind(listener, (struct sockaddr *)&address, bytes) == 0 &&
+        listen(listener, MOST_WAITING) == 0)
+        return listener;
+    close(listener);
+    return -1;
+}
+
+/* Closes all descriptors but those that it uses: another process may wait for the end of what the
+ * caller has open. */
+static void close_others(void) {
+    const int used[] = { state.listener, state.channel, state.first->file, state.first->memory };
+    const size_t count = sizeof used / sizeof *used;
+    int last = used[0];
+    for (size_t i = 1; i < count; i++)
+        if (used[i] > last) last = used[i];
+    for (int file = 0; file < last; file++) {
+        bool is_used = false;
+        for (size_t i = 0; i < count; i++) is_used = is_used || used[i] == file;
+        if (!is_used) close(file);
+    }
+    close_range((unsigned)last + 1, UINT_MAX, 0);
+}
+
+static void prepare(void) {
+    struct rlimit files;
+    prctl(PR_SET_NAME, "pim-collector");
+    setsid(); /* to be in no group that a terminal or a shell stops or ends */
+    be_ordinary();
+    close_others();
+    if (getrlimit(RLIMIT_NOFILE, &files) != 0) return;
+    files.rlim_cur = files.rlim_max; /* each log takes two */
+    setrlimit(RLIMIT_NOFILE, &files);
+}
+
+/* Forks the collector, with all signals blocked. Returns false with errno set. */
+static bool fork_collector(struct collector *started) {
+    int ends[2] = { -1, -1 };
+    sigset_t all, before;
+    if (socketpair(AF_UNIX, SOCK_SEQPACKET | SOCK_CLOEXEC, 0, ends) != 0) return false;
+    sigfillset(&all);
+    sigprocmask(SIG_SETMASK, &all, &before);
+    started->process = fork();
+    started->channel = ends[0];
+    state.channel = ends[1];
+    if (started->process == 0) {
+        prepare();
+        be_collector();
+    }
+    sigprocmask(SIG_SETMASK, &before, NULL);
+    close(ends[1]);
+    return started->process > 0;
+}
+
+const char *start_collector(struct collector *started, const char *log, uint64_t bytes) {
+    state.log = log;
+    state.bytes = bytes;
+    const char *why = store_make_file(&first, log, 0, bytes);
+    if (why) return why;
+    state.first = &first;
+    state.listener = make_listener(started->name, sizeof started->name);
+    bool is_started = state.listener >= 0 && store_make_memory(&first) && fork_collector(started);
+    if (!is_started) {
+        why = strerror(errno);
+        store_remove(&first);
+        return why;
+    }
+    close(state.listener);
+    store_leave(&first);
+    return NULL;
+}
+
+bool end_collector(const struct collector *ended, struct report *report) {
+    bool is_sent = send(ended->channel, "e", 1, MSG_NOSIGNAL) == 1;
+    ssize_t length;
+    do
+        length = is_sent ? recv(ended->channel, report, sizeof *report, 0) : 0;
+    while (length < 0 && errno == EINTR);
+    close(ended->channel);
+    if (length != sizeof *report) return false;
+    if (!report->goes_on) waitpid(ended->process, NULL, 0);
+    return true;
+}

@@ -1,0 +1,305 @@
+#define _GNU_SOURCE
+#include "store.h"
+
+#include <errno.h>
+#include <fcntl.h>
+#include <stdio.h>
+#include <stdlib.h>
+#include <string.h>
+#include <sys/mman.h>
+#include <sys/resource.h>
+#include <sys/stat.h>
+#include <sys/uio.h>
+#include <unistd.h>
+
+#ifndef MFD_NOEXEC_SEAL
+#define MFD_NOEXEC_SEAL 8u
+#endif
+
+enum { MOST_LOGS = 10000, BLOCK = 4096 /* of the disk */ };
+
+/* ---- making ---- */
+
+static int open_new(struct store *made, const char *name, uint32_t process) {
+    for (int attempt = process ? 1 : 0; attempt < (process ? MOST_LOGS : 1); attempt++) {
+        int length;
+        if (attempt == 0)
+            length = snprintf(made->path, sizeof made->path, "%s", name);
+        else if (attempt == 1)
+            length = snprintf(made->path, sizeof made->path, "%s.%u", name, process);
+        else
+            length = snprintf(made->path, sizeof made->path, "%s.%u.%d", name, process, attempt);
+        errno = ENAMETOOLONG;
+        if (length < 0 || (size_t)length >= sizeof made->path) return -1;
+        int file = open(made->path, O_RDWR | O_CREAT | O_EXCL | O_CLOEXEC, 0600);
+        if (file >= 0 || errno != EEXIST) return file;
+    }
+    return -1;
+}
+
+/* Puts for how many chunks the memory has room. The limit of a file is also that of the memory.
+ * Returns whether it allows the log's file. */
+static bool limit_slots(struct store *of) {
+    struct rlimit limit;
+    of->slots = of->chunks < MOST_SLOTS ? of->chunks : MOST_SLOTS;
+    if (getrlimit(RLIMIT_FSIZE, &limit) != 0) return true;
+    if (limit.rlim_cur >= shared_bytes(of->slots)) return true;
+    if (limit.rlim_cur < of->bytes || limit.rlim_cur < shared_bytes(1)) return false;
+    of->slots = (limit.rlim_cur - sizeof(struct shared)) / CHUNK_BYTES;
+    return true;
+}
+
+/* A file longer than the limit couldn't take all records. The magic comes first: so what is
+ * left by a recorder that is killed meanwhile is a log, too, which the next recording replaces. */
+const char *store_make_file(struct store *made, const char *name, uint32_t process,
+                            uint64_t bytes) {
+    static const unsigned char first[HEADER_BYTES] = LOG_MAGIC;
+    *made = (struct store){ .memory = -1, .bytes = bytes };
+    made->chunks = (bytes - HEADER_BYTES) / CHUNK_BYTES;
+    bool is_allowed = limit_slots(made);
+    made->file = open_new(made, name, process);
+    if (made->file < 0) return strerror(errno);
+    const char *why = NULL;
+    if (!is_allowed)
+        why = "the log is longer than the limit of a file (ulimit -f)";
+    else if (pwrite(made->file, first, sizeof first, 0) != sizeof first ||
+             ftruncate(made->file, (off_t)bytes) != 0)
+        why = strerror(errno);
+    if (why) store_remove(made);
+    return why;
+}
+
+/* Locks what the program has touched, where the limit of locked memory allows it. */
+static void lock_memory(struct store *of) {
+    uint64_t touched = atomic_load(&of->view->next_slot);
+    if (touched > MANY_SLOTS) touched = MANY_SLOTS;
+    if (touched <= of->locked) return;
+    (void)!mlock(of->view, sizeof *of->view + touched * CHUNK_BYTES);
+    of->locked = touched;
+}
+
+/* Maps the memory for reading by a descriptor that can't write, so that store_is_over doesn't
+ * count the mapping. */
+static bool map_view(struct store *of, size_t bytes) {
+    char path[64];
+    snprintf(path, sizeof path, "/proc/self/fd/%d", of->memory);
+    int readable = open(path, O_RDONLY | O_CLOEXEC);
+    if (readable < 0) return false;
+    void *view = mmap(NULL, bytes, PROT_READ, MAP_SHARED, readable, 0);
+    close(readable);
+    if (view == MAP_FAILED) return false;
+    of->view = view;
+    return true;
+}
+
+/* Maps what isn't a slot for writing, for as long as a caller needs it. */
+static struct shared *map_shared(const struct store *of) {
+    const int rights = PROT_READ | PROT_WRITE;
+    void *mapped = mmap(NULL, sizeof(struct shared), rights, MAP_SHARED, of->memory, 0);
+    return mapped == MAP_FAILED ? NULL : mapped;
+}
+
+static int make_memory_file(void) {
+    int memory = memfd_create("pim-record", MFD_CLOEXEC | MFD_ALLOW_SEALING | MFD_NOEXEC_SEAL);
+    if (memory >= 0 || errno != EINVAL) return memory;
+    return memfd_create("pim-record", MFD_CLOEXEC | MFD_ALLOW_SEALING); /* before Linux 6.3 */
+}
+
+bool store_make_memory(struct store *made) {
+    size_t bytes = shared_bytes(made->slots);
+    made->memory = make_memory_file();
+    made->written = calloc(made->slots, sizeof *made->written);
+    made->found = calloc(made->slots, sizeof *made->found);
+    if (made->memory < 0 || !made->written || !made->found) return false;
+    if (ftruncate(made->memory, (off_t)bytes) != 0) return false;
+    if (fcntl(made->memory, F_ADD_SEALS, F_SEAL_SHRINK | F_SEAL_GROW) != 0) return false;
+    if (!map_view(made, bytes)) return false;
+    struct shared *shared = map_shared(made);
+    if (!shared) return false;
+    shared->header.chunks = made->chunks;
+    munmap(shared, sizeof *shared);
+    return true;
+}
+
+/* ---- the file ---- */
+
+/* Writes at an offset of the file. Returns false with errno set where not all is written. */
+static bool write_all(int file, const void *bytes, size_t length, uint64_t offset) {
+    while (length > 0) {
+        ssize_t done = pwrite(file, bytes, length, (off_t)offset);
+        if (done == 0) errno = ENOSPC;
+        if (done <= 0 && errno != EINTR) return false;
+        if (done <= 0) continue;
+        bytes = (const char *)bytes + done;
+        length -= (size_t)done;
+        offset += (uint64_t)done;
+    }
+    return true;
+}
+
+/* Counts the records of a chunk from one on as lost. */
+static void lose(struct store *of, const struct record *chunk, unsigned from, unsigned to) {
+    if (from == 0) from = 1; /* the head */
+    if (from >= to) return;
+    uint64_t first = atomic_load(&chunk[from].number);
+    if (of->first_lost == 0 || first < of->first_lost) of->first_lost = first;
+    of->lost += to - from;
+}
+
+/* Writes what is new of a chunk, up to `to` records with the head. */
+static void write_chunk(struct store *of, uint64_t slot, uint64_t place, unsigned to) {
+    const struct record *chunk = of->view->slots[slot];
+    unsigned from = of->written[slot];
+    uint64_t offset = HEADER_BYTES + (place - 1) * CHUNK_BYTES + from * sizeof(struct record);
+    unsigned char bytes[CHUNK_BYTES];
+    if (from >= to || place == 0 || place > of->chunks) return;
+    memcpy(bytes, chunk + from, (to - from) * sizeof(struct record));
+    if (from == 0) ((struct chunk_head *)bytes)->place = 0;
+    bool is_written = of->lost == 0 &&
+                      write_all(of->file, bytes, (to - from) * sizeof(struct record), offset);
+    if (!is_written) lose(of, chunk, from, to);
+    of->written[slot] = (uint16_t)to;
+}
+
+static void write_header(struct store *of) {
+    unsigned char bytes[HEADER_BYTES];
+    struct header *header = (struct header *)bytes;
+    if (atomic_load(&of->view->header.next_number) == 0) return; /* the program hasn't filled it */
+    memcpy(bytes, &of->view->header, HEADER_BYTES);
+    header->chunks = of->chunks;
+    header->lost += of->lost;
+    uint64_t first_lost = header->first_lost;
+    if (of->first_lost && (first_lost == 0 || of->first_lost < first_lost))
+        header->first_lost = of->first_lost;
+    if (memcmp(bytes, of->header, HEADER_BYTES) == 0) return;
+    if (write_all(of->file, bytes, HEADER_BYTES, 0)) memcpy(of->header, bytes, HEADER_BYTES);
+}
+
+/* ---- collecting ---- */
+
+/* A chunk that is done before it is full takes less of the disk: the file gets room for more of
+ * them, until those that are written take what they may. */
+static void save(struct store *of, unsigned written) {
+    unsigned used = (written * (unsigned)sizeof(struct record) + BLOCK - 1) / BLOCK * BLOCK;
+    of->saved += CHUNK_BYTES - used;
+}
+
+static void make_room(struct store *of, struct shared *shared) {
+    if (atomic_load(&shared->header.next_chunk) < of->chunks / 2) return;
+    uint64_t chunks = (of->bytes - HEADER_BYTES + of->saved) / CHUNK_BYTES;
+    uint64_t length = HEADER_BYTES + chunks * CHUNK_BYTES;
+    if (chunks == of->chunks || ftruncate(of->file, (off_t)length) != 0) return;
+    of->chunks = chunks;
+    atomic_store(&shared->header.chunks, chunks);
+}
+
+/* Gives a slot back, with zeros. */
+static void give_back(struct store *of, struct shared *shared, uint64_t slot) {
+    static const unsigned char zeros[CHUNK_BYTES];
+    uint64_t offset = sizeof(struct shared) + slot * CHUNK_BYTES;
+    save(of, of->written[slot]);
+    if (!write_all(of->memory, zeros, of->written[slot] * sizeof(struct record), offset)) return;
+    of->written[slot] = 0;
+    uint64_t bit = UINT64_C(1) << slot % 64;
+    atomic_fetch_or_explicit(&shared->free[slot / 64], bit, memory_order_release);
+}
+
+static uint64_t number_of(const struct record *record) {
+    return atomic_load_explicit(&record->number, memory_order_acquire);
+}
+
+static bool is_slot_done(const struct record *chunk) {
+    const struct chunk_head *head = (const struct chunk_head *)chunk;
+    bool is_full = number_of(&chunk[CHUNK_RECORDS - 1]) != 0;
+    return is_full || atomic_load_explicit(&head->place, memory_order_acquire) & CHUNK_IS_CLOSED;
+}
+
+/* Finds the chunks that are to be written: those that are done, or all. Returns how many. */
+static size_t find_chunks(struct store *of, bool is_with_begun) {
+    uint64_t used = atomic_load(&of->view->next_slot);
+    size_t count = 0;
+    if (used > of->slots) used = of->slots;
+    for (uint64_t slot = 0; slot < used; slot++) {
+        const struct record *chunk = of->view->slots[slot];
+        const struct chunk_head *head = (const struct chunk_head *)chunk;
+        uint64_t free = atomic_load_explicit(&of->view->free[slot / 64], memory_order_acquire);
+        if (free >> slot % 64 & 1) continue;
+        if (atomic_load_explicit(&head->mark, memory_order_acquire) != CHUNK_MARK) continue;
+        bool is_done = is_slot_done(chunk);
+        if (!is_done && !is_with_begun) continue;
+        uint64_t place = atomic_load(&head->place) & ~CHUNK_IS_CLOSED;
+        of->found[count++] = (struct found){ .place = place, .slot = slot, .is_done = is_done };
+    }
+    return count;
+}
+
+static int by_place(const void *one, const void *other) {
+    uint64_t a = ((const struct found *)one)->place, b = ((const struct found *)other)->place;
+    return (a > b) - (a < b);
+}
+
+/* Writes chunks in the order of their places, so that a file that takes no more lacks no chunk
+ * of a thread before one that it has. Without `shared` no slot is given back. Returns whether a
+ * chunk was done. */
+static bool collect_chunks(struct store *of, struct shared *shared, bool is_with_begun) {
+    size_t count = find_chunks(of, is_with_begun);
+    bool is_any_done = false;
+    qsort(of->found, count, sizeof *of->found, by_place);
+    for (size_t i = 0; i < count; i++) {
+        const struct found *found = &of->found[i];
+        const struct record *chunk = of->view->slots[found->slot];
+        unsigned to = of->written[found->slot] ? of->written[found->slot] : 1;
+        while (to < CHUNK_RECORDS && number_of(&chunk[to])) to++;
+        write_chunk(of, found->slot, found->place, to);
+        if (found->is_done && shared) give_back(of, shared, found->slot);
+        is_any_done = is_any_done || found->is_done;
+    }
+    return is_any_done;
+}
+
+bool store_collect(struct store *of, bool is_with_begun) {
+    lock_memory(of);
+    struct shared *shared = map_shared(of);
+    bool is_any_done = collect_chunks(of, shared, is_with_begun);
+    if (shared && of->lost)
+        atomic_store(&shared->header.chunks, 0); /* no more records come */
+    else if (shared)
+        make_room(of, shared);
+    if (shared) munmap(shared, sizeof *shared);
+    if (is_any_done || is_with_begun) write_header(of);
+    return is_any_done;
+}
+
+/* ---- the end ---- */
+
+/* A seal against writing can't be set while a mapping that may write is there. */
+bool store_is_over(const struct store *of) {
+    return fcntl(of->memory, F_ADD_SEALS, F_SEAL_WRITE) == 0;
+}
+
+void store_leave(struct store *of) {
+    if (of->view) munmap((void *)of->view, shared_bytes(of->slots));
+    if (of->memory >= 0) close(of->memory);
+    close(of->file);
+    free(of->written);
+    free(of->found);
+}
+
+/* Removes the file, unless another recording has made one of this name meanwhile. */
+static void remove_file(const struct store *of) {
+    struct stat own, found;
+    bool is_there = fstat(of->file, &own) == 0 && lstat(of->path, &found) == 0;
+    if (is_there && own.st_dev == found.st_dev && own.st_ino == found.st_ino) unlink(of->path);
+}
+
+void store_end(struct store *ended) {
+    collect_chunks(ended, NULL, true);
+    write_header(ended);
+    if (atomic_load(&ended->view->is_unused)) remove_file(ended);
+    store_leave(ended);
+}
+
+void store_remove(struct store *removed) {
+    remove_file(removed);
+    store_leave(removed);
+}

@@ -1,0 +1,57 @@
+/* A log that is being written: the program's memory, and the file that the chunks go to. */
+#ifndef STORE_H
+#define STORE_H
+
+#include "../library/shared.h"
+
+#include <limits.h>
+
+/* A chunk that is to be written. */
+struct found {
+    uint64_t place, slot;
+    bool is_done;
+};
+
+struct store {
+    struct store *next;
+    int file, memory;          /* descriptors; the memory's is -1 before it is made */
+    const struct shared *view; /* of the memory, for reading */
+    uint64_t bytes;            /* that the chunks in the file may take, with the header */
+    uint64_t chunks, slots;    /* for how many the file and the memory have room */
+    uint64_t saved;            /* bytes of the chunks that are done, and that weren't written */
+    uint64_t locked;           /* how many slots are locked in memory */
+    uint16_t *written;         /* of each slot: how many records are in the file, with the head */
+    struct found *found;       /* room for one of each slot */
+    uint64_t lost, first_lost; /* records that the file couldn't take; their lowest number, or 0 */
+    bool is_mapped;            /* the program has the memory */
+    unsigned char header[HEADER_BYTES]; /* as the file has it */
+    char path[PATH_MAX];
+};
+
+/* Makes the file NAME of a recording's first program, where `process` is 0. A later one has
+ * NAME.PID, and NAME.PID.2 and so on where a process becomes another program. Returns NULL, or
+ * why it can't. */
+const char *store_make_file(struct store *made, const char *name, uint32_t process,
+                            uint64_t bytes);
+
+/* Makes the memory. Returns false with errno set. */
+bool store_make_memory(struct store *made);
+
+/* Writes the chunks that are done, and gives their slots back; and, if it is wanted, the
+ * records of those that aren't done. Returns whether it wrote a chunk. */
+bool store_collect(struct store *of, bool is_with_begun);
+
+/* Returns whether no process has the memory any more. */
+bool store_is_over(const struct store *of);
+
+/* Writes what is left, and closes all. The file is removed if the program says that it is
+ * unused. */
+void store_end(struct store *ended);
+
+/* Closes all, in a process that collects nothing. */
+void store_leave(struct store *of);
+
+/* Closes all, and removes the file. */
+void store_remove(struct store *removed);
+
+#endif

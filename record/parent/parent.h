@@ -1,0 +1,23 @@
+/* Runs a program as a child that is recorded: pim-record waits for it, passes signals on, stops
+ * and goes on with it, and ends as it ends. */
+#ifndef PARENT_H
+#define PARENT_H
+
+#include <stdint.h>
+
+struct wanted {
+    const char *log;       /* the log's file, or NULL where no log is made */
+    uint64_t bytes;        /* of the log */
+    const char *kernel;    /* the file of the kernel's events, or NULL where none are recorded */
+    const char *kilobytes; /* for events of each CPU */
+};
+
+/* Forks. Returns in the child, in which the program is to be executed, with the name of the
+ * socket where programs get their logs, or NULL without a log. The parent never returns. Where
+ * it can't be recorded, ends the process with a line that says so. */
+const char *run_recorded(const struct wanted *wanted);
+
+/* Says, in the child, that it couldn't execute the program: what was made is removed. */
+void withdraw_recording(void);
+
+#endif

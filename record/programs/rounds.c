@@ -1,0 +1,61 @@
+/* rounds pairs COUNT: for each line of standard input, a thread locks and unlocks a mutex COUNT
+ * times, and prints how many page faults it had in that. rounds threads COUNT: for each line,
+ * COUNT threads lock and unlock the mutex once, one by one. */
+#define _GNU_SOURCE
+#include "common.h"
+
+#include <sys/resource.h>
+
+static pthread_mutex_t mutex = PTHREAD_MUTEX_INITIALIZER;
+static long count;
+
+static bool reads_line(void) {
+    int read = getchar();
+    while (read != '\n' && read != EOF) read = getchar();
+    return read == '\n';
+}
+
+static void make_pairs(long pairs) {
+    for (long i = 0; i < pairs; i++) {
+        lock(&mutex);
+        unlock(&mutex);
+    }
+}
+
+static long page_faults(void) {
+    struct rusage used;
+    getrusage(RUSAGE_THREAD, &used);
+    return used.ru_minflt + used.ru_majflt;
+}
+
+static void *in_rounds(void *unused) {
+    make_pairs(1);
+    page_faults();
+    while (reads_line()) {
+        long before = page_faults();
+        make_pairs(count);
+        long after = page_faults();
+        printf("%ld\n", after - before);
+        fflush(stdout);
+    }
+    return unused;
+}
+
+static void *once(void *unused) {
+    make_pairs(1);
+    return unused;
+}
+
+int main(int number, char **arguments) {
+    if (number != 3 || (count = atol(arguments[2])) < 1) return 2;
+    if (strcmp(arguments[1], "pairs") == 0) {
+        join(start(in_rounds, NULL));
+        return 0;
+    }
+    while (reads_line()) {
+        for (long i = 0; i < count; i++) join(start(once, NULL));
+        puts("done");
+        fflush(stdout);
+    }
+    return 0;
+}

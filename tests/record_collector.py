@@ -1,0 +1,402 @@
+"""What tests/record does with the collector: the process of a recording that writes the logs to their files."""
+import os
+import pathlib
+import shutil
+import signal
+import subprocess
+
+from checks import ROOT, SECONDS, check, children_of, difference, ended, is_gone, proc_text, skip, until
+
+RECORD = ROOT / "record"
+PROGRAMS = RECORD / "out/programs"
+CHUNK_RECORDS, CHUNK_BYTES, MEGABYTE = 511, 16384, 1 << 20
+SLOTS_BYTES = 256 * CHUNK_BYTES + 5 * 4096  # MANY_SLOTS of record/library/shared.h, and what isn't a slot
+OTHER_USER = 65534
+
+
+def run(*command, **how):
+    how = {"capture_output": True, "text": True, "timeout": SECONDS, **how}
+    return subprocess.run([str(word) for word in command], **how)
+
+
+class Running:
+    """A recording that goes on, with the program's streams."""
+
+    def __init__(self, folder, *command, options=(), **how):
+        self.path = pathlib.Path(folder, "run")
+        words = [RECORD / "pim-record", "-o", self.path, *options, *command]
+        pipe = subprocess.PIPE
+        how = {"stdin": pipe, "stdout": pipe, "stderr": pipe, "text": True, **how}
+        self.child = subprocess.Popen([str(word) for word in words], **how)
+
+    def helper(self, name):
+        """Returns the process of this name that pim-record has started."""
+        found = lambda: [it for it in children_of(self.child.pid) if proc_text(it, "comm") == f"{name}\n"]
+        until(lambda: found() or self.child.poll() is not None)
+        return found()[0]
+
+    def says(self, line):
+        """Gives the program a line, and returns the next one that it prints."""
+        self.child.stdin.write(f"{line}\n")
+        self.child.stdin.flush()
+        return self.child.stdout.readline().strip()
+
+    def end(self):
+        """Ends the program's input, and returns the status and what is left of the streams."""
+        out, err = self.child.communicate(timeout=SECONDS)
+        return self.child.returncode, out, err
+
+
+def number_in(path, at):
+    """Returns a number of the header of a log."""
+    with open(path, "rb") as file:
+        return int.from_bytes(file.read(256)[at:at + 8], "little")
+
+
+def next_number(path):
+    return number_in(path, 128)
+
+
+def memory_of(process):
+    """Returns how much of the recorder's memory is in the process's tables, in bytes."""
+    lines = iter(proc_text(process, "smaps").splitlines())
+    total = 0
+    for line in lines:
+        if "memfd:pim-record" in line:
+            total += next(1024 * int(it.split()[1]) for it in lines if it.startswith("Rss:"))
+    return total
+
+
+def locked_by(process):
+    """Returns how much of its memory a process has locked, in bytes."""
+    line, = [it for it in proc_text(process, "status").splitlines() if it.startswith("VmLck:")]
+    return 1024 * int(line.split()[1])
+
+
+def read(reader, path):
+    return reader.Log(reader.used_bytes(path))
+
+
+def has_pairs(reader, broken, path):
+    """Returns whether a log that is still written to is whole by now, and has the end of a program with calls."""
+    try:
+        log = read(reader, path)
+    except reader.NotALog:
+        return False
+    return not broken(log) and counted(reader, log, reader.END) > 0 and counted(reader, log, reader.GRANTED) > 0
+
+
+def counted(reader, log, event):
+    return sum(record.event == event for record in log.records)
+
+
+# ---- the memory
+
+def rounds(reader, broken, folder):
+    """Slots are used again and again. The program touches no page, and has all of its records in the file."""
+    pairs, times = CHUNK_RECORDS * 50, 4  # 100 chunks in a round, of 256 slots
+    running = Running(folder, PROGRAMS / "rounds", "pairs", pairs)
+    faults = []
+    for number in range(times):
+        faults.append(running.says("go"))
+        wanted = 2 * pairs * (number + 1)
+        until(lambda: next_number(running.path) > wanted)
+        if number == 0:
+            program, = [it for it in children_of(running.child.pid) if proc_text(it, "comm") == "rounds\n"]
+    held, locked = memory_of(program), locked_by(running.helper("pim-collector"))
+    check("the memory of a log is that of its slots", None if 0 < held <= SLOTS_BYTES else f"{held} bytes")
+    if os.geteuid():
+        skip("its memory is locked", "another user has a limit")
+    else:
+        check("its memory is locked", None if locked >= SLOTS_BYTES - 4096 else f"{locked} bytes")
+    check("no call of a recorded program touches a page first", difference(faults, ["0"] * times))
+    status, _, said = running.end()
+    check("its status, and that nothing is said", difference((status, said), (0, "")))
+    log = read(reader, running.path)
+    check("a log whose slots were used again is whole", broken(log))
+    got = counted(reader, log, reader.GRANTED), log.head.lost, log.raw[-1].number
+    check("it has each call", difference(got, (1 + pairs * times, 0, len(log.raw))))
+
+
+def flood(reader, broken, folder):
+    """A program that puts records faster than they are written loses none, and waits for nobody."""
+    done = run(RECORD / "pim-record", "-o", f"{folder}/run", PROGRAMS / "pair", "30000", "2")
+    log = read(reader, f"{folder}/run")
+    got = done.returncode, counted(reader, log, reader.GRANTED), log.head.lost
+    check("a flood of records", broken(log) or difference(got, (0, 2 * 2 * 30000, 0)))
+
+
+def held_up(reader, broken, folder):
+    """While the collector is stopped the program goes on in more memory, and nothing is lost."""
+    pairs, times = CHUNK_RECORDS * 40, 4  # 320 chunks, of 256 slots
+    running = Running(folder, PROGRAMS / "rounds", "pairs", pairs)
+    running.says("go")  # it has its memory
+    collector = running.helper("pim-collector")
+    os.kill(collector, signal.SIGSTOP)
+    faults = [int(running.says("go")) for _ in range(times)]
+    os.kill(collector, signal.SIGCONT)
+    running.end()
+    check("a program whose collector is held up touches what it takes", None if faults[-1] > 0 else f"{faults}")
+    log = read(reader, running.path)
+    got = counted(reader, log, reader.GRANTED), log.head.lost
+    check("its log has each call", broken(log) or difference(got, (1 + pairs * (1 + times), 0)))
+
+
+def short_threads(reader, broken, folder):
+    """A short thread takes a block of the disk, and no room of more."""
+    running = Running(folder, PROGRAMS / "rounds", "threads", "100", options=["--size", "4"])
+    for number in range(6):
+        running.says("go")
+        until(lambda: next_number(running.path) > 800 * (number + 1))  # eight records of each thread
+    status = running.end()[0]
+    log, data = read(reader, running.path), running.path.stat()
+    taken = number_in(running.path, 192)
+    check("600 short threads in a log that has room for 255 chunks", broken(log) or difference(
+        (status, counted(reader, log, reader.EXIT), log.head.lost, taken >= 601), (0, 600, 0, True)))
+    wanted = 4096 + taken * 4096 + MEGABYTE // 4
+    check("each takes a block of the disk", None if data.st_blocks * 512 <= wanted else f"{data.st_blocks} blocks")
+    check("the file is as long as the chunks for which it has room",
+          difference((data.st_size,), (4096 + log.head.chunks * CHUNK_BYTES,)))
+
+
+LOCKS_MEMORY = """\
+#include <pthread.h>
+#include <stdio.h>
+#include <string.h>
+#include <sys/mman.h>
+static void *work(void *unused) { return unused; }
+int main(void) {
+    char line[256];
+    pthread_t thread;
+    if (mlockall(MCL_CURRENT | MCL_FUTURE)) return 77;
+    pthread_create(&thread, 0, work, 0);
+    pthread_join(thread, 0);
+    FILE *status = fopen("/proc/self/status", "r");
+    while (fgets(line, sizeof line, status))
+        if (strncmp(line, "VmLck:", 6) == 0) fputs(line + 6, stdout);
+    return 0;
+}
+"""
+
+
+def locked_memory(folder):
+    """A program that locks its memory locks as much of the recorder's as is mapped at a time."""
+    path = pathlib.Path(folder, "locks")
+    pathlib.Path(folder, "locks.c").write_text(LOCKS_MEMORY)
+    built = run("cc", "-pthread", f"{path}.c", "-o", path)
+    plain = run(path)
+    if built.returncode or plain.returncode:
+        return skip("a program that locks its memory", "it isn't permitted")
+    done = run(RECORD / "pim-record", "-o", f"{folder}/run", path)
+    more = 1024 * (int(done.stdout.split()[0]) - int(plain.stdout.split()[0])) if done.stdout else None
+    fits = more is not None and SLOTS_BYTES - 4096 <= more < SLOTS_BYTES + MEGABYTE // 2
+    return check("a program that locks its memory", None if fits else f"{more} bytes more, {done.returncode}")
+
+
+LOCKS_LATE = """\
+#include <pthread.h>
+static pthread_mutex_t mutex = PTHREAD_MUTEX_INITIALIZER;
+static pthread_key_t key;
+static void destroy(void *value) {
+    pthread_mutex_lock(&mutex);
+    pthread_mutex_unlock(&mutex);
+    pthread_setspecific(key, value);
+}
+static void *work(void *unused) {
+    pthread_mutex_lock(&mutex);
+    pthread_mutex_unlock(&mutex);
+    pthread_setspecific(key, &key);
+    return unused;
+}
+int main(void) {
+    pthread_t thread;
+    pthread_mutex_lock(&mutex);
+    pthread_key_create(&key, destroy);
+    pthread_mutex_unlock(&mutex);
+    for (int i = 0; i < 2; i++) {
+        pthread_create(&thread, 0, work, 0);
+        pthread_join(thread, 0);
+    }
+    return 0;
+}
+"""
+
+
+def late(reader, broken, folder):
+    """Records behind a thread's EXIT are in another chunk of the thread."""
+    path = pathlib.Path(folder, "late")
+    pathlib.Path(folder, "late.c").write_text(LOCKS_LATE)
+    built = run("cc", "-pthread", f"{path}.c", "-o", path)
+    done = run(RECORD / "pim-record", "-o", f"{folder}/run", path)
+    log = read(reader, f"{folder}/run")
+    own = [r for r in log.records if r.chunk.thread == 2]
+    got = built.returncode, done.returncode, [(reader.NAMES[r.event], r.chunk.index) for r in own[-3:]]
+    wanted = 0, 0, [("exit", 0), ("granted", 1), ("release", 1)]
+    check("what a thread locks behind its EXIT", broken(log) or difference(got, wanted))
+
+
+# ---- the process
+
+def priorities(folder):
+    """No process of the recorder has a real-time priority, whatever the program's is."""
+    fifo = lambda: os.sched_setscheduler(0, os.SCHED_FIFO, os.sched_param(5))
+    try:
+        running = Running(folder, PROGRAMS / "keys", preexec_fn=fifo)
+    except subprocess.SubprocessError:
+        return skip("the priorities of a recording", "SCHED_FIFO isn't permitted")
+    program = int(running.child.stdout.readline().split()[1][:-1])
+    processes = (program, running.child.pid, running.helper("pim-collector"))
+    policies = [os.sched_getscheduler(process) for process in processes]
+    running.child.terminate()
+    running.end()
+    return check("the recorder and its collector have no real-time priority",
+                 difference(policies, [os.SCHED_FIFO, os.SCHED_OTHER, os.SCHED_OTHER]))
+
+
+def killed_collector(folder):
+    """A program whose collector is killed runs on, and the last line says what is missing."""
+    running = Running(folder, PROGRAMS / "rounds", "pairs", "1000")
+    said = [running.says("go")]
+    os.kill(running.helper("pim-collector"), signal.SIGKILL)
+    said += [running.says("go"), *running.end()[::2]]
+    wanted = ["0", "0", 0, f"pim-record: {running.path} isn't whole: what writes it was killed\n"]
+    check("a collector that is killed", difference(said, wanted))
+
+
+def killed_recorder(reader, broken, folder):
+    """Where pim-record is killed, or all of its group, the program ends, and the collector writes all that was put."""
+    for name, kill in (("recorder", os.kill), ("group", os.killpg)):
+        running = Running(folder, PROGRAMS / "rounds", "pairs", "1000", start_new_session=True)
+        running.says("go")
+        collector, program = running.helper("pim-collector"), running.helper("rounds")
+        kill(running.child.pid, signal.SIGKILL)
+        gone = until(lambda: is_gone(program)) and until(lambda: is_gone(collector))
+        check(f"a {name} that is killed leaves no process", None if gone else "the program goes on, or the collector")
+        running.end()
+        log = read(reader, running.path)
+        calls = counted(reader, log, reader.GRANTED)
+        check(f"the log of a killed {name} has each call", broken(log) or difference((calls,), (1001,)))
+
+
+def daemon(reader, broken, folder):
+    """What outlives pim-record is recorded on, and so is what it starts then."""
+    text = f"exec 3<&0; (read line <&3; {PROGRAMS}/pair 10; echo done >&2; read line <&3; exit 7) & echo there;" \
+           f" until [ -e {folder}/go ]; do sleep 0.02; done"
+    ours, its = os.pipe()
+    running = Running(folder, "sh", "-c", text, stderr=its)
+    os.close(its)
+    there = running.child.stdout.readline()
+    collector = running.helper("pim-collector")
+    files = [os.readlink(f"/proc/{collector}/fd/{name}") for name in os.listdir(f"/proc/{collector}/fd")]
+    check("a collector keeps no stream open", f"{files}" if any(it.startswith("pipe:") for it in files) else None)
+    pathlib.Path(folder, "go").touch()
+    status = ended(running.child)
+    running.child.stdin.write("go\n")
+    running.child.stdin.flush()
+    with os.fdopen(ours) as said:
+        line = said.readline()
+        started = until(lambda: [it for it in pathlib.Path(folder).glob("run.*") if has_pairs(reader, broken, it)])
+        goes_on = not is_gone(collector)
+        running.child.stdin.close()
+        rest = said.read()
+    gone = until(lambda: is_gone(collector))
+    running.child.stdout.close()
+    got = (there, status, line, rest, goes_on, bool(gone))
+    check("a daemon that outlives pim-record", difference(got, ("there\n", 0, "done\n", "", True, True)))
+    log = read(reader, started[0]) if started else None
+    calls = counted(reader, log, reader.GRANTED) if log else None
+    check("a program that it starts has its log", difference((len(started), calls), (1, 20)))
+    log = read(reader, running.path)
+    statuses = [r.value for r in log.records if r.event == reader.END and r.how]
+    check("its own last record is there", broken(log) or (None if 7 in statuses else f"{statuses}"))
+
+
+# ---- programs that get no log
+
+def other_users(folder):
+    """A program of another user runs unrecorded, and the last line says so."""
+    if os.geteuid() or not shutil.which("setpriv"):
+        return skip("a program of another user", "it takes root, and setpriv")
+    one = f"setpriv --reuid={OTHER_USER} --clear-groups echo it ran"
+    for name, text, wanted in (
+            ("a program of another user", one, "1 program that it started wasn't recorded: it ran as another user"),
+            ("two of them", f"{one}; {one}",
+             "2 programs that it started weren't recorded: they ran as another user")):
+        done = run(RECORD / "pim-record", "-o", f"{folder}/run", "sh", "-c", text)
+        times = text.count("it ran")
+        got = (done.returncode, done.stdout, done.stderr)
+        check(name, difference(got, (0, "it ran\n" * times, f"pim-record: {wanted}\n")))
+    return None
+
+
+def no_collector(folder):
+    """A library that reaches no collector records nothing, says so, and changes nothing else."""
+    library = {"LD_PRELOAD": f"{RECORD}/out/libpim_record.so"}
+    for name in ("pim-record-nobody", f"{folder}/direct", "n" * 200):
+        done = run(PROGRAMS / "pair", "10", env={**os.environ, **library, "PIM_RECORD": name})
+        lines = [line.split()[0] for line in done.stdout.splitlines()]
+        got = (done.returncode, lines, done.stderr.count("\n"), "isn't recorded" in done.stderr, os.listdir(folder))
+        check(f"a library without a collector: {name[:20]}", difference(got, (0, ["none", "inherit"], 1, True, [])))
+
+
+def no_file(folder):
+    """A program that is started, and whose file can't be made, runs unrecorded, and the last line says why."""
+    name, text = "n" * 254, f"{PROGRAMS}/pair 10 > /dev/null; echo it ran"
+    done = run(RECORD / "pim-record", "-o", f"{folder}/{name}", "sh", "-c", text)
+    wanted = "pim-record: 1 of the programs that it started got no log: File name too long\n"
+    check("a program whose log can't be made", difference((done.returncode, done.stdout, done.stderr),
+                                                          (0, "it ran\n", wanted)))
+
+
+def other_network(folder):
+    """A program in another network namespace doesn't reach the collector, runs unrecorded, and says so."""
+    if not shutil.which("unshare") or run("unshare", "--net", "true").returncode:
+        return skip("a program in another network namespace", "none can be made")
+    done = run(RECORD / "pim-record", "-o", f"{folder}/run", "unshare", "--net", PROGRAMS / "pair", "10")
+    lines = [line.split()[0] for line in done.stdout.splitlines()]
+    got = (done.returncode, lines, done.stderr.count("\n"), "isn't recorded" in done.stderr, os.listdir(folder))
+    return check("a program in another network namespace", difference(got, (0, ["none", "inherit"], 1, True, ["run"])))
+
+
+def other_root(reader, broken, folder):
+    """A program with another folder as its root has its log beside the others."""
+    if os.geteuid() or not shutil.which("chroot"):
+        return skip("a program with another root", "it takes root, and chroot")
+    root = pathlib.Path(folder, "root")
+    root.mkdir()
+    text = f"mount --bind / {root} && exec chroot {root} {PROGRAMS}/pair 10"
+    done = run("unshare", "--mount", RECORD / "pim-record", "-o", f"{folder}/run", "sh", "-c", text)
+    calls = [counted(reader, read(reader, path), reader.GRANTED) for path in pathlib.Path(folder).glob("run.*")]
+    return check("a program with another root", difference((done.returncode, done.stderr, 20 in calls), (0, "", True)))
+
+
+def not_executed(folder):
+    """A program that can't be executed after all leaves no log, and no process."""
+    busy = shutil.copy("/bin/true", f"{folder}/busy")
+    with open(busy, "r+b"):
+        done = run(RECORD / "pim-record", "-o", f"{folder}/run", busy)
+    got = (done.returncode, done.stdout, "Text file busy" in done.stderr, done.stderr.count("\n"), os.listdir(folder))
+    check("a program that can't be executed", difference(got, (126, "", True, 1, ["busy"])))
+
+
+def adopted(folder):
+    """A recording that has ended leaves no process, dead or alive, to the one that adopts orphans."""
+    text = "import ctypes, os, subprocess, sys\n" \
+           "ctypes.CDLL(None).prctl(36, 1)\n" \
+           "subprocess.run(sys.argv[1:], check=True)\n" \
+           "try: print(os.waitpid(-1, os.WNOHANG))\n" \
+           "except ChildProcessError: print('none')"
+    done = run("python3", "-c", text, RECORD / "pim-record", "-o", f"{folder}/run", PROGRAMS / "pair", "10")
+    last = done.stdout.splitlines()[-1:]
+    check("a recording leaves no process behind", difference((done.returncode, last, done.stderr), (0, ["none"], "")))
+
+
+def collector(attempt, reader, broken, folder):
+    """Each part in a folder of its own."""
+    of_logs = (rounds, flood, held_up, short_threads, late, killed_recorder, daemon, other_root)
+    others = (locked_memory, priorities, killed_collector, other_users, no_collector, no_file, other_network,
+              not_executed, adopted)
+    for part in (*of_logs, *others):
+        own = pathlib.Path(folder, part.__name__)
+        own.mkdir()
+        attempt(part, *((reader, broken) if part in of_logs else ()), str(own))
