@@ -1,0 +1,146 @@
+"""Logs of random programs, some of them damaged, and how one is written as a text of
+suite/recordings. The same seed gives the same log."""
+from random_program import BEGAN, FIRST_TASK, PROCESS, Program
+from record_logs import log_of, reader
+
+ALL_KNOWN, KINDS, OWNERS = 7, 1, 4  # what the recorder may know of mutexes
+VALUE, DETAIL = 3, 4        # the fields of a row that damages change
+
+
+# ---- damages: they change a list of rows, each with its time
+
+def drop(choose, records):
+    records[choose.randrange(len(records))] = None, 0
+
+
+def swap(choose, records):
+    """Two records of different threads have each other's numbers."""
+    at = choose.randrange(len(records) - 1)
+    (one, _), (other, _) = records[at:at + 2]
+    if one and other and one[0] != other[0]:
+        records[at:at + 2] = records[at + 1], records[at]
+
+
+def rename(choose, records):
+    """A REQUEST names another owner, or none."""
+    change(choose, records, reader.REQUEST, (0, FIRST_TASK, FIRST_TASK + 1))
+
+
+def lengthen(choose, records):
+    """A call took another time, or longer than a record can say."""
+    change(choose, records, reader.GRANTED, (reader.SATURATED, 0, 50, 5000))
+
+
+def change(choose, records, event, values):
+    """The value of a record of this event is another."""
+    places = [at for at, (row, _) in enumerate(records) if row and row[1] == event]
+    if places:
+        at = choose.choice(places)
+        row, time = records[at]
+        records[at] = (*row[:VALUE], choose.choice(values), *row[VALUE + 1:]), time
+
+
+DAMAGES = (drop, drop, swap, swap, rename, lengthen)
+
+
+def without_kinds(choose, records, header):
+    """The recorder knew no kinds of mutexes: only INIT and CEILING have one."""
+    header["known"] &= ~KINDS
+    for at, (row, time) in enumerate(records):
+        if row[1] in (reader.REQUEST, reader.GRANTED, reader.RELEASE):
+            records[at] = (*row[:DETAIL], 0, *row[DETAIL + 1:]), time
+
+
+def full(choose, records, header):
+    """The log had no room for a record: that one and those behind it don't count."""
+    header["first"], header["lost"] = choose.randint(1, len(records)), 1
+
+
+VARIANTS = (without_kinds, full)
+
+
+class RandomLog:
+    """The log of the random program with a seed."""
+
+    def __init__(self, seed):
+        program = Program(seed)
+        program.run()
+        choose, self.records, self.threads = program.choose, program.records, program.threads
+        self.header = {"known": ALL_KNOWN if program.names_owners else ALL_KNOWN & ~OWNERS}
+        if self.records and choose.random() < 0.1:
+            choose.choice(VARIANTS)(choose, self.records, self.header)
+        self.is_damaged = len(self.records) > 1 and choose.random() < 0.3
+        for _ in range(choose.randint(1, 4) if self.is_damaged else 0):
+            choose.choice(DAMAGES)(choose, self.records)
+
+    def data(self, records=None):
+        """Returns the log's bytes; or those of some of the records that count, as a whole log."""
+        header = dict(self.header)
+        if records is None:
+            records = self.records
+        else:
+            header.update(lost=0, first=0)
+        rows, times = [row for row, _ in records], [time for _, time in records]
+        tasks = {thread.number: thread.task for thread in self.threads}
+        processes = {thread.number: thread.process for thread in self.threads}
+        return bytes(log_of(rows, len(self.threads), times, tasks, processes, process=PROCESS,
+                            **header))
+
+    def that_count(self):
+        """Returns the records that count, with their times."""
+        end = self.header.get("first") or len(self.records) + 1
+        return [record for record in self.records[:end - 1] if record[0]]
+
+
+# ---- as a text, in which thread 1 is task 701 of process 700, and the log begins at 0
+
+TEXT_TASK = 701
+WORDS = {event: name.upper().replace("-", "_") for event, name in reader.NAMES.items()}
+TYPES = ("", "recursive", "errorcheck", "adaptive")
+
+
+def text_of(log, records):
+    """Returns records as a text. It has no processes: the threads of a child are named."""
+    lines = []
+    for thread in log.threads:
+        if thread.task != FIRST_TASK + thread.number - 1:
+            lines.append(f"task {thread.number} {text_task(thread.task)}")
+        if thread.process != PROCESS:
+            lines.append(f"# Thread {thread.number} is of another process.")
+    for row, time in records:
+        lines.append(f"@{time - BEGAN} {words_of(row)}" if row else "# A number without a record.")
+    return "".join(f"{line}\n" for line in lines)
+
+
+def text_task(task):
+    return task - FIRST_TASK + TEXT_TASK if task else 0
+
+
+def words_of(row):
+    """Returns the words of a record."""
+    thread, event, target, value, detail, how = row
+    words = [str(thread), WORDS[event], f"{target:#x}" if target else ""]
+    if event in reader.WITH_DETAIL and detail:
+        words += words_of_mutex(detail)
+    if event in reader.WITH_PRIORITY:
+        policy = reader.POLICIES[detail & 15]
+        words.append(f"{policy} {detail >> 8}" if policy in ("fifo", "kept") else policy)
+    if event in (reader.GRANTED, reader.FAILED):
+        words.append(f"took {value}")
+    elif event == reader.REQUEST:
+        words.append(f"owner {text_task(value)}")
+    elif event == reader.PRIORITY and value:
+        words.append(f"value {text_task(value)}")
+    if event in reader.WITH_CALL:
+        words.append(reader.CALLS[how & ~reader.OWNER_DIED])
+        words.append("died" if how & reader.OWNER_DIED else "")
+    elif event in reader.WITH_ERROR:
+        words.append(f"error {how}")
+    return " ".join(filter(None, words))
+
+
+def words_of_mutex(detail):
+    protocol = reader.PROTOCOLS[detail & reader.PROTOCOL]
+    return [f"protect {detail >> 8}" if protocol == "protect" else protocol,
+            TYPES[detail & reader.TYPE], "robust" if detail & reader.ROBUST else "",
+            "shared" if detail & reader.SHARED else ""]
