@@ -66,6 +66,16 @@ def run(command, text, seconds):
     return child.returncode, out, err.strip()
 
 
+def own_pim():
+    """Returns the repository's program, which its launcher builds if it must, or that of a release."""
+    root = HERE.parent
+    if not (root / "crates").is_dir():
+        return str(root / "pim")
+    if subprocess.run([root / "pim", "check"], input=b"pim 1\n", stdout=subprocess.DEVNULL).returncode:
+        raise Fault("pim can't be built; say where it is by --pim")
+    return str(root / "crates/pim/out/pim")
+
+
 def reported(pim, text):
     """Returns what pim reports of each step."""
     status, out, err = run([pim], text.bare(), 60)
@@ -121,10 +131,18 @@ def kernel_of(system):
     return f"{found[1].lower()}-{found[2]}" if found else "unknown"
 
 
-def expected(path, system):
-    """Returns what is said to differ there: the cause, and the lines of the file NAME.KERNEL, if there is one."""
-    file = path.with_suffix(f".{kernel_of(system)}")
-    if not file.exists():
+def kernels_of(system):
+    """Returns the names of a kernel, the narrowest first: 'linux-6.12-rt', 'linux-6.12'."""
+    release = system.partition(",")[0]
+    narrow = [f"{kernel_of(system)}-rt"] if re.search(r"\brt\b", release) else []
+    return [*narrow, kernel_of(system)]
+
+
+def expected(path, kernels):
+    """Returns what is said to differ there: the cause, and the lines of the first file NAME.KERNEL that there is."""
+    files = [path.with_suffix(f".{kernel}") for kernel in kernels]
+    file = next((it for it in files if it.exists()), None)
+    if not file:
         return "", []
     lines = file.read_text().splitlines()
     cause = " ".join(line[1:].strip() for line in lines if line.startswith("#"))

@@ -74,6 +74,9 @@ def lines_read():
     names = {"Linux 6.18.44-arch1, glibc 2.36, CPU 3": "linux-6.18", "Linux 7.0": "linux-7.0", "": "unknown",
              "on Linux 6.18": "unknown"}
     same("the kernels of first lines", {name: compare.kernel_of(name) for name in names}, names)
+    lines = {"Linux 6.12.117+deb12-rt-amd64, glibc 2.36, CPU 1": ["linux-6.12-rt", "linux-6.12"],
+             "Linux 6.1.192-rt": ["linux-6.1-rt", "linux-6.1"], "Linux 6.1.0-rta, glibc 2.36-rt": ["linux-6.1"]}
+    same("the narrower kernels of first lines", {name: compare.kernels_of(name) for name in lines}, lines)
 
 
 def commands(folder):
@@ -125,8 +128,12 @@ def causes_beside(folder):
     """The file beside a text: its cause, of several lines, and its differences."""
     path = folder / "a.pim"
     (folder / "a.linux-9.1").write_text("# kernel: one\n#two\nstep 1\n\nstep 2\n")
-    same("a file beside a text", compare.expected(path, "Linux 9.1.2"), "kernel: one two", ["step 1", "step 2"])
-    same("no file beside a text", compare.expected(path, "Linux 9.2.1"), "", [])
+    (folder / "a.linux-9.3-rt").write_text("# kernel: three\n")
+    both = "kernel: one two", ["step 1", "step 2"]
+    same("a file beside a text", compare.expected(path, ["linux-9.1"]), *both)
+    same("no file beside a text", compare.expected(path, ["linux-9.2"]), "", [])
+    same("the file of a narrower kernel", compare.expected(path, ["linux-9.3-rt", "linux-9.1"]), "kernel: three", [])
+    same("no file of a narrower kernel", compare.expected(path, ["linux-9.1-rt", "linux-9.1"]), *both)
 
 
 # ---- fuzz.py
@@ -307,11 +314,11 @@ def walks():
 
 # ---- pim-conform
 
-def script_module():
-    """Returns pim-conform as a module."""
+def script_module(name="pim-conform"):
+    """Returns a script of conform/ as a module."""
     sys.dont_write_bytecode = True
-    loader = importlib.machinery.SourceFileLoader("pim_conform", str(ROOT / "conform/pim-conform"))
-    made = importlib.util.module_from_spec(importlib.util.spec_from_loader("pim_conform", loader))
+    loader = importlib.machinery.SourceFileLoader(name.replace("-", "_"), str(ROOT / "conform" / name))
+    made = importlib.util.module_from_spec(importlib.util.spec_from_loader(loader.name, loader))
     loader.exec_module(made)
     return made
 
@@ -319,11 +326,11 @@ def script_module():
 def parsed_as(module, *words):
     """Returns the options as they are parsed, or the status and the last line of what is said."""
     said = io.StringIO()
-    with changed(sys, argv=["pim-conform", *words]), contextlib.redirect_stderr(said):
+    with changed(sys, argv=["script", *words]), contextlib.redirect_stderr(said):
         try:
             return vars(module.parsed())
         except SystemExit as fault:
-            return fault.code, said.getvalue().splitlines()[-1].removeprefix("pim-conform: error: ")
+            return fault.code, said.getvalue().splitlines()[-1].partition(": error: ")[2]
 
 
 def options():
@@ -349,10 +356,12 @@ def programs(folder):
     """The program pim and the performer are built if they aren't there."""
     module = script_module()
     script(folder, "pim", "test $1$(cat | sed 's/^pim 1$//') = check")
-    with changed(module, ROOT=folder):
-        same("the repository's own pim", module.own_pim(), f"{folder}/crates/pim/out/pim")
+    with changed(compare, HERE=folder / "conform"):
+        same("the pim of a release, which has no crates", compare.own_pim(), f"{folder}/pim")
+        (folder / "crates").mkdir()
+        same("the repository's own pim", compare.own_pim(), f"{folder}/crates/pim/out/pim")
         script(folder, "pim", "exit 1")
-        same("a pim that can't be built", fault_of(module.own_pim), "pim can't be built; say where it is by --pim", 2)
+        same("a pim that can't be built", fault_of(compare.own_pim), "pim can't be built; say where it is by --pim", 2)
     (folder / "Makefile").write_text("all:\n\t@echo no compiler >&2; false\n")
     with changed(compare, HERE=folder):
         message, status = fault_of(module.build)
@@ -364,17 +373,18 @@ def rights_first(folder):
     """Without the rights pim isn't built, and with them after the performer."""
     module, done = script_module(), []
     given = types.SimpleNamespace(stored=None, keep=None, fuzz=1, pim=None, texts=[], cpu=3, seconds=9)
-    owns = {"build": lambda: done.append("performer"), "own_pim": lambda: done.append("pim") or "p"}
+    build, own_pim = lambda: done.append("performer"), lambda: done.append("pim") or "p"
 
     def performed(text, cpu, seconds):
         done.append((text.bare(), cpu, seconds))
 
     def refused(*_):
         raise compare.Fault("no rights", 77)
-    with changed(module, **owns), changed(compare, performed=refused):
+    with changed(module, build=build), changed(compare, performed=refused, own_pim=own_pim):
         same("without the rights no pim is built", (fault_of(module.perform_all, given), done),
              ("no rights", 77), ["performer"])
-    with changed(module, **owns), changed(compare, performed=performed), changed(fuzz, main=lambda *_: 0):
+    with changed(module, build=build), changed(compare, performed=performed, own_pim=own_pim), \
+            changed(fuzz, main=lambda *_: 0):
         module.perform_all(given)
     same("the rights are tried before pim is built", (done[1:],), ["performer", ("pim 1\n", 3, 9), "pim"])
 

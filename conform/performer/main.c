@@ -20,7 +20,7 @@
 #include <sys/utsname.h>
 #include <unistd.h>
 
-enum { CONTROLLER_PRIORITY = 99, SHORT_NAPS = 20, SHORT_NAP = 20000, LONG_NAP = 200000 };
+enum { CONTROLLER_PRIORITY = 99, SHORT_NAPS = 20, SHORT_NAP = 20000, LONG_NAP = 200000 }; /* ns */
 enum { REPLY_BYTES = 64, OUTPUT_BYTES = 1 << 16 };
 
 static int notes = STDERR_FILENO;
@@ -45,17 +45,47 @@ static long sleeps_of_controller(void) {
     return usage.ru_nvcsw;
 }
 
-/* Sleeps until every task's thread sleeps. Puts their priorities. If the controller slept while it
- * read, what it read may be of two moments, and it reads again. */
+/* Sleeps so many nanoseconds. Returns whether it did: a timer that runs out at once gives the CPU
+ * to no task. */
+static bool nap(long nanoseconds) {
+    struct timespec time = { .tv_nsec = nanoseconds };
+    long before = sleeps_of_controller();
+    clock_nanosleep(CLOCK_MONOTONIC, 0, &time, NULL);
+    return sleeps_of_controller() != before;
+}
+
+/* Reads the tasks' priorities and how often their threads have left the CPU. Returns whether every
+ * thread shows that it sleeps. If the controller slept while it read, what it read may be of two
+ * moments. */
+static bool look(int priority[], unsigned long *switches) {
+    long before = sleeps_of_controller();
+    *switches = 0;
+    for (int t = 1; t <= task_count; t++) {
+        if (task_read(&tasks[t], &priority[t]) != 'S') return false;
+        *switches += task_switches(&tasks[t]);
+    }
+    return sleeps_of_controller() == before;
+}
+
+/* Sleeps until every task's thread sleeps. Puts their priorities.
+ *
+ * A thread that shows state S isn't yet at rest: the kernel sets the state first, then looks once
+ * more for a reason to go on, and sleeps at last. If the controller's timer interrupts it in
+ * between, it shows S and still has the CPU to wait for. So each must show S twice in a row, the
+ * second time after a longer nap, and none may have left the CPU in between: for while the
+ * controller sleeps, a thread that can go on gets the CPU. */
 static void settle(int priority[]) {
-    for (int naps = 0;; naps++) {
-        struct timespec nap = { .tv_nsec = naps < SHORT_NAPS ? SHORT_NAP : LONG_NAP };
-        clock_nanosleep(CLOCK_MONOTONIC, 0, &nap, NULL);
-        long before = sleeps_of_controller();
-        bool all_sleep = true;
-        for (int t = 1; t <= task_count && all_sleep; t++)
-            all_sleep = task_read(&tasks[t], &priority[t]) == 'S';
-        if (all_sleep && sleeps_of_controller() == before) return;
+    unsigned long switches, before = 0;
+    for (int naps = 0, looks = 0; looks < 2; naps++) {
+        bool is_long = looks > 0 || naps >= SHORT_NAPS;
+        bool has_napped = nap(is_long ? LONG_NAP : SHORT_NAP);
+        if (!look(priority, &switches))
+            looks = 0;
+        else if (looks == 0 || switches != before)
+            looks = 1;
+        else if (has_napped)
+            looks = 2;
+        before = switches;
     }
 }
 

@@ -9,7 +9,7 @@
 #include <sys/syscall.h>
 #include <unistd.h>
 
-enum { STACK_BYTES = 256 * 1024, STAT_BYTES = 512, STATE_FIELD = 3, PRIORITY_FIELD = 18 };
+enum { STACK_BYTES = 256 * 1024, FILE_BYTES = 16384, STATE_FIELD = 3, PRIORITY_FIELD = 18 };
 
 struct task tasks[MAX_TASKS + 1];
 struct mutex mutexes[MAX_MUTEXES + 1];
@@ -129,19 +129,37 @@ void task_give(struct task *task, const struct step *step, bool is_timed) {
     syscall(SYS_futex, &task->turn, FUTEX_WAKE_PRIVATE, 1, NULL, NULL, 0);
 }
 
-char task_read(struct task *task, int *priority) {
-    char text[STAT_BYTES];
-    ssize_t size = pread(task->stat, text, sizeof text - 1, 0);
+_Noreturn static void unreadable(const struct task *task) {
+    stop(FAULT, "the kernel's line on task %d can't be read", task->number);
+}
+
+static void read_file(const struct task *task, int file, char text[FILE_BYTES]) {
+    ssize_t size = pread(file, text, FILE_BYTES - 1, 0);
     if (size <= 0) stop(FAULT, "the kernel says nothing of task %d", task->number);
     text[size] = '\0';
+}
+
+char task_read(struct task *task, int *priority) {
+    char text[FILE_BYTES];
+    read_file(task, task->stat, text);
     char *rest = strrchr(text, ')');
-    if (!rest) stop(FAULT, "the kernel's line on task %d can't be read", task->number);
+    if (!rest) unreadable(task);
     char state = *(rest += 2);
     for (int field = STATE_FIELD; field < PRIORITY_FIELD && rest; field++)
         if ((rest = strchr(rest, ' '))) rest++;
-    if (!rest) stop(FAULT, "the kernel's line on task %d can't be read", task->number);
+    if (!rest) unreadable(task);
     *priority = -1 - atoi(rest);
     return state;
+}
+
+unsigned long task_switches(struct task *task) {
+    static const char own[] = "\nvoluntary_ctxt_switches:";
+    static const char forced[] = "\nnonvoluntary_ctxt_switches:";
+    char text[FILE_BYTES];
+    read_file(task, task->status, text);
+    const char *one = strstr(text, own), *other = strstr(text, forced);
+    if (!one || !other) unreadable(task);
+    return strtoul(one + strlen(own), NULL, 10) + strtoul(other + strlen(forced), NULL, 10);
 }
 
 /* ---- the start ---- */
@@ -166,8 +184,15 @@ static void start_mutex(struct mutex *mutex) {
     must(pthread_mutex_init(&mutex->real, &attributes), "mutex");
 }
 
-static void start_thread(struct task *task, int base, const cpu_set_t *cpus) {
+static int opened(const struct task *task, const char *file) {
     char path[60];
+    snprintf(path, sizeof path, "/proc/self/task/%d/%s", atomic_load(&task->tid), file);
+    int number = open(path, O_RDONLY | O_CLOEXEC);
+    if (number < 0) stop(FAULT, "%s: %s", path, strerror(errno));
+    return number;
+}
+
+static void start_thread(struct task *task, int base, const cpu_set_t *cpus) {
     struct sched_param parameters = { .sched_priority = base };
     struct timespec nap = { .tv_nsec = 20000 };
     pthread_attr_t attributes;
@@ -179,9 +204,8 @@ static void start_thread(struct task *task, int base, const cpu_set_t *cpus) {
     must(pthread_attr_setaffinity_np(&attributes, sizeof *cpus, cpus), "CPU");
     must(pthread_create(&task->thread, &attributes, thread_main, task), "thread");
     while (atomic_load(&task->tid) == 0) nanosleep(&nap, NULL);
-    snprintf(path, sizeof path, "/proc/self/task/%d/stat", atomic_load(&task->tid));
-    task->stat = open(path, O_RDONLY | O_CLOEXEC);
-    if (task->stat < 0) stop(FAULT, "%s: %s", path, strerror(errno));
+    task->stat = opened(task, "stat");
+    task->status = opened(task, "status");
 }
 
 void tasks_start(const struct text *text, const cpu_set_t *cpus) {

@@ -31,8 +31,9 @@ struct task {
     struct timespec deadline; /* far away, until the lock is withdrawn */
     sigjmp_buf escape;
     volatile sig_atomic_t may_escape;
-    int stat;  /* the file /proc/self/task/TID/stat */
-    int shown; /* the priority that was printed last */
+    int stat;   /* the file /proc/self/task/TID/stat */
+    int status; /* and /proc/self/task/TID/status */
+    int shown;  /* the priority that was printed last */
 };
 
 extern struct task tasks[MAX_TASKS + 1];
@@ -52,6 +53,9 @@ void task_withdraw(struct task *task);
 
 /* Reads the state letter and the priority in force of the task's thread from the kernel. */
 char task_read(struct task *task, int *priority);
+
+/* Reads how often the task's thread has left the CPU, to sleep or for another. */
+unsigned long task_switches(struct task *task);
 
 /* Prints 'perform: ..' on the standard error that the program began with, and ends the program. */
 _Noreturn void stop(int status, const char *form, ...) __attribute__((format(printf, 2, 3)));
