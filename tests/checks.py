@@ -10,6 +10,10 @@ ROOT = pathlib.Path(__file__).resolve().parent.parent
 COUNTS = {"ok": 0, "FAIL": 0, "skip": 0}
 # What takes longer hangs, on the busiest machine. A check waits for what it needs.
 SECONDS = 300
+# What nohup or a shell's & starts ignores these signals. What a check starts must not.
+for number in signal.SIGHUP, signal.SIGINT, signal.SIGQUIT:
+    if signal.getsignal(number) == signal.SIG_IGN:
+        signal.signal(number, lambda *_: None)
 
 
 def check(name, why=None):
@@ -29,7 +33,9 @@ def say(kind, name, why):
 
 
 def difference(got, wanted):
-    """Says where two tuples of the same length first differ, or returns None where they don't."""
+    """Says where two tuples first differ, or returns None where they don't."""
+    if len(got) != len(wanted):
+        return f"{len(got)} values in place of {len(wanted)}: {short(got)} in place of {short(wanted)}"
     return next((f"{short(a)} in place of {short(b)}" for a, b in zip(got, wanted) if a != b), None)
 
 

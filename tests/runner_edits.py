@@ -38,6 +38,10 @@ FORMS = {
                  "place_of, ensures within"),
     "a_closure": (f"{GOAL}its ensures holds (`returns`)", "|other", "place_of, its closure ensures"),
     "a_type": (f"{GOAL}this struct's invariant holds (`x`)", "pub struct", "Queue, the type's invariant"),
+    "a_type_of_a_value": ("note: src/queue.rt:{}:9: `search` found no proof (`invariant_of-self-2`)", "pub fn remove",
+                          "Queue::remove, the type's invariant"),
+    "a_slice": ("src/queue.rt:{}:9: `search` found no proof (`slice_bounds-1`)", "pub fn front",
+                "Queue::front, the bounds of a slice"),
     "a_loop": (f"{GOAL}this holds (`loop-place-preserved`)", "pub fn contains",
                "Queue::contains, the loop's invariant place"),
     "a_call": (f"{GOAL}what `first` requires holds (`call`)", "pub fn front",
@@ -129,7 +133,9 @@ def names_clauses(outline):
     check("tests/edits names each clause", difference(edits(log, *crate), (0, wanted, 0)))
     not_refused = log.replace(REFUSED, "NOT REFUSED: ")
     check("tests/edits fails for edits that aren't refused", difference(edits(not_refused, *crate), (1, [], 1 + count)))
-    unknown = log.replace("it is not proved", "it is said").replace("Answers", "it is said")
+    unknown = log
+    for told in "it is not proved", "Answers", "found no proof":
+        unknown = unknown.replace(told, "it is said")
     check("tests/edits fails for refusals by no clause", difference(edits(unknown, *crate), (1, [], 1 + count)))
     first = log.partition("\n")[0] + "\n"
     check("tests/edits fails for edits that the log lacks", difference(edits(first, *crate), (1, wanted[:1], count)))
