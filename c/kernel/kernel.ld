@@ -1,4 +1,4 @@
-/* The image, all in RAM, which begins at 1 GB on qemu's machine virt. */
+/* The image, all in RAM. The board's board.mk has the load address. */
 ENTRY(_start)
 PHDRS
 {
@@ -8,7 +8,7 @@ PHDRS
 }
 SECTIONS
 {
-    . = 0x40080000;
+    . = load_address;
     .text : { *(.text.start) *(.text .text.*) } :code
     .rodata : { *(.rodata .rodata.*) } :constants
     . = ALIGN(16);

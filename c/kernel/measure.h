@@ -33,13 +33,13 @@ static inline void span_ends(struct span *span) { (void)span; }
 #endif
 
 static inline void interrupts_off(void) {
-    __asm__ volatile("msr daifset, #2" : : : "memory");
+    disable_interrupts();
     span_begins(&interrupts_are_off);
 }
 
 static inline void interrupts_on(void) {
     span_ends(&interrupts_are_off);
-    __asm__ volatile("msr daifclr, #2" : : : "memory");
+    enable_interrupts();
 }
 
 #endif

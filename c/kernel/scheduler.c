@@ -17,8 +17,6 @@ static uint64_t ready_bits[PRIORITIES / 64];
  * blocked. */
 static struct thread *earliest;
 
-void switch_to(struct thread *from, struct thread *to); /* in start.S */
-
 /* ---- the ready queues ---- */
 
 static void enqueue(struct thread *thread, bool is_first) {
@@ -252,11 +250,9 @@ _Noreturn void on_unexpected(uint64_t syndrome, uint64_t address, uint64_t data)
 
 /* ---- threads ---- */
 
-enum { PAINT = 0xa5, FRAME_WORDS = 12 }; /* a byte of an unused stack; what switch_to saves */
+enum { PAINT = 0xa5 }; /* a byte of an unused stack */
 
 static _Alignas(16) unsigned char stacks[MAX_THREADS + 2][STACK_BYTES];
-
-void thread_begin(void); /* in start.S: calls thread_main */
 
 void threads_reset(void) {
     kernel_enter();
