@@ -1,9 +1,11 @@
 /* A storm: 32 threads lock, time out, unlock and set priorities at random, while the tick
  * preempts them. Every few calls it is checked that each thread is scheduled at libpim's
  * priority, that the blocked ones are those that wait, and that the highest ready thread runs;
- * with each lock and unlock, that a mutex has one owner. A panic says what doesn't hold. */
+ * with each lock and unlock, that a mutex has one owner; before each sleep, that no register was
+ * lost. A panic says what doesn't hold. */
 #include "finishing.h"
 #include "mutexes.h"
+#include "registers.h"
 
 enum {
     THREADS = MAX_THREADS,
@@ -14,6 +16,7 @@ enum {
     LEAD = 10000,         /* us from the start of the threads to that of the storm */
     LONGEST_WAIT = 4000,  /* us */
     LONGEST_SLEEP = 3000, /* us */
+    ROUNDS = 100,         /* of sum_of_registers */
     HIGHEST_BASE = 60
 };
 
@@ -27,6 +30,7 @@ static struct actor {
 
 static uint16_t holder[MUTEXES + 1]; /* as the threads know it, 0: nobody */
 static uint64_t start, end;          /* in counts of the clock */
+static uint64_t right_sum;           /* of registers */
 
 /* Returns a number below the limit. */
 static uint32_t random_below(struct actor *actor, uint32_t limit) {
@@ -94,6 +98,11 @@ static void set_some_priority(struct actor *actor) {
     thread_set_priority(thread, (uint16_t)(1 + random_below(actor, HIGHEST_BASE)));
 }
 
+static void compute_and_sleep(struct actor *actor) {
+    if (sum_of_registers(ROUNDS) != right_sum) panic("a register is lost");
+    thread_sleep_until(clock_now() + clock_of_us(random_below(actor, LONGEST_SLEEP)));
+}
+
 static void make_storm(void *unused) {
     struct actor *actor = &actors[current->number];
     (void)unused;
@@ -106,7 +115,7 @@ static void make_storm(void *unused) {
         else if (dice < 12 && actor->count > 0) unlock_last(actor);
         else if (dice == 12) set_some_priority(actor);
         else if (dice == 13) unlock_all(actor);
-        else thread_sleep_until(clock_now() + clock_of_us(random_below(actor, LONGEST_SLEEP)));
+        else compute_and_sleep(actor);
     }
     unlock_all(actor);
     one_has_finished();
@@ -142,6 +151,7 @@ void program(void) {
     if (mutexes_start(bases, THREADS, protocols, MUTEXES) != PIM_MADE) panic("no manager");
     start = clock_now() + clock_of_us(LEAD);
     end = start + clock_of_us(LENGTH);
+    right_sum = sum_of_registers(ROUNDS);
     unfinished = THREADS;
     for (uint16_t t = 1; t <= THREADS; t++)
         thread_start(t, (uint8_t)bases[t - 1], make_storm, NULL);
