@@ -39,8 +39,11 @@ done
         s/ \"(probe-stack|stack-probe-size|target-cpu|target-features|frame-pointer)\"=\"[^\"]*\"//g
         s/^(define )(noundef )?i(8|16) @/\1\2zeroext i\3 @/; s/^(define )(noundef )?i32 @/\1\2signext i32 @/" > "$out/pim_c.ll"
 if grep -n 'llvm\.x86\|asm sideeffect' "$out/pim_c.ll"; then echo "c/riscv64.sh: x86-64 code is left" >&2; exit 1; fi
-"$clang" --target=$triple -march=rv64gc -mabi=lp64d --no-default-config -ffunction-sections -fdata-sections -O3 -fPIC \
-    -mllvm -no-trap-after-noreturn -mllvm -trap-unreachable -c -x ir "$out/pim_c.ll" -o "$out/pim_c.o"
+compile() {
+    "$clang" --target=$triple --no-default-config -ffunction-sections -fdata-sections -O3 -mllvm -no-trap-after-noreturn \
+        -mllvm -trap-unreachable -c -x ir "$out/pim_c.ll" "$@"
+}
+compile -march=rv64gc -mabi=lp64d -fPIC -o "$out/pim_c.o"
 
 libpim="$out/pim_c.o heap/malloc.c"
 $compiler demo.c $libpim -o "$out/demo"
@@ -54,4 +57,7 @@ for text in ../examples/*.pim; do
     cmp "$out/report" "${text%.pim}.report"
     count=$((count + 1))
 done
+
+# For a kernel whose threads have no floating-point registers.
+compile -march=rv64imac -mabi=lp64 -mcmodel=medany -fno-pic -o "$out/pim_c_lp64.o"
 echo "libpim on $triple: the demo, the threads and $count examples print what they should"
