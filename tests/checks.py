@@ -126,6 +126,27 @@ def threads_of(process):
         return set()
 
 
+ADOPTS = """\
+import ctypes, os, subprocess, sys
+ctypes.CDLL(None).prctl(36, 1)  # PR_SET_CHILD_SUBREAPER
+status = subprocess.run(sys.argv[1:]).returncode
+try:
+    print(os.waitpid(-1, os.WNOHANG))
+except ChildProcessError:
+    print("none")
+sys.exit(status)
+"""
+
+
+def orphan_of(*command):
+    """Runs a command under a process that adopts orphans.
+
+    Returns its status, the orphan that it left, dead or alive, or 'none', and its standard error.
+    """
+    status, out, err = answer([sys.executable, "-c", ADOPTS, *map(str, command)])
+    return status, out.decode().splitlines()[-1:], err.decode()
+
+
 def program():
     """Returns the path of the program to test: the script's first argument, or the repository's own."""
     return str(pathlib.Path(sys.argv[1]).resolve()) if len(sys.argv) > 1 else own_program()

@@ -5,7 +5,7 @@ import shutil
 import signal
 import subprocess
 
-from checks import ROOT, SECONDS, check, children_of, difference, ended, is_gone, proc_text, skip, until
+from checks import ROOT, SECONDS, check, children_of, difference, ended, is_gone, orphan_of, proc_text, skip, until
 
 RECORD = ROOT / "record"
 PROGRAMS = RECORD / "out/programs"
@@ -278,6 +278,59 @@ def killed_recorder(reader, broken, folder):
         check(f"the log of a killed {name} has each call", broken(log) or difference((calls,), (1001,)))
 
 
+NEVER_MAPPED = """\
+#define _GNU_SOURCE
+#include <dlfcn.h>
+#include <fcntl.h>
+#include <stdlib.h>
+#include <sys/socket.h>
+#include <unistd.h>
+ssize_t send(int to, const void *bytes, size_t length, int flags) {
+    if (length == 1 && *(const char *)bytes == 'm') {
+        open(getenv("SAYS_NOT_MAPPED"), O_CREAT | O_WRONLY, 0600);
+        for (;;) pause();
+    }
+    ssize_t (*real)(int, const void *, size_t, int) = dlsym(RTLD_NEXT, "send");
+    return real(to, bytes, length, flags);
+}
+"""
+
+# What pim-record reads a file's first bytes with. Here the collector goes on as it does so.
+READS_LATE = """\
+#!/bin/sh
+if [ -e {log} ]; then kill -CONT {collector}; fi
+while [ -e {log} ]; do sleep 0.02; done
+exec {dd} "$@"
+"""
+
+
+def removed_meanwhile(reader, broken, folder):
+    """The collector of a killed recording removes its unused log while the next recording looks at it."""
+    shim, path = pathlib.Path(folder, "shim.so"), pathlib.Path(folder, "bin")
+    pathlib.Path(folder, "shim.c").write_text(NEVER_MAPPED)
+    built = run("cc", "-shared", "-fPIC", pathlib.Path(folder, "shim.c"), "-o", shim)
+    waits = pathlib.Path(folder, "waits")
+    stays = {"LD_PRELOAD": str(shim), "SAYS_NOT_MAPPED": str(waits)}
+    running = Running(folder, PROGRAMS / "pair", "10", env={**os.environ, **stays})
+    until(waits.exists)
+    collector = running.helper("pim-collector")
+    os.kill(collector, signal.SIGSTOP)
+    running.child.kill()
+    running.end()
+    path.mkdir()
+    reads_late = pathlib.Path(path, "dd")
+    reads_late.write_text(READS_LATE.format(log=running.path, collector=collector, dd=shutil.which("dd")))
+    reads_late.chmod(0o755)
+    there = running.path.exists()
+    late = {"PATH": f"{path}:{os.environ['PATH']}"}
+    next_one = Running(folder, PROGRAMS / "pair", "10", env={**os.environ, **late})
+    status, _, said = next_one.end()
+    gone = until(lambda: is_gone(collector))
+    got = built.returncode, waits.exists(), there, status, said, bool(gone)
+    check("a log that is removed as the next recording looks at it", difference(got, (0, True, True, 0, "", True)))
+    check("that recording's log", broken(read(reader, next_one.path)))
+
+
 def daemon(reader, broken, folder):
     """What outlives pim-record is recorded on, and so is what it starts then."""
     text = f"exec 3<&0; (read line <&3; {PROGRAMS}/pair 10; echo done >&2; read line <&3; exit 7) & echo there;" \
@@ -381,19 +434,13 @@ def not_executed(folder):
 
 def adopted(folder):
     """A recording that has ended leaves no process, dead or alive, to the one that adopts orphans."""
-    text = "import ctypes, os, subprocess, sys\n" \
-           "ctypes.CDLL(None).prctl(36, 1)\n" \
-           "subprocess.run(sys.argv[1:], check=True)\n" \
-           "try: print(os.waitpid(-1, os.WNOHANG))\n" \
-           "except ChildProcessError: print('none')"
-    done = run("python3", "-c", text, RECORD / "pim-record", "-o", f"{folder}/run", PROGRAMS / "pair", "10")
-    last = done.stdout.splitlines()[-1:]
-    check("a recording leaves no process behind", difference((done.returncode, last, done.stderr), (0, ["none"], "")))
+    got = orphan_of(RECORD / "pim-record", "-o", f"{folder}/run", PROGRAMS / "pair", "10")
+    check("a recording leaves no process behind", difference(got, (0, ["none"], "")))
 
 
 def collector(attempt, reader, broken, folder):
     """Each part in a folder of its own."""
-    of_logs = (rounds, flood, held_up, short_threads, late, killed_recorder, daemon, other_root)
+    of_logs = (rounds, flood, held_up, short_threads, late, killed_recorder, removed_meanwhile, daemon, other_root)
     others = (locked_memory, priorities, killed_collector, other_users, no_collector, no_file, other_network,
               not_executed, adopted)
     for part in (*of_logs, *others):

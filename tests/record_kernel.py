@@ -11,7 +11,8 @@ import sys
 import tempfile
 import time
 
-from checks import ROOT, SECONDS, check, children_of, difference, ended, is_gone, proc_text, skip, stat_of, until
+from checks import (ROOT, SECONDS, check, children_of, difference, ended, is_gone, orphan_of, proc_text, skip, stat_of,
+                    until)
 
 RECORD = ROOT / "record"
 PROGRAMS = RECORD / "out/programs"
@@ -442,13 +443,8 @@ def streams(folder, tracefs):
 
 def adopted(folder):
     """A recording that has ended leaves no process, dead or alive, to the one that adopts orphans."""
-    text = "import ctypes, os, subprocess, sys\n" \
-           "ctypes.CDLL(None).prctl(36, 1)\n" \
-           "subprocess.run(sys.argv[1:], check=True)\n" \
-           "try: print(os.waitpid(-1, os.WNOHANG))\n" \
-           "except ChildProcessError: print('none')"
-    done = run(sys.executable, "-c", text, RECORD / "pim-record", "--kernel", "-o", f"{folder}/run", "true")
-    check("a recording leaves no process", difference((done.returncode, done.stdout, done.stderr), (0, "none\n", "")))
+    got = orphan_of(RECORD / "pim-record", "--kernel", "-o", f"{folder}/run", "true")
+    check("a recording leaves no process", difference(got, (0, ["none"], "")))
 
 
 def settings(folder, tracefs):
