@@ -401,14 +401,60 @@ def no_file(folder):
                                                           (0, "it ran\n", wanted)))
 
 
-def other_network(folder):
-    """A program in another network namespace doesn't reach the collector, runs unrecorded, and says so."""
-    if not shutil.which("unshare") or run("unshare", "--net", "true").returncode:
-        return skip("a program in another network namespace", "none can be made")
-    done = run(RECORD / "pim-record", "-o", f"{folder}/run", "unshare", "--net", PROGRAMS / "pair", "10")
-    lines = [line.split()[0] for line in done.stdout.splitlines()]
-    got = (done.returncode, lines, done.stderr.count("\n"), "isn't recorded" in done.stderr, os.listdir(folder))
-    return check("a program in another network namespace", difference(got, (0, ["none", "inherit"], 1, True, ["run"])))
+def calls_of_others(reader, folder):
+    """Returns how many grants each log has but that of the recording's first program."""
+    return [counted(reader, read(reader, path), reader.GRANTED) for path in pathlib.Path(folder).glob("run.*")]
+
+
+def namespace(name, *flags):
+    """Returns whether a namespace can be made, and says so if not."""
+    if shutil.which("unshare") and run("unshare", *flags, "true").returncode == 0:
+        return True
+    skip(name, "none can be made")
+    return False
+
+
+def other_network(reader, broken, folder):
+    """A program in another network namespace finds the collector by a path, which is gone at the end."""
+    name = "a program in another network namespace"
+    if not namespace(name, "--net"):
+        return
+    sockets, long_name = pathlib.Path(folder, "sockets"), pathlib.Path(folder, "n" * 90)
+    recorder = [RECORD / "pim-record", "-o", f"{folder}/run", "unshare", "--net", PROGRAMS / "pair", "10"]
+    for place in (sockets, long_name):
+        place.mkdir()
+    for words, folders in (("XDG_RUNTIME_DIR", {"XDG_RUNTIME_DIR": sockets, "TMPDIR": "/nowhere"}),
+                           ("TMPDIR", {"XDG_RUNTIME_DIR": "/nowhere", "TMPDIR": sockets}),
+                           ("a path that is too long", {"XDG_RUNTIME_DIR": long_name, "TMPDIR": sockets}),
+                           ("a relative path", {"XDG_RUNTIME_DIR": "sockets", "TMPDIR": sockets})):
+        done = run(*recorder, env={**os.environ, **{k: str(v) for k, v in folders.items()}}, cwd=folder)
+        got = (done.returncode, done.stderr, calls_of_others(reader, folder), [*sockets.iterdir(), *long_name.iterdir()])
+        check(f"{name}, by {words}", difference(got, (0, "", [20], [])))
+    hidden = f"mount -t tmpfs none {sockets}; exec {PROGRAMS}/pair 10"
+    for flags, wanted in ((["--mount"], ([20], "")), (["--mount", "--net"], ([], "isn't recorded"))):
+        done = run(*recorder[:-3], "unshare", *flags, "sh", "-c", hidden,
+                   env={**os.environ, "XDG_RUNTIME_DIR": str(sockets)})
+        got = ([calls for calls in calls_of_others(reader, folder) if calls], wanted[1] in done.stderr)
+        why = difference((done.returncode, *got, [*sockets.iterdir()]), (0, wanted[0], True, []))
+        check(f"a program that doesn't see the path, in another {' and '.join(flags)}", why)
+
+
+def left_sockets(folder):
+    """The path is gone whoever was killed: the collector, pim-record, or nobody, where a daemon goes on."""
+    sockets = pathlib.Path(folder, "sockets")
+    sockets.mkdir()
+    own = {"env": {**os.environ, "XDG_RUNTIME_DIR": str(sockets)}}
+    got = []
+    for name in ("pim-collector", "pim-record"):
+        running = Running(folder, PROGRAMS / "rounds", "pairs", "1", **own)
+        running.says("go")
+        collector = running.helper("pim-collector")
+        there = len([*sockets.glob("pim-record-*/socket")])
+        os.kill(collector if name == "pim-collector" else running.child.pid, signal.SIGKILL)
+        running.end()
+        until(lambda: is_gone(collector))
+        got += [there, [*sockets.iterdir()]]
+    check("a socket's path is removed by who is left", difference(got, [1, [], 1, []]))
 
 
 def other_root(reader, broken, folder):
@@ -419,7 +465,7 @@ def other_root(reader, broken, folder):
     root.mkdir()
     text = f"mount --bind / {root} && exec chroot {root} {PROGRAMS}/pair 10"
     done = run("unshare", "--mount", RECORD / "pim-record", "-o", f"{folder}/run", "sh", "-c", text)
-    calls = [counted(reader, read(reader, path), reader.GRANTED) for path in pathlib.Path(folder).glob("run.*")]
+    calls = calls_of_others(reader, folder)
     return check("a program with another root", difference((done.returncode, done.stderr, 20 in calls), (0, "", True)))
 
 
@@ -440,8 +486,9 @@ def adopted(folder):
 
 def collector(attempt, reader, broken, folder):
     """Each part in a folder of its own."""
-    of_logs = (rounds, flood, held_up, short_threads, late, killed_recorder, removed_meanwhile, daemon, other_root)
-    others = (locked_memory, priorities, killed_collector, other_users, no_collector, no_file, other_network,
+    of_logs = (rounds, flood, held_up, short_threads, late, killed_recorder, removed_meanwhile, daemon, other_network,
+               other_root)
+    others = (locked_memory, priorities, killed_collector, other_users, no_collector, no_file, left_sockets,
               not_executed, adopted)
     for part in (*of_logs, *others):
         own = pathlib.Path(folder, part.__name__)

@@ -11,15 +11,14 @@
 #include <stdlib.h>
 #include <string.h>
 #include <sys/prctl.h>
-#include <sys/random.h>
 #include <sys/resource.h>
 #include <sys/socket.h>
-#include <sys/un.h>
 #include <sys/wait.h>
 #include <time.h>
 #include <unistd.h>
 
-enum { MOST_WAITING = 4096, MOST_VISITORS = 256, SHORTEST_MS = 2, LONGEST_MS = 64, BEGUN_MS = 256 };
+enum { MOST_VISITORS = 256, OTHERS = 3 /* that are polled */,
+       SHORTEST_MS = 2, LONGEST_MS = 64, BEGUN_MS = 256 };
 
 /* A program that has connected, and hasn't mapped its memory yet. */
 struct visitor {
@@ -30,7 +29,8 @@ struct visitor {
 static struct state {
     const char *log;
     uint64_t bytes;
-    int listener, channel;
+    struct sockets sockets;
+    int channel;
     struct store *first;  /* of the first program, before it has come */
     struct store *stores; /* of programs that have the memory */
     struct visitor visitors[MOST_VISITORS];
@@ -136,11 +136,10 @@ static void hear_visitors(const struct pollfd *polled, size_t count) {
     state.count = kept;
 }
 
-static void let_in(void) {
+static void let_in(int listener) {
     int channel;
     const int flags = SOCK_CLOEXEC | SOCK_NONBLOCK;
-    while (state.count < MOST_VISITORS &&
-           (channel = accept4(state.listener, NULL, NULL, flags)) >= 0)
+    while (state.count < MOST_VISITORS && (channel = accept4(listener, NULL, NULL, flags)) >= 0)
         state.visitors[state.count++] = (struct visitor){ .channel = channel };
 }
 
@@ -182,14 +181,17 @@ static void answer_end(void) {
 
 /* Waits until something comes, or a time has passed. */
 static void attend(int timeout) {
-    struct pollfd polled[2 + MOST_VISITORS] = {
-        { .fd = state.channel, .events = POLLIN }, { .fd = state.listener, .events = POLLIN } };
+    struct pollfd polled[OTHERS + MOST_VISITORS] = {
+        { .fd = state.channel, .events = POLLIN },
+        { .fd = state.sockets.abstract, .events = POLLIN },
+        { .fd = state.sockets.named, .events = POLLIN } };
     size_t count = state.count;
     for (size_t i = 0; i < count; i++)
-        polled[2 + i] = (struct pollfd){ .fd = state.visitors[i].channel, .events = POLLIN };
-    if (poll(polled, 2 + count, timeout) <= 0) return;
-    hear_visitors(polled + 2, count);
-    if (polled[1].revents) let_in();
+        polled[OTHERS + i] = (struct pollfd){ .fd = state.visitors[i].channel, .events = POLLIN };
+    if (poll(polled, OTHERS + count, timeout) <= 0) return;
+    hear_visitors(polled + OTHERS, count);
+    for (size_t i = 1; i < OTHERS; i++)
+        if (polled[i].revents) let_in(polled[i].fd);
     if (polled[0].revents) answer_end();
 }
 
@@ -208,33 +210,17 @@ static _Noreturn void be_collector(void) {
         next = milliseconds() + pause;
         if (is_with_begun) next_of_begun = next + BEGUN_MS;
     }
+    remove_sockets(&state.sockets);
     _exit(0);
 }
 
 /* ---- the start ---- */
 
-/* Makes a socket whose name nobody guesses, and which needs no file. */
-static int make_listener(char *name, size_t room) {
-    struct sockaddr_un address = { .sun_family = AF_UNIX };
-    uint64_t random[2];
-    if (getrandom(random, sizeof random, 0) != sizeof random) return -1;
-    int length = snprintf(name, room, "pim-record-%d-%016llx%016llx", (int)getpid(),
-                          (unsigned long long)random[0], (unsigned long long)random[1]);
-    memcpy(address.sun_path + 1, name, (size_t)length);
-    socklen_t bytes = (socklen_t)(offsetof(struct sockaddr_un, sun_path) + 1 + (size_t)length);
-    int listener = socket(AF_UNIX, SOCK_SEQPACKET | SOCK_CLOEXEC | SOCK_NONBLOCK, 0);
-    if (listener < 0) return -1;
-    if (bind(listener, (struct sockaddr *)&address, bytes) == 0 &&
-        listen(listener, MOST_WAITING) == 0)
-        return listener;
-    close(listener);
-    return -1;
-}
-
 /* Closes all descriptors but those that it uses: another process may wait for the end of what the
  * caller has open. */
 static void close_others(void) {
-    const int used[] = { state.listener, state.channel, state.first->file, state.first->memory };
+    const int used[] = { state.sockets.abstract, state.sockets.named, state.channel,
+                         state.first->file, state.first->memory };
     const size_t count = sizeof used / sizeof *used;
     int last = used[0];
     for (size_t i = 1; i < count; i++)
@@ -283,14 +269,15 @@ const char *start_collector(struct collector *started, const char *log, uint64_t
     const char *why = store_make_file(&first, log, 0, bytes);
     if (why) return why;
     state.first = &first;
-    state.listener = make_listener(started->name, sizeof started->name);
-    bool is_started = state.listener >= 0 && store_make_memory(&first) && fork_collector(started);
-    if (!is_started) {
+    bool has_sockets = open_sockets(&state.sockets, started->name);
+    started->sockets = state.sockets;
+    if (!has_sockets || !store_make_memory(&first) || !fork_collector(started)) {
         why = strerror(errno);
+        remove_sockets(&state.sockets);
         store_remove(&first);
         return why;
     }
-    close(state.listener);
+    leave_sockets(&state.sockets);
     store_leave(&first);
     return NULL;
 }
@@ -302,7 +289,10 @@ bool end_collector(const struct collector *ended, struct report *report) {
         length = is_sent ? recv(ended->channel, report, sizeof *report, 0) : 0;
     while (length < 0 && errno == EINTR);
     close(ended->channel);
-    if (length != sizeof *report) return false;
+    if (length != sizeof *report) { /* it was killed */
+        remove_sockets(&ended->sockets);
+        return false;
+    }
     if (!report->goes_on) waitpid(ended->process, NULL, 0);
     return true;
 }

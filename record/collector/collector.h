@@ -8,10 +8,13 @@
 #include <stdint.h>
 #include <sys/types.h>
 
+#include "sockets.h"
+
 struct collector {
     pid_t process;
     int channel;
-    char name[64]; /* of the abstract socket where programs reach it */
+    struct sockets sockets;
+    char name[SOCKET_NAME_BYTES]; /* by which programs reach it */
 };
 
 /* What the collector reports once the recorded program has ended. */

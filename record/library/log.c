@@ -30,14 +30,14 @@ static uint64_t number_when_begun;
 
 /* ---- the collector ---- */
 
-/* Connects with the collector of an abstract name. Returns the descriptor, or -1. */
-static int reach(const char *name) {
+/* Connects with a collector. The name has a zero byte in front if it is abstract. Returns the
+ * descriptor, or -1 with errno set. */
+static int reach_at(const char *name, size_t length) {
     struct sockaddr_un address = { .sun_family = AF_UNIX };
-    size_t length = strlen(name);
     errno = ENAMETOOLONG;
-    if (length >= sizeof address.sun_path) return -1;
-    memcpy(address.sun_path + 1, name, length); /* behind the zero byte of an abstract name */
-    socklen_t bytes = (socklen_t)(offsetof(struct sockaddr_un, sun_path) + 1 + length);
+    if (length > sizeof address.sun_path) return -1;
+    memcpy(address.sun_path, name, length);
+    socklen_t bytes = (socklen_t)(offsetof(struct sockaddr_un, sun_path) + length);
     int collector = socket(AF_UNIX, SOCK_SEQPACKET | SOCK_CLOEXEC, 0);
     if (collector < 0 || connect(collector, (struct sockaddr *)&address, bytes) == 0)
         return collector;
@@ -45,6 +45,20 @@ static int reach(const char *name) {
     close(collector);
     errno = error;
     return -1;
+}
+
+/* Connects with the collector of a name: NAME of its abstract socket, or NAME:PATH, with the
+ * path of another one. Returns the descriptor, or -1 with errno set. */
+static int reach(const char *name) {
+    char abstract[sizeof((struct sockaddr_un *)0)->sun_path + 1] = "";
+    size_t length = strcspn(name, ":");
+    errno = ENAMETOOLONG;
+    if (length + 1 >= sizeof abstract) return -1;
+    memcpy(abstract + 1, name, length);
+    int collector = reach_at(abstract, 1 + length);
+    if (collector >= 0 || !name[length]) return collector;
+    const char *path = name + length + 1;
+    return reach_at(path, strlen(path) + 1);
 }
 
 /* Receives the answer and, if it is a good one, the descriptor of the memory. Returns that or
