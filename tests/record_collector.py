@@ -155,8 +155,8 @@ def short_threads(reader, broken, folder):
         (status, counted(reader, log, reader.EXIT), log.head.lost, taken >= 601), (0, 600, 0, True)))
     wanted = 4096 + taken * 4096 + MEGABYTE // 4
     check("each takes a block of the disk", None if data.st_blocks * 512 <= wanted else f"{data.st_blocks} blocks")
-    check("the file is as long as the chunks for which it has room",
-          difference((data.st_size,), (4096 + log.head.chunks * CHUNK_BYTES,)))
+    check("the file is as long as the chunks that were taken",
+          difference((data.st_size, log.head.chunks > 255), (4096 + taken * CHUNK_BYTES, True)))
 
 
 LOCKS_MEMORY = """\

@@ -49,8 +49,9 @@ static bool limit_slots(struct store *of) {
     return true;
 }
 
-/* A file longer than the limit couldn't take all records. The magic comes first: so what is
- * left by a recorder that is killed meanwhile is a log, too, which the next recording replaces. */
+/* A file longer than the limit couldn't take all records, nor can each file system have one as
+ * long. It grows as it is written. The magic comes first: so what is left by a recorder that is
+ * killed meanwhile is a log, too, which the next recording replaces. */
 const char *store_make_file(struct store *made, const char *name, uint32_t process,
                             uint64_t bytes) {
     static const unsigned char first[HEADER_BYTES] = LOG_MAGIC;
@@ -62,8 +63,8 @@ const char *store_make_file(struct store *made, const char *name, uint32_t proce
     const char *why = NULL;
     if (!is_allowed)
         why = "the log is longer than the limit of a file (ulimit -f)";
-    else if (pwrite(made->file, first, sizeof first, 0) != sizeof first ||
-             ftruncate(made->file, (off_t)bytes) != 0)
+    else if (ftruncate(made->file, (off_t)bytes) != 0 || ftruncate(made->file, 0) != 0 ||
+             pwrite(made->file, first, sizeof first, 0) != sizeof first)
         why = strerror(errno);
     if (why) store_remove(made);
     return why;
@@ -161,12 +162,24 @@ static void write_chunk(struct store *of, uint64_t slot, uint64_t place, unsigne
     of->written[slot] = (uint16_t)to;
 }
 
+/* Makes the file as long as the chunks that were taken, of which some may not be written yet. A
+ * reader of the header finds them all. Returns false where it can't. */
+static bool cover(struct store *of, const struct header *header) {
+    uint64_t chunks = header->next_chunk < of->chunks ? header->next_chunk : of->chunks;
+    uint64_t length = HEADER_BYTES + chunks * CHUNK_BYTES;
+    if (length <= of->length) return true;
+    if (ftruncate(of->file, (off_t)length) != 0) return false;
+    of->length = length;
+    return true;
+}
+
 static void write_header(struct store *of) {
     unsigned char bytes[HEADER_BYTES];
     struct header *header = (struct header *)bytes;
     if (atomic_load(&of->view->header.next_number) == 0) return; /* the program hasn't filled it */
     memcpy(bytes, &of->view->header, HEADER_BYTES);
     header->chunks = of->chunks;
+    if (!cover(of, header)) return;
     header->lost += of->lost;
     uint64_t first_lost = header->first_lost;
     if (of->first_lost && (first_lost == 0 || of->first_lost < first_lost))
@@ -187,8 +200,7 @@ static void save(struct store *of, unsigned written) {
 static void make_room(struct store *of, struct shared *shared) {
     if (atomic_load(&shared->header.next_chunk) < of->chunks / 2) return;
     uint64_t chunks = (of->bytes - HEADER_BYTES + of->saved) / CHUNK_BYTES;
-    uint64_t length = HEADER_BYTES + chunks * CHUNK_BYTES;
-    if (chunks == of->chunks || ftruncate(of->file, (off_t)length) != 0) return;
+    if (chunks == of->chunks) return;
     of->chunks = chunks;
     atomic_store(&shared->header.chunks, chunks);
 }
