@@ -1,6 +1,7 @@
 /* pim-launch LIBRARY PROGRAM [ARGUMENT..]: runs the program with the library preloaded, or says
  * in one line why it can't be recorded, and runs nothing. pim-record calls it. It stays until
- * the program ends. PIM_RECORD is the log's file, of PIM_RECORD_BYTES. With PIM_KERNEL, the
+ * the program ends. PIM_RECORD is the log's file, of PIM_RECORD_BYTES, or of the last records of
+ * PIM_RECORD_LAST bytes, with snapshots by PIM_RECORD_TRIGGER nanoseconds. With PIM_KERNEL, the
  * name of a file, it records the kernel's events there: without the library where the program
  * can't have it, or where PIM_RECORD names no log. The library finds the name of the
  * collector's socket in PIM_RECORD. */
@@ -195,13 +196,25 @@ static char *take_variable(const char *name) {
     return copy;
 }
 
-/* Returns the log's length by the text of its variable. */
-static uint64_t bytes_of(const char *text) {
-    char *rest = NULL;
-    uint64_t bytes = text ? strtoull(text, &rest, 10) : 0;
-    if (bytes < HEADER_BYTES + CHUNK_BYTES || *rest)
-        refuse(FAULT, "PIM_RECORD_BYTES", "not a size");
-    return bytes;
+/* Returns the number of a variable, which the program isn't to see, or 0 where it isn't set. */
+static uint64_t take_number(const char *name) {
+    char *rest = NULL, *text = take_variable(name);
+    uint64_t number = text ? strtoull(text, &rest, 10) : 0;
+    if (text && (!*text || *rest)) refuse(FAULT, name, "not a number");
+    free(text);
+    return number;
+}
+
+/* Returns how much is to be recorded, by the variables. */
+static struct amount take_amount(void) {
+    struct amount amount = { .room = { .bytes = take_number("PIM_RECORD_BYTES") } };
+    uint64_t last = take_number("PIM_RECORD_LAST");
+    uint64_t trigger = take_number("PIM_RECORD_TRIGGER");
+    if (last) amount.room.bytes = last;
+    amount.room.is_last = last != 0;
+    amount.room.trigger = trigger ? trigger : UINT64_MAX;
+    amount.snapshots = (uint32_t)take_number("PIM_RECORD_SNAPSHOTS");
+    return amount;
 }
 
 int main(int count, char **arguments) {
@@ -209,7 +222,7 @@ int main(int count, char **arguments) {
     char path[PATH_MAX];
     const char *what = NULL;
     wanted.log = take_variable("PIM_RECORD");
-    const char *bytes = take_variable("PIM_RECORD_BYTES");
+    wanted.amount = take_amount();
     wanted.kernel = take_variable("PIM_KERNEL");
     wanted.kilobytes = take_variable("PIM_KERNEL_KB");
     if (!wanted.kilobytes) wanted.kernel = NULL;
@@ -221,7 +234,8 @@ int main(int count, char **arguments) {
     if (wanted.log) what = unlogged(arguments[2], path);
     if (what && !wanted.kernel) refuse_unlogged(path, what);
     if (what) wanted.log = NULL;
-    if (wanted.log) wanted.bytes = bytes_of(bytes);
+    if (wanted.log && wanted.amount.room.bytes < HEADER_BYTES + CHUNK_BYTES)
+        refuse(FAULT, "PIM_RECORD_BYTES", "not a size");
     if (wanted.log) refuse_library(arguments[1]);
     const char *collector = run_recorded(&wanted);
     if (collector) preload(arguments[1], collector);

@@ -2,8 +2,6 @@
 #include "collector.h"
 
 #include "../parent/ordinary.h"
-#include "store.h"
-
 #include <errno.h>
 #include <poll.h>
 #include <signal.h>
@@ -20,6 +18,9 @@
 enum { MOST_VISITORS = 256, OTHERS = 3 /* that are polled */,
        SHORTEST_MS = 2, LONGEST_MS = 64, BEGUN_MS = 256 };
 
+/* What pim-record asks. */
+enum { ASK_END = 'e', ASK_SNAPSHOT = 's' };
+
 /* A program that has connected, and hasn't mapped its memory yet. */
 struct visitor {
     int channel;
@@ -28,7 +29,7 @@ struct visitor {
 
 static struct state {
     const char *log;
-    uint64_t bytes;
+    struct amount amount;
     struct sockets sockets;
     int channel;
     struct store *first;  /* of the first program, before it has come */
@@ -74,7 +75,7 @@ static void send_answer(int channel, const struct answer *answer, int memory) {
 static struct store *make_later_store(uint32_t process) {
     struct store *made = malloc(sizeof *made);
     const char *why = strerror(ENOMEM);
-    if (made) why = store_make_file(made, state.log, process, state.bytes);
+    if (made) why = store_make_file(made, state.log, process, &state.amount.room);
     if (!why && store_make_memory(made)) return made;
     state.report.failed++;
     snprintf(state.report.why, sizeof state.report.why, "%s", why ? why : strerror(errno));
@@ -164,15 +165,67 @@ static bool collect(bool is_with_begun) {
     return is_any_done;
 }
 
+/* ---- snapshots ---- */
+
+/* Waits for processes that write snapshots: for all of them, or for those that have ended. */
+static void wait_for_writers(int how) {
+    int status;
+    while (waitpid(-1, &status, how) > 0)
+        if (status != 0) state.report.unwritten++;
+}
+
+/* Another process writes what all logs have now. Meanwhile the collector goes on. */
+static void take_snapshot(void) {
+    bool is_prepared = true;
+    for (struct store *it = state.stores; it; it = it->next)
+        if (!store_prepare_snapshot(it)) is_prepared = false;
+    unsigned number = ++state.report.snapshots;
+    pid_t writer = is_prepared ? fork() : -1;
+    if (writer == 0) {
+        for (struct store *it = state.stores; it; it = it->next)
+            if (!store_write_snapshot(it, number)) is_prepared = false;
+        _exit(!is_prepared);
+    }
+    if (writer < 0) state.report.unwritten++;
+    for (struct store *it = state.stores; it; it = it->next) store_leave_snapshot(it);
+}
+
+/* Returns whether a thread has waited for longer than it may, and says so of the first one. */
+static bool has_waited(struct ring *ring) {
+    const struct ring_thread *waited = ring->waited;
+    if (!waited) return false;
+    ring->waited = NULL;
+    if (!state.report.wait[0])
+        snprintf(state.report.wait, sizeof state.report.wait, "task %u, at %u, waited %.3f ms",
+                 waited->task, waited->priority_now >> 8, (double)ring->waited_for / 1e6);
+    return true;
+}
+
+static void look_for_waits(void) {
+    bool is_any = false;
+    wait_for_writers(WNOHANG);
+    for (struct store *it = state.stores; it; it = it->next)
+        if (it->ring && has_waited(it->ring)) is_any = true;
+    if (!is_any || state.amount.snapshots == 0) return;
+    state.amount.snapshots--;
+    take_snapshot();
+}
+
 /* A file that no program had is removed at the end. It stays if pim-record was killed: the next
  * recording of the name may have replaced it. */
-static void answer_end(void) {
-    char ask;
-    state.is_ended = true;
+static void hear_parent(void) {
+    char ask = 0;
     bool is_asked = recv(state.channel, &ask, 1, 0) == 1;
+    if (is_asked && ask == ASK_SNAPSHOT) {
+        take_snapshot();
+        return;
+    }
+    state.is_ended = true;
     if (is_asked && state.first) store_remove(state.first);
     if (is_asked) state.first = NULL;
     collect(true);
+    look_for_waits();
+    wait_for_writers(0);
     state.report.goes_on = state.stores || state.count > 0;
     if (is_asked) send(state.channel, &state.report, sizeof state.report, MSG_NOSIGNAL);
     close(state.channel);
@@ -192,7 +245,7 @@ static void attend(int timeout) {
     hear_visitors(polled + OTHERS, count);
     for (size_t i = 1; i < OTHERS; i++)
         if (polled[i].revents) let_in(polled[i].fd);
-    if (polled[0].revents) answer_end();
+    if (polled[0].revents) hear_parent();
 }
 
 /* Looks at the logs often while chunks are filled, and seldom while they aren't. */
@@ -206,10 +259,12 @@ static _Noreturn void be_collector(void) {
         if (now < next) continue;
         bool is_with_begun = now >= next_of_begun;
         bool is_any_done = collect(is_with_begun);
+        look_for_waits();
         pause = is_any_done ? SHORTEST_MS : pause * 2 < LONGEST_MS ? pause * 2 : LONGEST_MS;
         next = milliseconds() + pause;
         if (is_with_begun) next_of_begun = next + BEGUN_MS;
     }
+    wait_for_writers(0);
     remove_sockets(&state.sockets);
     _exit(0);
 }
@@ -263,10 +318,11 @@ static bool fork_collector(struct collector *started) {
     return started->process > 0;
 }
 
-const char *start_collector(struct collector *started, const char *log, uint64_t bytes) {
+const char *start_collector(struct collector *started, const char *log,
+                            const struct amount *amount) {
     state.log = log;
-    state.bytes = bytes;
-    const char *why = store_make_file(&first, log, 0, bytes);
+    state.amount = *amount;
+    const char *why = store_make_file(&first, log, 0, &amount->room);
     if (why) return why;
     state.first = &first;
     bool has_sockets = open_sockets(&state.sockets, started->name);
@@ -282,8 +338,16 @@ const char *start_collector(struct collector *started, const char *log, uint64_t
     return NULL;
 }
 
+static bool ask_collector(const struct collector *of, char what) {
+    return send(of->channel, &what, 1, MSG_NOSIGNAL) == 1;
+}
+
+void ask_for_snapshot(const struct collector *of) {
+    ask_collector(of, ASK_SNAPSHOT);
+}
+
 bool end_collector(const struct collector *ended, struct report *report) {
-    bool is_sent = send(ended->channel, "e", 1, MSG_NOSIGNAL) == 1;
+    bool is_sent = ask_collector(ended, ASK_END);
     ssize_t length;
     do
         length = is_sent ? recv(ended->channel, report, sizeof *report, 0) : 0;

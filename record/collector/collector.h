@@ -9,12 +9,19 @@
 #include <sys/types.h>
 
 #include "sockets.h"
+#include "store.h"
 
 struct collector {
     pid_t process;
     int channel;
     struct sockets sockets;
     char name[SOCKET_NAME_BYTES]; /* by which programs reach it */
+};
+
+/* What is to be kept of each log, and how many snapshots waits may cause. */
+struct amount {
+    struct room room;
+    uint32_t snapshots;
 };
 
 /* What the collector reports once the recorded program has ended. */
@@ -24,10 +31,16 @@ struct report {
     uint32_t failed;  /* programs for which there was no log */
     uint32_t goes_on; /* 1: processes go on writing to logs */
     char why[96];     /* there was none for the last of those */
+    uint32_t snapshots, unwritten; /* that were taken, and of those that couldn't be written */
+    char wait[96];    /* the first one that caused a snapshot, or nothing */
 };
 
 /* Makes the file of the first log, and starts the collector. Returns NULL, or why it can't. */
-const char *start_collector(struct collector *started, const char *log, uint64_t bytes);
+const char *start_collector(struct collector *started, const char *log,
+                            const struct amount *amount);
+
+/* With --last, has the collector write a snapshot, and doesn't wait for it. */
+void ask_for_snapshot(const struct collector *of);
 
 /* Has all written that is there, and waits for it. Returns false where the collector is gone. */
 bool end_collector(const struct collector *ended, struct report *report);

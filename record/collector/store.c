@@ -1,6 +1,8 @@
 #define _GNU_SOURCE
 #include "store.h"
 
+#include "files.h"
+
 #include <errno.h>
 #include <fcntl.h>
 #include <stdio.h>
@@ -10,13 +12,16 @@
 #include <sys/resource.h>
 #include <sys/stat.h>
 #include <sys/uio.h>
+#include <time.h>
 #include <unistd.h>
 
 #ifndef MFD_NOEXEC_SEAL
 #define MFD_NOEXEC_SEAL 8u
 #endif
 
-enum { MOST_LOGS = 10000, BLOCK = 4096 /* of the disk */ };
+enum { MOST_LOGS = 10000, BLOCK = 4096 /* of the disk */, IS_ADDED = UINT16_MAX };
+
+static const uint64_t NO_END = UINT64_C(1) << 62; /* chunks of a ring, which takes more for ever */
 
 /* ---- making ---- */
 
@@ -53,18 +58,21 @@ static bool limit_slots(struct store *of) {
  * long. It grows as it is written. The magic comes first: so what is left by a recorder that is
  * killed meanwhile is a log, too, which the next recording replaces. */
 const char *store_make_file(struct store *made, const char *name, uint32_t process,
-                            uint64_t bytes) {
+                            const struct room *room) {
     static const unsigned char first[HEADER_BYTES] = LOG_MAGIC;
-    *made = (struct store){ .memory = -1, .bytes = bytes };
-    made->chunks = (bytes - HEADER_BYTES) / CHUNK_BYTES;
+    const char *why = NULL;
+    *made = (struct store){ .memory = -1, .bytes = room->bytes };
+    made->chunks = room->is_last ? NO_END : (room->bytes - HEADER_BYTES) / CHUNK_BYTES;
     bool is_allowed = limit_slots(made);
     made->file = open_new(made, name, process);
     if (made->file < 0) return strerror(errno);
-    const char *why = NULL;
     if (!is_allowed)
         why = "the log is longer than the limit of a file (ulimit -f)";
-    else if (ftruncate(made->file, (off_t)bytes) != 0 || ftruncate(made->file, 0) != 0 ||
+    else if (ftruncate(made->file, (off_t)room->bytes) != 0 || ftruncate(made->file, 0) != 0 ||
              pwrite(made->file, first, sizeof first, 0) != sizeof first)
+        why = strerror(errno);
+    uint32_t chunks = (uint32_t)(room->bytes / CHUNK_BYTES);
+    if (!why && room->is_last && !(made->ring = ring_make(chunks, room->trigger)))
         why = strerror(errno);
     if (why) store_remove(made);
     return why;
@@ -123,20 +131,6 @@ bool store_make_memory(struct store *made) {
 }
 
 /* ---- the file ---- */
-
-/* Writes at an offset of the file. Returns false with errno set where not all is written. */
-static bool write_all(int file, const void *bytes, size_t length, uint64_t offset) {
-    while (length > 0) {
-        ssize_t done = pwrite(file, bytes, length, (off_t)offset);
-        if (done == 0) errno = ENOSPC;
-        if (done <= 0 && errno != EINTR) return false;
-        if (done <= 0) continue;
-        bytes = (const char *)bytes + done;
-        length -= (size_t)done;
-        offset += (uint64_t)done;
-    }
-    return true;
-}
 
 /* Counts the records of a chunk from one on as lost. */
 static void lose(struct store *of, const struct record *chunk, unsigned from, unsigned to) {
@@ -206,11 +200,10 @@ static void make_room(struct store *of, struct shared *shared) {
 }
 
 /* Gives a slot back, with zeros. */
-static void give_back(struct store *of, struct shared *shared, uint64_t slot) {
+static void give_back(struct store *of, struct shared *shared, uint64_t slot, unsigned used) {
     static const unsigned char zeros[CHUNK_BYTES];
     uint64_t offset = sizeof(struct shared) + slot * CHUNK_BYTES;
-    save(of, of->written[slot]);
-    if (!write_all(of->memory, zeros, of->written[slot] * sizeof(struct record), offset)) return;
+    if (!write_all(of->memory, zeros, used * sizeof(struct record), offset)) return;
     of->written[slot] = 0;
     uint64_t bit = UINT64_C(1) << slot % 64;
     atomic_fetch_or_explicit(&shared->free[slot / 64], bit, memory_order_release);
@@ -250,23 +243,59 @@ static int by_place(const void *one, const void *other) {
     return (a > b) - (a < b);
 }
 
-/* Writes chunks in the order of their places, so that a file that takes no more lacks no chunk
+/* Returns how many records a chunk has by now, with its head. */
+static unsigned count_records(const struct record *chunk, unsigned from) {
+    unsigned to = from ? from : 1;
+    while (to < CHUNK_RECORDS && number_of(&chunk[to])) to++;
+    return to;
+}
+
+/* Adds a chunk to the ring once it is done. One that couldn't be given back was added before. */
+static void collect_into_ring(struct store *of, struct shared *shared, const struct found *found) {
+    const struct record *chunk = of->view->slots[found->slot];
+    uint16_t *looked_at = &of->written[found->slot];
+    bool is_done = is_slot_done(chunk); /* also if it wasn't as it was found */
+    unsigned to = count_records(chunk, *looked_at == IS_ADDED ? 0 : *looked_at);
+    if (*looked_at != IS_ADDED) {
+        ring_look(of->ring, chunk, *looked_at, to);
+        *looked_at = (uint16_t)to;
+        if (!is_done) return;
+        bool is_closed = atomic_load(&((const struct chunk_head *)chunk)->place) & CHUNK_IS_CLOSED;
+        ring_add(of->ring, chunk, to, is_closed);
+        *looked_at = IS_ADDED;
+    }
+    if (shared) give_back(of, shared, found->slot, to);
+}
+
+static void collect_into_file(struct store *of, struct shared *shared, const struct found *found) {
+    unsigned to = count_records(of->view->slots[found->slot], of->written[found->slot]);
+    write_chunk(of, found->slot, found->place, to);
+    if (!found->is_done || !shared) return;
+    save(of, to);
+    give_back(of, shared, found->slot, to);
+}
+
+/* Takes chunks in the order of their places, so that a file that takes no more lacks no chunk
  * of a thread before one that it has. Without `shared` no slot is given back. Returns whether a
  * chunk was done. */
 static bool collect_chunks(struct store *of, struct shared *shared, bool is_with_begun) {
-    size_t count = find_chunks(of, is_with_begun);
+    size_t count = find_chunks(of, is_with_begun || of->ring);
     bool is_any_done = false;
     qsort(of->found, count, sizeof *of->found, by_place);
     for (size_t i = 0; i < count; i++) {
-        const struct found *found = &of->found[i];
-        const struct record *chunk = of->view->slots[found->slot];
-        unsigned to = of->written[found->slot] ? of->written[found->slot] : 1;
-        while (to < CHUNK_RECORDS && number_of(&chunk[to])) to++;
-        write_chunk(of, found->slot, found->place, to);
-        if (found->is_done && shared) give_back(of, shared, found->slot);
-        is_any_done = is_any_done || found->is_done;
+        if (of->ring)
+            collect_into_ring(of, shared, &of->found[i]);
+        else
+            collect_into_file(of, shared, &of->found[i]);
+        is_any_done = is_any_done || of->found[i].is_done;
     }
     return is_any_done;
+}
+
+static uint64_t monotonic(void) {
+    struct timespec now;
+    clock_gettime(CLOCK_MONOTONIC, &now);
+    return (uint64_t)now.tv_sec * 1000000000u + (uint64_t)now.tv_nsec;
 }
 
 bool store_collect(struct store *of, bool is_with_begun) {
@@ -275,11 +304,71 @@ bool store_collect(struct store *of, bool is_with_begun) {
     bool is_any_done = collect_chunks(of, shared, is_with_begun);
     if (shared && of->lost)
         atomic_store(&shared->header.chunks, 0); /* no more records come */
-    else if (shared)
+    else if (shared && !of->ring)
         make_room(of, shared);
     if (shared) munmap(shared, sizeof *shared);
-    if (is_any_done || is_with_begun) write_header(of);
+    if (of->ring && is_with_begun) ring_look_at_time(of->ring, monotonic());
+    if (!of->ring && (is_any_done || is_with_begun)) write_header(of);
     return is_any_done;
+}
+
+/* ---- snapshots ---- */
+
+/* Copies the chunks that aren't in the ring. */
+static bool copy_begun(struct store *of) {
+    size_t count = find_chunks(of, true);
+    qsort(of->found, count, sizeof *of->found, by_place);
+    of->begun = malloc((count + 1) * sizeof *of->begun);
+    of->begun_count = 0;
+    for (size_t i = 0; of->begun && i < count; i++) {
+        const struct record *chunk = of->view->slots[of->found[i].slot];
+        if (of->written[of->found[i].slot] == IS_ADDED) continue;
+        struct begun *copy = &of->begun[of->begun_count++];
+        copy->used = count_records(chunk, 0);
+        memcpy(copy->records, chunk, copy->used * sizeof *chunk);
+    }
+    return of->begun != NULL;
+}
+
+/* Records that take a number from now on aren't all there: the chunks are copied one by one. */
+bool store_prepare_snapshot(struct store *of) {
+    of->end = atomic_load(&of->view->header.next_number);
+    store_collect(of, true);
+    return copy_begun(of);
+}
+
+static bool write_ring(const struct store *of, int file) {
+    struct header header;
+    memcpy(&header, &of->view->header, sizeof header);
+    return extract(of->ring, of->begun, of->begun_count, of->end, &header, file);
+}
+
+/* It has its name once it is whole. */
+bool store_write_snapshot(const struct store *of, unsigned number) {
+    char path[PATH_MAX], part[PATH_MAX];
+    int length = snprintf(path, sizeof path, "%s.snapshot.%u", of->path, number);
+    if (length < 0 || (size_t)length + sizeof ".part" > sizeof part) return false;
+    strcat(strcpy(part, path), ".part");
+    int file = open(part, O_RDWR | O_CREAT | O_EXCL | O_CLOEXEC, 0600);
+    if (file < 0) return false;
+    bool is_written = write_ring(of, file) && rename(part, path) == 0;
+    close(file);
+    if (!is_written) unlink(part);
+    return is_written;
+}
+
+void store_leave_snapshot(struct store *of) {
+    free(of->begun);
+    of->begun = NULL;
+    of->begun_count = 0;
+}
+
+/* Writes the ring to the log's file. */
+static void end_ring(struct store *of) {
+    of->end = atomic_load(&of->view->header.next_number);
+    bool has_log = of->end != 0; /* else the program hasn't filled the header */
+    if (has_log && copy_begun(of)) (void)!write_ring(of, of->file);
+    store_leave_snapshot(of);
 }
 
 /* ---- the end ---- */
@@ -293,6 +382,7 @@ void store_leave(struct store *of) {
     if (of->view) munmap((void *)of->view, shared_bytes(of->slots));
     if (of->memory >= 0) close(of->memory);
     close(of->file);
+    ring_free(of->ring);
     free(of->written);
     free(of->found);
 }
@@ -306,7 +396,10 @@ static void remove_file(const struct store *of) {
 
 void store_end(struct store *ended) {
     collect_chunks(ended, NULL, true);
-    write_header(ended);
+    if (ended->ring)
+        end_ring(ended);
+    else
+        write_header(ended);
     if (atomic_load(&ended->view->is_unused)) remove_file(ended);
     store_leave(ended);
 }

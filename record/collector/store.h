@@ -3,6 +3,7 @@
 #define STORE_H
 
 #include "../library/shared.h"
+#include "extract.h"
 
 #include <limits.h>
 
@@ -10,6 +11,13 @@
 struct found {
     uint64_t place, slot;
     bool is_done;
+};
+
+/* How much of a program's records is kept. */
+struct room {
+    uint64_t bytes;   /* of the log's file; with --last, of the chunks in memory */
+    bool is_last;     /* --last: the latest are kept, and written at the end */
+    uint64_t trigger; /* nanoseconds, or UINT64_MAX */
 };
 
 struct store {
@@ -24,7 +32,10 @@ struct store {
     uint16_t *written;         /* of each slot: how many records are in the file, with the head */
     struct found *found;       /* room for one of each slot */
     uint64_t lost, first_lost; /* records that the file couldn't take; their lowest number, or 0 */
-    bool is_mapped;            /* the program has the memory */
+    struct ring *ring;         /* with --last, else NULL */
+    struct begun *begun;       /* copies of the chunks that were begun, for a snapshot */
+    size_t begun_count;
+    uint64_t end;              /* of a snapshot: it has the records with lower numbers */
     unsigned char header[HEADER_BYTES]; /* as the file has it */
     char path[PATH_MAX];
 };
@@ -33,7 +44,7 @@ struct store {
  * NAME.PID, and NAME.PID.2 and so on where a process becomes another program. Returns NULL, or
  * why it can't. */
 const char *store_make_file(struct store *made, const char *name, uint32_t process,
-                            uint64_t bytes);
+                            const struct room *room);
 
 /* Makes the memory. Returns false with errno set. */
 bool store_make_memory(struct store *made);
@@ -41,6 +52,15 @@ bool store_make_memory(struct store *made);
 /* Writes the chunks that are done, and gives their slots back; and, if it is wanted, the
  * records of those that aren't done. Returns whether it wrote a chunk. */
 bool store_collect(struct store *of, bool is_with_begun);
+
+/* With --last, copies what a snapshot of now needs and the memory may not have later. Returns
+ * false with errno set where it can't. */
+bool store_prepare_snapshot(struct store *of);
+
+/* Writes a prepared snapshot to a file NAME.snapshot.NUMBER, in a forked process. */
+bool store_write_snapshot(const struct store *of, unsigned number);
+
+void store_leave_snapshot(struct store *of);
 
 /* Returns whether no process has the memory any more. */
 bool store_is_over(const struct store *of);

@@ -114,6 +114,8 @@ struct header {
     _Atomic uint64_t lost;       /* records for which there was no room */
     _Atomic uint64_t first_lost; /* the lowest number of those, or 0 */
     _Atomic uint64_t left_out;   /* calls of which something couldn't be known */
+    uint64_t dropped;            /* records that were dropped for later ones */
+    uint64_t dropped_until;      /* the latest time of those */
     _Alignas(256) char command[COMMAND_BYTES]; /* the arguments, each with a zero byte behind it */
 };
 
@@ -124,6 +126,7 @@ _Static_assert(sizeof(struct chunk_head) == 32, "FORMAT.md: the head of a chunk 
 _Static_assert(offsetof(struct header, chunks) == 32, "FORMAT.md: the header");
 _Static_assert(offsetof(struct header, next_number) == 128, "FORMAT.md: the header");
 _Static_assert(offsetof(struct header, next_chunk) == 192, "FORMAT.md: the header");
+_Static_assert(offsetof(struct header, dropped) == 232, "FORMAT.md: the header");
 _Static_assert(offsetof(struct header, command) == 256, "FORMAT.md: the header");
 _Static_assert(sizeof(struct header) <= HEADER_BYTES, "FORMAT.md: the header");
 

@@ -169,4 +169,5 @@ __attribute__((destructor)) static void finish(void) {
     if (log_remove_unused()) return;
     modules_tell();
     put_end(false, 0);
+    log_close_chunk(); /* the process may be a forked one, which is gone then */
 }

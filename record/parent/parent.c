@@ -1,7 +1,6 @@
 #define _GNU_SOURCE
 #include "parent.h"
 
-#include "../collector/collector.h"
 #include "../kernel/record.h"
 #include "guard.h"
 #include "ordinary.h"
@@ -67,6 +66,14 @@ static void pass_on(pid_t program, int number) {
     if (is_stop && sigismember(&pending, SIGCONT)) kill(program, SIGCONT);
 }
 
+/* A process has sent a signal. */
+static void hear(pid_t program, int number) {
+    if (number == SIGUSR2 && parent.wanted->amount.room.is_last)
+        ask_for_snapshot(&parent.collector);
+    else
+        pass_on(program, number);
+}
+
 /* Waits until the program ends, and returns its status. A signal that a process sent is passed
  * on; a terminal has sent it to the program, too. */
 static int wait_until_end(pid_t program, const sigset_t *awaited) {
@@ -75,7 +82,7 @@ static int wait_until_end(pid_t program, const sigset_t *awaited) {
     while (goes_on(program, &status)) {
         siginfo_t info;
         int number = sigtimedwait(awaited, &info, parent.wanted->kernel ? &period : NULL);
-        if (number > 0 && number != SIGCHLD && info.si_code <= 0) pass_on(program, number);
+        if (number > 0 && number != SIGCHLD && info.si_code <= 0) hear(program, number);
         if (parent.wanted->kernel) read_kernel();
     }
     return status;
@@ -108,6 +115,19 @@ static void say_unrecorded(const struct report *report) {
                 report->failed, report->why);
 }
 
+static void say_snapshots(const struct report *report) {
+    const char *log = parent.wanted->log;
+    if (report->wait[0]) fprintf(stderr, "pim-record: %s\n", report->wait);
+    if (report->snapshots == 1)
+        fprintf(stderr, "pim-record: 1 snapshot was taken: %s.snapshot.1\n", log);
+    else if (report->snapshots)
+        fprintf(stderr, "pim-record: %u snapshots were taken: %s.snapshot.1 to %u\n",
+                report->snapshots, log, report->snapshots);
+    if (report->unwritten)
+        fprintf(stderr, "pim-record: %u of the snapshots couldn't be written\n",
+                report->unwritten);
+}
+
 /* Has the collector write what is there. Returns whether there is a log. */
 static bool end_logs(void) {
     struct report report = { .logs = 0 };
@@ -116,6 +136,7 @@ static bool end_logs(void) {
                 parent.wanted->log);
         return true;
     }
+    say_snapshots(&report);
     say_unrecorded(&report);
     return report.logs > 0;
 }
@@ -179,7 +200,7 @@ static void start_recorders(void) {
     }
     if (why) fail("a process", why);
     if (parent.wanted->log)
-        why = start_collector(&parent.collector, parent.wanted->log, parent.wanted->bytes);
+        why = start_collector(&parent.collector, parent.wanted->log, &parent.wanted->amount);
     if (why) fail(parent.wanted->log, why);
 }
 

@@ -3,11 +3,11 @@
 #ifndef PARENT_H
 #define PARENT_H
 
-#include <stdint.h>
+#include "../collector/collector.h"
 
 struct wanted {
     const char *log;       /* the log's file, or NULL where no log is made */
-    uint64_t bytes;        /* of the log */
+    struct amount amount;  /* of the log */
     const char *kernel;    /* the file of the kernel's events, or NULL where none are recorded */
     const char *kilobytes; /* for events of each CPU */
 };

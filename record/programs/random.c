@@ -1,5 +1,6 @@
-/* random [SEED] [STEPS]: eight threads with six INHERIT mutexes, nested in ascending order, by
- * lock, trylock and timedlock. With the right to SCHED_FIFO they set each other's priorities. */
+/* random [SEED] [STEPS] [ordinary]: eight threads with six INHERIT mutexes, nested in ascending
+ * order, by lock, trylock and timedlock. With the right to SCHED_FIFO they set each other's
+ * priorities, unless they are to be ordinary. */
 #define _GNU_SOURCE
 #include "common.h"
 
@@ -47,7 +48,8 @@ int main(int count, char **arguments) {
     struct sched_param param = { .sched_priority = 60 };
     if (count > 1) seed = (unsigned)atoi(arguments[1]);
     if (count > 2) steps = atoi(arguments[2]);
-    is_real_time = pthread_setschedparam(pthread_self(), SCHED_FIFO, &param) == 0;
+    bool is_ordinary = count > 3 && strcmp(arguments[3], "ordinary") == 0;
+    is_real_time = !is_ordinary && pthread_setschedparam(pthread_self(), SCHED_FIFO, &param) == 0;
     pthread_barrier_init(&all_are_started, NULL, THREADS);
     for (int i = 0; i < MUTEXES; i++) make(&mutexes[i], PTHREAD_PRIO_INHERIT, 0, 0);
     for (int i = 0; i < THREADS; i++)
