@@ -2,10 +2,11 @@
 import os
 import pathlib
 import signal
+import time
 
 from checks import SECONDS, check, difference, is_gone, proc_text, skip, until
 from record_collector import CHUNK_BYTES, MEGABYTE, PROGRAMS, RECORD, Running, counted, read, run
-from record_logs import change, log_of
+from record_logs import change, log_of, reader
 
 PAIRS, SHORT = 5110, 50  # of record/programs/last.c
 ROOM = MEGABYTE // CHUNK_BYTES  # chunks of --last 1M
@@ -284,6 +285,33 @@ def by_hand(reader, broken, _):
         check("until when", difference((words,), (f"{dropped} records were dropped, and from 0.000000500 on none is",)))
 
 
+def listed(folder):
+    """Each log has a line, by the time of its start: process, time, records, command. Other files have none."""
+    text = f"{PROGRAMS}/pair 10 > /dev/null; {PROGRAMS}/pair 20 1 'a b' > /dev/null"
+    before = time.time()
+    done = run(RECORD / "pim-record", "-o", f"{folder}/run", "sh", "-c", text)
+    pathlib.Path(folder, "run.pim").write_text("pim 1\n")
+    files = sorted(map(str, pathlib.Path(folder).glob("run*")))
+    listing = run(RECORD / "pim-record", "--list", *files)
+    lines = [line.split(" ", 1) for line in map(str.strip, listing.stdout.splitlines())]
+    logs = {int(path.rpartition(".")[2]): path for path in files if path[-1].isdigit()}
+    programs = [f"{PROGRAMS}/pair 10", f"{PROGRAMS}/pair 20 1 'a b'"]
+    got = done.returncode, listing.returncode, listing.stderr, len(lines), len(logs)
+    why = difference(got, (0, 0, "", 3, 2))
+    if why:
+        return check("--list", why)
+    found = [rest.split(": ", 1)[1] for _, rest in lines[1:]]
+    check("--list has each log, the first one first", difference(found, programs))
+    for process, rest in lines[1:]:
+        log = reader.Log(reader.used_bytes(logs[int(process)]))
+        when = time.mktime(time.strptime(rest[:19], "%Y-%m-%d %H:%M:%S"))
+        words = [str(len(log.raw)), "records", f"{logs[int(process)]}:"]
+        fits = int(before) <= when <= time.time() and rest.split()[2:5] == words
+        check("a line of --list", None if fits else rest)
+    none = run(RECORD / "pim-record", "--list", f"{folder}/run.pim", f"{folder}/nothing")
+    return check("--list without a log", difference((none.returncode, none.stdout, none.stderr.count("\n")), (2, "", 1)))
+
+
 def refused(folder):
     """Options that don't fit are refused, and nothing is run."""
     for options, why in ((["--last", "64"], "64M"), (["--last", "0M"], "64M"), (["--last="], "64M"),
@@ -301,7 +329,7 @@ def last(attempt, reader, broken, folder):
     """Each part in a folder of its own."""
     parts = (rings, roomy, short_threads, forks, snapshots, in_the_midst, full_disk, triggers, stuck, small_rings,
              by_hand, said_by_others)
-    for part in (*parts, refused):
+    for part in (*parts, listed, refused):
         own = pathlib.Path(folder, part.__name__)
         own.mkdir()
         attempt(part, *((reader, broken) if part in parts else ()), str(own))
