@@ -13,6 +13,8 @@ import tempfile
 from checks import ROOT, Faulty, check, difference, own_program, skip
 from picture_cpus import cut, plainly
 from picture_tracks import Tracks
+from record_collector import CHUNK_BYTES, number_in
+from record_last import does, is_permitted, started
 
 PROGRAMS, SECONDS, SKIPPED = ROOT / "record/out/programs", 600, 77
 IMPORTER, PIM = ROOT / "crates/pim_importer/out/pim_importer", ROOT / "crates/pim/out/pim"
@@ -692,6 +694,32 @@ def damaged(folder):
     check("random bytes have an answer", next(filter(None, faults), None))
 
 
+def latest(folder):
+    """What is imported of the latest records: a wait, and how much isn't seen. pim accepts what is left of races."""
+    running = started(folder)
+    if is_permitted():
+        does(running, "busy " * 15 + "wait quiet")
+    running.end()
+    found, unseen = Import(running.path), number_in(running.path, 224)
+    wanted = [rf"last\[\d+\], at 80, waited {DURATION} from {MOMENT} on for mutex 1 \(none\) of last\[\d+\], "
+              "at SCHED_OTHER: not bounded: mutex 1 is a NONE one",
+              f"unseen: {unseen} calls that the recorder couldn't see whole"]
+    if is_permitted():
+        why = found.fault() or missing(found.lines, wanted, []) or difference((found.status,), (1,))
+        check("the import of the latest records", why)
+    launch = [ROOT / "record/out/pim-launch", ROOT / "record/out/libpim_record.so"]
+    for chunks in (2, 3, 5, 20):
+        for command in ("random 1 300 ordinary", "random 2 300 ordinary", "robust", "forks", "condition", "many"):
+            log = pathlib.Path(folder, f"{command.split()[0]}-{chunks}")
+            log.unlink(missing_ok=True)
+            size = {"PIM_RECORD": str(log), "PIM_RECORD_LAST": str(chunks * CHUNK_BYTES)}
+            name, *words = command.split()
+            done = run(*launch, PROGRAMS / name, *words, env={**os.environ, **size})
+            found = Import(log)
+            why = found.fault() if found.status in (0, 1) else f"status {found.status}: {found.said}"
+            check(f"the import of {command} in {chunks} chunks", why or difference((done.returncode,), (0,)))
+
+
 def command_line(folder):
     """Faults have a line and status 2."""
     cases = {"no argument": [], "no such file": [f"{folder}/none"], "a folder": [folder], "no log": [ROOT / "README.md"],
@@ -716,6 +744,7 @@ def imports(attempt, folder):
     """Each part, of which one that breaks off leaves the others as they are."""
     if not built():
         return check("the importer is built", "it isn't")
-    for part in (programs, stored, kernel, alone, static, real, long, places, whole, damaged, command_line):
+    for part in (programs, stored, kernel, alone, static, real, long, places, whole, damaged, latest,
+                 command_line):
         attempt(part, folder)
     return None
