@@ -44,6 +44,7 @@ def rings(reader, broken, folder):
     did = [does(running, "quiet busy named busy quiet")]
     for _ in range(3):
         did.append(does(running, "busy " * 6 + "quiet"))
+        until(lambda: anonymous_memory(collector) >= MEGABYTE)  # it has as much as it may
         held.append(anonymous_memory(collector))
     status, _, said = running.end()
     log, size = read(reader, running.path), running.path.stat().st_size
@@ -51,7 +52,7 @@ def rings(reader, broken, folder):
     check("it has each call, or says that it was dropped", difference((calls(reader, log),), (5 + 20 * PAIRS,)))
     threads = len({record.chunk.thread for record in log.records})
     check("its file is bounded", None if size <= 4096 + (ROOM + threads) * CHUNK_BYTES else f"{size} bytes")
-    few = MEGABYTE <= held[0] <= 3 * MEGABYTE and held[2] <= held[0] + MEGABYTE // 8
+    few = all(MEGABYTE <= bytes_held <= MEGABYTE + MEGABYTE // 2 for bytes_held in held)
     check("its memory is bounded", None if few else f"{held} bytes")
     owners = {r.chunk.thread for r in log.records if r.event == reader.INIT}
     mine = [t for t in owners if counted(reader, Part(of_thread(log, t)), reader.GRANTED) == 5]
@@ -82,6 +83,20 @@ class Part:
 
     def __init__(self, records):
         self.records = records
+
+
+def shares(reader, broken, folder):
+    """A thread with fewer chunks than another loses none, whichever of them came first."""
+    for lines, few, many in (("main " + "busy " * 6, 0, 1), ("busy " + "main " * 6, 1, 0)):
+        running = started(folder)
+        does(running, lines)
+        running.end()
+        log = read(reader, running.path)
+        ends, = {r.chunk.thread for r in log.records if r.event == reader.END}
+        _, busy = [r.chunk.thread for r in log.records if r.event == reader.INIT]
+        got = [counted(reader, Part(of_thread(log, thread)), reader.GRANTED) for thread in (ends, busy)]
+        fits = got[few] == PAIRS and 40 * 255 < got[many] < 6 * PAIRS
+        check(f"what threads keep: {lines}", broken(log) or (None if fits else f"{got}"))
 
 
 def said_by_others(reader, broken, folder):
@@ -258,14 +273,15 @@ def small_rings(reader, broken, folder):
     """A ring of a few chunks: what is left of threads that race keeps the laws."""
     launch = [RECORD / "out/pim-launch", RECORD / "out/libpim_record.so"]
     for chunks in (2, 3, 9):
-        for command in (["random", "1", "300", "ordinary"], ["many"], ["signals"], ["condition"], ["robust"], ["executes"]):
+        for command in ("random 1 300 ordinary", "many", "signals", "condition", "robust", "executes"):
+            name, *words = command.split()
             path = pathlib.Path(folder, "run")
             for old in pathlib.Path(folder).glob("run*"):
                 old.unlink()
             size = {"PIM_RECORD": str(path), "PIM_RECORD_LAST": str(chunks * CHUNK_BYTES)}
-            done = run(*launch, PROGRAMS / command[0], *command[1:], env={**os.environ, **size})
+            done = run(*launch, PROGRAMS / name, *words, env={**os.environ, **size})
             faults = [broken(read(reader, log)) for log in pathlib.Path(folder).glob("run*")]
-            check(f"{' '.join(command)} in {chunks} chunks",
+            check(f"{command} in {chunks} chunks",
                   difference((done.returncode, *faults), (0, *[None] * len(faults))))
 
 
@@ -309,14 +325,16 @@ def listed(folder):
         fits = int(before) <= when <= time.time() and rest.split()[2:5] == words
         check("a line of --list", None if fits else rest)
     none = run(RECORD / "pim-record", "--list", f"{folder}/run.pim", f"{folder}/nothing")
-    return check("--list without a log", difference((none.returncode, none.stdout, none.stderr.count("\n")), (2, "", 1)))
+    got = none.returncode, none.stdout, none.stderr.count("\n")
+    return check("--list without a log", difference(got, (2, "", 1)))
 
 
 def refused(folder):
     """Options that don't fit are refused, and nothing is run."""
     for options, why in ((["--last", "64"], "64M"), (["--last", "0M"], "64M"), (["--last="], "64M"),
-                         (["--last=64K"], "64M"), (["--last", "1M", "--size", "2"], "--size"),
-                         (["--last", "1M", "--kernel"], "--kernel"), (["--trigger", "2ms"], "go with --last"),
+                         (["--last=64K"], "64M"), (["--last=1000G"], "64M"),
+                         (["--last", "1M", "--size", "2"], "--size"), (["--last", "1M", "--kernel"], "--kernel"),
+                         (["--trigger", "2ms"], "go with --last"),
                          (["--last", "1M", "--trigger", "2"], "2ms"), (["--last", "1M", "--trigger", "ms"], "2ms"),
                          (["--last", "1M", "--snapshots", "many"], "snapshots"), (["--last"], "needs a value")):
         program = [] if options == ["--last"] else ["true"]
@@ -327,8 +345,8 @@ def refused(folder):
 
 def last(attempt, reader, broken, folder):
     """Each part in a folder of its own."""
-    parts = (rings, roomy, short_threads, forks, snapshots, in_the_midst, full_disk, triggers, stuck, small_rings,
-             by_hand, said_by_others)
+    parts = (rings, shares, said_by_others, roomy, short_threads, forks, snapshots, in_the_midst, full_disk, triggers,
+             stuck, small_rings, by_hand)
     for part in (*parts, listed, refused):
         own = pathlib.Path(folder, part.__name__)
         own.mkdir()

@@ -192,12 +192,12 @@ static void take_snapshot(void) {
 
 /* Returns whether a thread has waited for longer than it may, and says so of the first one. */
 static bool has_waited(struct ring *ring) {
-    const struct ring_thread *waited = ring->waited;
-    if (!waited) return false;
-    ring->waited = NULL;
+    struct long_wait wait = ring->wait;
+    if (wait.nanoseconds == 0) return false;
+    ring->wait.nanoseconds = 0;
     if (!state.report.wait[0])
         snprintf(state.report.wait, sizeof state.report.wait, "task %u, at %u, waited %.3f ms",
-                 waited->task, waited->priority_now >> 8, (double)ring->waited_for / 1e6);
+                 wait.task, wait.priority >> 8, (double)wait.nanoseconds / 1e6);
     return true;
 }
 

@@ -24,7 +24,7 @@ static struct mutex *place_of(struct mutex *table, uint32_t process, uint64_t ad
 static void tidy(struct ring *of) {
     struct mutex *table = known_make_mutexes();
     if (!table) return;
-    of->mutex_count = 0;
+    of->mutex_count = of->destroyed_count = 0;
     for (size_t i = 0; i < MUTEX_PLACES; i++) {
         const struct mutex *it = &of->mutexes[i];
         if (!it->process || it->is_destroyed) continue;
@@ -52,12 +52,14 @@ static void keep_mutex(struct ring *of, struct ring_thread *thread, const struct
     bool is_destroyed = record->event == EVENT_DESTROY;
     struct mutex *mutex = place_of(of->mutexes, thread->process, record->object);
     if (!mutex->process && of->mutex_count >= MOST_MUTEXES) {
+        if (of->destroyed_count < MOST_MUTEXES / 8) return;
         tidy(of);
         mutex = place_of(of->mutexes, thread->process, record->object);
         if (of->mutex_count >= MOST_MUTEXES) return;
     }
     if (mutex->process && mutex->number > record->number) return;
     if (!mutex->process) of->mutex_count++;
+    of->destroyed_count += (uint32_t)is_destroyed - (uint32_t)mutex->is_destroyed;
     mutex->process = thread->process;
     mutex->address = record->object;
     mutex->detail = record->detail;
@@ -86,17 +88,17 @@ uint16_t known_priority(uint16_t before, uint16_t set) {
 
 static void keep_priority(struct ring *of, struct ring_thread *thread,
                           const struct record *record) {
-    struct ring_thread *target = ring_target(of, thread->process, record->object, record->value);
+    struct ring_thread *target = ring_target(of, thread, record);
     if (!target) return;
     if (holds(of, &target->priority_said, record, target == thread ? NULL : thread))
         target->priority = known_priority(target->priority, record->detail);
 }
 
 static void keep_name(struct ring *of, struct ring_thread *thread, const struct record *record) {
-    struct ring_thread *named = ring_target(of, thread->process, record->object, 0);
+    struct ring_thread *named = ring_target(of, thread, record);
     if (!named || !holds(of, &named->name_said, record, named == thread ? NULL : thread)) return;
     memset(named->name, 0, sizeof named->name);
-    thread->named = named;
+    thread->named = named->number;
 }
 
 static void begin_thread(struct ring *of, struct ring_thread *thread,
@@ -121,22 +123,20 @@ static void keep_module(struct ring *of, struct ring_thread *thread, const struc
 }
 
 /* Adds a part of a text to what was kept last. */
-static void keep_text(struct ring_thread *thread, const struct text_record *part) {
+static void keep_text(struct ring *of, struct ring_thread *thread,
+                      const struct text_record *part) {
     struct module *module = thread->module;
     if (module && part->length <= module->room - module->length) {
         memcpy(module->path + module->length, part->text, part->length);
         module->length += part->length;
     }
-    if (thread->named && part->length < NAME_ROOM)
-        memcpy(thread->named->name, part->text, part->length);
+    struct ring_thread *named = thread->named ? ring_find(of, thread->named) : NULL;
+    if (named && part->length < NAME_ROOM) memcpy(named->name, part->text, part->length);
 }
 
 void known_forget_thread(struct ring *of, struct ring_thread *thread) {
     set_by(of, &thread->priority_said.by, NULL);
     set_by(of, &thread->name_said.by, NULL);
-    for (int list = LIVE; list < LISTS; list++)
-        for (struct ring_thread *other = of->first[list]; other; other = other->after)
-            if (other->named == thread) other->named = NULL;
 }
 
 /* ---- a chunk ---- */
@@ -145,13 +145,13 @@ static void keep_record(struct ring *of, struct ring_thread *thread, const struc
                         uint64_t place) {
     bool is_text = record->event == EVENT_TEXT;
     if (!is_text) thread->module = NULL;
-    if (!is_text) thread->named = NULL;
+    if (!is_text) thread->named = 0;
     switch (record->event) {
     case EVENT_THREAD: begin_thread(of, thread, record); break;
     case EVENT_PRIORITY: keep_priority(of, thread, record); break;
     case EVENT_NAME: keep_name(of, thread, record); break;
     case EVENT_MODULE: keep_module(of, thread, record); break;
-    case EVENT_TEXT: keep_text(thread, (const struct text_record *)record); break;
+    case EVENT_TEXT: keep_text(of, thread, (const struct text_record *)record); break;
     case EVENT_INIT: keep_mutex(of, thread, record, place); break;
     case EVENT_DESTROY: keep_mutex(of, thread, record, 0); break;
     case EVENT_GRANTED:

@@ -17,7 +17,7 @@ void known_keep(struct ring *of, struct ring_thread *thread, const struct record
 /* Returns a priority, as the detail of a PRIORITY, after another one was set. */
 uint16_t known_priority(uint16_t before, uint16_t set);
 
-/* Lets no thread name one that is forgotten. */
+/* Forgets who said something of a thread that is forgotten. */
 void known_forget_thread(struct ring *of, struct ring_thread *thread);
 
 #endif

@@ -8,6 +8,8 @@
 #include <string.h>
 #include <sys/mman.h>
 
+enum { IS_TOLD = 1 }; /* in place of when a thread asked: the wait's end says nothing new */
+
 /* ---- making ---- */
 
 struct ring *ring_make(uint32_t chunks, uint64_t limit) {
@@ -73,10 +75,16 @@ static struct ring_thread **bucket_of(struct ring *of, uint32_t number) {
     return &of->buckets[number % THREAD_BUCKETS];
 }
 
+struct ring_thread *ring_find(struct ring *of, uint32_t number) {
+    struct ring_thread *found = *bucket_of(of, number);
+    while (found && found->number != number) found = found->same_bucket;
+    return found;
+}
+
 struct ring_thread *ring_thread_of(struct ring *of, const struct record *chunk) {
     const struct chunk_head *head = (const struct chunk_head *)chunk;
-    struct ring_thread **bucket = bucket_of(of, head->thread), *found = *bucket;
-    while (found && found->number != head->thread) found = found->same_bucket;
+    struct ring_thread **bucket = bucket_of(of, head->thread);
+    struct ring_thread *found = ring_find(of, head->thread);
     if (found) return found;
     found = calloc(1, sizeof *found);
     if (!found) return NULL;
@@ -94,12 +102,19 @@ struct ring_thread *ring_thread_of(struct ring *of, const struct record *chunk) 
     return found;
 }
 
-struct ring_thread *ring_target(struct ring *of, uint32_t process, uint64_t self, uint32_t task) {
-    for (int list = LIVE; list <= ENDED; list++) /* of several, the one that came last */
-        for (struct ring_thread *it = of->last[list]; it; it = it->before) {
-            bool is_it = self ? it->process == process && it->self == self : it->task == task;
-            if (is_it) return it;
-        }
+static bool is_target(const struct ring_thread *it, const struct ring_thread *by,
+                      const struct record *record) {
+    if (!record->object) return it->task == record->value;
+    return it->process == by->process && it->self == record->object;
+}
+
+/* Of several that had the same pthread_t it is the thread itself, or the one that came last. */
+struct ring_thread *ring_target(struct ring *of, struct ring_thread *by,
+                                const struct record *record) {
+    if (is_target(by, by, record)) return by;
+    for (int list = LIVE; list <= ENDED; list++)
+        for (struct ring_thread *it = of->last[list]; it; it = it->before)
+            if (is_target(it, by, record)) return it;
     return NULL;
 }
 
@@ -120,10 +135,11 @@ static bool is_real_time(uint16_t priority) {
     return policy == SCHED_FIFO || policy == SCHED_RR || policy == 6 /* SCHED_DEADLINE */;
 }
 
-static void look_at_wait(struct ring *of, struct ring_thread *thread, uint64_t nanoseconds) {
-    if (nanoseconds <= of->limit || of->waited || !is_real_time(thread->priority_now)) return;
-    of->waited = thread;
-    of->waited_for = nanoseconds;
+/* Returns whether a wait is too long, and keeps it. */
+static bool look_at_wait(struct ring *of, const struct ring_thread *thread, uint64_t nanoseconds) {
+    if (nanoseconds <= of->limit || !is_real_time(thread->priority_now)) return false;
+    of->wait = (struct long_wait){ nanoseconds, thread->task, thread->priority_now };
+    return true;
 }
 
 static void end_process(struct ring *of, uint32_t process) {
@@ -142,7 +158,7 @@ static void look_at(struct ring *of, struct ring_thread *thread, const struct re
         thread->has_exit = false;
         break;
     case EVENT_PRIORITY:
-        target = ring_target(of, thread->process, record->object, record->value);
+        target = ring_target(of, thread, record);
         if (target) target->priority_now = known_priority(target->priority_now, record->detail);
         break;
     case EVENT_REQUEST:
@@ -150,7 +166,7 @@ static void look_at(struct ring *of, struct ring_thread *thread, const struct re
         break;
     case EVENT_GRANTED:
     case EVENT_FAILED:
-        if (thread->asked != 1) look_at_wait(of, thread, record->value);
+        if (thread->asked != IS_TOLD) look_at_wait(of, thread, record->value);
         thread->asked = 0;
         break;
     case EVENT_EXIT:
@@ -173,9 +189,8 @@ void ring_look(struct ring *of, const struct record *chunk, unsigned from, unsig
 void ring_look_at_time(struct ring *of, uint64_t now) {
     if (of->limit == UINT64_MAX) return;
     for (struct ring_thread *it = of->first[LIVE]; it; it = it->after) {
-        if (it->asked <= 1 || now < it->asked || of->waited) continue;
-        look_at_wait(of, it, now - it->asked);
-        if (of->waited == it) it->asked = 1; /* its end says nothing new */
+        if (it->asked <= IS_TOLD || now < it->asked) continue;
+        if (look_at_wait(of, it, now - it->asked)) it->asked = IS_TOLD;
     }
 }
 

@@ -32,7 +32,7 @@ struct ring_thread {
     char name[NAME_ROOM];
     struct said priority_said, name_said;
     struct module *module;          /* the dropped MODULE that its next TEXT belongs to */
-    struct ring_thread *named;      /* the same of a NAME */
+    uint32_t named;                 /* the number of the thread of such a NAME, or 0 */
     uint16_t priority_now;          /* behind the records that were looked at */
     uint64_t asked;                 /* when it asked for a mutex that it hasn't got, or 0 */
 };
@@ -55,6 +55,13 @@ struct module {
     char path[];
 };
 
+/* A wait of a thread of a real-time priority. */
+struct long_wait {
+    uint64_t nanoseconds; /* 0: there was none */
+    uint32_t task;
+    uint16_t priority;
+};
+
 struct ring {
     struct record (*chunks)[CHUNK_RECORDS];
     int32_t *next;          /* of each chunk: the next one of its thread, or of the free ones */
@@ -65,13 +72,12 @@ struct ring {
     struct ring_thread *buckets[THREAD_BUCKETS];
     struct ring_thread *first[LISTS], *last[LISTS];
     struct mutex *mutexes;  /* a table with open addresses */
-    uint32_t mutex_count;
+    uint32_t mutex_count, destroyed_count; /* of all in the table, and of those that are gone */
     struct module *modules, *last_module;
     uint64_t dropped, dropped_calls; /* records, and those that answer a call */
     uint64_t dropped_until;          /* the time of the last of those */
     uint64_t limit;                  /* --trigger, in nanoseconds, or UINT64_MAX */
-    struct ring_thread *waited;      /* a thread of a real-time priority that waited for longer */
-    uint64_t waited_for;
+    struct long_wait wait;           /* the last one that was longer */
 };
 
 /* Makes a ring with room for so many chunks. Returns NULL with errno set where it can't. */
@@ -91,8 +97,12 @@ void ring_add(struct ring *of, const struct record *chunk, unsigned used, bool i
 /* Returns the thread of a chunk's head, which is made if it isn't there, or NULL without memory. */
 struct ring_thread *ring_thread_of(struct ring *of, const struct record *chunk);
 
-/* Returns the thread that a NAME or a PRIORITY is about, or NULL. */
-struct ring_thread *ring_target(struct ring *of, uint32_t process, uint64_t self, uint32_t task);
+/* Returns the thread with this number, or NULL. */
+struct ring_thread *ring_find(struct ring *of, uint32_t number);
+
+/* Returns the thread that a NAME or a PRIORITY of a thread is about, or NULL. */
+struct ring_thread *ring_target(struct ring *of, struct ring_thread *by,
+                                const struct record *record);
 
 /* Forgets a thread of which nothing is kept. */
 void ring_forget_empty(struct ring *of, struct ring_thread *thread);

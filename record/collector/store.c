@@ -345,6 +345,7 @@ static bool write_ring(const struct store *of, int file) {
 
 /* It has its name once it is whole. */
 bool store_write_snapshot(const struct store *of, unsigned number) {
+    if (of->end == 0) return true; /* the program hasn't filled the header */
     char path[PATH_MAX], part[PATH_MAX];
     int length = snprintf(path, sizeof path, "%s.snapshot.%u", of->path, number);
     if (length < 0 || (size_t)length + sizeof ".part" > sizeof part) return false;
