@@ -237,13 +237,15 @@ def triggers(reader, broken, folder):
             does(running, line)
             if number <= count:
                 until(pathlib.Path(f"{running.path}.snapshot.{number}").exists)
+        snapshot(running, count + 1)  # before it the collector looks at each wait
         said = running.end()[2].splitlines()
         found = sorted(pathlib.Path(folder).glob("run.snapshot.*"))
-        logs = [read(reader, path) for path in found]
-        faults = [broken(log) or longest(reader, log) for log in logs]
-        words = [] if not logs and "0" not in options else said[:1]
-        told = all(", at 80, waited " in line for line in words) and len(said) == (2 if count else len(words))
-        check(f"{' '.join(options)}: {lines}", difference((len(found), *faults, told), (count, *[None] * count, True)))
+        faults = [broken(read(reader, path)) for path in found]
+        faults += [longest(reader, read(reader, path)) for path in found[:count]]
+        waits = [line for line in said if ", at 80, waited " in line]
+        got = len(found), [fault for fault in faults if fault], len(waits)
+        told = 1 if count or options[-1] == "0" else 0
+        check(f"{' '.join(options)}: {lines}", difference(got, (count + 1, [], told)))
     return None
 
 

@@ -217,6 +217,8 @@ static void hear_parent(void) {
     char ask = 0;
     bool is_asked = recv(state.channel, &ask, 1, 0) == 1;
     if (is_asked && ask == ASK_SNAPSHOT) {
+        collect(true);
+        look_for_waits(); /* a wait that causes one came before */
         take_snapshot();
         return;
     }
