@@ -266,9 +266,10 @@ def stuck(reader, broken, folder):
     log = read(reader, path)
     last = [r.event for r in of_thread(log, max(r.chunk.thread for r in log.records))][-1:]
     does(running, "quiet")  # it waits no more
+    snapshot(running, 2)  # before it the collector looks at the end of the wait
     running.end()
     found = len([*pathlib.Path(folder).glob("run.snapshot.*")])
-    check("a wait that goes on", broken(log) or difference((last, found), ([reader.REQUEST], 1)))
+    check("a wait that goes on", broken(log) or difference((last, found), ([reader.REQUEST], 2)))
 
 
 def small_rings(reader, broken, folder):
