@@ -90,11 +90,11 @@ def shares(reader, broken, folder):
     for lines, few, many in (("main " + "busy " * 6, 0, 1), ("busy " + "main " * 6, 1, 0)):
         running = started(folder)
         does(running, lines)
+        log = read(reader, snapshot(running, 1))
         running.end()
-        log = read(reader, running.path)
-        ends, = {r.chunk.thread for r in log.records if r.event == reader.END}
+        first, = {r.chunk.thread for r in log.records if r.event == reader.MODULE}
         _, busy = [r.chunk.thread for r in log.records if r.event == reader.INIT]
-        got = [counted(reader, Part(of_thread(log, thread)), reader.GRANTED) for thread in (ends, busy)]
+        got = [counted(reader, Part(of_thread(log, thread)), reader.GRANTED) for thread in (first, busy)]
         fits = got[few] == PAIRS and 40 * 255 < got[many] < 6 * PAIRS
         check(f"what threads keep: {lines}", broken(log) or (None if fits else f"{got}"))
 

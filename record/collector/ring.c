@@ -173,7 +173,7 @@ static void look_at(struct ring *of, struct ring_thread *thread, const struct re
         thread->has_exit = true;
         break;
     case EVENT_END:
-        end_process(of, thread->process);
+        if (thread->process != of->process) end_process(of, thread->process);
         break;
     default:
         break;

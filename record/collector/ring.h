@@ -77,6 +77,7 @@ struct ring {
     uint64_t dropped, dropped_calls; /* records, and those that answer a call */
     uint64_t dropped_until;          /* the time of the last of those */
     uint64_t limit;                  /* --trigger, in nanoseconds, or UINT64_MAX */
+    uint32_t process;                /* that the log begins with: the log ends as it does */
     struct long_wait wait;           /* the last one that was longer */
 };
 

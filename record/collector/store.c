@@ -280,6 +280,7 @@ static void collect_into_file(struct store *of, struct shared *shared, const str
  * chunk was done. */
 static bool collect_chunks(struct store *of, struct shared *shared, bool is_with_begun) {
     size_t count = find_chunks(of, is_with_begun || of->ring);
+    if (of->ring) of->ring->process = of->view->header.process;
     bool is_any_done = false;
     qsort(of->found, count, sizeof *of->found, by_place);
     for (size_t i = 0; i < count; i++) {
