@@ -120,6 +120,8 @@ def roomy(reader, broken, folder):
     running = started(folder, last="64M")
     does(running, "quiet busy short fork wait" if is_permitted() else "quiet busy short fork")
     collector = running.helper("pim-collector")
+    done = run(RECORD / "pim-log", running.path)
+    check("a log that isn't written yet", difference((done.returncode, "isn't written yet" in done.stderr), (2, True)))
     running.child.kill()
     running.end()
     until(lambda: is_gone(collector))
