@@ -4,7 +4,7 @@ import pathlib
 import signal
 import time
 
-from checks import SECONDS, check, difference, is_gone, proc_text, skip, until
+from checks import SECONDS, check, difference, is_gone, proc_text, skip, threads_of, until
 from record_collector import CHUNK_BYTES, MEGABYTE, PROGRAMS, RECORD, Running, counted, read, run
 from record_logs import change, log_of, reader
 
@@ -197,6 +197,7 @@ def in_the_midst(reader, broken, folder):
     """A snapshot is of one moment, whatever the threads do meanwhile: no mutex has two owners."""
     running = Running(folder, PROGRAMS / "random", "3", "9999999", "ordinary", options=["--last", "1M"])
     program = running.helper("random")
+    until(lambda: len(threads_of(program)) > 8)  # it is recorded by now
     faults = [broken(read(reader, snapshot(running, number))) for number in range(1, 5)]
     goes_on = running.child.poll() is None
     os.kill(program, signal.SIGKILL)

@@ -174,9 +174,11 @@ static void wait_for_writers(int how) {
         if (status != 0) state.report.unwritten++;
 }
 
-/* Another process writes what all logs have now. Meanwhile the collector goes on. */
+/* Another process writes what all logs have now, if there are any. Meanwhile the collector goes
+ * on. */
 static void take_snapshot(void) {
     bool is_prepared = true;
+    if (!state.stores) return;
     for (struct store *it = state.stores; it; it = it->next)
         if (!store_prepare_snapshot(it)) is_prepared = false;
     unsigned number = ++state.report.snapshots;
