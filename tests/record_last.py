@@ -206,6 +206,12 @@ def in_the_midst(reader, broken, folder):
     check("its log", broken(read(reader, running.path)))
 
 
+def is_pending(process, number):
+    """Returns whether a signal that was sent to a process hasn't come to it yet."""
+    line, = [it for it in proc_text(process, "status").splitlines() if it.startswith("ShdPnd:")]
+    return bool(int(line.split()[1], 16) >> (number - 1) & 1)
+
+
 def full_disk(reader, broken, folder):
     """A snapshot for which there is no room isn't there, and the last line says so."""
     disk = pathlib.Path(folder, "disk")
@@ -216,6 +222,7 @@ def full_disk(reader, broken, folder):
         running = started(disk)
         does(running, "busy")
         running.child.send_signal(signal.SIGUSR2)
+        until(lambda: not is_pending(running.child.pid, signal.SIGUSR2))  # pim-record has asked for it
         says = running.says("quiet")
         status, _, said = running.end()
         log = read(reader, running.path)
