@@ -4,7 +4,7 @@ import pathlib
 import signal
 import time
 
-from checks import SECONDS, check, difference, is_gone, proc_text, skip, threads_of, until
+from checks import SECONDS, check, difference, ended, is_gone, proc_text, skip, threads_of, until
 from record_collector import CHUNK_BYTES, MEGABYTE, PROGRAMS, RECORD, Running, counted, read, run
 from record_logs import change, log_of, reader
 
@@ -188,7 +188,9 @@ def snapshots(reader, broken, folder):
     again = Running(folder, PROGRAMS / "last")
     does(again, "quiet")
     again.child.send_signal(signal.SIGUSR2)
-    got = again.end()[0], sorted(path.name for path in pathlib.Path(folder).iterdir())
+    status = ended(again.child)
+    again.end()
+    got = status, sorted(path.name for path in pathlib.Path(folder).iterdir())
     check("without --last the signal is the program's, and an earlier recording's snapshots are gone",
           difference(got, (-signal.SIGUSR2, ["run"])))
 
