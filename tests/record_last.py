@@ -4,7 +4,7 @@ import pathlib
 import signal
 import time
 
-from checks import SECONDS, check, difference, ended, is_gone, proc_text, skip, threads_of, until
+from checks import SECONDS, check, difference, ended, is_gone, proc_text, skip, stat_of, threads_of, until
 from record_collector import CHUNK_BYTES, MEGABYTE, PROGRAMS, RECORD, Running, counted, read, run
 from record_logs import change, log_of, reader
 
@@ -208,10 +208,9 @@ def in_the_midst(reader, broken, folder):
     check("its log", broken(read(reader, running.path)))
 
 
-def is_pending(process, number):
-    """Returns whether a signal that was sent to a process hasn't come to it yet."""
-    line, = [it for it in proc_text(process, "status").splitlines() if it.startswith("ShdPnd:")]
-    return bool(int(line.split()[1], 16) >> (number - 1) & 1)
+def faults_of_children(process):
+    """Returns how often the children that a process has waited for had a page to be mapped."""
+    return int(stat_of(process)[8])
 
 
 def full_disk(reader, broken, folder):
@@ -223,8 +222,9 @@ def full_disk(reader, broken, folder):
     try:
         running = started(disk)
         does(running, "busy")
+        collector = running.helper("pim-collector")
         running.child.send_signal(signal.SIGUSR2)
-        until(lambda: not is_pending(running.child.pid, signal.SIGUSR2))  # pim-record has asked for it
+        until(lambda: faults_of_children(collector) > 0)  # what writes the snapshot has ended
         says = running.says("quiet")
         status, _, said = running.end()
         log = read(reader, running.path)
