@@ -9,7 +9,7 @@ use crate::mark::{Mark, widen};
 use crate::timing::{Timing, first_from};
 use pim_base::Reason;
 use pim_import::Imported;
-use pim_kernel::{Call, Recording, Track, Tracks};
+use pim_kernel_events::{Call, Track, Tracks};
 use pim_log::Log;
 use std::alloc::{AllocError, Global};
 use std::collections::HashMap;
@@ -57,8 +57,8 @@ pub struct Compared {
 
 /// What a comparison needs.
 #[derive(Drop)]
-struct Sources {
-    tracks: Tracks,
+struct Sources<'a> {
+    tracks: &'a Tracks,
     timing: Timing,
     courses: Vec<Course>,
     /// How many threads of the log had each number of the kernel's.
@@ -66,7 +66,7 @@ struct Sources {
 }
 
 /// Returns where the threads of a log ran at another priority than POSIX gives for longer than the tolerance, in
-/// nanoseconds.
+/// nanoseconds. The tracks are those of the kernel's events.
 ///
 /// # Errors
 ///
@@ -75,12 +75,12 @@ pub fn compare(
     alloc: Global,
     log: &Log,
     imported: &Imported,
-    recording: &Recording,
+    tracks: &Tracks,
     tolerance: u64,
 ) -> Result<Compared, AllocError>
     ensures { IfOk result (λ compared. IsLongestFirst compared.found.items) }
 {
-    let sources = sources_of(alloc, log, imported, recording)?;
+    let sources = sources_of(alloc, log, imported, tracks)?;
     let mut compared = Compared::new(alloc, &sources);
     for thread in 0..sources.courses.len() {
         compared.look(alloc, imported, &sources, thread, tolerance)?;
@@ -89,15 +89,14 @@ pub fn compare(
     Ok(compared)
 }
 
-fn sources_of(
+fn sources_of<'a>(
     alloc: Global,
     log: &Log,
     imported: &Imported,
-    recording: &Recording,
-) -> Result<Sources, AllocError> {
+    tracks: &'a Tracks,
+) -> Result<Sources<'a>, AllocError> {
     let counts = counts_of(alloc, imported)?;
-    let tracks = Tracks::of(alloc, recording)?;
-    let timing = Timing::of(alloc, log, imported, &tracks)?;
+    let timing = Timing::of(alloc, log, imported, tracks)?;
     let courses = courses_of(alloc, imported, &timing)?;
     Ok(Sources {
         tracks,
@@ -166,7 +165,7 @@ impl Compared {
                     level,
                     reason: turn.reason,
                     lengthened: if is_too_low {
-                        wait_during(imported, &sources.tracks, turn.waiter, difference)
+                        wait_during(imported, sources.tracks, turn.waiter, difference)
                     } else {
                         None
                     },

@@ -1,7 +1,7 @@
 //! Where a task ran at another priority than it should have.
 
 use crate::mark::Mark;
-use pim_kernel::Stretch;
+use pim_kernel_events::Stretch;
 use std::alloc::{AllocError, Global};
 
 /// A task ran at another priority than it should have.

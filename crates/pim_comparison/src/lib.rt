@@ -1,7 +1,7 @@
 //! Whether the threads of a recorded program ran at the priorities that POSIX gives them.
 //!
 //! A trace of [`import_log`](pim_import::import_log) says which priority each thread should have
-//! after each step, and a [`Recording`](pim_kernel::Recording) at which it ran. [`compare`]
+//! after each step, and a [`Recording`](pim_kernel_events::Recording) at which it ran. [`compare`]
 //! returns where these differ for longer than a tolerance.
 //!
 //! ```text

@@ -2,7 +2,7 @@
 
 use crate::lists::push;
 use pim_import::Imported;
-use pim_kernel::{Call, Track, Tracks};
+use pim_kernel_events::{Call, Track, Tracks};
 use pim_log::{Event, Log, Record};
 use std::alloc::{AllocError, Global};
 use std::collections::HashMap;

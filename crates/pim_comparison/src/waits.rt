@@ -2,18 +2,21 @@
 
 use crate::lists::push;
 use pim_course::Wait;
-use pim_kernel::{Recording, Track, Tracks, What};
+use pim_kernel_events::{Recording, Track, Tracks, What};
 use std::alloc::{AllocError, Global};
 use std::collections::HashMap;
 
 /// Returns the waits for INHERIT mutexes that the kernel's events show, for [`import_log`](pim_import::import_log): the
-/// calls of FUTEX_LOCK_PI in which a task slept.
+/// calls of FUTEX_LOCK_PI in which a task slept. The tracks are those of the recording.
 ///
 /// # Errors
 ///
 /// Returns `AllocError` if out of memory.
-pub fn waits_of(alloc: Global, recording: &Recording) -> Result<Vec<Wait>, AllocError> {
-    let tracks = Tracks::of(alloc, recording)?;
+pub fn waits_of(
+    alloc: Global,
+    recording: &Recording,
+    tracks: &Tracks,
+) -> Result<Vec<Wait>, AllocError> {
     let mut seen: HashMap<u32, bool> = HashMap::new(alloc);
     let mut waits = Vec::new(alloc);
     for event in &recording.events {

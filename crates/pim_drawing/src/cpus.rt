@@ -2,7 +2,7 @@
 
 use crate::drawing::Recorded;
 use crate::events::{Events, Field, Track};
-use pim_cpus::{Ran, schedule_of};
+use pim_kernel_events::{Ran, schedule_of};
 use pim_names::Thread;
 use pim_out::Out;
 use std::alloc::{AllocError, Global};
@@ -19,7 +19,8 @@ pub(crate) fn put_cpus(
         return Ok(());
     };
     let threads = recorded.names.threads();
-    let schedule = schedule_of(alloc, tracks, threads, from, until)?;
+    let tasks = tasks_of(alloc, threads)?;
+    let schedule = schedule_of(alloc, tracks, &tasks, from, until)?;
     let mut name = Out::new(alloc);
     let mut last = None;
     for ran in &schedule {
@@ -30,11 +31,20 @@ pub(crate) fn put_cpus(
             put_names(events, name.as_str()?, ran.cpu, last.is_none());
             last = Some(ran.cpu);
         }
-        if let Some(thread) = threads.get(ran.thread) {
+        if let Some(thread) = threads.get(ran.task) {
             put_ran(events, ran, thread);
         }
     }
     Ok(())
+}
+
+/// Returns the numbers of threads in the kernel.
+fn tasks_of(alloc: Global, threads: &[Thread]) -> Result<Vec<u64>, AllocError> {
+    let mut tasks = Vec::new(alloc);
+    for thread in threads {
+        tasks.push(thread.kernel)?;
+    }
+    Ok(tasks)
 }
 
 /// Adds the name of the track of a CPU, and of the group if that is its first track. The group is above those of the

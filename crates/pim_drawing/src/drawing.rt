@@ -15,7 +15,7 @@ use crate::table::draw_table;
 use crate::walking::Window;
 use pim_base::Verdict;
 use pim_judge::{Fault, Sink, Source, Text, parse, read_all};
-use pim_kernel::Tracks;
+use pim_kernel_events::Tracks;
 use pim_names::Piece;
 use std::alloc::Global;
 

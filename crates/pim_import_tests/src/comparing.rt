@@ -5,7 +5,7 @@ use pim_base::{MutexNo, Reason, TaskNo};
 use pim_comparison::{Compared, Difference, Found, Lengthened, compare, waits_of};
 use pim_course::Wait;
 use pim_import::import_log;
-use pim_kernel::Recording;
+use pim_kernel_events::{Recording, Tracks};
 use pim_log::Log;
 use std::alloc::Global;
 use std::test::*;
@@ -13,7 +13,8 @@ use std::test::*;
 #[test]
 fn kernel_shows_the_wait(rt: HostRuntime) -> Result<(), Fail> {
     let recording = Recording::read(rt.alloc(), KERNEL.as_bytes())?;
-    let waits = waits_of(rt.alloc(), &recording)?;
+    let tracks = Tracks::of(rt.alloc(), &recording)?;
+    let waits = waits_of(rt.alloc(), &recording, &tracks)?;
     let wanted = Wait {
         from: 320_000,
         task: 702,
@@ -32,7 +33,8 @@ fn compared(alloc: Global) -> Result<Compared, Fail> {
     let Ok(imported) = import_log(alloc, &log, false, &[]) else {
         return Err(Fail::from("it isn't imported"));
     };
-    Ok(compare(alloc, &log, &imported, &recording, 0)?)
+    let tracks = Tracks::of(alloc, &recording)?;
+    Ok(compare(alloc, &log, &imported, &tracks, 0)?)
 }
 
 #[test]

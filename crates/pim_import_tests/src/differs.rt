@@ -1,7 +1,7 @@
 //! pim_comparison: a task that ran at a level that no mark allows. The marks are finer than those of a log.
 
 use pim_comparison::{Difference, Mark, differences, widen};
-use pim_kernel::Stretch;
+use pim_kernel_events::Stretch;
 use std::alloc::{AllocError, Global};
 use std::test::*;
 

@@ -2,7 +2,7 @@
 
 use pim_drawing::{Form, Named, Recorded, Style, Window, command, named_picture, picture};
 use pim_judge::{MemoryReader, MemoryWriter, Verdict};
-use pim_kernel::{Recording, Tracks};
+use pim_kernel_events::{Recording, Tracks};
 use pim_names::{Names, NamesFault};
 use std::alloc::Global;
 use std::test::Fail;

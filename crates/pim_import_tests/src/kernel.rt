@@ -1,7 +1,7 @@
-//! pim_kernel: the kernel's events of a recording, and what each task did by them.
+//! pim_kernel_events: the kernel's events of a recording, and what each task did by them.
 
 use crate::inversion::KERNEL;
-use pim_kernel::*;
+use pim_kernel_events::*;
 use std::alloc::Global;
 use std::test::*;
 
@@ -40,6 +40,15 @@ fn recording_has_its_events(rt: HostRuntime) {
     assert!(rt; facts(rt.alloc()) == Some(([90_000, 1_000_000, 12, 0, 700], true, Some(boost))));
     let line = line_at(KERNEL.as_bytes(), 17);
     assert!(rt; line == b"925000 1 702 return 0".as_slice());
+}
+
+#[test]
+fn task_has_its_name_and_its_end(rt: HostRuntime) -> Result<(), Fail> {
+    let Recording { tasks, cpus, .. } = Recording::read(rt.alloc(), KERNEL.as_bytes())?;
+    assert!(rt; tasks.name_of(701) == "low" && tasks.name_of(702) == "");
+    assert!(rt; (tasks.end_of(701), tasks.end_of(702)) == (None, Some(980_000)));
+    assert!(rt; cpus == 2);
+    Ok(())
 }
 
 /// Returns a stretch on CPU 0: when, which lines show it, and its level.

@@ -1,4 +1,4 @@
-//! Tests of the recording half and of the pictures: of pim_log, pim_kernel, pim_waits, pim_names, pim_cpus, pim_replay,
+//! Tests of the recording half and of the pictures: of pim_log, pim_kernel_events, pim_waits, pim_names, pim_kernel_events, pim_replay,
 //! pim_facts, pim_course, pim_findings, pim_import, pim_comparison and pim_drawing.
 //!
 //! They have a call of each public function, with values by hand, and what only a call in memory shows. All else is in

@@ -1,8 +1,6 @@
-//! pim_names and pim_cpus: who has which number when, and who ran on which CPU.
+//! pim_names: who has which number when.
 
-use crate::inversion::{KERNEL, NAMES};
-use pim_cpus::{Ran, schedule_of};
-use pim_kernel::{Recording, Tracks};
+use crate::inversion::NAMES;
 use pim_names::*;
 use std::test::*;
 
@@ -31,37 +29,5 @@ fn number_is_who_had_it_last(rt: HostRuntime) -> Result<(), Fail> {
     let last = piece.threads().last().ok_or(NO_PIECE)?;
     assert!(rt; (last.task, last.kernel, last.name.as_str()) == (1, 703, "next[703]"));
     assert!(rt; piece.threads().len() == 3);
-    Ok(())
-}
-
-/// Returns a stretch: its CPU, when, the place of its thread, and its level.
-fn row(cpu: u32, begin: u64, end: u64, thread: usize, level: u8) -> Ran {
-    Ran {
-        cpu,
-        begin,
-        end,
-        thread,
-        level,
-        level_before: None,
-    }
-}
-
-#[test]
-fn schedule_is_cut_off_at_its_times(rt: HostRuntime) -> Result<(), Fail> {
-    let names = Names::read(rt.alloc(), NAMES.as_bytes())?;
-    let threads = names.piece(1).ok_or(NO_PIECE)?.threads();
-    let recording = Recording::read(rt.alloc(), KERNEL.as_bytes())?;
-    let tracks = Tracks::of(rt.alloc(), &recording)?;
-    let wanted = [
-        row(0, 300_000, 350_000, 0, 10),
-        row(0, 350_000, 915_000, 0, 40),
-        row(0, 915_000, 930_000, 0, 10),
-        row(1, 300_000, 320_000, 1, 40),
-        row(1, 925_000, 930_000, 1, 40),
-    ];
-    let list = schedule_of(rt.alloc(), &tracks, threads, 300_000, 930_000)?;
-    assert!(rt; list.as_slice() == wanted.as_slice());
-    let list = schedule_of(rt.alloc(), &tracks, threads, 930_000, 300_000)?;
-    assert!(rt; list.is_empty());
     Ok(())
 }

@@ -1,7 +1,7 @@
-//! pim_kernel: when tasks ran, by events of which some are lost or missing.
+//! pim_kernel_events: when tasks ran, by events of which some are lost or missing.
 
 use crate::inversion::KERNEL;
-use pim_kernel::*;
+use pim_kernel_events::*;
 use std::alloc::Global;
 use std::test::*;
 
@@ -118,5 +118,36 @@ fn tasks_ran_when_it_is_certain(rt: HostRuntime) -> Result<(), Fail> {
     for case in &CASES {
         assert!(rt; ran_as_wanted(rt.alloc(), case)?, "{}", case.name);
     }
+    Ok(())
+}
+
+/// Returns a stretch: its CPU, when, the place of its task, and its level.
+fn row(cpu: u32, begin: u64, end: u64, task: usize, level: u8) -> Ran {
+    Ran {
+        cpu,
+        begin,
+        end,
+        task,
+        level,
+        level_before: None,
+    }
+}
+
+#[test]
+fn schedule_is_cut_off_at_its_times(rt: HostRuntime) -> Result<(), Fail> {
+    let recording = Recording::read(rt.alloc(), KERNEL.as_bytes())?;
+    let tracks = Tracks::of(rt.alloc(), &recording)?;
+    let tasks = [701, 702, 703];
+    let wanted = [
+        row(0, 300_000, 350_000, 0, 10),
+        row(0, 350_000, 915_000, 0, 40),
+        row(0, 915_000, 930_000, 0, 10),
+        row(1, 300_000, 320_000, 1, 40),
+        row(1, 925_000, 930_000, 1, 40),
+    ];
+    let list = schedule_of(rt.alloc(), &tracks, &tasks, 300_000, 930_000)?;
+    assert!(rt; list.as_slice() == wanted.as_slice());
+    let list = schedule_of(rt.alloc(), &tracks, &tasks, 930_000, 300_000)?;
+    assert!(rt; list.is_empty());
     Ok(())
 }

@@ -1,15 +1,15 @@
 //! pim_waits: what the kernel's events say alone.
 
 use crate::inversion::KERNEL;
-use pim_kernel::{Boost, Recording};
+use pim_kernel_events::{Boost, Recording, Tracks};
 use pim_waits::*;
 use std::test::*;
 
 #[test]
 fn events_alone_show_the_wait_and_the_boost(rt: HostRuntime) -> Result<(), Fail> {
     let recording = Recording::read(rt.alloc(), KERNEL.as_bytes())?;
-    let tasks = Tasks::of(rt.alloc(), KERNEL.as_bytes())?;
-    let findings = Findings::of(rt.alloc(), &recording, &tasks)?;
+    let tracks = Tracks::of(rt.alloc(), &recording)?;
+    let findings = Findings::of(rt.alloc(), &recording, &tracks)?;
     let wait = Wait {
         task: 702,
         level: 40,
@@ -32,13 +32,5 @@ fn events_alone_show_the_wait_and_the_boost(rt: HostRuntime) -> Result<(), Fail>
     };
     let begun = boosts_by(rt.alloc(), &recording, &wait)?;
     assert!(rt; begun.as_slice() == [boost].as_slice());
-    Ok(())
-}
-
-#[test]
-fn thread_has_its_name_and_its_end(rt: HostRuntime) -> Result<(), Fail> {
-    let tasks = Tasks::of(rt.alloc(), KERNEL.as_bytes())?;
-    assert!(rt; tasks.name_of(701) == "low" && tasks.name_of(702) == "");
-    assert!(rt; (tasks.end_of(701), tasks.end_of(702)) == (None, Some(980_000)));
     Ok(())
 }

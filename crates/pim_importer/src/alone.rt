@@ -4,9 +4,9 @@ use crate::arguments::Arguments;
 use crate::fault::Fault;
 use crate::files::{is_file, is_missing, read_file};
 use crate::kernel::path_of;
-use pim_kernel::{Recording, TextFault, line_at};
+use pim_kernel_events::{Recording, TextFault, Tracks};
 use pim_report::Alone;
-use pim_waits::{Findings, Tasks};
+use pim_waits::Findings;
 use std::alloc::Global;
 
 /// Returns the path of the kernel's events if these are to be read alone: no log is named, or the one that is named isn't
@@ -40,24 +40,10 @@ pub fn alone_of(rt: &HostRuntime, alloc: Global, path: &str) -> Result<Alone, Fa
         Err(TextFault::Memory) => return Err(Fault::Memory),
         Err(fault) => return Err(Fault::Kernel(String::from_str(alloc, path)?, fault)),
     };
-    let tasks = Tasks::of(alloc, &bytes)?;
-    let findings = Findings::of(alloc, &recording, &tasks)?;
+    let tracks = Tracks::of(alloc, &recording)?;
+    let findings = Findings::of(alloc, &recording, &tracks)?;
     Ok(Alone {
         recording,
-        tasks,
         findings,
-        cpus: cpus_in(&bytes),
     })
-}
-
-/// Returns the number in the sixth line, `cpus 4`.
-fn cpus_in(bytes: &[u8]) -> u64 {
-    let mut number = 0u64;
-    for byte in line_at(bytes, 6) {
-        if byte.is_ascii_digit() {
-            let digit = u64::from(byte.saturating_sub(b'0'));
-            number = number.saturating_mul(10).saturating_add(digit);
-        }
-    }
-    number
 }

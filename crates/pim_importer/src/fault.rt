@@ -1,7 +1,7 @@
 //! Why a log isn't imported.
 
 use pim_import::ImportFault;
-use pim_kernel::TextFault;
+use pim_kernel_events::TextFault;
 use pim_log::LogFault;
 use std::alloc::AllocError;
 use thiserror::Error;

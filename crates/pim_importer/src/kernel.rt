@@ -6,7 +6,7 @@ use crate::files::{is_file, read_file};
 use pim_comparison::{compare, waits_of};
 use pim_course::Wait;
 use pim_import::Imported;
-use pim_kernel::{Recording, TextFault};
+use pim_kernel_events::{Recording, TextFault, Tracks};
 use pim_log::Log;
 use pim_report::Kernel;
 use std::alloc::{AllocError, Global};
@@ -17,6 +17,8 @@ pub struct Events {
     /// The file's bytes.
     bytes: Vec<u8>,
     recording: Recording,
+    /// What each task did by them.
+    tracks: Tracks,
 }
 
 /// Reads the kernel's events, if there are any.
@@ -34,11 +36,17 @@ pub fn events_of(
         return Ok(None);
     }
     let bytes = read_file(rt, alloc, path.as_str())?;
-    match Recording::read(alloc, &bytes) {
-        Ok(recording) => Ok(Some(Events { bytes, recording })),
-        Err(TextFault::Memory) => Err(Fault::Memory),
-        Err(fault) => Err(Fault::Kernel(path, fault)),
-    }
+    let recording = match Recording::read(alloc, &bytes) {
+        Ok(recording) => recording,
+        Err(TextFault::Memory) => return Err(Fault::Memory),
+        Err(fault) => return Err(Fault::Kernel(path, fault)),
+    };
+    let tracks = Tracks::of(alloc, &recording)?;
+    Ok(Some(Events {
+        bytes,
+        recording,
+        tracks,
+    }))
 }
 
 /// Returns the waits that the kernel's events show. Without events there are none.
@@ -48,7 +56,7 @@ pub fn events_of(
 /// Returns `AllocError` if out of memory.
 pub fn waits_in(alloc: Global, events: Option<&Events>) -> Result<Vec<Wait>, AllocError> {
     match events {
-        Some(events) => waits_of(alloc, &events.recording),
+        Some(events) => waits_of(alloc, &events.recording, &events.tracks),
         None => Ok(Vec::new(alloc)),
     }
 }
@@ -65,10 +73,17 @@ pub fn kernel_of(
     imported: &Imported,
     events: Option<Events>,
 ) -> Result<Option<Kernel>, AllocError> {
-    let Some(Events { bytes, recording }) = events else {
+    let Some(
+        Events {
+            bytes,
+            recording,
+            tracks,
+        },
+    ) = events
+    else {
         return Ok(None);
     };
-    let compared = compare(alloc, log, imported, &recording, arguments.tolerance)?;
+    let compared = compare(alloc, log, imported, &tracks, arguments.tolerance)?;
     Ok(Some(Kernel {
         bytes,
         compared,

@@ -10,7 +10,7 @@
 use clap::error::ErrorKind;
 use pim_drawing::{Asked, Named, Recorded, Style, command, named_picture, picture};
 use pim_judge::{Fault, Input, Output, Verdict, read_all, status};
-use pim_kernel::{Recording, TextFault, Tracks};
+use pim_kernel_events::{Recording, TextFault, Tracks};
 use pim_names::{Names, NamesFault, Piece};
 use std::fmt::Display;
 use std::io::{self, IsTerminal};

@@ -2,9 +2,9 @@
 
 use crate::kernel::put_lost;
 use crate::words::{put_count, put_duration, put_level, put_since};
-use pim_kernel::{Boost, Recording};
+use pim_kernel_events::{Boost, Recording};
 use pim_out::Out;
-use pim_waits::{Boosted, Findings, Tasks, Wait, boosts_by};
+use pim_waits::{Boosted, Findings, Wait, boosts_by};
 use std::alloc::{AllocError, Global};
 
 /// How many waits are listed.
@@ -20,10 +20,7 @@ so nothing is compared with what POSIX gives, and no trace is written
 #[derive(Drop)]
 pub struct Alone {
     pub recording: Recording,
-    pub tasks: Tasks,
     pub findings: Findings,
-    /// A number above that of each CPU.
-    pub cpus: u64,
 }
 
 /// Returns what the kernel's events alone say, a line each: the longest waits, the threads that ran at the priority of
@@ -59,7 +56,7 @@ pub fn report_alone(alloc: Global, alone: &Alone) -> Result<String, AllocError> 
 }
 
 fn put_task(out: &mut Out, alone: &Alone, task: u32) {
-    out.put(alone.tasks.name_of(task));
+    out.put(alone.recording.tasks.name_of(task));
     out.put("[");
     out.number(u64::from(task));
     out.put("]");
@@ -128,7 +125,7 @@ fn put_summary(out: &mut Out, alone: &Alone) {
     out.put(" in ");
     put_duration(out, recording.ended.saturating_sub(recording.began));
     out.put(" on ");
-    put_count(out, alone.cpus, "CPU");
+    put_count(out, recording.cpus, "CPU");
     if !recording.is_whole {
         out.put("; the events aren't whole");
     }

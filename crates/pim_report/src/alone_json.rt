@@ -1,7 +1,7 @@
 //! What the kernel's events alone say, as JSON.
 
 use crate::alone::{Alone, LONGEST};
-use pim_kernel::Boost;
+use pim_kernel_events::Boost;
 use pim_out::{JsonOut, Out};
 use pim_waits::{Boosted, Wait, boosts_by};
 use std::alloc::{AllocError, Global};
@@ -45,7 +45,7 @@ fn put_counts(out: &mut JsonOut, alone: &Alone) {
     out.number("futex_calls", findings.calls);
     out.number("threads_with_futex_calls", findings.callers);
     out.number("boosts", findings.boosts);
-    out.number("cpus", alone.cpus);
+    out.number("cpus", alone.recording.cpus);
     out.number("waits_left_out", findings.left_out);
     out.number("stretches_left_out", findings.losses);
     out.number("time_left_out", findings.lost_time);
@@ -56,7 +56,7 @@ fn put_counts(out: &mut JsonOut, alone: &Alone) {
 fn put_task(out: &mut JsonOut, alone: &Alone, key: &str, task: u32) {
     out.key(key);
     out.begin_object();
-    out.string("name", alone.tasks.name_of(task));
+    out.string("name", alone.recording.tasks.name_of(task));
     out.number("task", u64::from(task));
     out.end_object();
 }

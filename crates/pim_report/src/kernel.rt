@@ -3,7 +3,7 @@
 use crate::words::{Told, put_count, put_duration, put_level, put_moment, put_thread};
 use pim_base::Reason;
 use pim_comparison::{Compared, Found, Lengthened};
-use pim_kernel::line_at;
+use pim_kernel_events::line_at;
 use pim_out::Out;
 
 /// How many differences the text lists.

@@ -4,7 +4,7 @@ ghost use Rattle.pim_waits.specs.Orders.{RanLongestFirst};
 
 use crate::boosted::Boosted;
 use crate::lists::push;
-use pim_kernel::{Boost, Recording, Stretch, Tracks, What};
+use pim_kernel_events::{Boost, Recording, Stretch, Tracks, What};
 use std::alloc::{AllocError, Global};
 use std::collections::HashMap;
 

@@ -5,9 +5,8 @@ ghost use Rattle.pim_waits.specs.Orders.{AreLongestFirst, RanLongestFirst};
 use crate::boosted::Boosted;
 use crate::boosts::boosted_in;
 use crate::lists::{first_from, push};
-use crate::tasks::Tasks;
 use crate::waits::{Wait, wait_of};
-use pim_kernel::{Boost, Event, Recording, Tracks, What};
+use pim_kernel_events::{Boost, Event, Recording, Tracks, What};
 use std::alloc::{AllocError, Global};
 use std::collections::HashMap;
 
@@ -33,23 +32,22 @@ pub struct Findings {
 }
 
 impl Findings {
-    /// Returns what is found in a recording.
+    /// Returns what is found in a recording, which has these tracks.
     ///
     /// # Errors
     ///
     /// Returns `AllocError` if out of memory.
-    pub fn of(alloc: Global, recording: &Recording, tasks: &Tasks) -> Result<Findings, AllocError>
+    pub fn of(alloc: Global, recording: &Recording, tracks: &Tracks) -> Result<Findings, AllocError>
         ensures waits { IfOk result (λ found. AreLongestFirst found.waits.items) }
         ensures boosted { IfOk result (λ found. RanLongestFirst found.boosted.items) }
     {
-        let tracks = Tracks::of(alloc, recording)?;
         let events = recording.events.as_slice();
         let callers = callers_in(alloc, events)?;
-        let (waits, left_out) = waits_in(alloc, recording, &tracks, tasks, &callers)?;
+        let (waits, left_out) = waits_in(alloc, recording, tracks, &callers)?;
         Ok(Findings {
             waits,
             left_out,
-            boosted: boosted_in(alloc, recording, &tracks)?,
+            boosted: boosted_in(alloc, recording, tracks)?,
             calls: calls_in(events),
             callers: callers.len() as u64,
             boosts: boosts_in(events),
@@ -135,7 +133,6 @@ fn waits_in(
     alloc: Global,
     recording: &Recording,
     tracks: &Tracks,
-    tasks: &Tasks,
     callers: &[u32],
 ) -> Result<(Vec<Wait>, u64), AllocError>
     ensures { IfOk result (λ found. AreLongestFirst found.0.items) }
@@ -146,7 +143,7 @@ fn waits_in(
     for task in callers {
         if let Some(track) = tracks.of_task(*task) {
             for call in &track.calls {
-                if let Some(wait) = wait_of(recording, tasks, *task, call) {
+                if let Some(wait) = wait_of(recording, *task, call) {
                     if meets(&lost, &wait) {
                         left_out = left_out.saturating_add(1);
                     } else {

@@ -1,12 +1,11 @@
 //! What the kernel's events alone say of a program: who waited for INHERIT mutexes, and who was boosted.
 //!
 //! A static program, or one whose locks aren't those of POSIX, has no log of pim-record. For such a program
-//! [`Findings::of`] finds the [`Wait`]s and the [`Boosted`] threads in the events that pim-record --kernel wrote, and
-//! [`Tasks::of`] the threads' names.
+//! [`Findings::of`] finds the [`Wait`]s and the [`Boosted`] threads in the events that pim-record --kernel wrote.
 //!
 //! ```text
 //! let recording = Recording::read(alloc, &bytes)?;
-//! let findings = Findings::of(alloc, &recording, &Tasks::of(alloc, &bytes)?)?;
+//! let findings = Findings::of(alloc, &recording, &Tracks::of(alloc, &recording)?)?;
 //! findings.waits.first(); // Some: the longest wait
 //! ```
 //!
@@ -18,10 +17,8 @@ mod boosted;
 mod boosts;
 mod findings;
 mod lists;
-mod tasks;
 mod waits;
 
 pub use boosted::Boosted;
 pub use findings::{Findings, boosts_by};
-pub use tasks::Tasks;
 pub use waits::Wait;

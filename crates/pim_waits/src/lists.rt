@@ -1,6 +1,6 @@
 //! A push that gives nothing back where it fails, and the place of a time.
 
-use pim_kernel::Event;
+use pim_kernel_events::Event;
 use std::alloc::AllocError;
 
 /// Appends an item.

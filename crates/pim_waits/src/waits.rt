@@ -1,8 +1,7 @@
 //! Waits for INHERIT mutexes.
 
 use crate::lists::first_from;
-use crate::tasks::Tasks;
-use pim_kernel::{Call, Event, Recording, What};
+use pim_kernel_events::{Call, Event, Recording, What};
 
 /// A thread waited for an INHERIT mutex.
 #[derive(Clone, Copy, PartialEq, Eq)]
@@ -25,13 +24,13 @@ pub struct Wait {
 }
 
 /// Returns the wait of a call, or `None` if its thread didn't sleep within it.
-pub fn wait_of(recording: &Recording, tasks: &Tasks, task: u32, call: &Call) -> Option<Wait> {
+pub fn wait_of(recording: &Recording, task: u32, call: &Call) -> Option<Wait> {
     if call.is_unlock || call.slept == 0 {
         return None;
     }
     let is_open = call.end == u64::MAX;
     let end = if is_open {
-        match tasks.end_of(task) {
+        match recording.tasks.end_of(task) {
             Some(end) if end >= call.slept => end,
             _ => recording.ended,
         }

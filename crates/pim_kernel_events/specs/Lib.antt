@@ -1,0 +1,3 @@
+pub mod Schedules
+pub mod Stretches
+pub mod Lines
