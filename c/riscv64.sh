@@ -2,7 +2,7 @@
 # c/riscv64.sh: libpim for 64-bit RISC-V, an experiment that c/RISCV64.md describes. Proves pim_c, takes the LLVM
 # module that the toolchain makes of it for x86-64, and has the toolchain's clang compile it for RISC-V. Then runs the
 # demo, the threads and the replay of each example in qemu, and ends with status 0 if all of them print what they should.
-# Needs rt, gcc-riscv64-linux-gnu and qemu-user-static. Writes into c/out/riscv64 alone.
+# Then c/out/riscv64/libpim.s is its assembly. Needs rt, gcc-riscv64-linux-gnu and qemu-user-static.
 set -eo pipefail
 cd "$(dirname "$0")"
 triple=riscv64-unknown-linux-gnu out=$PWD/out/riscv64
@@ -10,42 +10,24 @@ kit=$(dirname "$(dirname "$(readlink -f "$(command -v rt)")")")
 clang=$kit/toolchain/bin/clang compiler="riscv64-linux-gnu-gcc -I. -std=c11 -Wall -Wextra -O2"
 run="qemu-riscv64-static -L /usr/riscv64-linux-gnu"
 
-# A toolchain whose clang keeps the module that it is given.
-mkdir -p "$out/toolchain/bin"
-ln -sfn "$kit/toolchain/lib" "$out/toolchain/lib"
-ln -sf "$kit"/toolchain/bin/* "$out/toolchain/bin/"
-rm "$out/toolchain/bin/clang"
-cat > "$out/toolchain/bin/clang" <<END
-#!/bin/sh
-for word; do case \$word in *.bc) cp "\$word" "$out/pim_c.bc" ;; esac; done
-exec "$clang" "\$@"
-END
-chmod +x "$out/toolchain/bin/clang"
-
-# Builds the libraries below pim_c, and then pim_c by that toolchain, for which rt has no flag.
-(cd ../crates/pim_c && rt lib)
-words=(--extern "std=$kit/rlibs/std.rlib" -L "dependency=$kit/rlibs")
-for crate in pim_manager pim_ffi pim_base; do words+=(--extern "$crate=$PWD/../crates/$crate/out/rlib/$crate.rlib"); done
-for crate in pim_manager pim_chain pim_sets pim_queue pim_ffi pim_base; do
-    words+=(-L "dependency=$PWD/../crates/$crate/out/rlib")
-done
-(cd ../crates/pim_c && rattle build --crate-name pim_c "${words[@]}" \
-    --antt-project "$kit/rattle/logic/antt-project.json" --logic-built "$kit/logic_built" --incremental out/incremental \
-    --crate-type staticlib --backend llvm --toolchain "$out/toolchain" -o "$out/x86_64.a" src/lib.rt)
+make -s out/libpim.s
+mkdir -p "$out"
 
 # The module without what names x86-64. RISC-V's callers count on results that are extended to a register.
-"$clang" --target=x86_64-unknown-linux-gnu -x ir "$out/pim_c.bc" -S -emit-llvm -Xclang -disable-llvm-passes -o - |
+"$clang" --target=x86_64-unknown-linux-gnu -x ir out/module.bc -S -emit-llvm -Xclang -disable-llvm-passes -o - |
     sed -E "/^target datalayout/d; s/^target triple = .*/target triple = \"$triple\"/
         s/ \"(probe-stack|stack-probe-size|target-cpu|target-features|frame-pointer)\"=\"[^\"]*\"//g
         s/^(define )(noundef )?i(8|16) @/\1\2zeroext i\3 @/; s/^(define )(noundef )?i32 @/\1\2signext i32 @/" > "$out/pim_c.ll"
 if grep -n 'llvm\.x86\|asm sideeffect' "$out/pim_c.ll"; then echo "c/riscv64.sh: x86-64 code is left" >&2; exit 1; fi
 compile() {
     "$clang" --target=$triple --no-default-config -ffunction-sections -fdata-sections -O3 -mllvm -no-trap-after-noreturn \
-        -mllvm -trap-unreachable -c -x ir "$out/pim_c.ll" "$@"
+        -mllvm -trap-unreachable -x ir "$out/pim_c.ll" "$@"
 }
-compile -march=rv64gc -mabi=lp64d -fPIC -o "$out/pim_c.o"
+# The assembler has yet to learn the names of some extensions that are part of rv64gc.
+compile -march=rv64gc -mabi=lp64d -fPIC -fno-addrsig -fno-verbose-asm -S -o - |
+    sed '/^\t\.attribute/d' > "$out/pim_c.s"
 
-libpim="$out/pim_c.o heap/malloc.c"
+libpim="$out/pim_c.s heap/malloc.c"
 $compiler demo.c $libpim -o "$out/demo"
 $compiler replay.c $libpim -o "$out/replay"
 $compiler -pthread threads/main.c threads/pi_mutex.c $libpim -o "$out/threads"
@@ -59,5 +41,6 @@ for text in ../examples/*.pim; do
 done
 
 # For a kernel whose threads have no floating-point registers.
-compile -march=rv64imac -mabi=lp64 -mcmodel=medany -fno-pic -o "$out/pim_c_lp64.o"
+compile -march=rv64imac -mabi=lp64 -mcmodel=medany -fno-pic -c -o "$out/pim_c_lp64.o"
+cp "$out/pim_c.s" "$out/libpim.s"
 echo "libpim on $triple: the demo, the threads and $count examples print what they should"

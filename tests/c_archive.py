@@ -53,7 +53,8 @@ def project(folder, machine):
     with open(f"{here}/own.c", "w") as file:
         file.write(re.search(r"```c\n(.*?)```", README, re.S)[1])
     cross = [] if machine is HERE else ["-DCMAKE_SYSTEM_NAME=Linux", "-DCMAKE_SYSTEM_PROCESSOR=aarch64"]
-    status, out = run("cmake", "-S", here, "-B", f"{here}/made", f"-DCMAKE_C_COMPILER={machine.compiler}", *cross)
+    words = [f"-DCMAKE_C_COMPILER={machine.compiler}", f"-DCMAKE_PREFIX_PATH={folder}/installed", *cross]
+    status, out = run("cmake", "-S", here, "-B", f"{here}/made", *words)
     if not status:
         status, out = run("cmake", "--build", f"{here}/made")
     shown = re.search(r"    \$ \./own\n    (.*\n)", README)[1].encode()
