@@ -72,13 +72,14 @@ def fix_modes(folder):
 
 
 def archive(folder, to, epoch):
-    """Writes TO.tar.xz of a folder: its names, modes and contents, and one time."""
+    """Writes TO.tar.xz or TO.tar.gz of a folder: its names, modes and contents, and one time."""
     fix_modes(folder)
     plain = to.with_suffix("")
     words = ["--sort=name", "--format=gnu", f"--mtime=@{epoch}"]
     words += ["--owner=0", "--group=0", "--numeric-owner"]
     run("tar", *words, "-cf", plain, "-C", folder.parent, folder.name)
-    run("xz", "-f", "-9", "-T1", plain)
+    packer = {".xz": ("xz", "-T1"), ".gz": ("gzip", "-n")}[to.suffix]
+    run(*packer, "-f", "-9", plain)
 
 
 def zipped(data):

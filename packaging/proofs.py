@@ -7,11 +7,11 @@ from programs import glibc_of
 
 # What users have of a crate and of those that it stands on.
 TOPS = {
-    "pim": "pim",
-    "pim_importer": "pim-import",
-    "pim_picture": "pim-picture",
-    "pim_c": "the page",
-    "pim_web": "the page",
+    "pim": ["pim"],
+    "pim_importer": ["pim-import"],
+    "pim_picture": ["pim-picture"],
+    "pim_c": ["libpim", "the page"],
+    "pim_web": ["the page"],
 }
 PROVED = re.compile(r"^logic=proved\b.* functions=(\d+)", re.M)
 # What the gate's last line must be.
@@ -53,9 +53,9 @@ class Gate:
 def inside():
     """Returns what each crate is in, if it is in anything that users have."""
     found = {}
-    for top, what in TOPS.items():
+    for top, names in TOPS.items():
         for crate in run(ROOT / "launcher/crates", top).split():
-            found.setdefault(crate, {})[what] = None
+            found.setdefault(crate, {}).update(dict.fromkeys(names))
     return found
 
 

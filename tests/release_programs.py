@@ -63,6 +63,17 @@ def report(name):
     return (ROOT / f"examples/{name}.report").read_text()
 
 
+def oldest(root, files):
+    """The archive in the oldest Debian: the programs of Rattle, which need no glibc."""
+    before = root.files()
+    root.take(next(files.glob("kulgyozi-*.tar.xz")), "srv/own")
+    root.run("cd /srv/own", "tar xf *.tar.xz")
+    here = root.run("cd /srv/own/kulgyozi-*/", "pwd")[1].strip()
+    works(root, "the archive in Debian 11", f"{here}/", here)
+    root.run("rm -r /srv/own")
+    check("the archive in Debian 11 leaves nothing", left(root, before))
+
+
 def works(root, what, prefix, here):
     """Judges, imports and draws, and compares with what the repository's programs answer."""
     got = root.run(f"{prefix}pim < {here}/examples/inversion_avoided.pim")
@@ -145,7 +156,7 @@ def earlier(deb, folder):
     subprocess.run(["dpkg-deb", "-R", deb, own_folder], check=True)
     control = own_folder / "DEBIAN/control"
     text = re.sub(r"^Version: .*$", f"Version: {EARLIER}", control.read_text(), flags=re.M)
-    control.write_text(text)
+    control.write_text(text.replace(f"(= {VERSION}-1)", f"(= {EARLIER})"))
     words = ["dpkg-deb", "--root-owner-group", "-Znone", "--build", own_folder, to]
     subprocess.run(words, check=True, stdout=subprocess.DEVNULL)
     return to

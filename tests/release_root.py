@@ -46,10 +46,10 @@ class Root:
         return None if suite() else "this machine isn't a Debian of a known name"
 
     @classmethod
-    def made(cls, path, packages):
-        """Makes a root of Debian's smallest set of packages and these, or returns why not."""
+    def made(cls, path, packages, debian):
+        """Makes a root of a Debian's smallest set of packages and these, or returns why not."""
         maker = next(words for words in MAKERS if shutil.which(words[0]))
-        words = [*maker, "--variant=minbase", f"--include={','.join(packages)}", suite(), path]
+        words = [*maker, "--variant=minbase", f"--include={','.join(packages)}", debian, path]
         done = subprocess.run(words, capture_output=True, text=True, timeout=SECONDS)
         if done.returncode:
             return f"{maker[0]} made no root: {said(done.stdout + done.stderr)}"
