@@ -144,9 +144,9 @@ extern "C" {
 
 /* The version, as semantic versioning counts. */
 #define PIM_VERSION_MAJOR 0
-#define PIM_VERSION_MINOR 1
+#define PIM_VERSION_MINOR 2
 #define PIM_VERSION_PATCH 0
-#define PIM_VERSION "0.1.0"
+#define PIM_VERSION "0.2.0"
 
 /* The version as one number, to compare. */
 #define PIM_VERSION_NUMBER (PIM_VERSION_MAJOR * 10000 + PIM_VERSION_MINOR * 100 + PIM_VERSION_PATCH)

@@ -109,7 +109,7 @@ fn pim_picture<'a>(alloc: Global) -> Result<Command<'a>, AllocError> {
     Command::new(alloc, "pim-picture")
         .override_usage("pim-picture [OPTIONS] < TRACE")
         .about("Draw a trace: who executes at which priority after each step, and why")
-        .version("0.1.0")
+        .version("0.2.0")
         .after_help(MORE)
         .arg(flag(alloc, "svg", svg))?
         .arg(flag(alloc, "perfetto", perfetto).conflicts_with("svg")?)?

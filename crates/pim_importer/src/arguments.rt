@@ -190,7 +190,7 @@ fn command<'a>(alloc: Global) -> Result<Command<'a>, AllocError> {
         .about(
             "Make a trace of a recorded program, and say who waited for whom, at which priorities",
         )
-        .version("0.1.0")
+        .version("0.2.0")
         .after_help(MORE)
         .arg(log)?
         .arg(all)?

@@ -36,7 +36,7 @@ const TAUGHT: &[&str] = &[
 ];
 
 /// The version.
-const VERSION: &[&str] = &["pim 0.1.0\n"];
+const VERSION: &[&str] = &["pim 0.2.0\n"];
 
 /// Words that name no job, the kind of their error, and parts of its text.
 type NoJob = (&'static [&'static str], ErrorKind, &'static [&'static str]);

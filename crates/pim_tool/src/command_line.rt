@@ -91,7 +91,7 @@ fn pim<'a>(alloc: Global) -> Result<Command<'a>, AllocError>
         .about(
             "Judge traces of mutexes with the POSIX protocols: say which task executes at which priority, and why",
         )
-        .version("0.1.0")
+        .version("0.2.0")
         .after_help(MORE)
         .subcommand(judge)?
         .subcommand(run)?
