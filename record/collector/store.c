@@ -68,8 +68,9 @@ const char *store_make_file(struct store *made, const char *name, uint32_t proce
     if (made->file < 0) return strerror(errno);
     if (!is_allowed)
         why = "the log is longer than the limit of a file (ulimit -f)";
-    else if (ftruncate(made->file, (off_t)room->bytes) != 0 || ftruncate(made->file, 0) != 0 ||
-             pwrite(made->file, first, sizeof first, 0) != sizeof first)
+    else if (pwrite(made->file, first, sizeof first, 0) != sizeof first ||
+             ftruncate(made->file, (off_t)room->bytes) != 0 ||
+             ftruncate(made->file, HEADER_BYTES) != 0)
         why = strerror(errno);
     uint32_t chunks = (uint32_t)(room->bytes / CHUNK_BYTES);
     if (!why && room->is_last && !(made->ring = ring_make(chunks, room->trigger)))
