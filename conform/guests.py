@@ -56,9 +56,35 @@ def member(name, mode, data=b"", device=(0, 0)):
     return head + bytes(-len(head) % 4) + data + bytes(-len(data) % 4)
 
 
-def initramfs(files, texts):
+def needed_by(command, files):
+    """Returns the program of a command, and the libraries that the guest needs for it.
+
+    The guest's own programs come first.
+    """
+    name = command.split()[0]
+    program = next((str(file) for file in files if file.name == name), shutil.which(name))
+    if not program:
+        raise Fault(f"there is no program {name}")
+    said = subprocess.run(["ldd", program], capture_output=True, text=True).stdout
+    return pathlib.Path(program), [pathlib.Path(it) for it in re.findall(r"(/\S+) \(0x", said)]
+
+
+def libraries_in(files):
+    """Returns members for files that are where they are here, and for the folders above them."""
+    folders = {folder for file in files for folder in list(file.parents)[:-1]}
+    parts = [member(str(folder)[1:], 0o40755) for folder in sorted(folders)]
+    return parts + [member(str(file)[1:], 0o100755, file.read_bytes()) for file in sorted(files)]
+
+
+def initramfs(files, texts, command=None):
     """Returns the archive with the programs and the texts, which are given by name."""
     parts = [member(name, 0o40755) for name in ("bin", "dev", "texts")]
+    if command:
+        program, libraries = needed_by(command, files)
+        parts += libraries_in(libraries)
+        words = " ".join([program.name, *command.split()[1:]])
+        parts.append(member("run", 0o100755, f"{words}\n".encode()))
+        files = files if program in files else [*files, program]
     parts.append(member("dev/console", 0o20600, device=(5, 1)))
     parts.append(member("init", 0o100755, (HERE / "guest/init").read_bytes()))
     parts += [member(f"bin/{path.name}", 0o100755, path.read_bytes()) for path in files]
@@ -67,10 +93,11 @@ def initramfs(files, texts):
     return gzip.compress(b"".join(parts) + member("TRAILER!!!", 0), 1)
 
 
-def make_initramfs(folder, texts):
-    """Writes the archive to the folder."""
+def make_initramfs(folder, texts, command=None):
+    """Writes the archive to the folder. A command's program is there, too."""
     (folder / "programs").mkdir()
-    (folder / "initramfs").write_bytes(initramfs(programs(folder / "programs"), texts))
+    archive = initramfs(programs(folder / "programs"), texts, command)
+    (folder / "initramfs").write_bytes(archive)
 
 
 # ---- the kernels
@@ -108,13 +135,13 @@ def unpacked(package, folder):
 
 # ---- a boot
 
-def command_of(image, folder, cpus, words, accelerator="tcg"):
+def command_of(image, folder, cpus, words, how=("-accel", "tcg")):
     """Returns qemu's command. The guest has no network; its second serial port is its output."""
     words = f"console=ttyS0 quiet panic=-1 no_timer_check rdinit=/init {words}"
     # If this script is killed, the guest is, too.
     bound = ["setpriv", "--pdeathsig", "KILL"] if shutil.which("setpriv") else []
     # A kernel without ACPI finds its CPUs in a table that has one for each socket.
-    return [*bound, QEMU, "-accel", accelerator, "-cpu", "max", "-m", "512",
+    return [*bound, QEMU, *how, "-cpu", "max", "-m", "512",
             "-smp", f"{cpus},sockets={cpus},cores=1,threads=1",
             "-nodefaults", "-display", "none", "-no-reboot", "-nic", "none",
             "-kernel", image, "-initrd", folder / "initramfs",

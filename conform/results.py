@@ -93,7 +93,7 @@ class Result:
         for cause in [*HABITS, "unexplained"]:
             way = next((f", way {way}" for way, (habit, _) in WAYS.items() if habit == cause), "")
             rows[f"... by {cause}{way}"] = str(self.causes[cause])
-        return rows | self.waits() | self.storm_rows()
+        return rows | self.waits() | self.storm_rows() | self.run_rows()
 
     def waits(self):
         """What the page's programs say: how long a thread waited, and how long without the way."""
@@ -110,11 +110,19 @@ class Result:
                 "... with a wrong priority": str(self.storm.wrong_stops),
                 "... threads above, below": f"{self.storm.above}, {self.storm.below}"}
 
+    def run_rows(self):
+        """What --run's command ended with. A status but 0 has a line of the guest."""
+        if "run" not in self.found:
+            return {}
+        ends = re.findall(r"^it ended with status (\d+)$", "\n".join(self.found["run"][-1:]), re.M)
+        return {"the command's status": ends[0] if ends else "0"}
+
     def status(self):
         """Returns 0 if all is as it is known, 1 if not, 2 if something couldn't be compared."""
         is_known = all(is_stored for _, is_stored in self.set.values())
         is_explained = not self.causes["unexplained"]
         is_right = not self.storm or not self.storm.wrong_stops or len(self.mended) < len(WAYS)
+        is_right &= all(cell == "0" for cell in self.run_rows().values())
         return 2 if self.faults else 0 if is_known and is_explained and is_right else 1
 
 
@@ -129,6 +137,7 @@ def print_table(results):
     rows.insert(1, f"|{'|'.join('-' * (width + 2) for width in widths)}|")
     print("\n".join(rows))
     for result in results:
-        said = [f"the kernel says: {line}" for line in result.found.get("messages", [])]
+        said = [f"the command says: {line}" for line in result.found.get("run", [])]
+        said += [f"the kernel says: {line}" for line in result.found.get("messages", [])]
         for line in result.lines + said:
             print(f"{result.release}: {line}")

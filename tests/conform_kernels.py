@@ -6,6 +6,7 @@ the set and of the model's of random texts, or written by hand.
 import contextlib
 import io
 import os
+import pathlib
 import shutil
 import signal
 import subprocess
@@ -55,6 +56,28 @@ def archives(folder):
               "texts/bb.pim": [0o100644, none, b"pim 2\n"], "TRAILER!!!": [0, none, b""]}
     same("an initramfs", found, wanted)
     same("its members begin at multiples of four", len(archive) % 4, 0)
+
+
+def commands_in_archives(folder):
+    """The initramfs has the program of a command, and its libraries where they are here."""
+    program = script(folder, "lives", "exit 0")
+    library = folder / "lib"
+    library.write_text("the library")
+    script(folder, "ldd", f"echo ' vdso.so.1 (0x7)'; echo \" lib => {library} (0x7f)\"")
+    with first_on_path(folder):
+        archive = guests.gzip.decompress(guests.initramfs([], {}, "lives --long 3"))
+        got = fault_of(guests.initramfs, [], {}, "gone 3")
+    found = [(name, *rest) for name, *rest in members(archive)]
+    rest = {name: data for name, _, _, data in found}
+    same("a command", (rest["run"], rest["bin/lives"]), b"lives --long 3\n", program.read_bytes())
+    same("its library", rest[str(library)[1:]], b"the library")
+    order = [name for name, *_ in found if str(library)[1:].startswith(name)]
+    wanted = [str(path)[1:] for path in [*list(library.parents)[-2::-1], library]]
+    same("the folders of a library come before it", order, wanted)
+    same("a command that isn't there", got, "there is no program gone", 2)
+    with first_on_path(folder):
+        archive = guests.gzip.decompress(guests.initramfs([program], {}, "lives"))
+    same("a command of the guest", [name for name, *_ in members(archive)].count("bin/lives"), 1)
 
 
 def printed_parts():
@@ -136,8 +159,9 @@ def boots(folder):
     same("a kernel that is mute", guests.last_line(console), "the kernel said nothing")
     console.write_text("one\npanic \r\n\n")
     same("a kernel's last line", guests.last_line(console), "panic")
-    words = [str(it) for it in guests.command_of("image", folder, 3, "pim_do=texts more")]
-    for wanted in (["-nic", "none"], ["-accel", "tcg"], ["-smp", "3,sockets=3,cores=1,threads=1"],
+    command = guests.command_of("image", folder, 3, "pim_do=texts more", ["-a", "b"])
+    words = [str(it) for it in command]
+    for wanted in (["-nic", "none"], ["-a", "b"], ["-smp", "3,sockets=3,cores=1,threads=1"],
                    ["-kernel", "image"], ["-no-reboot"]):
         at = words.index(wanted[0])
         same(f"qemu's arguments: {wanted[0]}", words[at:at + len(wanted)], wanted)
@@ -272,6 +296,12 @@ def unexplained(pim):
         cells = [rows[name] for name in ("storm: stops", "... with a wrong priority",
                                          "... threads above, below")]
         same(f"a storm on {release}", (statuses, cells), [status], [["2"], ["1"], ["1, 2"]])
+    for said, status in (("one\n", 0), ("two\nit ended with status 3\n", 3)):
+        out = guest_output("9.1.2", (), texts, [("=== messages", f"=== run\n{said}=== messages")])
+        statuses, rows, lines = table_of([out], texts, wanted, pim)
+        same(f"a command with status {status}", (statuses, rows["the command's status"], lines),
+             [min(status, 1)], [str(status)],
+             [f"9.1.2: the command says: {line}" for line in said.splitlines()])
     part = "=== storm\nit ended with status 2\n=== messages"
     out = guest_output("9.1.2", (), texts, [("=== messages", part)])
     same("a storm that didn't end", table_of([out], texts, wanted, pim)[0], [2])
@@ -296,13 +326,18 @@ def whole_runs(pim, folder):
     script(tools, guests.QEMU, f'cat {folder}/guest; echo "$*" >> {folder}/asked')
     command = [sys.executable, ROOT / "conform/kernels", "--random", "2", "--seed", "3", "--pim"]
     command.append(pim)
-    more = ["--keep", keep, "--storm", "7", "--append", "some words", image]
+    more = ["--keep", keep, "--storm", "7", "--run", "true", "--append", "some words", image]
     status, out, err = answer([*command, *more], env=environment)
     same("a run", (status, b"34 of 34" in out, b"36 of 36 texts" in err), 0, True, True)
     asked = (folder / "asked").read_text()
-    words = "pim_do=texts,programs,storm pim_seconds=7 some words"
+    words = "pim_do=texts,programs,run,storm pim_seconds=7 some words"
     check("what the guest is asked for", None if words in asked else asked)
     same("a stored run", answer([*command, "--from", keep]), 0, out, b"")
+    (folder / "asked").unlink()
+    same("a run that counts", answer([*command, "--count", image], env=environment)[0], 0)
+    asked = (folder / "asked").read_text()
+    is_counted = "-accel tcg -icount shift=0 " in asked and "-smp 1,sockets=1," in asked
+    check("the guest's clock counts instructions, on one CPU", None if is_counted else asked)
     status, other, err = answer([*command, image, folder / "none"], env=environment)
     same("a kernel that isn't there, and one that is", (status, other), 2, out)
     script(tools, guests.QEMU, f"head -n 99 {folder}/guest; echo why >&2")
@@ -352,24 +387,36 @@ def with_tools(folder):
 # ---- the command line
 
 # What can't be given together, or isn't in range.
-TOGETHER = "give kernels, or --from; --keep and --storm go with kernels"
-RANGES, TIMES = "--random is at least 0, --smp from 1 to 8", "--seconds and --storm are at least 1"
+TOGETHER = "give kernels, --build or --from, and --from without --keep, --run, --storm"
+RANGES = "--random is at least 0, --smp from 1 to 8"
+TIMES = "--seconds, --storm and --jobs are at least 1"
+COUNT = "--count goes with neither --kvm nor --storm"
+OF_BUILD = "--mended, --rt, --debug, --config and --objects go with --build"
 WRONG = {"": TOGETHER, "a --from f": TOGETHER, "--from f --keep k": TOGETHER,
-         "--from f --storm 1": TOGETHER, "a --random -1": RANGES, "a --smp 0": RANGES, "a --smp 9": RANGES,
-         "a --seconds 0": TIMES, "a --storm 0": TIMES}
+         "--from f --storm 1": TOGETHER, "--from f --run true": TOGETHER,
+         "--build s --from f": TOGETHER, "a --count --kvm": COUNT, "a --count --storm 1": COUNT,
+         "a --random -1": RANGES, "a --smp 0": RANGES, "a --smp 9": RANGES, "a --seconds 0": TIMES,
+         "a --storm 0": TIMES, "--build s --jobs 0": TIMES, "a --rt": OF_BUILD, "a --debug": OF_BUILD,
+         "a --mended 1": OF_BUILD, "a --config c": OF_BUILD, "a --objects o": OF_BUILD,
+         "--build s --mended 1,4": "argument --mended: '1,4' isn't a list of 1, 2 and 3"}
 
 
 def options():
     """What conform/kernels takes, and what it doesn't."""
     kernels = script_module("kernels")
     usual = {"kernels": ["a", "b"], "random": 300, "seed": 1, "smp": 2, "append": "", "storm": 5,
-             "keep": None, "stored": None, "kvm": False, "seconds": 1800, "pim": None}
+             "keep": None, "stored": None, "kvm": False, "seconds": 1800, "pim": None, "run": None,
+             "count": False, "build": None, "mended": None, "rt": False, "debug": False,
+             "config": None, "jobs": len(os.sched_getaffinity(0)), "objects": None}
     same("kernels: what isn't given", parsed_as(kernels, "a", "b", "--storm", "5"), usual)
+    got = parsed_as(kernels, "--build", "s", "--mended", "3,1,3", "--rt", "--debug")
+    same("kernels: a build", [got[name] for name in ("kernels", "build", "mended", "rt", "debug")],
+         [[], pathlib.Path("s"), "13", True, True])
     for words, wanted in WRONG.items():
         same(f"kernels: {words or 'nothing'}", parsed_as(kernels, *words.split()), 2, wanted)
     status, out, _ = answer([ROOT / "conform/kernels", "--help"])
     same("kernels --help", (status, b"linux-image-" in out, b"Status: 0" in out), 0, True, True)
 
 
-PARTS = (archives, printed_parts, files, packages, boots, lacking, tables, unexplained, stored_run,
-         whole_runs, signals, options)
+PARTS = (archives, commands_in_archives, printed_parts, files, packages, boots, lacking, tables,
+         unexplained, stored_run, whole_runs, signals, options)
