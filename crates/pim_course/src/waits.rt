@@ -243,10 +243,13 @@ impl Search {
             return Ok(());
         }
         self.named = id;
-        match sources.ids.mutex(id) {
-            Some(is) => put(&mut self.mutexes, (is.process, is.address), id),
-            None => Ok(()),
+        let Some(is) = sources.ids.mutex(id) else {
+            return Ok(());
+        };
+        if is.process == 0 {
+            let _before = self.mutexes.remove(&(record.process, is.address));
         }
+        put(&mut self.mutexes, (is.process, is.address), id)
     }
 
     /// Adds the requests whose place a record shows, and drops those whose place isn't known by the end of the wait.

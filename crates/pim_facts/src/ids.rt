@@ -253,7 +253,7 @@ impl Ids {
                 is_recursive: is_recursive_in(record.detail),
             },
         )?;
-        put(&mut places.mutexes, (process, record.object), mutex)?;
+        places.begin_mutex(process, record, mutex)?;
         Ok(mutex)
     }
 
@@ -282,6 +282,15 @@ impl Places {
             self.threads.get(&(record.process, record.object))
         };
         found.copied().unwrap_or(0)
+    }
+
+    /// Keeps where a mutex is found. One that processes share takes the place of the one before it
+    /// that wasn't shared.
+    fn begin_mutex(&mut self, process: u32, record: &Record, mutex: u32) -> Result<(), AllocError> {
+        if process == 0 {
+            let _before = self.mutexes.remove(&(record.process, record.object));
+        }
+        put(&mut self.mutexes, (process, record.object), mutex)
     }
 }
 
