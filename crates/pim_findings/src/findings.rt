@@ -1,6 +1,7 @@
 //! What is found in a recording.
 
 use crate::lists::push;
+use crate::waiting::{Open, Waiting};
 use pim_course::{Course, Sources, family_of};
 use pim_facts::{Fact, Family, What};
 use std::alloc::{AllocError, Global};
@@ -60,18 +61,19 @@ pub struct FoundMutex {
     pub longest_owner: u32,
     /// From when on its last owner has it, or had it.
     owned_since: Option<u64>,
-    /// Who released it last while others waited, and none of them had it next, or 0.
-    left_by: u32,
+    /// Its last release, while it is free.
+    left: Left,
 }
 
-/// A wait that lasts.
+/// A release of a mutex.
 #[derive(Clone, Copy, PartialEq, Eq)]
-struct Open {
-    mutex: u32,
-    owner: u32,
-    began: u64,
-    level: u8,
-    owner_level: u8,
+struct Left {
+    /// Who released it.
+    thread: u32,
+    /// How many waits had begun by then.
+    begun: u64,
+    /// The number of the first of the waits for it then. 0: nobody waited.
+    first: u64,
 }
 
 /// What is found in a recording.
@@ -86,8 +88,7 @@ pub struct Findings {
     /// The threads that wait for each other at the end of the log. Each waits for a mutex of the next, and the last for
     /// one of the first; a thread 0 stands behind each such cycle.
     pub deadlocked: Vec<u32>,
-    /// By thread.
-    open: Vec<Open>,
+    waiting: Waiting,
 }
 
 const UNSEEN: FoundMutex = FoundMutex {
@@ -103,16 +104,31 @@ const UNSEEN: FoundMutex = FoundMutex {
     longest: 0,
     longest_owner: 0,
     owned_since: None,
-    left_by: 0,
+    left: NOT_LEFT,
 };
 
-const CLOSED: Open = Open {
-    mutex: 0,
-    owner: 0,
-    began: 0,
-    level: 0,
-    owner_level: 0,
+const NOT_LEFT: Left = Left {
+    thread: 0,
+    begun: 0,
+    first: 0,
 };
+
+impl HandOvers {
+    /// Counts a hand-over after this release to a thread, whose wait for the mutex has this number, or 0 if it doesn't
+    /// wait.
+    fn count(&mut self, left: &Left, thread: u32, number: u64) {
+        let is_early = number != 0 && number <= left.begun;
+        if number == left.first {
+            self.in_order = self.in_order.saturating_add(1);
+        } else if thread == left.thread && !is_early {
+            self.to_last_owner = self.to_last_owner.saturating_add(1);
+        } else if number != 0 {
+            self.to_later = self.to_later.saturating_add(1);
+        } else {
+            self.to_newcomer = self.to_newcomer.saturating_add(1);
+        }
+    }
+}
 
 impl FoundMutex {
     /// Returns whether some thread owned it while it was in the trace.
@@ -133,7 +149,7 @@ impl Findings {
             waits: 0,
             mutexes: vec![in alloc; UNSEEN; sources.ids.mutexes.len()]?,
             deadlocked: Vec::new(alloc),
-            open: vec![in alloc; CLOSED; sources.ids.threads.len()]?,
+            waiting: Waiting::new(alloc, sources.ids.threads.len())?,
         })
     }
 
@@ -158,8 +174,7 @@ impl Findings {
         }
     }
 
-    /// Learns from a fact of this time, before its steps are made. The course has it already. The
-    /// thread that is first in the queue of the fact's mutex by then is `first`.
+    /// Learns from a fact of this time. The course has already gone past its record.
     ///
     /// # Errors
     ///
@@ -170,39 +185,34 @@ impl Findings {
         course: &Course,
         fact: &Fact,
         time: u64,
-        first: Option<u32>,
     ) -> Result<(), AllocError> {
         match fact.what {
-            What::Waits => {
-                self.begin_wait(course, fact, time);
-                Ok(())
-            }
+            What::Waits => self.begin_wait(course, fact, time),
             What::GaveUp => self.end_wait(sources, fact.thread, time, false),
             What::Granted => {
-                self.own(fact, time);
+                self.own(sources, fact, time)?;
                 self.end_wait(sources, fact.thread, time, false)
             }
-            What::Released(next) => {
+            What::Released(_) => {
                 self.release(fact, time);
-                self.hand_over(course, fact, next, first);
+                self.leave(sources, course, fact);
                 Ok(())
             }
             _ => Ok(()),
         }
     }
 
-    fn begin_wait(&mut self, course: &Course, fact: &Fact, time: u64) {
+    fn begin_wait(&mut self, course: &Course, fact: &Fact, time: u64) -> Result<(), AllocError> {
         let thread = course.thread(fact.thread);
-        let place = fact.thread as usize;
-        if place < self.open.len() {
-            self.open[place] = Open {
-                mutex: fact.mutex,
-                owner: thread.awaited_owner,
-                began: time,
-                level: thread.level,
-                owner_level: course.thread(thread.awaited_owner).level,
-            };
-        }
+        let wait = Open {
+            number: 0,
+            mutex: fact.mutex,
+            owner: thread.awaited_owner,
+            began: time,
+            level: thread.level,
+            owner_level: course.thread(thread.awaited_owner).level,
+        };
+        self.waiting.begin(fact.thread, wait)
     }
 
     /// Ends the wait of a thread, if it waits.
@@ -213,12 +223,10 @@ impl Findings {
         time: u64,
         is_open: bool,
     ) -> Result<(), AllocError> {
-        let place = thread as usize;
-        if place >= self.open.len() || self.open[place].mutex == 0 {
+        let open = self.waiting.end(thread);
+        if open.number == 0 {
             return Ok(());
         }
-        let open = self.open[place];
-        self.open[place] = CLOSED;
         let is_none = family_of(sources, open.mutex) == Family::None;
         self.keep(FoundWait {
             thread,
@@ -269,18 +277,25 @@ impl Findings {
     }
 
     /// A thread has a mutex from now on.
-    fn own(&mut self, fact: &Fact, time: u64) {
+    fn own(&mut self, sources: &Sources, fact: &Fact, time: u64) -> Result<(), AllocError> {
         let mut found = self.mutex(fact.mutex);
         found.owned_since = Some(time);
-        if found.left_by != 0 {
-            if found.left_by == fact.thread {
-                found.hand_overs.to_last_owner = found.hand_overs.to_last_owner.saturating_add(1);
-            } else if fact.since == 0 {
-                found.hand_overs.to_newcomer = found.hand_overs.to_newcomer.saturating_add(1);
-            }
-            found.left_by = 0;
+        let left = found.left;
+        if left.first != 0 && self.waiting.has_early(fact.mutex, left.begun) {
+            let wait = self.waiting.of(fact.thread);
+            let number = if wait.mutex == fact.mutex {
+                wait.number
+            } else {
+                0
+            };
+            found.hand_overs.count(&left, fact.thread, number);
         }
+        found.left = NOT_LEFT;
         self.put_mutex(fact.mutex, found);
+        if family_of(sources, fact.mutex) == Family::Protect {
+            self.waiting.protect(fact.mutex)?;
+        }
+        Ok(())
     }
 
     /// The owner of a mutex has it no more.
@@ -294,24 +309,16 @@ impl Findings {
         self.put_mutex(fact.mutex, found);
     }
 
-    /// A mutex goes to the next owner. This thread is first in its queue by then.
-    fn hand_over(&mut self, course: &Course, fact: &Fact, next: u32, first: Option<u32>) {
+    /// Keeps who waits for a mutex as it is released, and who is first.
+    fn leave(&mut self, sources: &Sources, course: &Course, fact: &Fact) {
         let mut found = self.mutex(fact.mutex);
-        let is_handed = next != 0 && course.mutex(fact.mutex).owner == next;
-        if is_handed {
-            if first == Some(next) {
-                found.hand_overs.in_order = found.hand_overs.in_order.saturating_add(1);
-            } else {
-                found.hand_overs.to_later = found.hand_overs.to_later.saturating_add(1);
-            }
-        }
-        let is_awaited = course.mutex(fact.mutex).waiting > 0;
-        found.left_by = if is_handed || !is_awaited {
-            0
-        } else {
-            fact.thread
+        found.left = Left {
+            thread: fact.thread,
+            begun: self.waiting.begun(),
+            first: self.waiting.first(sources, course, fact),
         };
         self.put_mutex(fact.mutex, found);
+        self.waiting.leave(fact.mutex);
     }
 
     /// Ends the waits that last at the end of the log, which has this time, and finds the deadlocks.

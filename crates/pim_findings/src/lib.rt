@@ -5,7 +5,7 @@
 //!
 //! ```text
 //! let mut findings = Findings::new(alloc, &sources)?;
-//! findings.look(&sources, &walk.course, &fact, time, first_waiter)?;
+//! findings.look(&sources, &walk.course, &fact, time)?;
 //! findings.end(alloc, &sources, &walk.course, ended)?;
 //! findings.longest.first(); // Some: the longest wait
 //! ```
@@ -13,5 +13,6 @@
 
 mod findings;
 mod lists;
+mod waiting;
 
 pub use findings::{Findings, FoundMutex, FoundWait, HandOvers};

@@ -72,13 +72,6 @@ impl TraceBuilder {
         })
     }
 
-    /// Returns the thread that is first in the queue of a mutex of the log.
-    pub fn first_waiter(&self, context: &Context, mutex: u32) -> Option<u32> {
-        let number = self.mutex_of(context, mutex)?;
-        let (first, _wait) = self.replay.first_queued(number)?;
-        Some(self.thread_at(first))
-    }
-
     /// Ends the trace, and returns its pieces and who appears in it.
     ///
     /// # Errors

@@ -267,8 +267,7 @@ fn show_fact(
     ensures fault { IfErr result (NamesOnly now.now.number) }
 {
     if sections.has(fact) {
-        let first = builder.first_waiter(context, fact.mutex);
-        findings.look(context.sources, &walk.course, fact, now.time, first)?;
+        findings.look(context.sources, &walk.course, fact, now.time)?;
         return builder.build(context, fact, now);
     }
     if !may_be_left_out(&walk.course, context.sources, fact) {

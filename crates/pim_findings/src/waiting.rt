@@ -1,0 +1,238 @@
+//! Who waits for which mutex, and who is the first waiter.
+
+use crate::lists::push;
+use pim_course::{Course, Sources, family_of};
+use pim_facts::{Fact, Family};
+use std::alloc::{AllocError, Global};
+
+/// A wait that lasts.
+#[derive(Clone, Copy, PartialEq, Eq)]
+pub(crate) struct Open {
+    /// From 1 on, in the order in which waits begin. 0: the thread doesn't wait.
+    pub number: u64,
+    pub mutex: u32,
+    pub owner: u32,
+    pub began: u64,
+    pub level: u8,
+    pub owner_level: u8,
+}
+
+/// The waits that last.
+#[derive(Drop)]
+pub(crate) struct Waiting {
+    /// By thread.
+    open: Vec<Open>,
+    /// How many waits have begun.
+    begun: u64,
+    /// The threads that wait, in the order in which they began to.
+    threads: Vec<u32>,
+    /// The PROTECT mutexes that have an owner.
+    protecting: Vec<u32>,
+    /// By thread its effective level, as far as it is computed.
+    effective: Vec<u8>,
+}
+
+const CLOSED: Open = Open {
+    number: 0,
+    mutex: 0,
+    owner: 0,
+    began: 0,
+    level: 0,
+    owner_level: 0,
+};
+
+impl Waiting {
+    /// Returns that none of these threads waits.
+    ///
+    /// # Errors
+    ///
+    /// Returns `AllocError` if out of memory.
+    pub fn new(alloc: Global, threads: usize) -> Result<Waiting, AllocError> {
+        Ok(Waiting {
+            open: vec![in alloc; CLOSED; threads]?,
+            begun: 0,
+            threads: Vec::new(alloc),
+            protecting: Vec::new(alloc),
+            effective: vec![in alloc; 0; threads]?,
+        })
+    }
+
+    /// Returns the wait of a thread.
+    pub fn of(&self, thread: u32) -> Open {
+        self.open.get(thread as usize).copied().unwrap_or(CLOSED)
+    }
+
+    /// Returns how many waits have begun.
+    pub fn begun(&self) -> u64 {
+        self.begun
+    }
+
+    /// A thread begins to wait. The wait gets its number.
+    ///
+    /// # Errors
+    ///
+    /// Returns `AllocError` if out of memory.
+    pub fn begin(&mut self, thread: u32, wait: Open) -> Result<(), AllocError> {
+        let place = thread as usize;
+        if place < self.open.len() {
+            push(&mut self.threads, thread)?;
+            self.begun = self.begun.saturating_add(1);
+            self.open[place] = Open {
+                number: self.begun,
+                ..wait
+            };
+        }
+        Ok(())
+    }
+
+    /// Ends the wait of a thread, and returns it.
+    pub fn end(&mut self, thread: u32) -> Open {
+        let wait = self.of(thread);
+        if wait.number != 0 && (thread as usize) < self.open.len() {
+            self.open[thread as usize] = CLOSED;
+            remove(&mut self.threads, thread);
+        }
+        wait
+    }
+
+    /// A PROTECT mutex has an owner from now on.
+    ///
+    /// # Errors
+    ///
+    /// Returns `AllocError` if out of memory.
+    pub fn protect(&mut self, mutex: u32) -> Result<(), AllocError> {
+        push(&mut self.protecting, mutex)
+    }
+
+    /// A mutex has no owner any more.
+    pub fn leave(&mut self, mutex: u32) {
+        remove(&mut self.protecting, mutex);
+    }
+
+    /// Returns whether a wait for a mutex lasts that was among the first so many to begin.
+    pub fn has_early(&self, mutex: u32, begun: u64) -> bool {
+        for thread in &self.threads {
+            let wait = self.of(*thread);
+            if wait.mutex == mutex && wait.number <= begun {
+                return true;
+            }
+        }
+        false
+    }
+
+    /// Returns the number of the first wait for the mutex that the fact's thread releases: that of the thread with the
+    /// highest effective level, and of equal ones the earliest. 0: nobody waits.
+    pub fn first(&mut self, sources: &Sources, course: &Course, fact: &Fact) -> u64 {
+        if self.count(fact.mutex) > 1 {
+            self.find_levels(sources, course, fact);
+        }
+        let mut first = 0;
+        let mut highest = 0;
+        for thread in &self.threads {
+            let wait = self.of(*thread);
+            let level = self.effective_of(*thread);
+            if wait.mutex == fact.mutex && (first == 0 || level > highest) {
+                first = wait.number;
+                highest = level;
+            }
+        }
+        first
+    }
+
+    /// Returns how many threads wait for a mutex.
+    fn count(&self, mutex: u32) -> usize {
+        let mut count = 0usize;
+        for thread in &self.threads {
+            if self.of(*thread).mutex == mutex {
+                count = count.saturating_add(1);
+            }
+        }
+        count
+    }
+
+    /// Computes the effective level of each thread that waits, before the fact's thread releases its mutex: the highest
+    /// of its own level, the ceilings of its PROTECT mutexes, and the effective levels of those that wait for its INHERIT
+    /// mutexes. Each thread raises those along its chain, up to one that isn't lower.
+    fn find_levels(&mut self, sources: &Sources, course: &Course, fact: &Fact) {
+        for thread in &self.threads {
+            let place = *thread as usize;
+            if place < self.effective.len() {
+                self.effective[place] = 0;
+            }
+        }
+        for place in 0..self.threads.len() {
+            let thread = self.threads.get(place).copied().unwrap_or(0);
+            let level = self.own_level(course, fact, thread);
+            self.raise_from(sources, course, fact, thread, level);
+        }
+    }
+
+    /// Raises the effective level of a thread, and of those along its chain, to this one.
+    fn raise_from(
+        &mut self,
+        sources: &Sources,
+        course: &Course,
+        fact: &Fact,
+        first: u32,
+        level: u8,
+    ) {
+        let mut thread = first;
+        for _hop in 0..self.open.len() {
+            if !self.raise(thread, level) {
+                break;
+            }
+            thread = self.heir_of(sources, course, fact, thread);
+        }
+    }
+
+    /// Raises the effective level of a thread to this one. Returns whether it was lower.
+    fn raise(&mut self, thread: u32, level: u8) -> bool {
+        let place = thread as usize;
+        if place >= self.effective.len() || self.effective[place] >= level {
+            return false;
+        }
+        self.effective[place] = level;
+        true
+    }
+
+    fn effective_of(&self, thread: u32) -> u8 {
+        self.effective.get(thread as usize).copied().unwrap_or(0)
+    }
+
+    /// Returns the higher of a thread's level and the ceilings of its PROTECT mutexes.
+    fn own_level(&self, course: &Course, fact: &Fact, thread: u32) -> u8 {
+        let mut level = course.thread(thread).level;
+        for mutex in &self.protecting {
+            if owner_before(course, fact, *mutex) == thread {
+                level = level.max(course.mutex(*mutex).ceiling);
+            }
+        }
+        level
+    }
+
+    /// Returns the thread to which a waiter donates its level, or 0.
+    fn heir_of(&self, sources: &Sources, course: &Course, fact: &Fact, thread: u32) -> u32 {
+        let mutex = self.of(thread).mutex;
+        if mutex != 0 && family_of(sources, mutex) == Family::Inherit {
+            owner_before(course, fact, mutex)
+        } else {
+            0
+        }
+    }
+}
+
+/// Returns the owner of a mutex before the fact's thread releases its own.
+fn owner_before(course: &Course, fact: &Fact, mutex: u32) -> u32 {
+    if mutex == fact.mutex {
+        fact.thread
+    } else {
+        course.mutex(mutex).owner
+    }
+}
+
+/// Removes the first item that is this one.
+fn remove(list: &mut Vec<u32>, one: u32) {
+    if let Some(place) = list.iter().position(|other| *other == one) {
+        let _removed = list.remove(place);
+    }
+}
