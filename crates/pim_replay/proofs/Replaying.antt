@@ -1,5 +1,5 @@
 -- What the steps of a replay make of the program.
-use Rattle.std.proofs.Common.{All, ◌≡◌, ◌≢◌, ◌≤◌, ◌+◌, ◌⊎◌, arith, ◌&&◌, ℕ, zero, suc, List, ◌++◌, ◌∷◌, [], length}
+use Rattle.std.proofs.Common.{◌≡◌, ◌≢◌, ◌≤◌, ◌+◌, ◌⊎◌, arith, ◌&&◌, ℕ, zero, suc, List, ◌++◌, ◌∷◌, [], length}
 use Rattle.std.proofs.Common.{Bool, true, false, not, is_some, cond, eqb, Option, Some, None, unwrap_or, slice_get}
 use Rattle.std.proofs.Common.{set, refl, sym, ◌∙◌, ap, ap₂, subst, inl, inr}
 use Rattle.std.specs.Option.{option_or}
@@ -9,9 +9,8 @@ use Rattle.pim_base.specs.Lists.{nth, put, holds}
 use Rattle.pim_base.specs.State.{State, IsState, IsTask, owner_of, wait_of, protocol_of, count_of, is_recursive}
 use Rattle.pim_base.specs.State.{with_owner, with_count, with_wait, queued}
 use Rattle.pim_base.specs.Checks.{unknown_task, unknown_mutex, is_waiting}
-use Rattle.pim_base.specs.Queues.{first_of, queue_of, waiter_of}
+use Rattle.pim_base.specs.Queues.{first_of}
 use Rattle.pim_base.specs.Runs.{IsRun}
-use Rattle.pim_base.specs.Steady.{HasOwnTickets}
 use Rattle.pim_base.specs.Steps.{unless, answer, served, handed, is_kept, reply_of, after, after_reply, hand_over_to}
 use Rattle.pim_base.specs.declared.steps.Op.{Op}
 use Rattle.pim_base.specs.declared.steps.Step.{Step}
@@ -20,12 +19,10 @@ use Rattle.pim_base.specs.declared.steps.Refusal.{Refusal}
 use Rattle.pim_base.specs.declared.steps.Reply.{Reply}
 use Rattle.pim_base.specs.declared.steps.Wait.{Wait}
 use Rattle.pim_base.specs.declared.steps.Waiter.{Waiter}
-use Rattle.pim_base.proofs.InOrder.{queue_law, waits_for}
 use Rattle.pim_base.proofs.Kept.{known_from_tests}
 use Rattle.pim_base.proofs.NoCycle.{idle_now, unwrap_or-put_same}
 use Rattle.pim_base.proofs.Places.{nth-put_same, nth-put_other}
 use Rattle.pim_base.proofs.Prefixes.{prefix_self, prefix_trans}
-use Rattle.pim_manager.specs.Known.{of_mutex}
 use Rattle.pim_replay.specs.Replays.{ReplayState, Program, program_of, IsSame, Continues, lock, unlock, cancel}
 use Rattle.pim_replay.specs.Replays.{IsRefused, awaited, outside_of, mutex_of, with_step, with_outside, with_wait_for}
 use Rattle.pim_replay.specs.Replays.{given, observed}
@@ -141,30 +138,6 @@ refused S t m refusal e known idle =
 pub run_more : (S : State) (es : List Entry) (end : State) (step : Step) → IsRun S es end → IsRun S (es ++ record { step = step; reply = reply_of end step } ∷ []) (after end step)
 run_more S [] end step run = (ap (λ T. reply_of T step) run, ap (λ T. after T step) run)
 run_more S (e ∷ es) end step run = (run.0, run_more (after S e.step) es end step run.1)
-
-abbrev wait_at : ℕ → ℕ → Wait
-wait_at m ticket = record { mutex = m; ticket = ticket }
-
--- the first of the waiters that are shown waits with its ticket
-pub first_waits :
-    (S : State) (m : ℕ) (ws : List Waiter) (w : Waiter)
-    → HasOwnTickets S
-    → Some ws ≡ of_mutex S m (queue_of S m)
-    → slice_get ws 0 ≡ Some w
-    → wait_of S w.task ≡ Some (record { mutex = m; ticket = w.ticket })
-first_waits S m ws w tickets shown first = go (unknown_mutex S m) shown
-  where
-    at : (vs : List Waiter) → All (λ v. IsTask S v.task × (waiter_of S m v.task ≡ Some v)) vs → slice_get vs 0 ≡ Some w → wait_of S w.task ≡ Some (record { mutex = m; ticket = w.ticket })
-    at [] all e = absurd (none-some w e)
-    at (v ∷ vs) all e =
-        let waits = waits_for S m v.task v (all 0 v (omega arith)).1 in
-        let is : v ≡ w = same_Some v w e in
-        let same : waits.wait ≡ wait_at m w.ticket = ap₂ wait_at waits.mutex (sym waits.ticket ∙ ap (λ (x : Waiter). x.ticket) is) in
-        ap (λ (x : Waiter). wait_of S x.task) (sym is) ∙ waits.waits ∙ ap Some same
-
-    go : (b : Bool) → Some ws ≡ cond b None (Some (queue_of S m)) → wait_of S w.task ≡ Some (record { mutex = m; ticket = w.ticket })
-    go true e = absurd (none-some ws (sym e))
-    go false e = at (queue_of S m) (queue_law S m tickets).waiters (ap (λ vs. slice_get vs 0) (sym (same_Some ws (queue_of S m) e)) ∙ first)
 
 pub no_mutex : (o : Option Wait) → mutex_of o ≡ None → o ≡ None
 no_mutex None e = refl

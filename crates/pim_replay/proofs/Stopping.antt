@@ -70,11 +70,6 @@ not_queued_nor_refused reply queued refused (inl is) = queued is
 not_queued_nor_refused reply queued refused (inr (inl is)) = refused Refusal.Deadlock is
 not_queued_nor_refused reply queued refused (inr (inr is)) = refused Refusal.Ceiling is
 
-pub refused_otherwise : (reply : Reply) (refusal : Refusal) → reply ≡ Reply.Refused refusal → refusal ≢ Refusal.Deadlock → refusal ≢ Refusal.Ceiling → ¬ IsWait reply
-refused_otherwise reply refusal refused deadlock ceiling (inl is) = cc
-refused_otherwise reply refusal refused deadlock ceiling (inr (inl is)) = deadlock (cc)
-refused_otherwise reply refusal refused deadlock ceiling (inr (inr is)) = ceiling (cc)
-
 -- ---- the tasks that wait outside
 
 -- who stopped waiting outside doesn't wait there

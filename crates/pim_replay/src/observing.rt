@@ -1,6 +1,6 @@
 //! What each observation makes of a replay.
 
-ghost use Rattle.std.specs.Prelude.{◌≡◌, Some, IsSome, IfOk, IfErr, OnErr, if◌then◌else◌};
+ghost use Rattle.std.specs.Prelude.{◌≡◌, Some, IsSome, IfSome, IfOk, IfErr, OnErr, if◌then◌else◌};
 ghost use Rattle.pim_base.specs.State.{IsState, wait_of};
 ghost use Rattle.pim_base.specs.Steps.{reply_of};
 ghost use Rattle.pim_base.specs.declared.steps.Reply.TheVariants as reply;
@@ -133,21 +133,46 @@ impl Replay {
         }
     }
 
-    /// Takes the waiters before the next owner from the queue of the mutex, or all if there is no such owner.
+    /// Takes the waiters but the next owner from the queue of the mutex, unless that is first. So when they join it again
+    /// none is behind one that began to wait later.
     fn pass_over(&mut self, mutex: MutexNo, next: Option<TaskNo>) -> Result<(), AllocError>
         ensures same { IfOk result (λ _. StaysTheSame self.old self.new) }
         ensures continues { Continues self.old self.new }
     {
+        if self.is_first(mutex, &next) {
+            return Ok(());
+        }
         for _round in 0..MAX_TASKS {
-            let Some((first, wait)) = self.first_queued(mutex) else {
+            let Some((task, wait)) = self.queued_but(mutex, &next) else {
                 break;
             };
-            if Some(first) == next {
-                break;
-            }
-            self.set_aside(first, wait)?;
+            self.set_aside(task, wait)?;
         }
         Ok(())
+    }
+
+    /// Returns whether this task is the first in the queue of the mutex.
+    fn is_first(&self, mutex: MutexNo, task: &Option<TaskNo>) -> bool {
+        match self.manager().waiters(mutex) {
+            Some(waiters) => match waiters.first() {
+                Some(first) => Some(first.task) == *task,
+                None => false,
+            },
+            None => false,
+        }
+    }
+
+    /// Returns the first task but this one in the queue of the mutex, with its wait.
+    fn queued_but(&self, mutex: MutexNo, but: &Option<TaskNo>) -> Option<(TaskNo, Wait)>
+        ensures { IfSome result (λ first. wait_of self.now.state first.0 ≡ Some first.1) }
+    {
+        for waiter in self.manager().waiters(mutex)? {
+            if Some(waiter.task) != *but {
+                let wait = self.queued_wait(waiter.task)?;
+                return Some((waiter.task, wait));
+            }
+        }
+        None
     }
 
     /// Takes the task from the queue in which it has this wait. It waits outside then.

@@ -138,21 +138,6 @@ impl Replay {
         self.manager.owner(mutex).flatten()
     }
 
-    /// Returns the first task in the queue of the mutex, with its wait.
-    pub fn first_queued(&self, mutex: MutexNo) -> Option<(TaskNo, Wait)>
-        ensures { IfSome result (λ first.
-            (wait_of self.now.state first.0 ≡ Some first.1) × (first.1.mutex ≡ mutex)) }
-    {
-        // By its contract the proof knows that the state is steady.
-        let _steady = self.manager.tasks();
-        let first = self.manager.waiters(mutex)?.first()?;
-        let wait = Wait {
-            mutex,
-            ticket: first.ticket,
-        };
-        Some((first.task, wait))
-    }
-
     /// Returns the first task behind this one, by ticket and number, that waits for the mutex outside of its queue.
     pub(crate) fn first_outside(
         &self,
