@@ -26,12 +26,15 @@ pub struct CourseMutex {
     pub owner: u32,
     /// The one before it that isn't its owner any more, or 0.
     pub last_owner: u32,
-    /// How often its owner has locked it. 0 from the release on until the next owner is known to have it.
+    /// From a release on until the next grant the thread that is granted it then, if that waits for
+    /// it since before the release. Else 0.
+    pub next_owner: u32,
+    /// How often its owner has locked it. 0 if it has none.
     pub depth: u32,
     /// How many threads wait for it.
     pub waiting: u32,
-    /// The critical section that lasts, or, where it is free, the next one if a thread waits for
-    /// it. Else 0.
+    /// The critical section that lasts, up to the next grant if it has a next owner. Where it is
+    /// free, the next one if a thread waits for it. Else 0.
     pub section: u32,
     /// The level of its ceiling.
     pub ceiling: u8,
@@ -46,6 +49,8 @@ pub struct CourseThread {
     pub awaited_owner: u32,
     /// The critical section in which its wait began.
     pub section: u32,
+    /// Whether its level was above the ceiling of that mutex when it began to wait.
+    pub was_above: bool,
     /// Its own mutex, which it locks again, or 0.
     pub awaits_own: u32,
     /// Its level.
@@ -63,12 +68,15 @@ pub struct Course {
     pub sections: u32,
     /// What the record shows up to which the course is followed.
     pub shown: Facts,
+    /// Whether that record contradicts those before it.
+    pub is_contradiction: bool,
 }
 
 /// What isn't known of a mutex.
 const FREE: CourseMutex = CourseMutex {
     owner: 0,
     last_owner: 0,
+    next_owner: 0,
     depth: 0,
     waiting: 0,
     section: 0,
@@ -80,6 +88,7 @@ const IDLE: CourseThread = CourseThread {
     awaits: 0,
     awaited_owner: 0,
     section: 0,
+    was_above: false,
     awaits_own: 0,
     level: 0,
 };
@@ -108,6 +117,7 @@ impl Course {
             threads,
             sections: 0,
             shown: Facts::none(),
+            is_contradiction: false,
         })
     }
 
@@ -135,16 +145,17 @@ impl Course {
         }
     }
 
-    /// Goes on by a record. Adds what it shows to `shown`, and returns why the record is left out if none of that is in
-    /// the trace.
+    /// Goes on by a record. Adds what it shows to `shown`, notes whether it is a contradiction, and returns why the record
+    /// is left out if none of what it shows is in the trace.
     pub fn advance(&mut self, sources: &Sources, record: &Record) -> LeftOut {
         let id = sources.ids.of_record(record.number);
+        self.is_contradiction = false;
         match &record.event {
             Event::Thread => self.begin(record),
             Event::Priority => self.set_level(id, record.detail),
             Event::Ceiling => self.set_ceiling(record, id),
             Event::Request => self.request(sources, record, id),
-            Event::Granted => self.grant(&sources.ids, record, id),
+            Event::Granted => self.grant(sources, record, id),
             Event::Failed => self.fail(record.thread, id),
             Event::Release => self.release(sources, record, id),
             _ => LeftOut::Remark,
@@ -152,11 +163,11 @@ impl Course {
     }
 
     /// Goes on by a request that the log lacks: the thread waits for the mutex.
-    pub fn add_request(&mut self, thread: u32, mutex: u32) {
+    pub fn add_request(&mut self, sources: &Sources, thread: u32, mutex: u32) {
         let is = self.mutex(mutex);
         if self.thread(thread).awaits == 0 && is.owner != thread {
             let owner = first_other(thread, [is.owner, is.last_owner, 0, 0]);
-            self.wait(thread, mutex, owner);
+            self.wait(sources, thread, mutex, owner);
         }
     }
 
@@ -228,7 +239,7 @@ impl Course {
     fn request(&mut self, sources: &Sources, record: &Record, mutex: u32) -> LeftOut {
         let thread = record.thread;
         let is = self.mutex(mutex);
-        if is.owner == thread && is.depth > 0 {
+        if is.owner == thread {
             let mut own = self.thread(thread);
             own.awaits_own = if is_recursive(&sources.ids, mutex) {
                 0
@@ -238,28 +249,37 @@ impl Course {
             self.put_thread(thread, own);
             return LeftOut::Again;
         }
-        if mutex == 0 || self.thread(thread).awaits == mutex || is.owner == thread {
+        if mutex == 0 || self.thread(thread).awaits == mutex {
             return LeftOut::Again;
         }
         self.correct_ceiling(record, mutex);
         self.correct_wait(thread, mutex);
-        self.wait(thread, mutex, owner_asked(sources, record, &is));
+        let owner = owner_asked(sources, record, &is);
+        self.wait(sources, thread, mutex, owner);
         LeftOut::Uncontended
     }
 
-    /// A thread waits for a mutex of this owner. If the mutex is free in the log, the wait belongs
-    /// to its next critical section.
-    fn wait(&mut self, thread: u32, mutex: u32, owner: u32) {
+    /// A thread waits for a mutex of this owner. If the mutex is free in the log and has no next
+    /// owner, the wait belongs to its next critical section.
+    fn wait(&mut self, sources: &Sources, thread: u32, mutex: u32, owner: u32) {
         let section = self.section_of(mutex);
+        let was_above = self.is_above(sources, thread, mutex);
         let mut is = self.thread(thread);
         is.awaits = mutex;
         is.awaited_owner = owner;
         is.section = section;
+        is.was_above = was_above;
         self.put_thread(thread, is);
         let mut awaited = self.mutex(mutex);
         awaited.waiting = awaited.waiting.saturating_add(1);
         self.put_mutex(mutex, awaited);
         self.shown.add(fact(What::Waits, thread, mutex, section));
+    }
+
+    /// Returns whether the level of a thread is above the ceiling of a PROTECT mutex.
+    fn is_above(&self, sources: &Sources, thread: u32, mutex: u32) -> bool {
+        family_of(sources, mutex) == Family::Protect
+            && self.thread(thread).level > self.mutex(mutex).ceiling
     }
 
     /// Returns the critical section of a mutex that lasts, or else the next one.
@@ -273,18 +293,21 @@ impl Course {
         is.section
     }
 
-    /// A thread has a mutex.
-    fn grant(&mut self, ids: &Ids, record: &Record, mutex: u32) -> LeftOut {
+    /// A thread has a mutex. Its level isn't above the ceiling, unless it rose, or the ceiling fell, while it waited.
+    fn grant(&mut self, sources: &Sources, record: &Record, mutex: u32) -> LeftOut {
         let thread = record.thread;
-        let is = self.mutex(mutex);
+        let owner = self.mutex(mutex).owner;
         self.forget_own(thread);
-        if mutex == 0 || is.owner == thread && is.depth > 0 {
-            return self.grant_again(ids, thread, mutex);
+        if mutex == 0 || owner == thread {
+            return self.grant_again(&sources.ids, thread, mutex);
         }
         self.correct_ceiling(record, mutex);
         self.correct_wait(thread, mutex);
-        if is.owner != 0 && is.owner != thread {
-            self.hand_over(is.owner, mutex, thread);
+        let is = self.thread(thread);
+        let may_be_above = is.awaits == mutex && !is.was_above;
+        self.is_contradiction = !may_be_above && self.is_above(sources, thread, mutex);
+        if owner != 0 {
+            self.hand_over(owner, mutex, thread);
         }
         self.take(thread, mutex);
         LeftOut::Uncontended
@@ -306,7 +329,7 @@ impl Course {
         LeftOut::Again
     }
 
-    /// A thread owns a mutex that is free, or that was handed to it.
+    /// A thread owns a mutex that is free.
     fn take(&mut self, thread: u32, mutex: u32) {
         let section = self.section_of(mutex);
         let mut owner = self.thread(thread);
@@ -318,6 +341,7 @@ impl Course {
             is.waiting = is.waiting.saturating_sub(1);
         }
         is.owner = thread;
+        is.next_owner = 0;
         is.depth = 1;
         self.put_thread(thread, owner);
         self.put_mutex(mutex, is);
@@ -350,35 +374,26 @@ impl Course {
             self.put_mutex(mutex, is);
             return LeftOut::Again;
         }
-        self.own_what_was_handed(thread, mutex);
         self.correct_wait(thread, 0);
         let next = sources.next_owners.next_owner(record.number);
         self.hand_over(thread, mutex, next);
         LeftOut::Uncontended
     }
 
-    /// A thread releases a mutex that was handed to it, and no record says that it had it.
-    fn own_what_was_handed(&mut self, thread: u32, mutex: u32) {
-        if self.thread(thread).awaits == mutex {
-            self.take(thread, mutex);
-        }
-    }
-
-    /// A mutex goes to the next owner if that waits for it, and else is free.
+    /// A mutex is free, and goes to the next owner if that waits for it.
     fn hand_over(&mut self, thread: u32, mutex: u32, next: u32) {
         let mut is = self.mutex(mutex);
         let section = is.section;
+        is.owner = 0;
         is.last_owner = thread;
         is.depth = 0;
         if next != 0 && self.thread(next).awaits == mutex {
-            is.owner = next;
+            is.next_owner = next;
         } else {
-            is.owner = 0;
             is.section = 0;
         }
         self.put_mutex(mutex, is);
-        self.shown
-            .add(fact(What::Released(next), thread, mutex, section));
+        self.shown.add(fact(What::Released(is.next_owner), thread, mutex, section));
     }
 }
 

@@ -8,7 +8,7 @@ use std::collections::HashMap;
 /// The next owner after each release, found from the end of the log to its begin, and the owner that each request names.
 #[derive(Drop)]
 pub struct NextOwners {
-    /// By the number of a RELEASE the thread that is granted the mutex next, 0 where none is, or
+    /// By the number of a RELEASE what [`next_owner`](NextOwners::next_owner) returns, or
     /// [`REFUSED`]. By the number of a REQUEST what [`asked_owner`](NextOwners::asked_owner)
     /// returns, or, with [`LATER`], what only [`next_granted`](NextOwners::next_granted) does.
     next: Vec<u32>,
@@ -27,6 +27,8 @@ struct Coming {
     owners: Vec<u32>,
     /// By mutex when the call of that thread began, as far as its record says it, else 0.
     began: Vec<u64>,
+    /// By thread the mutex that it is granted next, if it calls nothing before that. Else 0.
+    granted: Vec<u32>,
     /// By thread the mutex whose release fails next, or 0.
     failing: Vec<u32>,
 }
@@ -44,6 +46,7 @@ impl NextOwners {
         let mut coming = Coming {
             owners: vec![in alloc; 0; ids.mutexes.len()]?,
             began: vec![in alloc; 0; ids.mutexes.len()]?,
+            granted: vec![in alloc; 0; ids.threads.len()]?,
             failing: vec![in alloc; 0; ids.threads.len()]?,
         };
         for number in (1..end).rev() {
@@ -58,7 +61,8 @@ impl NextOwners {
         Ok(NextOwners { next })
     }
 
-    /// Returns the thread that is granted the mutex after the RELEASE with this number, or 0 if none is.
+    /// Returns the thread that is granted the mutex next after the RELEASE with this number, if it calls nothing between.
+    /// So if it waits for the mutex then, it waits until the grant. Else 0.
     pub fn next_owner(&self, number: u64) -> u32 {
         match self.next.get(number as usize) {
             Some(next) if *next != REFUSED => *next,
@@ -91,9 +95,16 @@ impl Coming {
     fn read(&mut self, ids: &Ids, record: &Record, named: u32) -> u32 {
         let mutex = ids.of_record(record.number);
         match &record.event {
-            Event::Request if named != 0 => named,
-            Event::Request => self.next_if_asked(ids, record, mutex),
+            Event::Request => {
+                set(&mut self.granted, record.thread, 0);
+                if named != 0 {
+                    named
+                } else {
+                    self.next_if_asked(ids, record, mutex)
+                }
+            }
             Event::Granted => {
+                set(&mut self.granted, record.thread, mutex);
                 set(&mut self.owners, mutex, record.thread);
                 if (mutex as usize) < self.began.len() {
                     self.began[mutex as usize] = record.began().unwrap_or(0);
@@ -101,6 +112,7 @@ impl Coming {
                 0
             }
             Event::Failed => {
+                set(&mut self.granted, record.thread, 0);
                 if get(&self.owners, mutex) == record.thread {
                     set(&mut self.owners, mutex, 0);
                 }
@@ -110,7 +122,10 @@ impl Coming {
                 set(&mut self.failing, record.thread, mutex);
                 0
             }
-            Event::Release => self.read_release(record, mutex),
+            Event::Release => {
+                set(&mut self.granted, record.thread, 0);
+                self.read_release(record, mutex)
+            }
             _ => 0,
         }
     }
@@ -142,7 +157,17 @@ impl Coming {
         if is_failing && record.how & 127 == CONDITION {
             REFUSED
         } else {
-            get(&self.owners, mutex)
+            self.next_owner(mutex)
+        }
+    }
+
+    /// Returns the thread that is granted a mutex next, if it calls nothing before. Else 0.
+    fn next_owner(&self, mutex: u32) -> u32 {
+        let next = get(&self.owners, mutex);
+        if get(&self.granted, next) == mutex {
+            next
+        } else {
+            0
         }
     }
 }

@@ -175,7 +175,7 @@ impl Search {
             mutex,
         };
         if owner != 0 {
-            course.add_request(thread, mutex);
+            course.add_request(sources, thread, mutex);
             return self.add(request);
         }
         let release = get(&self.released, mutex);
@@ -220,7 +220,7 @@ impl Search {
     ) -> Result<(), AllocError> {
         let id = sources.ids.of_record(record.number);
         self.learn(sources, record, id)?;
-        self.settle(&mut walk.course, record, id)?;
+        self.settle(sources, &mut walk.course, record, id)?;
         let thread = record.thread as usize;
         if thread < self.has_asked.len() && self.has_asked[thread] {
             self.has_asked[thread] = false;
@@ -253,7 +253,13 @@ impl Search {
     }
 
     /// Adds the requests whose place a record shows, and drops those whose place isn't known by the end of the wait.
-    fn settle(&mut self, course: &mut Course, record: &Record, id: u32) -> Result<(), AllocError> {
+    fn settle(
+        &mut self,
+        sources: &Sources,
+        course: &mut Course,
+        record: &Record,
+        id: u32,
+    ) -> Result<(), AllocError> {
         if self.pending.is_empty() {
             return Ok(());
         }
@@ -264,7 +270,7 @@ impl Search {
                 Some(0) => {}
                 Some(after) => {
                     if request.thread != record.thread {
-                        course.add_request(request.thread, request.mutex);
+                        course.add_request(sources, request.thread, request.mutex);
                     }
                     self.add(Request { after, ..request })?;
                 }

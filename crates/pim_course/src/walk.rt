@@ -78,7 +78,8 @@ impl Walk {
             return 0;
         };
         self.added = self.added.saturating_add(1);
-        self.course.add_request(request.thread, request.mutex);
+        self.course
+            .add_request(sources, request.thread, request.mutex);
         request.time
     }
 }

@@ -10,7 +10,7 @@ pub enum What {
     Waits,
     /// The thread stopped waiting without the mutex.
     GaveUp,
-    /// The thread released the mutex. This thread, if it isn't 0, is the next to own it.
+    /// The thread released the mutex. This thread, if it isn't 0, waits for it and has it next.
     Released(u32),
     /// The thread has this level from now on.
     Level(u8),

@@ -16,18 +16,23 @@ pub record IsUnawaited (family : Family) (mutex : CourseMutex) : Type 0 where
   pub nobody : mutex.waiting ≡ 0
   pub no_ceiling : family ≢ Family.Protect
 
+-- nobody owns the mutex, and it goes to no waiter
+pub record IsFree (mutex : CourseMutex) : Type 0 where
+  pub no_owner : mutex.owner ≡ 0
+  pub no_next_owner : mutex.next_owner ≡ 0
+
 -- the thread didn't wait for the mutex before the critical section that it is granted
 abbrev pub IsNotHandedOver : Fact → Type 0
 IsNotHandedOver fact = (fact.since ≡ 0) ⊎ (fact.since ≡ fact.section)
 
 -- What happened to a mutex, which is as the record leaves it, changes no priority: it gets or loses an owner while it is
--- unawaited, or somebody begins or stops to wait for it, or it has another ceiling, while nobody owns it.
+-- unawaited, or somebody begins or stops to wait for it, or it has another ceiling, while it is free.
 abbrev pub ChangesNoPriority : What → Family → CourseMutex → Fact → Type 0
 ChangesNoPriority Granted family mutex fact = IsUnawaited family mutex × IsNotHandedOver fact
 ChangesNoPriority (Released next) family mutex fact = IsUnawaited family mutex
-ChangesNoPriority Waits family mutex fact = mutex.owner ≡ 0
-ChangesNoPriority GaveUp family mutex fact = mutex.owner ≡ 0
-ChangesNoPriority (Ceiling level) family mutex fact = (mutex.owner ≡ 0) ⊎ (family ≢ Family.Protect)
+ChangesNoPriority Waits family mutex fact = IsFree mutex
+ChangesNoPriority GaveUp family mutex fact = IsFree mutex
+ChangesNoPriority (Ceiling level) family mutex fact = IsFree mutex ⊎ (family ≢ Family.Protect)
 ChangesNoPriority (Level level) family mutex fact = ⊥
 
 -- a trace may be without the fact

@@ -14,8 +14,8 @@ use pim_manager::MakeFault;
 use pim_replay::{Observation, Piece, Priorities, Replay, ReplayFault, restored};
 use std::alloc::{AllocError, Global};
 
-/// A piece ends where fewer steps than this are left. An observation makes fewer: at most two for each task that waits
-/// and two more, and there are at most 256 tasks.
+/// A piece ends where fewer steps than this are left. A fact makes fewer: at most two for each task that waits and four
+/// more, and there are at most 256 tasks.
 const ROOM: usize = 1024;
 
 /// Who appears in the trace, and when.
@@ -134,15 +134,54 @@ impl TraceBuilder {
     {
         let task = self.enter_thread(context, fact.thread, now)?;
         let mutex = self.enter_mutex(context, fact.mutex, now)?;
-        let observation = match fact.what {
-            What::Granted => Observation::Granted(task, mutex),
-            What::Waits => Observation::Waits(task, mutex),
-            What::Released(next) => {
-                Observation::Released(task, mutex, self.task_of(context, next))
+        match fact.what {
+            What::Granted => {
+                let grant = Observation::Granted(task, mutex);
+                self.observe_grant(&Some(task), mutex, &grant, now)
             }
-            _ => Observation::GaveUp(task),
+            What::Waits => self.observe(&Observation::Waits(task, mutex), now),
+            What::Released(next) => {
+                let next = self.task_of(context, next);
+                let release = Observation::Released(task, mutex, next);
+                self.observe_grant(&next, mutex, &release, now)
+            }
+            _ => self.observe(&Observation::GaveUp(task), now),
+        }
+    }
+
+    /// Makes the steps of an observation by which a mutex goes to this task. Its priority may be above the ceiling if it
+    /// wasn't as the task began to wait, but the model looks at it again if the task is in no queue. So it is that of the
+    /// ceiling meanwhile.
+    fn observe_grant(
+        &mut self,
+        task: &Option<TaskNo>,
+        mutex: MutexNo,
+        observation: &Observation,
+        now: &Now,
+    ) -> Result<(), ImportFault>
+        ensures { IfErr result (NamesOnly now.now.number) }
+    {
+        let Some((task, base, ceiling)) = self.above_ceiling(task, mutex) else {
+            return self.observe(observation, now);
         };
-        self.observe(&observation, now)
+        self.observe(&Observation::Base(task, ceiling), now)?;
+        self.observe(observation, now)?;
+        self.observe(&Observation::Base(task, base), now)
+    }
+
+    /// Returns a task that waits for a mutex outside of its queue, its priority, and the ceiling of the mutex, if that is
+    /// lower.
+    fn above_ceiling(&self, task: &Option<TaskNo>, mutex: MutexNo) -> Option<(TaskNo, Prio, Prio)> {
+        let task = (*task)?;
+        let manager = self.replay.manager();
+        let is_outside = manager.waits_for(task) == Some(None);
+        let ceiling = manager.protocol(mutex)?.ceiling()?;
+        let base = manager.base(task)?;
+        if is_outside && self.replay.awaits(task) == Some(mutex) && base > ceiling {
+            Some((task, base, ceiling))
+        } else {
+            None
+        }
     }
 
     /// Returns the task that a thread is now.

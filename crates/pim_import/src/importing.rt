@@ -180,6 +180,9 @@ fn play(
     let mut tally = Tally::new();
     for number in 1..end {
         let moment = walk.read(log, context.sources, number);
+        if walk.course.is_contradiction {
+            return Err(ImportFault::Contradiction(number));
+        }
         let now = Now {
             number,
             time: moment.time,

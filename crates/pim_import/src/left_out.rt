@@ -1,7 +1,7 @@
 //! What a trace may be without.
 
 ghost use Rattle.std.specs.Prelude.{◌≡◌, ◌↔◌, IsTrue};
-ghost use Rattle.pim_import.specs.LeftOut.{ChangesNoPriority, MayBeLeftOut, IsNotHandedOver, IsUnawaited};
+ghost use Rattle.pim_import.specs.LeftOut.{ChangesNoPriority, MayBeLeftOut, IsFree, IsNotHandedOver, IsUnawaited};
 
 use pim_course::{Course, CourseMutex, Sources, family_of};
 use pim_facts::{Fact, Family, What};
@@ -22,10 +22,17 @@ fn changes_no_priority(family: Family, mutex: &CourseMutex, fact: &Fact) -> bool
     match fact.what {
         What::Granted => is_unawaited(family, mutex) && is_not_handed_over(fact),
         What::Released(_) => is_unawaited(family, mutex),
-        What::Waits | What::GaveUp => mutex.owner == 0,
-        What::Ceiling(_) => mutex.owner == 0 || family != Family::Protect,
+        What::Waits | What::GaveUp => is_free(mutex),
+        What::Ceiling(_) => is_free(mutex) || family != Family::Protect,
         What::Level(_) => false,
     }
+}
+
+/// Returns whether nobody owns the mutex, and it goes to no waiter.
+fn is_free(mutex: &CourseMutex) -> bool
+    ensures { IsTrue result ↔ IsFree mutex.now }
+{
+    mutex.owner == 0 && mutex.next_owner == 0
 }
 
 /// Returns whether nobody waits for the mutex, and it isn't a PROTECT one.
