@@ -25,8 +25,11 @@ const LATER: u32 = 1 << 31;
 struct Coming {
     /// By mutex the thread that is granted it next, or 0.
     owners: Vec<u32>,
-    /// By mutex when the call of that thread began, as far as its record says it, else 0.
+    /// By mutex when the call of that thread began. If its record doesn't say it: 0 up to the record of the thread before
+    /// that, and then the highest time.
     began: Vec<u64>,
+    /// By thread the mutex that it is granted next, if that record doesn't say when its call began. Else 0.
+    beginning: Vec<u32>,
     /// By thread the mutex that it is granted next, if it calls nothing before that. Else 0.
     granted: Vec<u32>,
     /// By thread the mutex whose release fails next, or 0.
@@ -46,6 +49,7 @@ impl NextOwners {
         let mut coming = Coming {
             owners: vec![in alloc; 0; ids.mutexes.len()]?,
             began: vec![in alloc; 0; ids.mutexes.len()]?,
+            beginning: vec![in alloc; 0; ids.threads.len()]?,
             granted: vec![in alloc; 0; ids.threads.len()]?,
             failing: vec![in alloc; 0; ids.threads.len()]?,
         };
@@ -94,6 +98,7 @@ impl Coming {
     /// Records what a record says, and returns what is kept of it. A REQUEST names this thread.
     fn read(&mut self, ids: &Ids, record: &Record, named: u32) -> u32 {
         let mutex = ids.of_record(record.number);
+        self.begin_behind(record);
         match &record.event {
             Event::Request => {
                 set(&mut self.granted, record.thread, 0);
@@ -103,19 +108,9 @@ impl Coming {
                     self.next_if_asked(ids, record, mutex)
                 }
             }
-            Event::Granted => {
-                set(&mut self.granted, record.thread, mutex);
-                set(&mut self.owners, mutex, record.thread);
-                if (mutex as usize) < self.began.len() {
-                    self.began[mutex as usize] = record.began().unwrap_or(0);
-                }
-                0
-            }
+            Event::Granted => self.read_grant(record, mutex),
             Event::Failed => {
                 set(&mut self.granted, record.thread, 0);
-                if get(&self.owners, mutex) == record.thread {
-                    set(&mut self.owners, mutex, 0);
-                }
                 0
             }
             Event::ReleaseFailed => {
@@ -128,6 +123,31 @@ impl Coming {
             }
             _ => 0,
         }
+    }
+
+    /// A call whose begin its GRANTED doesn't say began behind the record of its thread before that, which this is.
+    fn begin_behind(&mut self, record: &Record) {
+        let mutex = get(&self.beginning, record.thread);
+        if mutex == 0 || record.event == Event::Text {
+            return;
+        }
+        set(&mut self.beginning, record.thread, 0);
+        let is_next = get(&self.owners, mutex) == record.thread;
+        if is_next && (mutex as usize) < self.began.len() {
+            self.began[mutex as usize] = u64::MAX;
+        }
+    }
+
+    fn read_grant(&mut self, record: &Record, mutex: u32) -> u32 {
+        let began = record.began();
+        set(&mut self.granted, record.thread, mutex);
+        set(&mut self.owners, mutex, record.thread);
+        let beginning = if began.is_none() { mutex } else { 0 };
+        set(&mut self.beginning, record.thread, beginning);
+        if (mutex as usize) < self.began.len() {
+            self.began[mutex as usize] = began.unwrap_or(0);
+        }
+        0
     }
 
     /// Returns the next owner of the mutex of a REQUEST if it may be the owner already: another thread, with the number
