@@ -118,7 +118,10 @@ impl TraceBuilder {
                     return Ok(false);
                 };
                 let ceiling = context.priorities.of_level(level);
+                let owner = self.replay.owner(mutex);
+                let moved = self.set_aside(owner, now)?;
                 self.observe(&Observation::Ceiling(mutex, ceiling), now)?;
+                self.put_back(moved.as_slice(), now)?;
                 Ok(true)
             }
             What::Granted | What::Waits | What::GaveUp | What::Released(_) => {
@@ -143,7 +146,9 @@ impl TraceBuilder {
             What::Released(next) => {
                 let next = self.task_of(context, next);
                 let release = Observation::Released(task, mutex, next);
-                self.observe_grant(&next, mutex, &release, now)
+                let moved = self.set_aside(Some(task), now)?;
+                self.observe_grant(&next, mutex, &release, now)?;
+                self.put_back(moved.as_slice(), now)
             }
             _ => self.observe(&Observation::GaveUp(task), now),
         }
@@ -182,6 +187,65 @@ impl TraceBuilder {
         } else {
             None
         }
+    }
+
+    /// Takes a task out of the queue in which it waits, so that it can act, and those who began to wait there after it.
+    /// Returns the waits in their order.
+    fn set_aside(
+        &mut self,
+        task: Option<TaskNo>,
+        now: &Now,
+    ) -> Result<Vec<(u64, u16, u16)>, ImportFault>
+        ensures { IfErr result (NamesOnly now.now.number) }
+    {
+        let waits = self.waits_from(task)?;
+        for (_ticket, task, _mutex) in &waits {
+            self.observe(&Observation::GaveUp(TaskNo(*task)), now)?;
+        }
+        Ok(waits)
+    }
+
+    /// Returns the waits in the queue of a task from its own on, in the order in which they began, each with its ticket,
+    /// its task and its mutex.
+    fn waits_from(&self, task: Option<TaskNo>) -> Result<Vec<(u64, u16, u16)>, AllocError> {
+        let mut waits = Vec::new(self.alloc);
+        let Some((task, mutex)) = self.queue_of(task) else {
+            return Ok(waits);
+        };
+        let Some(waiters) = self.replay.manager().waiters(mutex) else {
+            return Ok(waits);
+        };
+        let mut own = u64::MAX;
+        for waiter in waiters {
+            if waiter.task == task {
+                own = waiter.ticket;
+            }
+        }
+        for waiter in waiters {
+            if waiter.ticket >= own {
+                push(&mut waits, (waiter.ticket, waiter.task.get(), mutex.get()))?;
+            }
+        }
+        waits.sort_unstable();
+        Ok(waits)
+    }
+
+    /// Returns the task, and the mutex in whose queue it is.
+    fn queue_of(&self, task: Option<TaskNo>) -> Option<(TaskNo, MutexNo)> {
+        let task = task?;
+        let mutex = self.replay.manager().waits_for(task)??;
+        Some((task, mutex))
+    }
+
+    /// Lets tasks wait again.
+    fn put_back(&mut self, waits: &[(u64, u16, u16)], now: &Now) -> Result<(), ImportFault>
+        ensures { IfErr result (NamesOnly now.now.number) }
+    {
+        for (_ticket, task, mutex) in waits {
+            let wait = Observation::Waits(TaskNo(*task), MutexNo(*mutex));
+            self.observe(&wait, now)?;
+        }
+        Ok(())
     }
 
     /// Returns the task that a thread is now.
