@@ -12,7 +12,6 @@ from collections import Counter
 
 import plain_facts
 import plain_findings
-import plain_known
 from checks import ROOT, check
 from random_log import RandomLog
 from record_import import IMPORTER
@@ -187,41 +186,21 @@ def is_all_of(seed):
     return seed % 2 == 0
 
 
-def known_difference(plain, is_all, differ):
-    """Returns why pim-import is known to differ so from the plain implementation, or None."""
-    in_all, by_record, by_mutex = plain_known.doubts_of(plain.log, plain.facts, is_all)
-    if in_all:
-        return in_all
-    what, got, wanted = differ[0]
-    if what == "fault":
-        return by_record.get(got)
-    if what != "hand-overs" or len(differ) > 1:
-        return None
-    reasons = {plain.mutex(mutex): sorted(why) for mutex, why in by_mutex.items()}
-    others = {one[0] for one in set(got) ^ set(wanted)}
-    return reasons[min(others)][0] if others <= set(reasons) else None
-
-
 def compared(folder, seeds):
     """Compares the logs with these seeds. Returns by seed the first difference of each log that
-    differs, how many differ as it is known, by why, and how much was compared."""
-    path, found = pathlib.Path(folder, "random"), {}
-    known, total = Counter(), Counter()
+    differs, and how much was compared."""
+    path, found, total = pathlib.Path(folder, "random"), {}, Counter()
     for seed in seeds:
         log, is_all = RandomLog(seed), is_all_of(seed)
         data = log.data()
-        plain = Plain(data)
-        wanted = plain.found(is_all)
+        wanted = Plain(data).found(is_all)
         differ = differences(wanted, imported(path, data, is_all))
-        why = known_difference(plain, is_all, differ) if differ else None
-        if why:
-            known[why] += 1
-        elif differ:
+        if differ:
             found[seed] = differ[0]
         elif not log.is_damaged and broken_law(data):
             found[seed] = "laws", broken_law(data), "none broken"
         count(total, wanted)
-    return found, known, total
+    return found, total
 
 
 def broken_law(data):
@@ -252,17 +231,15 @@ def by_hand(folder):
     logs.update({log.name: log.read_bytes() for log in kept})
     for name, data in logs.items():
         for is_all in (False, True):
-            plain = Plain(data, has_modules=True)
-            differ = differences(plain.found(is_all), imported(path, data, is_all, True))
-            is_known = differ and known_difference(plain, is_all, differ)
-            why = None if not differ or is_known else "{}: {} in place of {}".format(*differ[0])
+            differ = difference_of(path, data, is_all, has_modules=True)
+            why = "{}: {} in place of {}".format(*differ) if differ else None
             check(f"the plain findings of {name}{' with --all' if is_all else ''}", why)
 
 
 def plain(folder):
     """Compares a few hundred random logs, whose seeds are fixed."""
     by_hand(folder)
-    found, _known, total = compared(folder, range(FIRST_SEED, FIRST_SEED + LOGS))
+    found, total = compared(folder, range(FIRST_SEED, FIRST_SEED + LOGS))
     for seed, (what, got, wanted) in found.items():
         check(f"the findings of random log {seed}: {what}", f"{got} in place of {wanted}")
     check(f"pim-import finds in {LOGS} random logs what the plain implementation finds",
