@@ -5,8 +5,8 @@
  *
  *   heap/malloc.c   the C library's malloc, realloc and free
  *   heap/static.c   one static array, for a program without a C library
- *   heap/given.c    memory that the program hands over by pim_heap_give, of pim_heap_given.h,
- *                   before it makes a manager
+ *   heap/given.c    for each manager memory of its own, an argument of pim_make_in, of
+ *                   pim_heap_given.h
  *
  * Only pim_make calls rattle_alloc and rattle_realloc; only pim_drop, and a pim_make that fails or
  * has made its manager, call rattle_dealloc. They are called by the thread that calls pim_make and

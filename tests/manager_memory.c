@@ -21,8 +21,7 @@ int main(void) {
     for (unsigned n = 0; n <= PIM_MAX_TASKS; n++)
         for (unsigned m = 0; m <= PIM_MAX_MUTEXES; m += n < 70 || m < 20 || m > 240 ? 1 : 17) {
             struct pim_handle h = PIM_HANDLE_INIT;
-            pim_heap_give(memory, PIM_MEMORY(n, m));
-            if (pim_make(&h, bases, n, protocols, m) != PIM_MADE) {
+            if (pim_make_in(&h, memory, PIM_MEMORY(n, m), bases, n, protocols, m) != PIM_MADE) {
                 printf("%u tasks and %u mutexes need more than %u bytes\n", n, m, PIM_MEMORY(n, m));
                 return 1;
             }

@@ -1,6 +1,6 @@
-/* Two managers in the memory that PIM_MEMORY says for both, from the static array or from memory
- * that is handed over: neither changes the other, and the memory is there again once both are
- * dropped. Prints how many pairs there were, or what is wrong. */
+/* Two managers in the memory that PIM_MEMORY says for both, from the static array or each in memory
+ * of its own: neither changes the other, and the memory is there again once both are dropped.
+ * Prints how many pairs there were, or what is wrong. */
 #include "pim.h"
 #ifdef GIVEN
 #include "pim_heap_given.h"
@@ -12,6 +12,9 @@
 enum { PAIRS = 20 };
 
 static unsigned pair;
+#ifdef GIVEN
+static _Alignas(16) unsigned char first_memory[PIM_MEMORY(3, 1)], second_memory[PIM_MEMORY(5, 4)];
+#endif
 
 static void must(int holds, const char *what) {
     if (holds) return;
@@ -23,10 +26,10 @@ static uint32_t make_first(struct pim_handle *h) {
     static const uint16_t bases[] = { 10, 50, 90 };
     static const struct pim_protocol protocols[] = { { PIM_INHERIT, 0 } };
 #ifdef GIVEN
-    static _Alignas(16) unsigned char memory[PIM_MEMORY(3, 1)];
-    pim_heap_give(memory, sizeof memory);
-#endif
+    return pim_make_in(h, first_memory, sizeof first_memory, bases, 3, protocols, 1);
+#else
     return pim_make(h, bases, 3, protocols, 1);
+#endif
 }
 
 static uint32_t make_second(struct pim_handle *h) {
@@ -35,10 +38,10 @@ static uint32_t make_second(struct pim_handle *h) {
         { PIM_PROTECT, 80 }, { PIM_NONE, 0 }, { PIM_INHERIT, 0 }, { PIM_INHERIT_RECURSIVE, 0 }
     };
 #ifdef GIVEN
-    static _Alignas(16) unsigned char memory[PIM_MEMORY(5, 4)];
-    pim_heap_give(memory, sizeof memory);
-#endif
+    return pim_make_in(h, second_memory, sizeof second_memory, bases, 5, protocols, 4);
+#else
     return pim_make(h, bases, 5, protocols, 4);
+#endif
 }
 
 /* Task 1 owns mutex 1 and executes at 90, since task 3 waits for it. */
@@ -93,7 +96,32 @@ static void drop_one(struct pim_handle *first, struct pim_handle *second) {
     }
 }
 
+#ifdef GIVEN
+static int is_in(const void *at, const unsigned char *memory, size_t bytes) {
+    return (uintptr_t)at >= (uintptr_t)memory && (uintptr_t)at < (uintptr_t)memory + bytes;
+}
+#endif
+
+/* What pim_make_in returns of too little memory, and whose the memory is then; each manager is in
+ * its own. */
+static void see_memory(void) {
+#ifdef GIVEN
+    static const uint16_t bases[] = { 10, 50, 90 }, too_high[] = { 100 };
+    static const struct pim_protocol no_mutexes[1];
+    struct pim_handle h = PIM_HANDLE_INIT;
+    must(pim_make_in(&h, first_memory, 16, bases, 3, no_mutexes, 0) == PIM_FAULT_NO_MEMORY, "in 16 bytes");
+    must(pim_make_in(&h, NULL, 0, bases, 3, no_mutexes, 0) == PIM_FAULT_NO_MEMORY, "in no memory");
+    must(pim_make_in(&h, first_memory, sizeof first_memory, too_high, 1, no_mutexes, 0) == PIM_FAULT_BAD_BASE, "a fault");
+    must(pim_make(&h, bases, 3, no_mutexes, 0) == PIM_FAULT_NO_MEMORY, "in the memory of an earlier call");
+    must(h.at == NULL, "a handle after faults");
+    must(make_first(&h) == PIM_MADE && is_in(h.at, first_memory, sizeof first_memory), "the memory of the first");
+    must(pim_make_in(&h, second_memory, sizeof second_memory, bases, 3, no_mutexes, 0) == PIM_FAULT_OCCUPIED, "two in a handle");
+    pim_drop(&h);
+#endif
+}
+
 int main(void) {
+    see_memory();
     struct pim_handle first = PIM_HANDLE_INIT, second = PIM_HANDLE_INIT;
     for (pair = 1; pair <= PAIRS; pair++) {
         make_both(&first, &second);

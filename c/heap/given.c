@@ -1,11 +1,10 @@
-/* The memory of libpim is what the program hands over before each pim_make:
+/* Each manager is in memory of the program:
  *
  *     static _Alignas(16) unsigned char memory[PIM_MEMORY(16, 8)];
  *
- *     pim_heap_give(memory, sizeof memory);
- *     pim_make(&locks, bases, 16, protocols, 8); // PIM_FAULT_NO_MEMORY if it was too little
+ *     pim_make_in(&locks, memory, sizeof memory, bases, 16, protocols, 8);
  *     ..
- *     pim_drop(&locks);                          // from here on the memory is the program's again
+ *     pim_drop(&locks);            // from here on the memory is the program's again
  *
  * Blocks are taken from the front of the memory, in whole units of 16 aligned bytes, one at least,
  * and none is used twice: it comes back as a whole.
@@ -21,6 +20,14 @@ static unsigned char none[16];
 void pim_heap_give(void *memory, size_t bytes) {
     rest = memory;
     left = bytes;
+}
+
+uint32_t pim_make_in(struct pim_handle *h, void *memory, size_t bytes, const uint16_t *bases,
+                     uint64_t tasks, const struct pim_protocol *protocols, uint64_t mutexes) {
+    pim_heap_give(memory, bytes);
+    uint32_t fault = pim_make(h, bases, tasks, protocols, mutexes);
+    pim_heap_give(NULL, 0);
+    return fault;
 }
 
 struct pim_block rattle_alloc(size_t n, size_t a) {

@@ -1,10 +1,12 @@
 #include "mutexes.h"
 
 #include "fast_path.h"
+#include "pim_heap_given.h"
 
 /* The kernel's lock is held from a step of libpim until its answer is carried out. */
 static struct pim_handle locks = PIM_HANDLE_INIT;
 static struct pim_changed_task changed[MAX_THREADS];
+static _Alignas(16) unsigned char memory[PIM_MEMORY(MAX_THREADS, MAX_MUTEXES)];
 
 _Static_assert(MAX_MUTEXES <= 64, "wake_new_owners has a bit for each mutex");
 
@@ -78,7 +80,8 @@ uint32_t mutexes_start(const uint16_t *bases, uint16_t thread_count,
     kernel_enter();
     fast_start(protocols, mutex_count);
     pim_drop(&locks);
-    uint32_t fault = pim_make(&locks, bases, thread_count, protocols, mutex_count);
+    uint32_t fault = pim_make_in(&locks, memory, sizeof memory, bases, thread_count, protocols,
+                                 mutex_count);
     kernel_leave();
     return fault;
 }
