@@ -71,9 +71,13 @@
  *     nothing.
  *   - The CPU is the one that libpim.a was built for: an x86-64 of level v2 at least, which has
  *     SSE4.2, since pim_make uses its instructions; or a 64-bit ARM, little-endian, of ARMv8.0-A
- *     or later, which has AArch64 with its floating-point and vector registers.
+ *     or later, which has AArch64 with its floating-point and vector registers. c/narrow builds
+ *     libpim for CPUs of 32 bits, as an experiment.
  *   - A pointer that comes with a count points to that many items, is aligned, isn't null even
  *     where the count is 0, and overlaps no other memory of the call.
+ *   - The memory allows unaligned accesses, also where what a call is passed is aligned: on 64-bit
+ *     ARM, SCTLR_ELx.A is 0, and the memory is normal memory, so the MMU is on. c/narrow builds
+ *     for CPUs without unaligned accesses.
  *   - There are PIM_STACK bytes of stack.
  *   - rattle_alloc, rattle_realloc and rattle_dealloc keep what pim_heap.h says. memmove and memset
  *     are the C library's, or do the same.
@@ -134,7 +138,10 @@
 #include <stddef.h>
 #include <stdint.h>
 
-#if defined(UINTPTR_MAX) && UINTPTR_MAX != 0xFFFFFFFFFFFFFFFFu
+/* ARM and RISC-V of 32 bits: an experiment, and no promise. c/narrow/README.md describes it. */
+#if (defined(__arm__) && !defined(__ARMEB__)) || (defined(__riscv) && __riscv_xlen == 32)
+#define PIM_32_BITS
+#elif defined(UINTPTR_MAX) && UINTPTR_MAX != 0xFFFFFFFFFFFFFFFFu
 #error "libpim is built for 64 bits: x86-64 and 64-bit ARM"
 #endif
 
@@ -173,11 +180,21 @@ extern "C" {
 /* ---- the handle ------------------------------------------------------------------------------ */
 
 /* A manager, if one was made. */
+#ifndef PIM_32_BITS
 struct pim_handle {
     void *at;
 };
 
 #define PIM_HANDLE_INIT { NULL }
+#else
+/* A pointer has 8 bytes in libpim's memory. */
+struct pim_handle {
+    void *at __attribute__((aligned(8)));
+    uint32_t above;
+};
+
+#define PIM_HANDLE_INIT { NULL, 0 }
+#endif
 
 /* ---- numbers --------------------------------------------------------------------------------- */
 
@@ -291,8 +308,8 @@ uint32_t pim_version(void);
 /* Makes a manager of tasks with these base priorities, which are known as 1, 2, .., and of mutexes
  * with these protocols, likewise. All mutexes are free, nobody waits, and the next ticket is 1.
  * Returns PIM_MADE, or why it made none, and then the handle is as it was. */
-uint32_t pim_make(struct pim_handle *h, const uint16_t *bases, size_t tasks,
-                  const struct pim_protocol *protocols, size_t mutexes);
+uint32_t pim_make(struct pim_handle *h, const uint16_t *bases, uint64_t tasks,
+                  const struct pim_protocol *protocols, uint64_t mutexes);
 
 /* Drops the manager, if there is one, and gives its memory back. The handle is then PIM_HANDLE_INIT
  * again. */
@@ -300,6 +317,7 @@ void pim_drop(struct pim_handle *h);
 
 /* ---- steps ----------------------------------------------------------------------------------- */
 
+#ifndef PIM_32_BITS
 /* What refuses a step is listed in the order of its tests, without PIM_REFUSED_. */
 
 /* pthread_mutex_lock: the task owns the mutex if it is free, or recursive and its own already
@@ -342,14 +360,16 @@ struct pim_answer pim_set_ceiling(struct pim_handle *h, uint16_t task, uint16_t 
  * priority changes, and pim_changed lists no task then. A trace has no line for it. Refused:
  * NO_PROTOCOL, NO_MUTEX, BUSY. */
 struct pim_answer pim_set_protocol(struct pim_handle *h, uint16_t mutex, uint16_t kind, uint16_t ceiling);
+#endif
 
 /* ---- what the last step changed -------------------------------------------------------------- */
 
 /* Copies the tasks whose effective priority the last step changed, in ascending order, at most
  * `room` of them, and returns how many there are. They are the tasks that a scheduler has to queue
  * anew: all of them, and no others. None where no step was made yet, where the last one was refused,
- * and where pim_set_protocol was answered PIM_SET since. */
-size_t pim_changed(const struct pim_handle *h, struct pim_changed_task *to, size_t room);
+ * and where pim_set_protocol was answered PIM_SET since. Where the answer's `visits` is 0 there is
+ * none. */
+uint64_t pim_changed(const struct pim_handle *h, struct pim_changed_task *to, uint64_t room);
 
 /* ---- what stands ----------------------------------------------------------------------------- */
 
@@ -358,7 +378,7 @@ size_t pim_changed(const struct pim_handle *h, struct pim_changed_task *to, size
 
 /* Copies those who wait for the mutex, the next owner first, at most `room` of them, and returns
  * how many there are. */
-size_t pim_waiters(const struct pim_handle *h, uint16_t mutex, struct pim_waiter *to, size_t room);
+uint64_t pim_waiters(const struct pim_handle *h, uint16_t mutex, struct pim_waiter *to, uint64_t room);
 
 /* Return how many tasks and mutexes there are, 0 without a manager. */
 uint16_t pim_task_count(const struct pim_handle *h);
@@ -373,9 +393,6 @@ uint16_t pim_effective_prio(const struct pim_handle *h, uint16_t task);
 /* Returns the base priority of the task, 0 for an unknown one. */
 uint16_t pim_base_prio(const struct pim_handle *h, uint16_t task);
 
-/* Returns why the task has its effective priority. */
-struct pim_reason pim_task_reason(const struct pim_handle *h, uint16_t task);
-
 /* Returns the mutex that the task waits for, 0 where it waits for none, PIM_UNKNOWN for an unknown
  * task. */
 uint16_t pim_waits_for(const struct pim_handle *h, uint16_t task);
@@ -387,9 +404,98 @@ uint16_t pim_owner(const struct pim_handle *h, uint16_t mutex);
  * unknown mutex. It is above 1 of a recursive mutex alone. */
 uint16_t pim_lock_count(const struct pim_handle *h, uint16_t mutex);
 
+#ifndef PIM_32_BITS
+/* Returns why the task has its effective priority. */
+struct pim_reason pim_task_reason(const struct pim_handle *h, uint16_t task);
+
 /* Returns the protocol of the mutex; its kind is PIM_UNKNOWN for an unknown mutex. The ceiling is 0
  * unless the mutex is a PROTECT one. */
 struct pim_protocol pim_mutex_protocol(const struct pim_handle *h, uint16_t mutex);
+#endif
+
+/* ---- 32 bits --------------------------------------------------------------------------------- */
+
+/* How a small struct is returned differs between CPUs of 32 bits, and a pointer is passed in one way.
+ * So libpim has functions for them that write the struct to `to`, and those above are made of
+ * these. */
+#ifdef PIM_32_BITS
+void pim_lock_to(struct pim_handle *h, uint16_t task, uint16_t mutex, struct pim_answer *to);
+void pim_try_to(struct pim_handle *h, uint16_t task, uint16_t mutex, struct pim_answer *to);
+void pim_unlock_to(struct pim_handle *h, uint16_t task, uint16_t mutex, struct pim_answer *to);
+void pim_release_all_to(struct pim_handle *h, uint16_t task, struct pim_answer *to);
+void pim_cancel_to(struct pim_handle *h, uint16_t task, uint16_t target, struct pim_answer *to);
+void pim_set_base_to(struct pim_handle *h, uint16_t task, uint16_t target, uint16_t prio,
+                     struct pim_answer *to);
+void pim_set_ceiling_to(struct pim_handle *h, uint16_t task, uint16_t mutex, uint16_t ceiling,
+                        struct pim_answer *to);
+void pim_set_protocol_to(struct pim_handle *h, uint16_t mutex, uint16_t kind, uint16_t ceiling,
+                         struct pim_answer *to);
+void pim_task_reason_to(const struct pim_handle *h, uint16_t task, struct pim_reason *to);
+void pim_mutex_protocol_to(const struct pim_handle *h, uint16_t mutex, struct pim_protocol *to);
+
+static inline struct pim_answer pim_lock(struct pim_handle *h, uint16_t task, uint16_t mutex) {
+    struct pim_answer to;
+    pim_lock_to(h, task, mutex, &to);
+    return to;
+}
+
+static inline struct pim_answer pim_try(struct pim_handle *h, uint16_t task, uint16_t mutex) {
+    struct pim_answer to;
+    pim_try_to(h, task, mutex, &to);
+    return to;
+}
+
+static inline struct pim_answer pim_unlock(struct pim_handle *h, uint16_t task, uint16_t mutex) {
+    struct pim_answer to;
+    pim_unlock_to(h, task, mutex, &to);
+    return to;
+}
+
+static inline struct pim_answer pim_release_all(struct pim_handle *h, uint16_t task) {
+    struct pim_answer to;
+    pim_release_all_to(h, task, &to);
+    return to;
+}
+
+static inline struct pim_answer pim_cancel(struct pim_handle *h, uint16_t task, uint16_t target) {
+    struct pim_answer to;
+    pim_cancel_to(h, task, target, &to);
+    return to;
+}
+
+static inline struct pim_answer pim_set_base(struct pim_handle *h, uint16_t task, uint16_t target,
+                                             uint16_t prio) {
+    struct pim_answer to;
+    pim_set_base_to(h, task, target, prio, &to);
+    return to;
+}
+
+static inline struct pim_answer pim_set_ceiling(struct pim_handle *h, uint16_t task, uint16_t mutex,
+                                                uint16_t ceiling) {
+    struct pim_answer to;
+    pim_set_ceiling_to(h, task, mutex, ceiling, &to);
+    return to;
+}
+
+static inline struct pim_answer pim_set_protocol(struct pim_handle *h, uint16_t mutex, uint16_t kind,
+                                                 uint16_t ceiling) {
+    struct pim_answer to;
+    pim_set_protocol_to(h, mutex, kind, ceiling, &to);
+    return to;
+}
+
+static inline struct pim_reason pim_task_reason(const struct pim_handle *h, uint16_t task) {
+    struct pim_reason to;
+    pim_task_reason_to(h, task, &to);
+    return to;
+}
+
+static inline struct pim_protocol pim_mutex_protocol(const struct pim_handle *h, uint16_t mutex) {
+    struct pim_protocol to;
+    pim_mutex_protocol_to(h, mutex, &to);
+    return to;
+}
+#endif
 
 /* ---- that this file fits libpim -------------------------------------------------------------- */
 
@@ -401,7 +507,9 @@ struct pim_protocol pim_mutex_protocol(const struct pim_handle *h, uint16_t mute
 /* C99 and C++98: an array of -1 items is an error. */
 #define PIM_ASSERT(holds, text) extern char pim_fits_libpim[(holds) ? 1 : -1]
 #endif
+#ifndef PIM_32_BITS
 PIM_ASSERT(sizeof(size_t) == 8 && sizeof(void *) == 8, "libpim is built for 64 bits");
+#endif
 PIM_ASSERT(sizeof(struct pim_handle) == 8, "struct pim_handle");
 PIM_ASSERT(sizeof(struct pim_protocol) == 4, "struct pim_protocol");
 PIM_ASSERT(sizeof(struct pim_answer) == 8 && offsetof(struct pim_answer, visits) == 4, "struct pim_answer");

@@ -54,12 +54,20 @@ def two_managers(folder, machine):
 def memory(folder, machine=HERE):
     heaps(folder, machine)
     two_managers(folder, machine)
-    refused = machine.compiled(folder, "refused", TESTS / "refused_blocks.c", flags=machine.sanitized)
-    if refused:
-        machine.passes("each block refused", refused)
     read_only = machine.compiled(folder, "read_only", TESTS / "read_only.c", C / "heap/given.c")
     if read_only:
         machine.passes("getters in memory that can only be read", read_only)
+    refused_blocks(folder, machine)
+    manager_memory(folder, machine)
+
+
+def refused_blocks(folder, machine):
+    refused = machine.compiled(folder, "refused", TESTS / "refused_blocks.c", flags=machine.sanitized)
+    if refused:
+        machine.passes("each block refused", refused)
+
+
+def manager_memory(folder, machine):
     sized = machine.compiled(folder, "sized", TESTS / "manager_memory.c", C / "heap/given.c")
     if sized:
         machine.passes("PIM_MEMORY", sized)

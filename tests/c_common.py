@@ -1,6 +1,7 @@
 """What the checks of libpim share: its files, and runs of compilers and programs."""
 import os
 import subprocess
+import tempfile
 
 from checks import ROOT, SECONDS, check, difference
 
@@ -44,6 +45,7 @@ class Machine:
     def __init__(self, out, compiler, tools, runs, sanitizers):
         self.out, self.compiler, self.tools, self.runs = out, compiler, tools, runs
         self.sanitized = ("-g", "-O1", f"-fsanitize={sanitizers}", "-fno-sanitize-recover=all")
+        self.options, self.bits = (), 64
 
     def tool(self, name, *words):
         """Returns what a tool prints of libpim.a."""
@@ -53,13 +55,19 @@ class Machine:
     def run(self, program, *words, **settings):
         return run(*self.runs, program, *words, **settings)
 
+    def replay(self, text):
+        """Returns status, standard error and standard output of c/replay.c, which asks every getter."""
+        command = [*self.runs, self.out / "replay", "-check"]
+        done = subprocess.run(command, input=text, capture_output=True, timeout=SECONDS)
+        return done.returncode, done.stderr, done.stdout
+
     def passes(self, name, program):
         passes(name, *self.runs, program)
 
     def compiled(self, folder, name, *sources, flags=("-O2",)):
         """Returns the path of what the compiler makes of C files with libpim, or None where it refuses them."""
         made = os.path.join(folder, name)
-        command = [self.compiler, f"-I{C}", "-std=c11", "-Wall", "-Wextra", "-Werror", *flags]
+        command = [self.compiler, *self.options, f"-I{C}", "-std=c11", "-Wall", "-Wextra", "-Werror", *flags]
         status, out = run(*command, *sources, self.out / "libpim.a", "-o", made)
         if status:
             check(f"{name} is compiled", said(out))
@@ -71,3 +79,37 @@ HERE = Machine(OUT, "cc", "", (), "address,undefined")
 QEMU = ("qemu-aarch64-static", "-cpu", "cortex-a53", "-L", "/usr/aarch64-linux-gnu")
 ARM_TARGET = "aarch64-unknown-linux-gnu"
 ARM = Machine(OUT / ARM_TARGET, "aarch64-linux-gnu-gcc", "aarch64-linux-gnu-", QEMU, "undefined")
+
+
+class Narrow(Machine):
+    """qemu's Cortex-M3, with newlib. Its programs read a file, and write both streams to standard output."""
+
+    CORTEX_M3 = ("qemu-system-arm", "-M", "mps2-an385", "-cpu", "cortex-m3", "-nodefaults", "-display", "none",
+                 "-monitor", "none", "-serial", "null", "-net", "none", "-chardev", "stdio,id=console")
+
+    def __init__(self):
+        super().__init__(OUT / "narrow/cortex-m3", "arm-none-eabi-gcc", "arm-none-eabi-", self.CORTEX_M3, None)
+        self.sanitized, self.bits = ("-O1",), 32
+        self.options = ("-mcpu=cortex-m3", "-mthumb", "--specs=rdimon.specs", "-nostartfiles", C / "narrow/m3.c",
+                        "-T", C / "narrow/m3.ld", "-Wl,--gc-sections", "-Wl,--no-warn-execstack")
+
+    def run(self, program, *words, text=b""):
+        with tempfile.NamedTemporaryFile() as file:
+            file.write(text)
+            file.flush()
+            arguments = "".join(f",arg={word}" for word in (program, file.name, *words))
+            shared = f"enable=on,target=native,chardev=console{arguments}"
+            command = [*self.runs, "-semihosting-config", shared, "-kernel", str(program)]
+            done = subprocess.run(command, stdin=subprocess.DEVNULL, capture_output=True, timeout=SECONDS)
+        return done.returncode, done.stdout
+
+    def replay(self, text):
+        status, out = self.run(self.out / "replay", "-check", text=text)
+        return status, b"", out
+
+    def passes(self, name, program):
+        status, out = self.run(program)
+        check(f"{name}: {said(out)}" if status == 0 else name, (said(out) or f"status {status}") if status else None)
+
+
+CORTEX_M3 = Narrow()

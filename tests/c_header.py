@@ -12,7 +12,7 @@ MAIN = "int main(void) { struct pim_handle h = PIM_HANDLE_INIT; return h.at != 0
 
 STRUCTS = {"Handle": "pim_handle", "CProtocol": "pim_protocol", "CAnswer": "pim_answer", "CReason": "pim_reason",
            "CWaiter": "pim_waiter", "CChangedTask": "pim_changed_task"}
-TYPES = {"u8": "uint8_t", "u16": "uint16_t", "u32": "uint32_t", "u64": "uint64_t", "usize": "size_t",
+TYPES = {"u8": "uint8_t", "u16": "uint16_t", "u32": "uint32_t", "u64": "uint64_t", "usize": "uint64_t",
          "*mut u8": "void *", **{name: f"struct {c}" for name, c in STRUCTS.items()}}
 
 
@@ -85,7 +85,8 @@ def layouts(folder, machine=HERE):
         in_header = [" ".join(line.split()) for line in re.findall(r"^    ([^;/]+);", body, re.M)]
         in_rattle = [f"{kind} {field}".replace("* ", "*") for field, kind in found]
         check(f"the fields of struct {c}", difference((in_header,), (in_rattle,)))
-        tests += laid_out(c, found)
+        if name != "Handle" or machine.bits == 64:  # pim.h asserts its size for 32 bits
+            tests += laid_out(c, found)
     compiles("the layouts of the structs", folder, tests, machine)
 
 
@@ -175,6 +176,7 @@ def signatures():
     for result, name, params in re.findall(r"^((?:struct )?\w+) (pim_\w+)\(([^()]*)\);", HEADER, re.M):
         named = [] if params == "void" else re.split(r",\s+", params)
         prototypes[name] = [result] + [re.sub(r"\w+$", "", param).strip() for param in named]
+    prototypes = {name: kinds for name, kinds in prototypes.items() if not name.endswith("_to")}  # those of c/narrow
     check("the header's functions", difference((sorted(prototypes),), (sorted(exports),)))
     for name in exports:
         check(f"the prototype of {name}", difference((prototypes.get(name),), (exports[name],)))
@@ -185,5 +187,5 @@ def c_types(kind, handle):
     if kind == "&mut Handle":
         return [handle]
     if slice_of := re.fullmatch(r"&(mut )?\[(\w+)\]", kind):
-        return [f"{'' if slice_of[1] else 'const '}{TYPES[slice_of[2]]} *", "size_t"]
+        return [f"{'' if slice_of[1] else 'const '}{TYPES[slice_of[2]]} *", TYPES["usize"]]
     return [TYPES[kind]]

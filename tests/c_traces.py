@@ -15,9 +15,7 @@ def replayed(name, pim, machine, texts):
     count = 0
     for count, text in enumerate(texts, 1):
         wanted = subprocess.run([pim], input=text, capture_output=True, timeout=SECONDS)
-        replay = [*machine.runs, machine.out / "replay", "-check"]
-        got = subprocess.run(replay, input=text, capture_output=True, timeout=SECONDS)
-        why = difference((got.returncode, got.stderr, got.stdout), (wanted.returncode, b"", wanted.stdout))
+        why = difference(machine.replay(text), (wanted.returncode, b"", wanted.stdout))
         if why:
             return check(f"replayed as the program does: {name}", f"text {count}: {why}")
     check(f"replayed as the program does: {name}, {count} texts", None if count else "there is none")
@@ -39,6 +37,16 @@ def suite(machine):
     """The traces of suite/ and examples/, which tests/suite replays on the machine that it runs on."""
     files = [file for folder in ("suite/traces", "examples") for file in sorted((ROOT / folder).glob("*.pim"))]
     replayed("the suite", program(), machine, (file.read_bytes() for file in files))
+
+
+def some(machine):
+    """Texts of few tasks, for a machine that takes long."""
+    pim = program()
+    for kind, make in TEXTS.items():
+        replayed(f"{kind}, few tasks", pim, machine, (make(*size).encode() for size in SIZES[:4]))
+    replayed("mixed again, few tasks", pim, machine, (mixed(2 + seed % 11, 100, seed).encode() for seed in range(100)))
+    replayed("many locks of a recursive mutex", pim, machine, locked_often())
+    replayed("many tasks", pim, machine, [wide(256, 40).encode()])
 
 
 def replays(machine):
