@@ -84,7 +84,8 @@
  *   - A manager that isn't dropped keeps its memory. pim_make refuses a handle that has one. GCC and
  *     Clang drop it at the end of a scope by __attribute__((cleanup(pim_drop))).
  *   - The floating-point and vector registers may be used: a kernel that keeps them from its own
- *     code saves them around the calls.
+ *     code saves them around the calls. `make general` builds a library for 64-bit ARM that uses
+ *     none of them.
  *
  *
  * What a call costs

@@ -4,7 +4,7 @@ import os
 import re
 import shutil
 
-from c_common import ARM, C, HEADER, HERE, README, expect, run, said
+from c_common import ARM, ARM_GENERAL, ARM_TARGET, C, HEADER, HERE, README, expect, run, said
 from checks import check, difference, skip
 
 
@@ -86,6 +86,23 @@ def arm_level(folder):
     check("libpim for ARM uses ARMv8.0-A alone", assembled(folder, lines))
     later = assembled(folder, [*lines, "ldaddal w0, w1, [x2]"])
     check("an instruction of ARMv8.1-A would be seen", None if later and "ldaddal" in later else str(later))
+
+
+def without_vectors():
+    """`make general` builds libpim without floating-point and vector registers, which libpim has otherwise."""
+    status, out = run("make", "-s", "-C", C, "general", f"TARGET={ARM_TARGET}")
+    if status:
+        return check("make general", said(out))
+    used, none = (vector_registers(machine_code(machine)) for machine in (ARM, ARM_GENERAL))
+    check("libpim has vector registers", None if used else "none is seen")
+    check("libpim by make general has none", " ".join(sorted(none)) or None)
+    return True
+
+
+def vector_registers(code):
+    """Returns those that instructions name. An address has its function after it."""
+    lines = re.findall(r"^ +[0-9a-f]+:\t(.*)$", code, re.M)
+    return {name for line in lines for name in re.findall(r"[ ,{\[\t]([vqdshb]\d{1,2})\b(?! <)", line)}
 
 
 def assembled(folder, lines):

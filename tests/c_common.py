@@ -78,7 +78,8 @@ HERE = Machine(OUT, "cc", "", (), "address,undefined")
 # Cortex-A53 has ARMv8.0-A and nothing more: qemu raises SIGILL at an instruction of a later version.
 QEMU = ("qemu-aarch64-static", "-cpu", "cortex-a53", "-L", "/usr/aarch64-linux-gnu")
 ARM_TARGET = "aarch64-unknown-linux-gnu"
-ARM = Machine(OUT / ARM_TARGET, "aarch64-linux-gnu-gcc", "aarch64-linux-gnu-", QEMU, "undefined")
+ARM, ARM_GENERAL = (Machine(folder, "aarch64-linux-gnu-gcc", "aarch64-linux-gnu-", QEMU, "undefined")
+                    for folder in (OUT / ARM_TARGET, OUT / ARM_TARGET / "general"))
 
 
 class Narrow(Machine):
