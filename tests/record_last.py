@@ -277,7 +277,7 @@ def stuck(reader, broken, folder):
     until(path.exists)
     log = read(reader, path)
     last = [r.event for r in of_thread(log, max(r.chunk.thread for r in log.records))][-1:]
-    does(running, "quiet")  # it waits no more
+    does(running, "quiet")  # its wait has ended
     snapshot(running, 2)  # before it the collector looks at the end of the wait
     running.end()
     found = len([*pathlib.Path(folder).glob("run.snapshot.*")])
