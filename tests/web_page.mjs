@@ -127,6 +127,10 @@ async function typing() {
     const isShown = await page.evaluate(`['time', 'graph'].some(id => document.getElementById(id).firstElementChild.checkVisibility())`)
     show(`typed ${name}`, [await text('verdict'), bad, await report(), slider, isShown])
   }
+  for (const [name, whole] of Object.entries(input.refused)) {
+    await typed(whole)
+    show(`refused ${name}`, await all('#why li', 'it.textContent'))
+  }
   for (const [name, whole] of Object.entries(input.pictures)) {
     await typed(whole)
     show(`picture ${name}`, [await report(), (await lanes()).prios])

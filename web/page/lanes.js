@@ -1,5 +1,5 @@
 // ---- a lane for each task: its priority over the steps, what it owns and what it waits for ----
-const MARKS = { waiter: '▲', ceiling: '◆' }
+const MARKS = { waiter: '▲', ceiling: '◆', refused: '×' }
 const INKS = { waiter: '--boost', ceiling: '--ceil' }
 const BAR = 13, TOP = 20
 const DEEPEST = 50_000 // pixels, more than the lanes of 256 tasks

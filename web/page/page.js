@@ -182,6 +182,8 @@ function drawState(state, room) {
   painter.picture($('graph'), drawGraph(state, room))
   const mark = why => `<span class="${why}" aria-hidden="true">${MARKS[why]}</span>`
   const items = boosts(state).map(({ why, said }) => `<li>${mark(why)} ${escape(said)}</li>`)
+  const refused = refusal(view, now, state)
+  if (refused) items.unshift(`<li>${mark('refused')} ${escape(refused)}</li>`)
   fill($('why'), items)
   const owners = state.mutexes.map((mutex, i) => ownership(i + 1, mutex))
   const waits = state.tasks.flatMap((task, i) =>
