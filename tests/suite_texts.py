@@ -26,6 +26,16 @@ def invalid(kind):
             for name, path in files(SUITE / "invalid", kind).items()}
 
 
+def explained(kind):
+    """Returns each invalid text of this kind for which suite/ says why, with what --explain must give."""
+    found = {name: (text, (2, b"", fault + (SUITE / "invalid" / f"{name}.why").read_bytes()))
+             for name, (text, (_, _, fault)) in invalid(kind).items() if (SUITE / "invalid" / f"{name}.why").exists()}
+    if kind == "pim":
+        why = b"pim: line 65538\npim: line 65538: a text has at most 65536 steps\n"
+        found["65537_steps"] = (b"pim 1\n" + b"1 release\n" * 65_537, (2, b"", why))
+    return found
+
+
 def scripts():
     """Returns the name of each script with its text, and its trace, None if that depends on the schedule."""
     found = {}

@@ -23,7 +23,8 @@ fn words_name_the_job(rt: HostRuntime) {
 
 /// What help says, among other things.
 const TAUGHT: &[&str] = &[
-    "Usage: pim [COMMAND]\n",
+    "Usage: pim [OPTIONS] [COMMAND]\n",
+    "      --explain  Say on a second line why a line is invalid\n",
     "task <n> <base>; mutex <n> none | inherit | protect <ceiling>",
     "where line 1 is 'pim 2',\n<task> ceil <mutex> <ceiling>, and mutex <n> inherit recursive, which",
     "where line 1 is\n'pim 2', kept, and the names not-protect and again.\n",

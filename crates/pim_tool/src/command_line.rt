@@ -1,9 +1,9 @@
 //! The arguments of the command line.
-ghost use Rattle.std.specs.Prelude.{◌≡◌, List, ℕ, map, [], ◌∷◌, codes, IfOk, option_map};
+ghost use Rattle.std.specs.Prelude.{◌≡◌, List, ℕ, map, [], ◌∷◌, codes, IfOk, option_map, true, false};
 ghost use Rattle.clap.specs.Simple.{app_of};
-ghost use Rattle.pim_tool.specs.Words.{pim_app, job_named, Answers};
+ghost use Rattle.pim_tool.specs.Words.{pim_app, job_named, Answers, Asks};
 
-use clap::{Command, Error};
+use clap::{Arg, ArgAction, Command, Error};
 use std::alloc::{AllocError, Global};
 
 /// What the program is to do.
@@ -15,6 +15,15 @@ pub enum Job {
     Run,
     /// Run the script on standard input, and judge the trace of that run.
     Check,
+}
+
+/// What the arguments ask for.
+#[derive(Clone, Copy, Debug, PartialEq, Eq)]
+pub struct Request {
+    /// What the program is to do.
+    pub job: Job,
+    /// Whether it is to say why a line is invalid.
+    pub explain: bool,
 }
 
 /// The text below the options in `--help`.
@@ -56,7 +65,8 @@ steps of all tasks as they came. To judge it: pim run < SCRIPT | pim judge, or f
 pim check < SCRIPT
 
 Input is standard input, results go to standard output, faults to standard error.
-Exit status: 0 accepted, 1 rejected, 2 any fault: 'pim: line <n>' where line n is the first that is invalid,
+Exit status: 0 accepted, 1 rejected, 2 any fault: 'pim: line <n>' where line n is the first that is invalid, with a
+second line that says why under --explain, as in pim --explain < TRACE or pim --explain run < SCRIPT;
 'pim: read' or 'pim: write' where that failed, 'pim: memory' when out of memory; from run and check also
 'pim: too many workers' and 'pim: shared <why>', where the script couldn't be run; or a wrong command line.";
 
@@ -76,14 +86,41 @@ pub fn command<'a>(alloc: Global, words: &'a [&'a str]) -> Result<Job, Error>
     ensures check { (name : List ℕ) → map (λ word. word.now) words.now ≡ name ∷ codes "check" ∷ []
         → Answers result Job.Check }
 {
+    let asked = parse_arguments(alloc, words)?;
+    Ok(asked.job)
+}
+
+/// Returns what the arguments ask for. The first argument is the program's name. `--explain` may come before the job.
+///
+/// # Errors
+///
+/// As those of [`command`].
+pub fn parse_arguments<'a>(alloc: Global, words: &'a [&'a str]) -> Result<Request, Error>
+    ensures none { (name : List ℕ) → map (λ word. word.now) words.now ≡ name ∷ [] → Asks result Job.Judge false }
+    ensures judge { (name : List ℕ) → map (λ word. word.now) words.now ≡ name ∷ codes "judge" ∷ []
+        → Asks result Job.Judge false }
+    ensures run { (name : List ℕ) → map (λ word. word.now) words.now ≡ name ∷ codes "run" ∷ []
+        → Asks result Job.Run false }
+    ensures check { (name : List ℕ) → map (λ word. word.now) words.now ≡ name ∷ codes "check" ∷ []
+        → Asks result Job.Check false }
+    ensures explain { (name : List ℕ) → map (λ word. word.now) words.now ≡ name ∷ codes "--explain" ∷ []
+        → Asks result Job.Judge true }
+{
     let matches = pim(alloc)?.try_get_matches_from(words)?;
-    Ok(job_of(matches.subcommand_name()))
+    Ok(Request {
+        job: job_of(matches.subcommand_name()),
+        explain: matches.get_flag("explain"),
+    })
 }
 
 /// Returns the program's command line.
 fn pim<'a>(alloc: Global) -> Result<Command<'a>, AllocError>
     ensures { IfOk result (λ command. app_of command ≡ pim_app) }
 {
+    let explain = Arg::new(alloc, "explain")
+        .long("explain")
+        .help("Say on a second line why a line is invalid")
+        .action(ArgAction::SetTrue);
     let judge = Command::new(alloc, "judge").about("Print the report of a trace (the default)");
     let run = Command::new(alloc, "run").about("Run a script and print its trace");
     let check = Command::new(alloc, "check").about("Run a script and judge its trace");
@@ -93,6 +130,7 @@ fn pim<'a>(alloc: Global) -> Result<Command<'a>, AllocError>
         )
         .version("0.2.0")
         .after_help(MORE)
+        .arg(explain)?
         .subcommand(judge)?
         .subcommand(run)?
         .subcommand(check)
