@@ -98,10 +98,11 @@ for (let n = 0; existsSync(`${folder}/${n}`); n++) {
   const made = Math.min(MOST_STATES, kind === 0 ? number : number - 1)
   const isDrawn = kind < 2 && length < 1 << 20
   const wrong = isDrawn ? wrongPictures(engine, bytes.toString(), report, made) : [0, 0]
-  console.log(JSON.stringify([kind, number, hash, ...wrong]))
+  const reason = kind === 2 ? engine.explainBytes(bytes, number) : ''
+  console.log(JSON.stringify([kind, number, reason, hash, ...wrong]))
 }
 
-// ---- what pim_judge and pim_read write
+// ---- what pim_judge, pim_read and pim_explain write
 
 const MARK = 0x2d // '-', in each byte that no call wrote
 const BOOSTED = 'pim 1\ntask 1 10\nmutex 1 protect 40\n1 lock 1\n'
@@ -117,6 +118,14 @@ const JUDGED = {
   'a report without a buffer has a length': [BOOSTED, 0, [0, 1, 46], ''],
   'an invalid line has no report': ['pim 1\ntask 1 10\n1 lokc 1\n', 8, [2, 3, 0], ''],
   'an empty text is invalid at line 1': ['', 8, [2, 1, 0], ''],
+}
+
+// a text, a line, the room for a sentence, its length, and what is written
+const EXPLAINED = {
+  'a long buffer has the sentence at its front': ['pim 1\n\n', 2, 40, 29, 'an empty line; there are none'],
+  'a short buffer has the front of the sentence': ['pim 1\n\n', 2, 8, 29, 'an empty'],
+  'a sentence without a buffer has a length': ['pim 1\n\n', 2, 0, 29, ''],
+  'a line that a text lacks has a sentence': ['pim 1\n', 9, 30, 29, "it isn't a line of the format"],
 }
 
 // a text, the rooms for its parts, and what is written: kind, line and counts; bases, protocols and steps
@@ -155,6 +164,13 @@ function wrongJudged([text, room, numbers, report]) {
   return wrongNumbers(got, numbers) ?? wrongBytes(to, room, Buffer.from(report))
 }
 
+function wrongExplained([text, line, room, length, sentence]) {
+  const { pim } = engine, to = marked(room)
+  let got
+  engine.withBytes(Buffer.from(text), (at, n) => { got = pim.pim_explain(at, n, line, to, BigInt(room)) })
+  return wrongNumbers([got], [length]) ?? wrongBytes(to, room, Buffer.from(sentence))
+}
+
 function wrongRead([text, rooms, numbers, parts]) {
   const { memory, pim, out } = engine, bytes = [2, 4, 8].map((size, i) => size * rooms[i])
   const to = bytes.map(marked), buffers = to.flatMap((at, i) => [at, BigInt(rooms[i])])
@@ -167,6 +183,7 @@ function wrongRead([text, rooms, numbers, parts]) {
 
 const wrongCalls = Object.entries(JUDGED).map(([name, row]) => [`pim_judge: ${name}`, wrongJudged(row)])
 wrongCalls.push(...Object.entries(READ).map(([name, row]) => [`pim_read: ${name}`, wrongRead(row)]))
+wrongCalls.push(...Object.entries(EXPLAINED).map(([name, row]) => [`pim_explain: ${name}`, wrongExplained(row)]))
 console.log(JSON.stringify(wrongCalls))
 
 const small = new Engine(new WebAssembly.Module(limited(wasm, 96)), 1 << 12)

@@ -29,6 +29,8 @@ def judged(texts, folder):
 
 
 def answer_of(line):
-    """Returns status, line of a fault, the report's SHA-256, and how many states and bars are wrong."""
-    kind, at, digest, *wrong = line
-    return KINDS[kind][0], KINDS[kind][1].format(at), digest, wrong
+    """Returns status, line of a fault, the line that says why, the report's SHA-256, and how many states and bars are
+    wrong."""
+    kind, at, reason, digest, *wrong = line
+    fault = KINDS[kind][1].format(at)
+    return KINDS[kind][0], fault, f"pim: line {at}: {reason}\n" if reason else "", digest, wrong

@@ -59,8 +59,10 @@ const SCENES = {
   'calls that fail': ask => [ask('states', 0, 1), ask('none'), told(ask('look', 'pim 1\n', 1))[1]],
 }
 
-const numbersOf = (kind, number, length, invalid, rejected, read, last, since) =>
-  ({ kind, number, length, invalid, rejected, read, last, since })
+const numbersOf = (kind, number, length, invalid, rejected, read, last, since, reason = '') =>
+  ({ kind, number, length, invalid, reason, rejected, read, last, since })
+const STEP = "a step is '<task> ..' and 'lock', 'try' or 'unlock <mutex>', 'release', 'cancel <task>', "
+  + "'base <task> <priority>' or 'ceil <mutex> <ceiling>'"
 const WANTED = {
   'a text': [
     // Its lines have 10, 9, 32, 10, 11, 20, 8 and 11 characters with their ends.
@@ -71,9 +73,10 @@ const WANTED = {
     [0, 6, 12, 18, 24, 30, 36, 42, 48, 54, 65], [0, 0, 1, 2, 3, 4, 5, 6, 7, 8], [1, 2, 3, 4, 5, 6, 7, 8, 9, 9]],
   // The report and the picture are those of what is above the invalid line; the verdict has no report.
   'a text with an invalid line': [
-    numbersOf(2, 7, 0, 7, 0, { tasks: 3, mutexes: 1, steps: 1 }, 1, 3), '1 granted\n  task 2 at 40 ceiling 1\naccepted 1\n',
+    numbersOf(2, 7, 0, 7, 0, { tasks: 3, mutexes: 1, steps: 1 }, 1, 3, STEP), '1 granted\n  task 2 at 40 ceiling 1\naccepted 1\n',
     [[0, 10, 35, 46], [0, 0], [1, 1, 1], [0, 0, 1, 0]]],
-  'a text with an invalid first line': [numbersOf(2, 1, 0, 1, 0, null, 0, 3), '', [[0], [0], [], []]],
+  'a text with an invalid first line': [
+    numbersOf(2, 1, 0, 1, 0, null, 0, 3, "a text begins with 'pim 1' or 'pim 2'"), '', [[0], [0], [], []]],
   'a rejected text': [
     numbersOf(1, 2, 86, 0, 2, { tasks: 3, mutexes: 1, steps: 3 }, 2, 3),
     '1 granted\n  task 1 at 40 ceiling 1\n2 refused deadlock but recorded granted\nrejected 2\n',

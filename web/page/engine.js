@@ -7,6 +7,7 @@ const CALLS = {
 }
 const CANCEL = 5, SET_BASE = 6
 const REFUSED = 8n // the kind of an answer to a step
+const SENTENCE_ROOM = 256 // bytes
 const MAX_TASKS = 256, MAX_MUTEXES = 256, MAX_STEPS = 65536
 
 /** The module's memory, and buffers in it. */
@@ -46,6 +47,7 @@ class Engine {
     this.steps = room(8 * MAX_STEPS)
     this.waiters = room(16 * MAX_TASKS)
     this.report = room(reportRoom)
+    this.sentence = room(SENTENCE_ROOM)
     this.handle = room(8)
     this.memory.view.setBigUint64(Number(this.handle), 0n, true)
   }
@@ -68,6 +70,18 @@ class Engine {
     const length = this.memory.u64(this.out, 1)
     const shown = this.memory.bytes(this.report, Math.min(length, this.reportRoom))
     return { kind, number, length, report: new TextDecoder().decode(shown.slice()) }
+  }
+
+  /** pim_explain: why a line of the text is invalid, or nothing if an allocation failed. */
+  explain(text, line) { return this.explainBytes(new TextEncoder().encode(text), line) }
+
+  explainBytes(bytes, line) {
+    let length = 0
+    this.withBytes(bytes, (at, n) => {
+      length = this.pim.pim_explain(at, n, line, this.sentence, BigInt(SENTENCE_ROOM))
+    })
+    const written = this.memory.bytes(this.sentence, Math.min(Number(length), SENTENCE_ROOM))
+    return new TextDecoder().decode(written.slice())
   }
 
   /** pim_read: the numbers of tasks, mutexes and steps of a valid text, else null. */

@@ -109,12 +109,16 @@ function reportLine(view, now, i) {
   return `<span class="${classOf(view, line, k, now)}" data-step="${k}">${escape(line)}</span>`
 }
 
-/** Draws the report into the box's first element. That of an invalid text has one line, in the
- * second: the first isn't seen meanwhile, and keeps what it has. */
+/** Returns the line that names an invalid line, and the one that says why it is. */
+const faultLines = ({ invalid, reason }) => [`line ${invalid}`, reason && `line ${invalid}: ${reason}`]
+  .filter(Boolean).map(line => `<span class="last bad">${escape(line)}</span>`)
+
+/** Draws the report into the box's first element. That of an invalid text is in the second: the first
+ * isn't seen meanwhile, and keeps what it has. */
 function drawReport(view, now, box, painter) {
   const [inside, invalid] = box.children
   box.classList.toggle('invalid', !!view.invalid)
-  fill(invalid, view.invalid ? [`<span class="last bad">line ${view.invalid}</span>`] : [])
+  fill(invalid, view.invalid ? faultLines(view) : [])
   if (view.invalid) return
   const { first, past } = drawnOf(view, box, REPORT_LINE)
   inside.style.paddingTop = `${first * REPORT_LINE}px`

@@ -34,7 +34,8 @@ function look(text, turn) {
   const { kind, number, length } = judged
   if (front !== latest.front) latest = { front, turn }
   return {
-    kind, number, length, invalid, rejected, read, last, ...picture(read, last), since: latest.turn,
+    kind, number, length, invalid, reason: invalid ? engine.explain(text, invalid) : '',
+    rejected, read, last, ...picture(read, last), since: latest.turn,
     report: drawn.report, ...linesOf(drawn.report, last), named: read ? engine.named() : null,
   }
 }

@@ -46,7 +46,7 @@ pub extern "C" fn pim_judge(alloc: Global, text: &[u8], report: &mut [u8]) -> CJ
 }
 
 /// Copies the bytes to the front of the buffer, as far as they fit.
-fn copy(from: &[u8], to: &mut [u8])
+pub(crate) fn copy(from: &[u8], to: &mut [u8])
     ensures { to.new ≡ copied_over from.now to.old }
 {
     let room = to.len();
