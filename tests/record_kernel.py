@@ -381,8 +381,10 @@ def others(reader, folder, tracefs):
 
 
 def guard_of(recorder):
-    """Returns the process of a recording that removes the instance when the recorder is gone."""
-    guard, = [process for process in children_of(recorder) if proc_text(process, "comm") == "pim-guard\n"]
+    """Returns the process of a recording that removes the instance when the recorder is gone. It names itself."""
+    found = lambda: [process for process in children_of(recorder) if proc_text(process, "comm") == "pim-guard\n"]
+    until(found)
+    guard, = found()
     return guard
 
 
