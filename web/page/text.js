@@ -111,7 +111,7 @@ function reportLine(view, now, i) {
 
 /** Returns the line that names an invalid line, and the one that says why it is. */
 const faultLines = ({ invalid, reason }) => [`line ${invalid}`, reason && `line ${invalid}: ${reason}`]
-  .filter(Boolean).map(line => `<span class="last bad">${escape(line)}</span>`)
+  .filter(Boolean).map(line => `<span class="last bad fault">${escape(line)}</span>`)
 
 /** Draws the report into the box's first element. That of an invalid text is in the second: the first
  * isn't seen meanwhile, and keeps what it has. */
