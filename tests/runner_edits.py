@@ -55,11 +55,8 @@ REFUSED = "refused, as it must be: "
 # Proves a crate but for BROKEN, and refuses each edit where the prover would find it, but 'bad'; 'vague' by no clause.
 STUB_RT = f"""#!/bin/sh
 echo "$*" >> "$CALLS"
-if [ "$1" = check ]; then
-    [ "$(basename "$PWD")" != "$BROKEN" ] || {{ echo logic=not-proved; exit 1; }}
-    echo logic=proved
-    exit
-fi
+[ "$1" = ci ] || exit 2
+[ "$2" != "$BROKEN" ] || {{ echo logic=not-proved; exit 1; }}
 status=0
 for edit in crates/$2/must-fail/*; do
     said='{REFUSED}./{GOAL.format(6)}its ensures holds (`returns`)'
@@ -148,17 +145,17 @@ def tries_what_is_due(outline):
     check("edits that were never tried are due", difference(outline.due(), (1, [every])))
     got = outline.mutate("pim_two")
     line = "pim_two/one: Queue::front, ensures"
-    check("tries the edits of a crate alone", difference(got, (0, ["== tests/mutations/pim_two (1 of 1)", line], 2)))
+    check("tries the edits of a crate alone", difference(got, (0, ["== tests/mutations/pim_two (1 of 1)", line], 1)))
     tried = (outline.root / "tests/mutations/pim_two/tried").read_text()
     check("edits that were tried aren't due", difference(outline.due(), (1, ["pim_queue, pim_three"])))
     check("tries nothing that isn't due", difference(outline.mutate("pim_two"), (0, ["pim_two isn't due"], 0)))
-    check("--all tries it again", difference((outline.mutate("--all", "pim_two")[2],), (2,)))
+    check("--all tries it again", difference((outline.mutate("--all", "pim_two")[2],), (1,)))
     again = (outline.root / "tests/mutations/pim_two/tried").read_text()
     check("what was tried has the same checksums again", difference((again,), (tried,)))
     left = sorted(path.name for path in (outline.root / "crates/pim_two/must-fail").iterdir())
     check("the repository's own edits stay", difference((left,), (["other.edit"],)))
     got = outline.mutate()
-    check("tries the rest", difference((got[0], got[2], outline.due()), (0, 4, (0, []))))
+    check("tries the rest", difference((got[0], got[2], outline.due()), (0, 2, (0, []))))
     check("refuses a crate without edits", difference(outline.mutate("pim_none"), (2, [], 0)))
 
 
@@ -183,7 +180,7 @@ def fails_for_edits(outline):
     outline.write("tests/mutations/pim_two/bad.edit", "file: src/queue.rt\n")
     status, out, calls = outline.mutate()
     got = status, out[0], calls, outline.due()
-    check("an edit that isn't refused fails", difference(got, (1, "pim_queue isn't due", 2, (1, ["pim_two"]))))
+    check("an edit that isn't refused fails", difference(got, (1, "pim_queue isn't due", 1, (1, ["pim_two"]))))
     check("and the others have their clauses", difference((out[-1],), ("pim_two/one: Queue::front, ensures",)))
     (outline.root / "tests/mutations/pim_two/bad.edit").rename(outline.root / "tests/mutations/pim_two/vague.edit")
     got = outline.mutate()
@@ -196,7 +193,7 @@ def fails_for_edits(outline):
     check("a crate that isn't proved fails", difference((got[0], got[2], outline.due()), (1, 1, (1, ["pim_two"]))))
     outline.write("tests/mutations/pim_two/bad.edit", "file: src/queue.rt\n")
     got = outline.mutate("--all")
-    check("the crates behind one that fails are tried", difference((got[0], got[2]), (1, 6)))
+    check("the crates behind one that fails are tried", difference((got[0], got[2]), (1, 3)))
 
 
 def edits():
