@@ -5,12 +5,11 @@ import os
 import shutil
 
 from files import ROOT, copy, filled, fix_modes, highest, run, write, zipped
-from programs import PROGRAMS, binaries, glibc_of
+from programs import PROGRAMS, SCRIPTS, binaries, glibc_of
 
 # A package's first revision of a version.
 REVISION = 1
 MAINTAINER = "Kulgyozi maintainers <maintainers@users.noreply.kulgyozi.example>"
-SCRIPTS = ("record/pim-record", "record/pim-log", "conform/pim-conform")
 # The folders whose files are documents.
 DOCUMENTS = ("docs/", "examples/", "web/", "record/recorded/")
 LIBRARIES = "usr/lib/x86_64-linux-gnu"

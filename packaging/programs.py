@@ -1,10 +1,13 @@
 """The folder kulgyozi-VERSION-x86_64-linux: programs and pages, with the repository's layout."""
 import re
 
-from files import ROOT, Fault, copy, highest, kit, run, tracked
+import version
+from files import ROOT, Fault, copy, filled, highest, kit, run, tracked, write
 
 # The programs of Rattle, and their crates.
 PROGRAMS = {"pim": "pim", "pim-import": "pim_importer", "pim-picture": "pim_picture"}
+# Those of other languages.
+SCRIPTS = ("record/pim-record", "record/pim-log", "conform/pim-conform")
 PAGE, CRATES = ROOT / "web/dist/index.html", ROOT / "launcher/crates"
 # What is copied as it is.
 COPIED = """
@@ -27,6 +30,9 @@ def build(to, work):
         run(ROOT / program, "install", work / "installed")
         copy(work / f"installed/share/man/man1/{program}.1", to / f"man/man1/{program}.1")
         link(crate, work, to / program)
+    for script in SCRIPTS:
+        page = (ROOT / f"{script}.1.in").read_text()
+        write(to / f"man/man1/{script.rpartition('/')[2]}.1", filled(page, VERSION=version.current()))
     for folder, target, files in COMPILED:
         run("make", "-s", "-C", ROOT / folder, target, f"OUT={work / folder}")
         for file in files:
