@@ -7,7 +7,7 @@ It knows texts of version 1 whose steps name tasks and mutexes that are declared
 from compare import Done
 
 HABITS = {
-    "stop": "kernel: a walk that lowers priorities stops at an owner whose highest waiter waits for another mutex",
+    "stop": "kernel: a walk stops, or stops requeueing, at an owner whose highest waiter waits for another mutex",
     "toptask": "kernel: who is handed a mutex with waiters gets no pi_top_task, so that a change of its own priority "
                "forgets these waiters",
     "pitree": "kernel: a waiter that becomes a mutex's first enters the owner's pi_waiters by a priority that it had",
@@ -100,13 +100,12 @@ class Walk:
             lock = self.blocked_on(task)
             if not lock or lock != next_lock:
                 return False
-            if top_waiter:
-                if not self.pi[task]:
+            if top_waiter and not self.pi[task]:
+                return False
+            if top_waiter and "stop" in self.habits and top_waiter != self.pi[task][0]:
+                if not detect:
                     return False
-                if top_waiter != self.pi[task][0]:
-                    if not detect and "stop" in self.habits:
-                        return False
-                    requeue = requeue and not detect
+                requeue = False
             if self.tree_prio[task] == self.prio[task]:
                 if not detect:
                     return False
