@@ -311,6 +311,9 @@ def stored_run(pim):
     """The table of a guest that was booted, with 20 random texts."""
     command = [ROOT / "conform/kernels", "--random", "20", "--pim", pim, "--from", STORED]
     same("the table of a stored run", answer(command), 0, (STORED / "kernels.table").read_bytes(), b"")
+    folder = ROOT / "conform/set"
+    said = f"kernels: {folder} has no RELEASE.out, as --keep stores it\n"
+    same("a folder without a stored run", answer([*command, "--from", folder]), 2, b"", said.encode())
 
 
 def whole_runs(pim, folder):
