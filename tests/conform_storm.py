@@ -90,7 +90,8 @@ def texts_of_stops():
 
 WRONG = {"--threads 1": "--threads is from 2 to 64", "--mutexes 65": "--mutexes is from 1 to 64",
          "--seconds 0": "--seconds is from 1 to 86400",
-         "--cpus 9999": "--cpus has one that isn't there"}
+         "--cpus 9999": "--cpus has one that isn't there",
+         "--cpus x": "argument --cpus: 'x' isn't a list of CPUs, as 0,1"}
 
 
 def options():
