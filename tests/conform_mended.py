@@ -91,7 +91,8 @@ def installed_sources(folder):
     if not archives:
         return skip("the changes in a kernel's source", "no linux-source is installed")
     for archive in archives:
-        command = ["tar", "-xOf", archive, "--wildcards", "*/kernel/locking/rtmutex.c"]
+        member = f"{archive.name.partition('.tar')[0]}/kernel/locking/rtmutex.c"
+        command = ["tar", "-xOf", archive, "--occurrence=1", member]  # It reads no further.
         file = folder / "rtmutex.c"
         file.write_bytes(answer(command)[1])
         for ways in ("1", "2", "3", "1,2,3"):
