@@ -10,11 +10,11 @@ kit=$(dirname "$(dirname "$(readlink -f "$(command -v rt)")")")
 clang=$kit/toolchain/bin/clang compiler="riscv64-linux-gnu-gcc -I. -std=c11 -Wall -Wextra -O2"
 run="qemu-riscv64-static -L /usr/riscv64-linux-gnu"
 
-make -s out/libpim.s
+make -s out/module/libpim.s
 mkdir -p "$out"
 
 # The module without what names x86-64. RISC-V's callers count on results that are extended to a register.
-"$clang" --target=x86_64-unknown-linux-gnu -x ir out/module.bc -S -emit-llvm -Xclang -disable-llvm-passes -o - |
+"$clang" --target=x86_64-unknown-linux-gnu -x ir out/module/pim_c.bc -S -emit-llvm -Xclang -disable-llvm-passes -o - |
     sed -E "/^target datalayout/d; s/^target triple = .*/target triple = \"$triple\"/
         s/ \"(probe-stack|stack-probe-size|target-cpu|target-features|frame-pointer)\"=\"[^\"]*\"//g
         s/^(define )(noundef )?i(8|16) @/\1\2zeroext i\3 @/; s/^(define )(noundef )?i32 @/\1\2signext i32 @/" > "$out/pim_c.ll"

@@ -50,7 +50,7 @@ def assembly(work, release):
     names = {"VERSION": release.version, "COMMIT": release.commit}
     parts, word = filled(HEAD, TOOLCHAIN=run("rt", "version").strip(), **names), "#if"
     for cpu, (condition, folder, tools) in CPUS.items():
-        made = (f"{folder}/libpim.a", f"{folder}/libpim.s")
+        made = (f"{folder}/libpim.a", f"{folder}/module/libpim.s")
         run("make", "-s", "-C", C, f"TARGET={cpu}-unknown-linux-gnu", *made)
         text, built = (C / made[1]).read_text(), sections(library(cpu, work), tools)
         parts += f"{word} {condition}\n{as_built(text, built, tools, work)}"
