@@ -141,6 +141,9 @@ def package(root, files, folder):
     kept = {file: (root.path / file).read_text() for file in there}
     check("an upgrade keeps what a user wrote", difference((kept,), (mine,)))
     root.run(f"rm -r /root/later /root/*.deb {' '.join(f'/{file}' for file in there)}")
+    bare = "[ -f /usr/share/man/man1/${it##*/}.1.gz ] || echo $it"
+    out = root.run(f"for it in /usr/bin/pim*; do {bare}; done")[1]
+    check("each program of the package has a manual page", out.replace("\n", " ").strip())
     works(root, "the package", "", "/usr/share/doc/kulgyozi")
     records(root, "the package")
     compares(root, "the package", "/usr/lib/kulgyozi/conform")
