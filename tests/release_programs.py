@@ -156,6 +156,7 @@ def earlier(deb, folder):
     """Returns the path of the same package with an earlier version."""
     package = deb.name.partition("_")[0]
     own_folder, to = folder / f"{package}.earlier", folder / f"{package}_{EARLIER}_amd64.deb"
+    shutil.rmtree(own_folder, ignore_errors=True)  # of another root
     subprocess.run(["dpkg-deb", "-R", deb, own_folder], check=True)
     control = own_folder / "DEBIAN/control"
     text = re.sub(r"^Version: .*$", f"Version: {EARLIER}", control.read_text(), flags=re.M)
