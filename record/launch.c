@@ -1,7 +1,8 @@
 /* pim-launch LIBRARY PROGRAM [ARGUMENT..]: runs the program with the library preloaded, or says
  * in one line why it can't be recorded, and runs nothing. pim-record calls it. It stays until
  * the program ends. PIM_RECORD is the log's file, of PIM_RECORD_BYTES, or of the last records of
- * PIM_RECORD_LAST bytes, with snapshots by PIM_RECORD_TRIGGER nanoseconds. With PIM_KERNEL, the
+ * PIM_RECORD_LAST bytes, with snapshots by PIM_RECORD_TRIGGER nanoseconds; with
+ * PIM_RECORD_CONTENDED only of what is waited for. With PIM_KERNEL, the
  * name of a file, it records the kernel's events there: without the library where the program
  * can't have it, or where PIM_RECORD names no log. The library finds the name of the
  * collector's socket in PIM_RECORD. */
@@ -213,6 +214,7 @@ static struct amount take_amount(void) {
     if (last) amount.room.bytes = last;
     amount.room.is_last = last != 0;
     amount.room.trigger = trigger ? trigger : UINT64_MAX;
+    amount.room.is_contended = take_number("PIM_RECORD_CONTENDED") != 0;
     amount.snapshots = (uint32_t)take_number("PIM_RECORD_SNAPSHOTS");
     return amount;
 }

@@ -10,7 +10,7 @@ from checks import ROOT, SECONDS, check, children_of, difference, ended, is_gone
 RECORD = ROOT / "record"
 PROGRAMS = RECORD / "out/programs"
 CHUNK_RECORDS, CHUNK_BYTES, MEGABYTE = 511, 16384, 1 << 20
-SLOTS_BYTES = 256 * CHUNK_BYTES + 5 * 4096  # MANY_SLOTS of record/library/shared.h, and what isn't a slot
+SLOTS_BYTES = 256 * CHUNK_BYTES + 9 * 4096  # MANY_SLOTS of record/library/shared.h, and what isn't a slot
 OTHER_USER = 65534
 
 

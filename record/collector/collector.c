@@ -103,7 +103,9 @@ static bool answer_request(struct visitor *of) {
     struct request request;
     if (recv(of->channel, &request, sizeof request, MSG_DONTWAIT) != sizeof request) return false;
     bool is_first = state.first != NULL;
-    struct answer answer = { .version = SHARED_VERSION, .is_first = is_first };
+    struct answer answer = { .version = SHARED_VERSION,
+                             .is_first = is_first,
+                             .is_contended = state.amount.room.is_contended };
     if (request.version == SHARED_VERSION) of->store = make_store(of->channel, request.process);
     if (of->store) answer.slots = of->store->slots;
     send_answer(of->channel, &answer, of->store ? of->store->memory : -1);

@@ -18,6 +18,7 @@ struct room {
     uint64_t bytes;   /* of the log's file; with --last, of the chunks in memory */
     bool is_last;     /* --last: the latest are kept, and written at the end */
     uint64_t trigger; /* nanoseconds, or UINT64_MAX */
+    bool is_contended; /* --contended: only what is waited for is recorded */
 };
 
 struct store {

@@ -3,6 +3,7 @@
 
 #include "real.h"
 
+#include <errno.h>
 #include <sys/syscall.h>
 #include <unistd.h>
 
@@ -71,6 +72,28 @@ static uint32_t contradicted(unsigned detail) {
     }
     pthread_mutexattr_destroy(&attributes);
     return wrong;
+}
+
+/* A lock that waits for its own thread, to a time that has passed, leaves the mark of a waiter. */
+static bool shows_waiter(unsigned detail) {
+    const struct timespec past = { 0, 0 };
+    pthread_mutexattr_t attributes;
+    pthread_mutex_t mutex;
+    bool is_shown = false;
+    set_attributes(&attributes, detail);
+    if (real.mutex_init(&mutex, &attributes) == 0) {
+        bool is_clean = real.mutex_lock(&mutex) == 0 && !inner_has_waiters(&mutex);
+        int error = real.mutex_timedlock(&mutex, &past);
+        is_shown = is_clean && error == ETIMEDOUT && inner_has_waiters(&mutex);
+        real.mutex_unlock(&mutex);
+        real.mutex_destroy(&mutex);
+    }
+    pthread_mutexattr_destroy(&attributes);
+    return is_shown;
+}
+
+bool inner_shows_waiters(void) {
+    return inner_known & KNOWN_OWNER && shows_waiter(0) && shows_waiter(DETAIL_ROBUST);
 }
 
 void inner_test(void) {

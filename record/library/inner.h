@@ -3,6 +3,7 @@
 #ifndef PIM_INNER_H
 #define PIM_INNER_H
 
+#include <limits.h>
 #include <pthread.h>
 #include <stdbool.h>
 #include <stdint.h>
@@ -29,6 +30,9 @@ extern uint32_t inner_known;
 
 /* Tests which fields are where they are expected, on mutexes of its own. */
 void inner_test(void);
+
+/* Tests whether inner_has_waiters can tell. */
+bool inner_shows_waiters(void);
 
 /* Returns the detail of a mutex by the attributes that it is made with. */
 uint16_t inner_detail_of_attributes(const pthread_mutexattr_t *attributes);
@@ -60,6 +64,15 @@ static inline bool inner_is_owned(const pthread_mutex_t *mutex) {
     unsigned word = (unsigned)inner_read(&mutex->__data.__lock);
     bool is_protect = inner_read(&mutex->__data.__kind) & DETAIL_PROTECT;
     return (word & (is_protect ? 0x7ffffu : 0x3fffffffu)) != 0;
+}
+
+/* Returns whether a thread waits for an owned mutex, has waited for it in vain, or waited until it
+ * was granted to the owner. */
+static inline bool inner_has_waiters(const pthread_mutex_t *mutex) {
+    unsigned word = (unsigned)inner_read(&mutex->__data.__lock);
+    int kind = inner_read(&mutex->__data.__kind);
+    if (kind & (DETAIL_ROBUST | DETAIL_INHERIT)) return word >> 31;
+    return (word & (kind & DETAIL_PROTECT ? 0x7ffffu : UINT_MAX)) > 1;
 }
 
 /* Returns the kernel's number of the owner, or 0 where the owner isn't told yet. */

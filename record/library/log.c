@@ -1,7 +1,7 @@
 #define _GNU_SOURCE
 #include "shared.h"
 
-#include "inner.h"
+#include "held.h"
 
 #include <errno.h>
 #include <fcntl.h>
@@ -20,6 +20,7 @@
 
 struct header *log_header;
 __thread struct cursor log_cursor;
+uint64_t log_step = 1;
 
 static struct shared *shared; /* the memory, up to the end of its first part of slots */
 static char *_Atomic parts[MOST_SLOTS / PART_SLOTS]; /* where the slots are; NULL: not mapped yet */
@@ -102,6 +103,7 @@ static bool ask(const char *name) {
     if (is_reached) memory = receive(collector, &answer);
     if (memory >= 0) is_mapped = map_memory(memory, &answer);
     is_first_program = answer.is_first;
+    if (is_mapped && answer.is_contended) held_start(shared);
     if (is_mapped) is_mapped = send(collector, "m", 1, MSG_NOSIGNAL) == 1;
     if (!is_mapped && answer.version == 0)
         dprintf(STDERR_FILENO, "pim-record: process %d isn't recorded: the recorder: %s\n",
@@ -221,7 +223,8 @@ void log_make(void) {
     header->command_bytes = read_command(header->command);
     touch_slots(FEW_SLOTS);
     atomic_store(&header->next_thread, 1);
-    atomic_store(&header->next_number, 1); /* last: the collector takes the header from now on */
+    /* Last: the collector takes the header from now on. */
+    atomic_store(&header->next_number, log_step);
     log_header = header;
 }
 
@@ -301,7 +304,7 @@ void log_close_chunk(void) {
 }
 
 void log_lose(void) {
-    uint64_t number = atomic_fetch_add(&log_header->next_number, 1);
+    uint64_t number = atomic_fetch_add(&log_header->next_number, log_step);
     uint64_t first = atomic_load(&log_header->first_lost);
     while (first == 0 || number < first)
         if (atomic_compare_exchange_weak(&log_header->first_lost, &first, number)) break;

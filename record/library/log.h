@@ -139,12 +139,16 @@ struct cursor {
     uint32_t chunks;
     uint32_t exits;      /* how often the destructor of its key has run */
     uint32_t depth;      /* above 0: the calls are the recorder's own */
+    uint32_t held;       /* grants that aren't put: held.h */
+    uint32_t uncounted;  /* calls that aren't put, and that the header doesn't count yet */
     bool is_introduced; /* its THREAD record is written, or is being written */
+    bool is_behind;      /* there are such grants or such calls */
     volatile bool is_writing;
 };
 
 extern struct header *log_header; /* NULL: nothing is recorded */
 extern __thread struct cursor log_cursor;
+extern uint64_t log_step; /* from one number to the next */
 
 /* Gets the log's memory from the collector that the environment names. If it can't be reached, or
  * refuses, the program runs unrecorded. */
@@ -173,6 +177,12 @@ void log_close_chunk(void);
 /* Counts a record for which there is no room. */
 void log_lose(void);
 
+/* Puts the grants that aren't put, and counts the calls. */
+void log_catch_up(void);
+
+/* Counts the calls that aren't put. */
+void log_count_left_out(void);
+
 /* Puts a record with a text behind it, of which at most `most` bytes are taken. */
 void log_put_text(enum event event, uint64_t object, const char *text, size_t most);
 
@@ -180,6 +190,10 @@ static inline uint64_t log_time(void) {
     struct timespec now;
     clock_gettime(CLOCK_MONOTONIC, &now);
     return (uint64_t)now.tv_sec * 1000000000u + (uint64_t)now.tv_nsec;
+}
+
+static inline uint32_t log_saturated(uint64_t nanoseconds) {
+    return nanoseconds > UINT32_MAX ? UINT32_MAX : (uint32_t)nanoseconds;
 }
 
 static inline void log_leave_out(void) {
@@ -194,6 +208,7 @@ static inline bool log_begin(void) {
         return false;
     }
     log_cursor.is_writing = true;
+    if (__builtin_expect(log_cursor.is_behind, 0)) log_catch_up();
     return true;
 }
 
@@ -213,22 +228,28 @@ static inline struct record *log_room(void) {
 /* Gives a record, which is filled by then, its number. */
 static inline uint64_t log_number(struct record *record) {
     uint64_t number =
-        atomic_fetch_add_explicit(&log_header->next_number, 1, memory_order_relaxed);
+        atomic_fetch_add_explicit(&log_header->next_number, log_step, memory_order_relaxed);
     atomic_store_explicit(&record->number, number, memory_order_release);
     return number;
 }
 
-/* Writes a record between log_begin and log_end. Returns its number, or 0 where it is lost. */
-static inline uint64_t log_write(struct record filled) {
+/* Fills a record but for its number. Returns NULL where there is no room. */
+static inline struct record *log_fill(struct record filled) {
     struct record *record = log_room();
-    if (!record) return 0;
+    if (!record) return NULL;
     record->time = filled.time;
     record->object = filled.object;
     record->value = filled.value;
     record->detail = filled.detail;
     record->event = filled.event;
     record->how = filled.how;
-    return log_number(record);
+    return record;
+}
+
+/* Writes a record between log_begin and log_end. Returns its number, or 0 where it is lost. */
+static inline uint64_t log_write(struct record filled) {
+    struct record *record = log_fill(filled);
+    return record ? log_number(record) : 0;
 }
 
 /* Puts a record of now. The time is read once no handler can come before the record, so that the

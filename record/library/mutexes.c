@@ -1,12 +1,8 @@
 #define _GNU_SOURCE
-#include "inner.h"
+#include "held.h"
 #include "recorder.h"
 
 #include <errno.h>
-
-static uint32_t saturated(uint64_t nanoseconds) {
-    return nanoseconds > UINT32_MAX ? UINT32_MAX : (uint32_t)nanoseconds;
-}
 
 /* Returns a record of a mutex whose detail can be read. */
 static struct record of_mutex(enum event event, unsigned how, const pthread_mutex_t *mutex) {
@@ -28,75 +24,116 @@ static bool locks_again(const pthread_mutex_t *mutex, uint32_t owner) {
     return (inner_detail(mutex) & DETAIL_TYPE) == DETAIL_RECURSIVE && owner == log_cursor.task;
 }
 
-static void put_request(const pthread_mutex_t *mutex, enum call call, uint32_t owner,
-                        uint64_t *time) {
+/* Puts a REQUEST, and when the call began. Returns whether it did. */
+static bool put_request(const pthread_mutex_t *mutex, enum call call, uint64_t *time) {
     struct record record = of_mutex(EVENT_REQUEST, call, mutex);
-    if (!log_begin()) return;
-    record.value = owner;
+    record.value = inner_owner(mutex);
+    if (!log_begin()) return false;
     record.time = *time = log_time();
     log_write(record);
     log_end();
+    return true;
+}
+
+/* The same with --contended, unless the mutex was released meanwhile. */
+static bool announce_request(const pthread_mutex_t *mutex, enum call call, uint64_t *time) {
+    if (!held_announce(mutex)) return false;
+    bool is_put = put_request(mutex, call, time);
+    if (!is_put) held_withdraw(mutex);
+    return is_put;
 }
 
 /* Puts a REQUEST where the mutex is owned, but by the thread itself if it may lock again. Returns
  * when the call began. */
-static uint64_t request(const pthread_mutex_t *mutex, enum call call) {
-    uint64_t began = log_time();
-    if (!(inner_known & KNOWN_OWNER)) {
+static struct asked request(const pthread_mutex_t *mutex, enum call call) {
+    struct asked asked = { .began = log_time() };
+    if (!(inner_known & KNOWN_OWNER))
         log_leave_out();
-    } else if (inner_is_owned(mutex)) {
-        uint32_t owner = inner_owner(mutex);
-        if (!locks_again(mutex, owner)) put_request(mutex, call, owner, &began);
-    }
-    return began;
+    else if (inner_is_owned(mutex) && !locks_again(mutex, inner_owner(mutex)))
+        asked.is_put = held_is_on() ? announce_request(mutex, call, &asked.began)
+                                    : put_request(mutex, call, &asked.began);
+    if (held_is_on()) asked.requests = held_requests(mutex);
+    return asked;
 }
 
-/* Puts what the call was answered, and how long it took. Returns the answer. A mutex that wasn't
- * granted may be gone. */
-static int answer(const pthread_mutex_t *mutex, enum call call, uint64_t began, int error) {
+static void put_answer(const pthread_mutex_t *mutex, enum call call, uint64_t began, int error) {
     bool is_granted = error == 0 || error == EOWNERDEAD;
     struct record record = is_granted ? of_mutex(EVENT_GRANTED, call, mutex)
                                       : of_address(EVENT_FAILED, (unsigned)error, mutex);
     if (error == EOWNERDEAD) record.how |= OWNER_DIED;
-    if (!log_begin()) return error;
+    if (!log_begin()) return;
     record.time = log_time();
-    record.value = saturated(record.time - began);
+    record.value = log_saturated(record.time - began);
     log_write(record);
     log_end();
+}
+
+/* Returns whether an answer isn't to be put, or not yet: nobody has waited. */
+static bool is_left_out(const pthread_mutex_t *mutex, enum call call, const struct asked *asked,
+                        int error) {
+    if (!held_is_on() || asked->is_put) return false;
+    if (error == 0) return held_keep(mutex, call, asked);
+    if (error != EBUSY) return false;
+    held_leave_out();
+    return true;
+}
+
+/* Puts what the call was answered, and how long it took. Returns the answer. A mutex that wasn't
+ * granted may be gone. */
+static int answer(const pthread_mutex_t *mutex, enum call call, struct asked asked, int error) {
+    if (is_left_out(mutex, call, &asked, error)) return error;
+    put_answer(mutex, call, asked.began, error);
+    if (held_is_on() && asked.is_put) held_withdraw(mutex);
     return error;
 }
 
 EXPORT int pthread_mutex_lock(pthread_mutex_t *mutex) {
     if (!is_recorded()) return real.mutex_lock(mutex);
-    uint64_t began = request(mutex, CALL_LOCK);
-    return answer(mutex, CALL_LOCK, began, real.mutex_lock(mutex));
+    struct asked asked = request(mutex, CALL_LOCK);
+    return answer(mutex, CALL_LOCK, asked, real.mutex_lock(mutex));
 }
 
 EXPORT int pthread_mutex_timedlock(pthread_mutex_t *mutex, const struct timespec *until) {
     if (!is_recorded()) return real.mutex_timedlock(mutex, until);
-    uint64_t began = request(mutex, CALL_TIMEDLOCK);
-    return answer(mutex, CALL_TIMEDLOCK, began, real.mutex_timedlock(mutex, until));
+    struct asked asked = request(mutex, CALL_TIMEDLOCK);
+    return answer(mutex, CALL_TIMEDLOCK, asked, real.mutex_timedlock(mutex, until));
 }
 
 EXPORT int pthread_mutex_clocklock(pthread_mutex_t *mutex, clockid_t clock,
                                    const struct timespec *until) {
     if (!is_recorded()) return real.mutex_clocklock(mutex, clock, until);
-    uint64_t began = request(mutex, CALL_CLOCKLOCK);
-    return answer(mutex, CALL_CLOCKLOCK, began, real.mutex_clocklock(mutex, clock, until));
+    struct asked asked = request(mutex, CALL_CLOCKLOCK);
+    return answer(mutex, CALL_CLOCKLOCK, asked, real.mutex_clocklock(mutex, clock, until));
 }
 
 EXPORT int pthread_mutex_trylock(pthread_mutex_t *mutex) {
     if (!is_recorded()) return real.mutex_trylock(mutex);
-    uint64_t began = log_time();
-    return answer(mutex, CALL_TRYLOCK, began, real.mutex_trylock(mutex));
+    struct asked asked = { .began = log_time() };
+    if (held_is_on()) asked.requests = held_requests(mutex);
+    return answer(mutex, CALL_TRYLOCK, asked, real.mutex_trylock(mutex));
 }
 
 /* ---- unlock ---- */
+
+/* Releases a mutex whose grant is kept, and puts neither. A request that comes meanwhile names the
+ * owner: only since when it owned the mutex isn't known. */
+static int release_held(pthread_mutex_t *mutex, struct held *own) {
+    log_cursor.is_writing = true;
+    int error = real.mutex_unlock(mutex);
+    held_order();
+    if (__builtin_expect(held_is_requested(mutex, own->requests), 0)) log_leave_out();
+    if (error == 0) held_forget(own);
+    log_end();
+    held_leave_out();
+    return error;
+}
 
 /* Another thread may destroy the mutex and free its memory once it is released: it isn't read
  * after that. */
 EXPORT int pthread_mutex_unlock(pthread_mutex_t *mutex) {
     if (!is_recorded()) return real.mutex_unlock(mutex);
+    struct held *own = held_is_on() && !log_cursor.is_writing ? held_find(mutex) : NULL;
+    if (own) return release_held(mutex, own);
     log_put(of_mutex(EVENT_RELEASE, CALL_LOCK, mutex));
     int error = real.mutex_unlock(mutex);
     if (error) log_put(of_address(EVENT_RELEASE_FAILED, (unsigned)error, mutex));

@@ -10,7 +10,7 @@
 #include <assert.h>
 
 enum {
-    SHARED_VERSION = 1,
+    SHARED_VERSION = 2,
     MOST_SLOTS = 65536, /* 1 GB of chunks that aren't written yet */
     FEW_SLOTS = 32,     /* 0.5 MB, which are touched as a program begins */
     MANY_SLOTS = 256,   /* 4 MB, once it has threads or a real-time priority */
@@ -18,6 +18,7 @@ enum {
     PART_SLOTS = 256,   /* so many are mapped at a time */
     PART_BYTES = PART_SLOTS * CHUNK_BYTES,
     PAGE = 4096,
+    REQUEST_COUNTS = 2048,
 };
 
 #define LOG_MAGIC { 'p', 'i', 'm', 'l', 'o', 'g', '\r', '\n' }
@@ -27,6 +28,7 @@ struct shared {
     _Alignas(PAGE) _Atomic uint64_t next_slot; /* this one and those behind it had no chunk yet */
     _Atomic uint32_t is_unused;                /* 1: the log is to be removed */
     _Alignas(PAGE) _Atomic uint64_t free[MOST_SLOTS / 64]; /* a bit for each slot */
+    _Alignas(PAGE) _Atomic uint64_t requests[REQUEST_COUNTS]; /* of mutexes, by address: held.h */
     _Alignas(PAGE) struct record slots[][CHUNK_RECORDS];
 };
 
@@ -48,6 +50,7 @@ struct request {
 struct answer {
     uint32_t version;
     uint32_t is_first; /* 1: of the first program of the recording */
+    uint32_t is_contended; /* 1: only what is waited for is recorded */
     uint64_t slots;
 };
 

@@ -2,15 +2,17 @@
  * of a thread each, 'main' of the first one, 'short' of threads that end. 'named' gives the busy
  * thread a name, and makes it SCHED_BATCH. 'fork' forks a process that locks, too. For 'wait' a
  * thread at SCHED_FIFO 80 waits for a mutex for 20 ms, for 'plain' one without a priority, for
- * 'stuck' until the next line. */
+ * 'stuck' until the next line. For 'beside' the quiet one waits for the first one. For 'deep' the
+ * first thread owns twelve mutexes at a time, one of them three times. */
 #define _GNU_SOURCE
 #include "common.h"
 
-enum { PAIRS = 5110, SHORT = 50, WAIT_MS = 20 };
+enum { PAIRS = 5110, SHORT = 50, WAIT_MS = 20, DEEP = 12 };
 
 struct worker {
     sem_t go, done;
     pthread_mutex_t mutex;
+    _Atomic pid_t at_work;
     int pairs;
 };
 
@@ -31,6 +33,7 @@ static void *serve(void *argument) {
     for (;;) {
         sem_post(&own->done);
         while (sem_wait(&own->go) != 0) continue;
+        comes(&own->at_work);
         make_pairs(&own->mutex, own->pairs);
     }
     return NULL;
@@ -45,6 +48,17 @@ static pthread_t serve_by(struct worker *worker, int pairs) {
 
 static void have_done(struct worker *worker) {
     sem_post(&worker->go);
+    while (sem_wait(&worker->done) != 0) continue;
+}
+
+/* Neither of the two has another record to put between the lock and the request. */
+static void let_wait_beside(struct worker *worker) {
+    lock(&worker->mutex);
+    worker->at_work = 0;
+    sem_post(&worker->go);
+    while (!worker->at_work) rest(1);
+    until_waits(&worker->at_work);
+    unlock(&worker->mutex);
     while (sem_wait(&worker->done) != 0) continue;
 }
 
@@ -91,6 +105,15 @@ static void fork_one(void) {
     if (child < 0 || waitpid(child, &status, 0) != child || status) exit(1);
 }
 
+/* The one that was locked first is released first. */
+static void go_deep(void) {
+    static pthread_mutex_t deep[DEEP];
+    for (int i = 0; i < DEEP; i++)
+        make(&deep[i], PTHREAD_PRIO_NONE, i ? PTHREAD_MUTEX_NORMAL : PTHREAD_MUTEX_RECURSIVE, 0);
+    for (int i = -2; i < DEEP; i++) lock(&deep[i < 0 ? 0 : i]);
+    for (int i = -2; i < DEEP; i++) unlock(&deep[i < 0 ? 0 : i]);
+}
+
 static void do_it(const char *line, pthread_t thread) {
     struct sched_param none = { 0 };
     if (strcmp(line, "busy\n") == 0) have_done(&busy);
@@ -102,6 +125,8 @@ static void do_it(const char *line, pthread_t thread) {
     if (strcmp(line, "named\n") == 0)
         must(pthread_setschedparam(thread, SCHED_BATCH, &none), "setschedparam");
     if (strcmp(line, "fork\n") == 0) fork_one();
+    if (strcmp(line, "beside\n") == 0) let_wait_beside(&quiet);
+    if (strcmp(line, "deep\n") == 0) go_deep();
     if (strcmp(line, "wait\n") == 0) let_wait(80, false);
     if (strcmp(line, "plain\n") == 0) let_wait(0, false);
     if (strcmp(line, "stuck\n") == 0) let_wait(80, true);
