@@ -1,5 +1,6 @@
 //! Who owns a mutex next, and whose it is when a thread asks for it.
 
+use crate::lists::{get, set};
 use pim_facts::Ids;
 use pim_log::{Event, Log, Record};
 use std::alloc::{AllocError, Global};
@@ -229,13 +230,3 @@ fn may_own(ids: &Ids, record: &Record, thread: u32) -> bool {
 
 /// The call of a RELEASE or a GRANTED: a wait at a condition variable.
 const CONDITION: u8 = 4;
-
-fn get(list: &[u32], place: u32) -> u32 {
-    list.get(place as usize).copied().unwrap_or(0)
-}
-
-fn set(list: &mut Vec<u32>, place: u32, value: u32) {
-    if (place as usize) < list.len() {
-        list[place as usize] = value;
-    }
-}

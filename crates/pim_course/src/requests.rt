@@ -6,8 +6,9 @@ ghost use Rattle.std.specs.Prelude.{◌≡◌, IfOk};
 ghost use Rattle.pim_course.specs.Requests.{IsInOrder};
 
 use crate::course::Sources;
-use crate::lists::push;
+use crate::lists::{get, push, set};
 use crate::waits::{Asked, Wait, asked_in};
+use crate::walk::Walk;
 use pim_facts::Ids;
 use pim_log::{Event, LONGEST_CALL, Log, Record};
 use std::alloc::{AllocError, Global};
@@ -34,18 +35,23 @@ pub struct Requests {
     pub of_waits: u64,
 }
 
-/// The grants of each mutex, in order.
+/// The grants of each mutex so far, in order. Its owner may be granted it again.
 #[derive(Drop)]
 struct Grants {
     /// The numbers of the records, those of mutex 0 first.
     numbers: Vec<u64>,
-    /// By the place of a grant the time of the RELEASE that ends it, or 0.
+    /// By the place of a grant that of the one since which its thread owns the mutex.
+    firsts: Vec<u32>,
+    /// By the place of a grant the time at which the mutex was released after it, or [`LASTING`].
     ends: Vec<u64>,
     /// Where those of each mutex begin.
     begins: Vec<u32>,
     /// Behind the last one so far.
     passed: Vec<u32>,
 }
+
+/// The end of an ownership that lasts, or lasts at the next grant.
+const LASTING: u64 = u64::MAX;
 
 /// ETIMEDOUT of Linux.
 const TIMED_OUT: u8 = 110;
@@ -68,7 +74,7 @@ impl Requests {
     }
 
     /// Returns the requests that the log lacks: those that the waits show, and those of calls that lasted while another was
-    /// granted the mutex, if no wait shows them. If there are some of these, that takes sixteen bytes a grant until it
+    /// granted the mutex, if no wait shows them. If there are some of these, that takes twenty bytes a grant until it
     /// returns.
     ///
     /// # Errors
@@ -89,7 +95,7 @@ impl Requests {
         };
         let of_waits = asked.list.len() as u64;
         if misses_some(alloc, log, &sources.ids)? {
-            add_silent(alloc, log, &sources.ids, &mut asked)?;
+            add_silent(alloc, log, sources, &mut asked)?;
         }
         let Asked { mut list, .. } = asked;
         sort(&mut list)?;
@@ -106,32 +112,39 @@ fn sort(list: &mut Vec<Request>) -> Result<(), AllocError>
 }
 
 /// Adds the requests of calls that lasted while another was granted the mutex, but those that end where a wait does.
-fn add_silent(alloc: Global, log: &Log, ids: &Ids, to: &mut Asked) -> Result<(), AllocError> {
+fn add_silent(
+    alloc: Global,
+    log: &Log,
+    sources: &Sources,
+    to: &mut Asked,
+) -> Result<(), AllocError> {
+    let ids = &sources.ids;
     let mut grants = Grants::of(alloc, log, ids)?;
+    let mut walk = Walk::new(alloc, ids)?;
     let mut asked = vec![in alloc; 0; ids.threads.len()]?;
     let mut last = vec![in alloc; 0u64; ids.threads.len()]?;
     for number in 1..log.header().end() {
         if let Some(record) = log.record(number) {
-            let mutex = ids.of_record(number);
+            let (thread, mutex) = (record.thread, ids.of_record(number));
             let is_missing = misses_request(&mut asked, &record, mutex);
             if is_missing && to.ends.binary_search(&number).is_err() {
                 if let Some(grant) = grants.first_since(log, &record, mutex) {
-                    let own = last.get(record.thread as usize).copied().unwrap_or(0);
+                    let after = grant.max(get(&last, thread));
                     push(
                         &mut to.list,
                         Request {
-                            after: grant.max(own),
+                            after,
                             time: 0,
-                            thread: record.thread,
+                            thread,
                             mutex,
                         },
                     )?;
                 }
             }
-            grants.pass(log, &record, mutex);
-            if (record.thread as usize) < last.len() {
-                last[record.thread as usize] = number;
-            }
+            let owner = walk.course.mutex(mutex).owner;
+            let _moment = walk.read(log, sources, number);
+            grants.pass(&record, mutex, owner, walk.course.mutex(mutex).owner);
+            set(&mut last, thread, number);
         }
     }
     Ok(())
@@ -200,63 +213,49 @@ fn misses_request(asked: &mut Vec<u32>, record: &Record, mutex: u32) -> bool {
 }
 
 impl Grants {
-    /// Returns the grants of each mutex of the log.
+    /// Returns room for the grants of each mutex of the log.
     fn of(alloc: Global, log: &Log, ids: &Ids) -> Result<Grants, AllocError> {
-        let mutexes = ids.mutexes.len();
-        let mut begins = vec![in alloc; 0; mutexes]?;
+        let mut begins = vec![in alloc; 0; ids.mutexes.len()]?;
         for number in 1..log.header().end() {
-            if is_grant(log, number) {
-                add(&mut begins, ids.of_record(number), 1);
-            }
-        }
-        let total = begin_each(&mut begins);
-        let mut passed = vec![in alloc; 0; mutexes]?;
-        copy(&begins, &mut passed);
-        let mut numbers = vec![in alloc; 0; total as usize]?;
-        let ends = vec![in alloc; 0; total as usize]?;
-        for number in 1..log.header().end() {
-            if is_grant(log, number) {
-                let mutex = ids.of_record(number);
-                let place = get(&passed, mutex) as usize;
-                if place < numbers.len() {
-                    numbers[place] = number;
+            if let Some(record) = log.record(number) {
+                if record.event == Event::Granted {
+                    count(&mut begins, ids.of_record(number));
                 }
-                add(&mut passed, mutex, 1);
             }
         }
-        copy(&begins, &mut passed);
+        let total = begin_each(&mut begins) as usize;
         Ok(Grants {
-            numbers,
-            ends,
+            numbers: vec![in alloc; 0; total]?,
+            firsts: vec![in alloc; 0; total]?,
+            ends: vec![in alloc; LASTING; total]?,
+            passed: begins.clone()?,
             begins,
-            passed,
         })
     }
 
-    /// Goes past a record.
-    fn pass(&mut self, log: &Log, record: &Record, mutex: u32) {
-        match &record.event {
-            Event::Granted => add(&mut self.passed, mutex, 1),
-            Event::Release => self.end(log, record, mutex),
-            _ => {}
+    /// Goes past a record of a mutex, which had the first owner before it and has the second one behind it.
+    fn pass(&mut self, record: &Record, mutex: u32, before: u32, owner: u32) {
+        let place = get(&self.passed, mutex);
+        let last = place.saturating_sub(1);
+        if before != 0 && before != owner {
+            set(&mut self.ends, last, record.time);
         }
-    }
-
-    /// Ends the last grant of a mutex, if this RELEASE is by its thread.
-    fn end(&mut self, log: &Log, record: &Record, mutex: u32) {
-        let passed = get(&self.passed, mutex);
-        if passed <= get(&self.begins, mutex) {
-            return;
-        }
-        let place = passed as usize - 1;
-        if place < self.ends.len() && self.thread(log, passed - 1) == record.thread {
-            self.ends[place] = record.time;
+        if record.event == Event::Granted {
+            let is_again = before == record.thread;
+            let first = if is_again {
+                get(&self.firsts, last)
+            } else {
+                place
+            };
+            set(&mut self.numbers, place, record.number);
+            set(&mut self.firsts, place, first);
+            count(&mut self.passed, mutex);
         }
     }
 
     /// Returns the number of the first grant of the mutex to another since the call of this record began, and before the
     /// record. If the record doesn't say when that was, the mutex may be owned at the latest time at which the call began.
-    /// That grant is later than the begin of the call, which found the mutex free.
+    /// The grant since which it was is later than the begin of the call, which found the mutex free.
     fn first_since(&self, log: &Log, record: &Record, mutex: u32) -> Option<u64> {
         let latest = latest_begin(record);
         let end = get(&self.passed, mutex);
@@ -265,21 +264,13 @@ impl Grants {
             Some(before)
                 if record.took().is_none()
                     && before >= get(&self.begins, mutex)
-                    && self.lasts_at(before, latest) => { before }
+                    && get(&self.ends, before) > latest => { get(&self.firsts, before) }
             _ => next,
         };
         if place >= end || self.thread(log, place) == record.thread {
             return None;
         }
         self.numbers.get(place as usize).copied()
-    }
-
-    /// Returns whether the grant at this place had no RELEASE by this time.
-    fn lasts_at(&self, place: u32, time: u64) -> bool {
-        match self.ends.get(place as usize) {
-            Some(end) => *end == 0 || *end > time,
-            None => false,
-        }
     }
 
     /// Returns the place of the first grant of a mutex after this time, or the end of its grants so far.
@@ -320,13 +311,6 @@ impl Grants {
     }
 }
 
-fn is_grant(log: &Log, number: u64) -> bool {
-    match log.record(number) {
-        Some(record) => record.event == Event::Granted,
-        None => false,
-    }
-}
-
 /// Turns how many each has into where each begins, and returns how many there are in all.
 fn begin_each(counts: &mut Vec<u32>) -> u32 {
     let mut begin = 0u32;
@@ -338,20 +322,8 @@ fn begin_each(counts: &mut Vec<u32>) -> u32 {
     begin
 }
 
-fn copy(from: &[u32], to: &mut Vec<u32>) {
-    for place in 0..to.len() {
-        if place < from.len() {
-            to[place] = from[place];
-        }
-    }
-}
-
-fn get(list: &[u32], place: u32) -> u32 {
-    list.get(place as usize).copied().unwrap_or(0)
-}
-
-fn add(list: &mut Vec<u32>, place: u32, count: u32) {
-    if (place as usize) < list.len() {
-        list[place as usize] = list[place as usize].saturating_add(count);
-    }
+/// Adds 1 at a place.
+fn count(list: &mut Vec<u32>, place: u32) {
+    let counted = get(list, place);
+    set(list, place, counted.saturating_add(1));
 }

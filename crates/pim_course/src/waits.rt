@@ -11,7 +11,7 @@
 //! If none of that holds, the request isn't added.
 
 use crate::course::{Course, Sources};
-use crate::lists::push;
+use crate::lists::{get, push, put, set};
 use crate::requests::Request;
 use crate::walk::Walk;
 use pim_log::{Event, Log, Record};
@@ -309,39 +309,9 @@ impl Pending {
         if record.event != Event::Granted || id != self.request.mutex {
             return None;
         }
-        if began(record) <= self.request.time {
+        if record.began().unwrap_or(0) <= self.request.time {
             return Some(record.number);
         }
         if before > 0 { Some(before) } else { None }
-    }
-}
-
-/// Returns when the call began that a GRANTED ends, or 0 if the record doesn't say it.
-fn began(record: &Record) -> u64 {
-    match record.took() {
-        Some(took) => record.time.saturating_sub(u64::from(took)),
-        None => 0,
-    }
-}
-
-fn get(list: &[u64], place: u32) -> u64 {
-    list.get(place as usize).copied().unwrap_or(0)
-}
-
-fn set(list: &mut Vec<u64>, place: u32, value: u64) {
-    if (place as usize) < list.len() {
-        list[place as usize] = value;
-    }
-}
-
-/// Puts a value at a key of a map.
-fn put<K: Eq + std::hash::Hash + Drop, V: Drop>(
-    map: &mut HashMap<K, V>,
-    key: K,
-    value: V,
-) -> Result<(), AllocError> {
-    match map.insert(key, value) {
-        Ok(_) => Ok(()),
-        Err(_) => Err(AllocError),
     }
 }
