@@ -144,7 +144,9 @@ fn add_silent(
             let owner = walk.course.mutex(mutex).owner;
             let _moment = walk.read(log, sources, number);
             grants.pass(&record, mutex, owner, walk.course.mutex(mutex).owner);
-            set(&mut last, thread, number);
+            if record.event != Event::Text {
+                set(&mut last, thread, number);
+            }
         }
     }
     Ok(())
