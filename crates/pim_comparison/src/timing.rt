@@ -70,12 +70,15 @@ impl Timing {
                 continue;
             };
             let thread = record.thread as usize;
-            if record.event == Event::Text || thread >= last.len() {
+            let Some(time) = record.time else {
+                continue;
+            };
+            if thread >= last.len() {
                 continue;
             }
             if let Some(track) = tracks.of_task(record.task) {
                 if let Some(before) = log.record(last[thread]) {
-                    self.bound(track, &before, &record)?;
+                    self.bound(track, &before, &record, time)?;
                 }
             }
             last[thread] = number;
@@ -95,22 +98,30 @@ impl Timing {
         Ok(())
     }
 
-    /// Learns from a record and the next one of its thread.
-    fn bound(&mut self, track: &Track, record: &Record, next: &Record) -> Result<(), AllocError> {
-        self.bound_begin(track, record, next.time)?;
-        match &next.event {
-            Event::Granted => {
-                let earliest = match last_return(track, record.time, next.time) {
+    /// Learns from a record and the next one of its thread, which has this time.
+    fn bound(
+        &mut self,
+        track: &Track,
+        record: &Record,
+        next: &Record,
+        time: u64,
+    ) -> Result<(), AllocError> {
+        let Some(before) = record.time else {
+            return Ok(());
+        };
+        self.bound_begin(track, record, time)?;
+        match next.event {
+            Event::Granted { .. } => {
+                let earliest = match last_return(track, before, time) {
                     Some(end) => end,
-                    None => next.began().unwrap_or(0).max(record.time),
+                    None => next.began().unwrap_or(0).max(before),
                 };
-                self.put(next.time, (earliest, next.time))
+                self.put(time, (earliest, time))
             }
             // A virtual CPU that stalls behind the call delays the record of it, which no event shows.
-            Event::Priority | Event::Ceiling => self.put(next.time, (record.time, next.time)),
-            Event::Thread | Event::Failed => {
-                let earliest = earliest_of(track, record.time, next.time);
-                self.put(next.time, (earliest, next.time))
+            Event::Priority { .. } | Event::Ceiling(_) => self.put(time, (before, time)),
+            Event::Thread { .. } | Event::Failed { .. } => {
+                self.put(time, (earliest_of(track, before, time), time))
             }
             _ => Ok(()),
         }
@@ -118,12 +129,16 @@ impl Timing {
 
     /// Learns when that was done which a record says was about to be done. The next record of its thread has this time.
     fn bound_begin(&mut self, track: &Track, record: &Record, next: u64) -> Result<(), AllocError> {
-        let is_unlock = record.event == Event::Release;
-        if !is_unlock && record.event != Event::Request {
+        let (is_unlock, mutex) = match record.event {
+            Event::Release { mutex, .. } => (true, mutex),
+            Event::Request { mutex, .. } => (false, mutex),
+            _ => return Ok(()),
+        };
+        let Some(time) = record.time else {
             return Ok(());
-        }
-        match call_between(track, is_unlock, record.object, record.time, next) {
-            Some(call) if is_unlock => self.put(record.time, (call.begin, call.end)),
+        };
+        match call_between(track, is_unlock, mutex.address, time, next) {
+            Some(call) if is_unlock => self.put(time, (call.begin, call.end)),
             Some(call) => {
                 let slept = if call.slept == 0 {
                     call.end
@@ -131,10 +146,10 @@ impl Timing {
                     call.slept
                 };
                 put(&mut self.known, (track.task, call.begin), true)?;
-                self.put(record.time, (call.begin, slept))
+                self.put(time, (call.begin, slept))
             }
             None if is_unlock => Ok(()),
-            None => self.put(record.time, (record.time, next)),
+            None => self.put(time, (time, next)),
         }
     }
 
@@ -154,17 +169,18 @@ impl Timing {
     /// Learns from the requests that were added by the kernel's calls, as far as they are in the trace.
     fn take_added(&mut self, imported: &Imported, tracks: &Tracks) -> Result<(), AllocError> {
         for request in &imported.sources.requests.list {
-            if self.bounds.get(&request.time).is_none() {
-                continue;
-            }
             let threads = &imported.sources.ids.threads;
-            let Some(thread) = threads.get(request.thread as usize) else {
+            let (Some(time), Some(thread)) = (request.time, threads.get(request.thread as usize))
+            else {
                 continue;
             };
+            if self.bounds.get(&time).is_none() {
+                continue;
+            }
             if let Some(track) = tracks.of_task(thread.task) {
-                if let Some(call) = call_asleep(track, request.time) {
+                if let Some(call) = call_asleep(track, time) {
                     put(&mut self.known, (track.task, call.begin), true)?;
-                    self.put(request.time, (call.begin, call.slept))?;
+                    self.put(time, (call.begin, call.slept))?;
                 }
             }
         }

@@ -15,4 +15,4 @@ mutex_in course m =
 abbrev pub family_in : Sources → ℕ → Family
 family_in sources m =
     (slice_index_or sources.ids.mutexes.items m
-    (record { process = 0; address = 0; family = Family.None; init = 0; ceiling = 0; is_recursive = false })).family
+    (record { process = 0; address = 0; family = Family.None; ceiling = 0; is_recursive = false })).family

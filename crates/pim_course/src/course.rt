@@ -4,8 +4,8 @@ ghost use Rattle.pim_course.specs.Courses.{family_in, mutex_in};
 
 use crate::next_owners::NextOwners;
 use crate::requests::Requests;
-use pim_facts::{Fact, Facts, Family, Ids, LeftOut, What, ceiling_in, level_in};
-use pim_log::{Event, Record};
+use pim_facts::{Fact, Facts, Family, Ids, LeftOut, What, ceiling_in, level_of};
+use pim_log::{Event, Mutex, Priority, Record};
 use std::alloc::{AllocError, Global};
 
 /// What is known of a log before its course is followed.
@@ -150,14 +150,14 @@ impl Course {
     pub fn advance(&mut self, sources: &Sources, record: &Record) -> LeftOut {
         let id = sources.ids.of_record(record.number);
         self.is_contradiction = false;
-        match &record.event {
-            Event::Thread => self.begin(record),
-            Event::Priority => self.set_level(id, record.detail),
-            Event::Ceiling => self.set_ceiling(record, id),
-            Event::Request => self.request(sources, record, id),
-            Event::Granted => self.grant(sources, record, id),
-            Event::Failed => self.fail(record.thread, id),
-            Event::Release => self.release(sources, record, id),
+        match record.event {
+            Event::Thread { priority, .. } => self.begin(record.thread, priority),
+            Event::Priority { priority, .. } => self.set_level(id, priority),
+            Event::Ceiling(mutex) => self.set_ceiling(record.thread, &mutex, id),
+            Event::Request { mutex, owner } => self.request(sources, record, &mutex, owner, id),
+            Event::Granted { mutex, .. } => self.grant(sources, record.thread, &mutex, id),
+            Event::Failed { .. } => self.fail(record.thread, id),
+            Event::Release { .. } => self.release(sources, record, id),
             _ => LeftOut::Remark,
         }
     }
@@ -172,16 +172,16 @@ impl Course {
     }
 
     /// A thread has its first record, which tells its level.
-    fn begin(&mut self, record: &Record) -> LeftOut {
-        let mut is = self.thread(record.thread);
-        is.level = level_in(record.detail, 0);
-        self.put_thread(record.thread, is);
+    fn begin(&mut self, thread: u32, priority: Priority) -> LeftOut {
+        let mut is = self.thread(thread);
+        is.level = level_of(priority, 0);
+        self.put_thread(thread, is);
         LeftOut::Remark
     }
 
-    fn set_level(&mut self, thread: u32, detail: u16) -> LeftOut {
+    fn set_level(&mut self, thread: u32, priority: Priority) -> LeftOut {
         let mut is = self.thread(thread);
-        let level = level_in(detail, is.level);
+        let level = level_of(priority, is.level);
         if thread == 0 || level == is.level {
             return LeftOut::Unchanged;
         }
@@ -191,17 +191,17 @@ impl Course {
         LeftOut::Absentee
     }
 
-    fn set_ceiling(&mut self, record: &Record, mutex: u32) -> LeftOut {
-        if self.correct_ceiling(record, mutex) {
+    fn set_ceiling(&mut self, thread: u32, said: &Mutex, mutex: u32) -> LeftOut {
+        if self.correct_ceiling(thread, said, mutex) {
             LeftOut::Uncontended
         } else {
             LeftOut::Unchanged
         }
     }
 
-    /// Learns the ceiling of a PROTECT mutex, and returns whether the record says another than was known.
-    fn correct_ceiling(&mut self, record: &Record, mutex: u32) -> bool {
-        let Some(ceiling) = ceiling_in(record) else {
+    /// Learns the ceiling of a PROTECT mutex, and returns whether a record of the thread says another than was known.
+    fn correct_ceiling(&mut self, thread: u32, said: &Mutex, mutex: u32) -> bool {
+        let Some(ceiling) = ceiling_in(said) else {
             return false;
         };
         let mut is = self.mutex(mutex);
@@ -210,7 +210,7 @@ impl Course {
         }
         is.ceiling = ceiling;
         self.put_mutex(mutex, is);
-        let corrected = fact(What::Ceiling(ceiling), record.thread, mutex, is.section);
+        let corrected = fact(What::Ceiling(ceiling), thread, mutex, is.section);
         self.shown.add(corrected);
         true
     }
@@ -235,8 +235,15 @@ impl Course {
         self.shown.add(fact(What::GaveUp, thread, mutex, section));
     }
 
-    /// A thread asks for a mutex, and another owned it as it asked.
-    fn request(&mut self, sources: &Sources, record: &Record, mutex: u32) -> LeftOut {
+    /// A thread asks for a mutex, and another owned it as it asked: the thread with this task, if the record names one.
+    fn request(
+        &mut self,
+        sources: &Sources,
+        record: &Record,
+        said: &Mutex,
+        task: Option<u32>,
+        mutex: u32,
+    ) -> LeftOut {
         let thread = record.thread;
         let is = self.mutex(mutex);
         if is.owner == thread {
@@ -252,9 +259,9 @@ impl Course {
         if mutex == 0 || self.thread(thread).awaits == mutex {
             return LeftOut::Again;
         }
-        self.correct_ceiling(record, mutex);
+        self.correct_ceiling(thread, said, mutex);
         self.correct_wait(thread, mutex);
-        let owner = owner_asked(sources, record, &is);
+        let owner = owner_asked(sources, record, task.is_some(), &is);
         self.wait(sources, thread, mutex, owner);
         LeftOut::Uncontended
     }
@@ -294,14 +301,13 @@ impl Course {
     }
 
     /// A thread has a mutex. Its level isn't above the ceiling, unless it rose, or the ceiling fell, while it waited.
-    fn grant(&mut self, sources: &Sources, record: &Record, mutex: u32) -> LeftOut {
-        let thread = record.thread;
+    fn grant(&mut self, sources: &Sources, thread: u32, said: &Mutex, mutex: u32) -> LeftOut {
         let owner = self.mutex(mutex).owner;
         self.forget_own(thread);
         if mutex == 0 || owner == thread {
             return self.grant_again(&sources.ids, thread, mutex);
         }
-        self.correct_ceiling(record, mutex);
+        self.correct_ceiling(thread, said, mutex);
         self.correct_wait(thread, mutex);
         let is = self.thread(thread);
         let may_be_above = is.awaits == mutex && !is.was_above;
@@ -400,15 +406,15 @@ impl Course {
 /// Returns who owns the mutex of a REQUEST when it is made, or 0 if no record says it: the thread that it names. If the
 /// owner hadn't yet written who it is, or not any more, that is the owner of the log; else who is granted the mutex next,
 /// if its call had begun; else who had it last; else who is granted it next.
-fn owner_asked(sources: &Sources, record: &Record, mutex: &CourseMutex) -> u32
+fn owner_asked(sources: &Sources, record: &Record, is_named: bool, mutex: &CourseMutex) -> u32
     ensures { (result ≡ 0) ⊎ (result ≢ «record».now.thread) }
 {
     let asked = sources.next_owners.asked_owner(record.number);
-    if record.value == 0 {
+    if is_named {
+        first_other(record.thread, [asked, mutex.owner, 0, 0])
+    } else {
         let next = sources.next_owners.next_granted(record.number);
         first_other(record.thread, [mutex.owner, asked, mutex.last_owner, next])
-    } else {
-        first_other(record.thread, [asked, mutex.owner, 0, 0])
     }
 }
 

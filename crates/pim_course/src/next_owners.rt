@@ -1,8 +1,8 @@
 //! Who owns a mutex next, and whose it is when a thread asks for it.
 
-use crate::lists::{get, set};
+use crate::lists::{get, put, set};
 use pim_facts::Ids;
-use pim_log::{Event, Log, Record};
+use pim_log::{Call, Event, Log, Record};
 use std::alloc::{AllocError, Global};
 use std::collections::HashMap;
 
@@ -100,27 +100,27 @@ impl Coming {
     fn read(&mut self, ids: &Ids, record: &Record, named: u32) -> u32 {
         let mutex = ids.of_record(record.number);
         self.begin_behind(record);
-        match &record.event {
-            Event::Request => {
+        match record.event {
+            Event::Request { owner, .. } => {
                 set(&mut self.granted, record.thread, 0);
                 if named != 0 {
                     named
                 } else {
-                    self.next_if_asked(ids, record, mutex)
+                    self.next_if_asked(ids, record, owner, mutex)
                 }
             }
-            Event::Granted => self.read_grant(record, mutex),
-            Event::Failed => {
+            Event::Granted { .. } => self.read_grant(record, mutex),
+            Event::Failed { .. } => {
                 set(&mut self.granted, record.thread, 0);
                 0
             }
-            Event::ReleaseFailed => {
+            Event::ReleaseFailed(_) => {
                 set(&mut self.failing, record.thread, mutex);
                 0
             }
-            Event::Release => {
+            Event::Release { call, .. } => {
                 set(&mut self.granted, record.thread, 0);
-                self.read_release(record, mutex)
+                self.read_release(record.thread, call, mutex)
             }
             _ => 0,
         }
@@ -129,7 +129,7 @@ impl Coming {
     /// A call whose begin its GRANTED doesn't say began behind the record of its thread before that, which this is.
     fn begin_behind(&mut self, record: &Record) {
         let mutex = get(&self.beginning, record.thread);
-        if mutex == 0 || record.event == Event::Text {
+        if mutex == 0 || record.time.is_none() {
             return;
         }
         set(&mut self.beginning, record.thread, 0);
@@ -153,29 +153,27 @@ impl Coming {
 
     /// Returns the next owner of the mutex of a REQUEST if it may be the owner already: another thread, with the number
     /// that the REQUEST names, if it names one. Else [`LATER`] is added if its call began after the REQUEST.
-    fn next_if_asked(&self, ids: &Ids, record: &Record, mutex: u32) -> u32 {
+    fn next_if_asked(&self, ids: &Ids, record: &Record, task: Option<u32>, mutex: u32) -> u32 {
         let next = get(&self.owners, mutex);
-        let task = match ids.threads.get(next as usize) {
-            Some(thread) => thread.task,
-            None => 0,
+        let next_task = match ids.threads.get(next as usize) {
+            Some(thread) => Some(thread.task),
+            None => None,
         };
-        let is_named = record.value == 0 || record.value == task;
-        if next == 0 || next == record.thread || !is_named {
+        let may_be_named = task.is_none() || task == next_task;
+        if next == 0 || next == record.thread || !may_be_named {
             return 0;
         }
-        let began = self.began.get(mutex as usize).copied().unwrap_or(0);
-        if record.value == 0 && began > record.time {
-            next | LATER
-        } else {
-            next
+        match record.time {
+            Some(time) if task.is_none() && get(&self.began, mutex) > time => next | LATER,
+            _ => next,
         }
     }
 
     /// Returns what is kept of a RELEASE. The RELEASE_FAILED behind it is the next record of its thread.
-    fn read_release(&mut self, record: &Record, mutex: u32) -> u32 {
-        let is_failing = get(&self.failing, record.thread) == mutex && mutex != 0;
-        set(&mut self.failing, record.thread, 0);
-        if is_failing && record.how & 127 == CONDITION {
+    fn read_release(&mut self, thread: u32, call: Call, mutex: u32) -> u32 {
+        let is_failing = get(&self.failing, thread) == mutex && mutex != 0;
+        set(&mut self.failing, thread, 0);
+        if is_failing && call == Call::Condition {
             REFUSED
         } else {
             self.next_owner(mutex)
@@ -203,14 +201,18 @@ fn named_owners(alloc: Global, log: &Log, ids: &Ids) -> Result<Vec<u32>, AllocEr
         let Some(record) = log.record(number) else {
             continue;
         };
-        if record.event == Event::Thread && threads.insert(record.task, record.thread).is_err() {
-            return Err(AllocError);
-        }
-        if record.event == Event::Request && (number as usize) < owners.len() {
-            let named = threads.get(&record.value).copied().unwrap_or(0);
-            if may_own(ids, &record, named) {
-                owners[number as usize] = named;
+        match record.event {
+            Event::Thread { .. } => put(&mut threads, record.task, record.thread)?,
+            Event::Request {
+                owner: Some(task),
+                ..
+            } => {
+                let named = threads.get(&task).copied().unwrap_or(0);
+                if may_own(ids, &record, named) && (number as usize) < owners.len() {
+                    owners[number as usize] = named;
+                }
             }
+            _ => {}
         }
     }
     Ok(owners)
@@ -227,6 +229,3 @@ fn may_own(ids: &Ids, record: &Record, thread: u32) -> bool {
         None => false,
     }
 }
-
-/// The call of a RELEASE or a GRANTED: a wait at a condition variable.
-const CONDITION: u8 = 4;

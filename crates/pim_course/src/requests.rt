@@ -10,18 +10,18 @@ use crate::lists::{get, push, set};
 use crate::waits::{Asked, Wait, asked_in};
 use crate::walk::Walk;
 use pim_facts::Ids;
-use pim_log::{Event, LONGEST_CALL, Log, Record};
+use pim_log::{Call, Event, LONGEST_CALL, Log, Record};
 use std::alloc::{AllocError, Global};
 
 /// A request that the log lacks.
-#[derive(Clone, Copy, PartialEq, Eq, PartialOrd, Ord)]
+#[derive(Clone, Copy, PartialEq, Eq)]
 pub struct Request {
     /// The number of the record behind which it belongs. If no wait shows the request, that is the first grant of the mutex
     /// to another since the call began, or a later record of the thread before its call. Of a call whose begin isn't known
-    /// it may also be the grant that lasted at the latest time at which it may have begun.
+    /// it may also be the grant since which the mutex was owned at the latest time at which the call may have begun.
     pub after: u64,
-    /// When the thread began to wait, by a wait that shows it. 0: when that record was put.
-    pub time: u64,
+    /// When the thread began to wait, by a wait that shows it. None: when that record was put.
+    pub time: Option<u64>,
     pub thread: u32,
     pub mutex: u32,
 }
@@ -52,15 +52,6 @@ struct Grants {
 
 /// The end of an ownership that lasts, or lasts at the next grant.
 const LASTING: u64 = u64::MAX;
-
-/// ETIMEDOUT of Linux.
-const TIMED_OUT: u8 = 110;
-
-/// The call of a GRANTED: trylock, which doesn't wait.
-const TRYLOCK: u8 = 1;
-
-/// The call of a GRANTED: the relock of a wait at a condition variable, whose begin isn't known.
-const CONDITION: u8 = 4;
 
 impl Requests {
     /// Returns no request.
@@ -124,94 +115,91 @@ fn add_silent(
     let mut asked = vec![in alloc; 0; ids.threads.len()]?;
     let mut last = vec![in alloc; 0u64; ids.threads.len()]?;
     for number in 1..log.header().end() {
-        if let Some(record) = log.record(number) {
-            let (thread, mutex) = (record.thread, ids.of_record(number));
-            let is_missing = misses_request(&mut asked, &record, mutex);
-            if is_missing && to.ends.binary_search(&number).is_err() {
-                if let Some(grant) = grants.first_since(log, &record, mutex) {
-                    let after = grant.max(get(&last, thread));
-                    push(
-                        &mut to.list,
-                        Request {
-                            after,
-                            time: 0,
-                            thread,
-                            mutex,
-                        },
-                    )?;
-                }
+        let Some(record) = log.record(number) else {
+            continue;
+        };
+        let (thread, mutex) = (record.thread, ids.of_record(number));
+        let is_missing = misses_request(&mut asked, &record, mutex);
+        if is_missing && to.ends.binary_search(&number).is_err() {
+            if let Some(grant) = grants.first_since(log, &record, mutex) {
+                let request = Request {
+                    after: grant.max(get(&last, thread)),
+                    time: None,
+                    thread,
+                    mutex,
+                };
+                push(&mut to.list, request)?;
             }
-            let owner = walk.course.mutex(mutex).owner;
-            let _moment = walk.read(log, sources, number);
-            grants.pass(&record, mutex, owner, walk.course.mutex(mutex).owner);
-            if record.event != Event::Text {
-                set(&mut last, thread, number);
-            }
+        }
+        let owner = walk.course.mutex(mutex).owner;
+        let _moment = walk.read(log, sources, number);
+        grants.pass(&record, mutex, owner, walk.course.mutex(mutex).owner);
+        if record.time.is_some() {
+            set(&mut last, thread, number);
         }
     }
     Ok(())
 }
 
-/// Returns whether a call that put no REQUEST lasted while its mutex was granted.
+/// Returns whether a call that put no REQUEST lasted while its mutex was granted, or may have.
 fn misses_some(alloc: Global, log: &Log, ids: &Ids) -> Result<bool, AllocError> {
     let mut asked = vec![in alloc; 0; ids.threads.len()]?;
     let mut latest = vec![in alloc; 0u64; ids.mutexes.len()]?;
     for number in 1..log.header().end() {
         if let Some(record) = log.record(number) {
-            let id = ids.of_record(number);
-            let mutex = id as usize;
-            if mutex < latest.len() {
-                let is_missing = misses_request(&mut asked, &record, id);
-                if is_missing && may_have_lasted(&record, latest[mutex]) {
-                    return Ok(true);
-                }
-                if record.event == Event::Granted {
-                    latest[mutex] = latest[mutex].max(record.time);
-                }
+            let mutex = ids.of_record(number);
+            let is_missing = misses_request(&mut asked, &record, mutex);
+            if is_missing && may_have_lasted(&record, get(&latest, mutex)) {
+                return Ok(true);
+            }
+            if let (Event::Granted { .. }, Some(time)) = (record.event, record.time) {
+                let before = get(&latest, mutex);
+                set(&mut latest, mutex, time.max(before));
             }
         }
     }
     Ok(false)
 }
 
-/// Returns whether the call that ends with this record may have lasted at this time, which is before the record. 0 is the
-/// time of nothing.
+/// Returns whether the call that ends with this record may have lasted at this time.
 fn may_have_lasted(record: &Record, time: u64) -> bool {
-    time > 0 && (record.took().is_none() || time > latest_begin(record))
+    match record.began() {
+        Some(began) => time > began,
+        None => true,
+    }
 }
 
 /// Returns when the call began that ends with this record. If the record doesn't say it, the call began then or earlier.
-fn latest_begin(record: &Record) -> u64 {
+fn latest_begin(record: &Record) -> Option<u64> {
     match record.began() {
-        Some(began) => began,
-        None => record.time.saturating_sub(LONGEST_CALL as u64),
+        Some(began) => Some(began),
+        None => Some(record.time?.saturating_sub(LONGEST_CALL as u64)),
     }
 }
 
 /// Returns whether a call ends with this record that may have waited, and put no REQUEST.
 fn misses_request(asked: &mut Vec<u32>, record: &Record, mutex: u32) -> bool {
-    let thread = record.thread as usize;
-    if thread >= asked.len() {
-        return false;
-    }
-    match &record.event {
-        Event::Request => {
-            asked[thread] = mutex;
-            false
+    let thread = record.thread;
+    let may_have_waited = match record.event {
+        Event::Request { .. } => {
+            set(asked, thread, mutex);
+            return false;
         }
-        Event::Granted => {
-            let has_asked = asked[thread] == mutex;
-            asked[thread] = 0;
-            let call = record.how & 127;
-            !has_asked && call != TRYLOCK && call != CONDITION && record.took() != Some(0)
-        }
-        Event::Failed => {
-            let has_asked = asked[thread] == mutex;
-            asked[thread] = 0;
-            !has_asked && record.how == TIMED_OUT && record.took() != Some(0)
-        }
-        _ => false,
-    }
+        Event::Granted { took, call, .. } => call == Call::Lock && took != Some(0),
+        Event::Failed {
+            took,
+            is_timeout,
+            ..
+        } => is_timeout && took != Some(0),
+        _ => return false,
+    };
+    let has_asked = get(asked, thread) == mutex;
+    set(asked, thread, 0);
+    may_have_waited && !has_asked
+}
+
+fn is_grant(record: &Record) -> bool {
+    matches!(record.event, Event::Granted { .. })
 }
 
 impl Grants {
@@ -220,7 +208,7 @@ impl Grants {
         let mut begins = vec![in alloc; 0; ids.mutexes.len()]?;
         for number in 1..log.header().end() {
             if let Some(record) = log.record(number) {
-                if record.event == Event::Granted {
+                if is_grant(&record) {
                     count(&mut begins, ids.of_record(number));
                 }
             }
@@ -240,9 +228,9 @@ impl Grants {
         let place = get(&self.passed, mutex);
         let last = place.saturating_sub(1);
         if before != 0 && before != owner {
-            set(&mut self.ends, last, record.time);
+            set(&mut self.ends, last, record.time.unwrap_or(LASTING));
         }
-        if record.event == Event::Granted {
+        if is_grant(record) {
             let is_again = before == record.thread;
             let first = if is_again {
                 get(&self.firsts, last)
@@ -259,17 +247,17 @@ impl Grants {
     /// record. If the record doesn't say when that was, the mutex may be owned at the latest time at which the call began.
     /// The grant since which it was is later than the begin of the call, which found the mutex free.
     fn first_since(&self, log: &Log, record: &Record, mutex: u32) -> Option<u64> {
-        let latest = latest_begin(record);
+        let latest = latest_begin(record)?;
         let end = get(&self.passed, mutex);
         let next = self.first_after(log, mutex, latest);
         let place = match next.checked_sub(1) {
             Some(before)
-                if record.took().is_none()
+                if record.began().is_none()
                     && before >= get(&self.begins, mutex)
                     && get(&self.ends, before) > latest => { get(&self.firsts, before) }
             _ => next,
         };
-        if place >= end || self.thread(log, place) == record.thread {
+        if place >= end || self.thread(log, place) == Some(record.thread) {
             return None;
         }
         self.numbers.get(place as usize).copied()
@@ -284,27 +272,20 @@ impl Grants {
                 break;
             }
             let middle = low + (high - low) / 2;
-            if self.time(log, middle) > time {
-                high = middle;
-            } else {
-                low = middle + 1;
+            match self.time(log, middle) {
+                Some(at) if at > time => high = middle,
+                _ => low = middle + 1,
             }
         }
         low
     }
 
-    fn time(&self, log: &Log, place: u32) -> u64 {
-        match self.grant(log, place) {
-            Some(record) => record.time,
-            None => 0,
-        }
+    fn time(&self, log: &Log, place: u32) -> Option<u64> {
+        self.grant(log, place)?.time
     }
 
-    fn thread(&self, log: &Log, place: u32) -> u32 {
-        match self.grant(log, place) {
-            Some(record) => record.thread,
-            None => 0,
-        }
+    fn thread(&self, log: &Log, place: u32) -> Option<u32> {
+        Some(self.grant(log, place)?.thread)
     }
 
     /// Returns the GRANTED at this place.

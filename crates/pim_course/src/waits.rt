@@ -41,6 +41,8 @@ pub struct Asked {
 #[derive(Clone, Copy, PartialEq, Eq)]
 struct Pending {
     request: Request,
+    /// When the wait began.
+    from: u64,
     /// The number of the RELEASE of the mutex since the thread's last record, or 0.
     release: u64,
 }
@@ -85,8 +87,8 @@ pub fn asked_in(
     let end = log.header().end();
     for number in 1..end {
         if let Some(record) = log.record(number) {
-            if record.event != Event::Text {
-                search.begin(sources, &mut walk.course, number, record.time)?;
+            if let Some(time) = record.time {
+                search.begin(sources, &mut walk.course, number, time)?;
             }
             let _moment = walk.read(log, sources, number);
             search.pass(sources, &mut walk, &record)?;
@@ -170,7 +172,7 @@ impl Search {
         }
         let request = Request {
             after,
-            time: wait.from,
+            time: Some(wait.from),
             thread,
             mutex,
         };
@@ -181,7 +183,14 @@ impl Search {
         let release = get(&self.released, mutex);
         let is_since = release > get(&self.last, thread);
         let release = if is_since { release } else { 0 };
-        push(&mut self.pending, Pending { request, release })
+        push(
+            &mut self.pending,
+            Pending {
+                request,
+                from: wait.from,
+                release,
+            },
+        )
     }
 
     /// Returns the mutex that is at an address in the process of a thread, or 0.
@@ -227,7 +236,7 @@ impl Search {
             push(&mut self.found.ends, record.number)?;
         }
         set(&mut self.last, record.thread, record.number);
-        if record.event == Event::Release {
+        if matches!(record.event, Event::Release { .. }) {
             set(&mut self.released, id, record.number);
         }
         Ok(())
@@ -238,8 +247,7 @@ impl Search {
         if get(&self.last, record.thread) == 0 {
             put(&mut self.threads, record.task, record.thread)?;
         }
-        let is_thread = matches!(&record.event, Event::Thread | Event::Name | Event::Priority);
-        if is_thread || id <= self.named {
+        if record.event.mutex().is_none() || id <= self.named {
             return Ok(());
         }
         self.named = id;
@@ -306,10 +314,14 @@ impl Pending {
         if record.thread == self.request.thread {
             return Some(before);
         }
-        if record.event != Event::Granted || id != self.request.mutex {
+        if !matches!(record.event, Event::Granted { .. }) || id != self.request.mutex {
             return None;
         }
-        if record.began().unwrap_or(0) <= self.request.time {
+        let has_begun = match record.began() {
+            Some(began) => began <= self.from,
+            None => true,
+        };
+        if has_begun {
             return Some(record.number);
         }
         if before > 0 { Some(before) } else { None }

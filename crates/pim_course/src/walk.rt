@@ -19,8 +19,8 @@ pub struct Walk {
 /// When a record was put, and what becomes of it.
 #[derive(Clone, Copy, PartialEq, Eq)]
 pub struct Moment {
-    /// CLOCK_MONOTONIC in nanoseconds.
-    pub time: u64,
+    /// CLOCK_MONOTONIC in nanoseconds, if the record has a time.
+    pub time: Option<u64>,
     /// Why the record is left out if nothing that it shows is in the trace.
     pub otherwise: LeftOut,
 }
@@ -54,7 +54,7 @@ impl Walk {
                 otherwise: self.course.advance(sources, &record),
             },
             None => Moment {
-                time: 0,
+                time: None,
                 otherwise: LeftOut::Absent,
             },
         }
@@ -71,12 +71,10 @@ impl Walk {
         list.len().saturating_sub(self.added)
     }
 
-    /// Goes on by the next request that the log lacks. Returns when it was made, or 0 if nothing says it.
-    pub fn add(&mut self, sources: &Sources) -> u64 {
+    /// Goes on by the next request that the log lacks. Returns when it was made, if a wait shows it.
+    pub fn add(&mut self, sources: &Sources) -> Option<u64> {
         self.course.shown.clear();
-        let Some(request) = sources.requests.list.get(self.added) else {
-            return 0;
-        };
+        let request = sources.requests.list.get(self.added)?;
         self.added = self.added.saturating_add(1);
         self.course
             .add_request(sources, request.thread, request.mutex);

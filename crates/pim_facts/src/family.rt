@@ -1,6 +1,7 @@
 //! What a mutex of a log is.
 
-use pim_log::Record;
+use crate::level::MAX_LEVEL;
+use pim_log::{Mutex, Protocol};
 
 /// The protocol of a mutex, as a log has it.
 #[derive(Clone, Copy, PartialEq, Eq)]
@@ -24,35 +25,19 @@ impl Family {
     }
 }
 
-/// Bit 2 of a mutex's detail: it is known.
-const KNOWN: u16 = 4;
-
-/// Returns the protocol in the detail of a record, or `None` where the log doesn't know it.
-pub fn family_in(detail: u16) -> Option<Family> {
-    if detail & KNOWN == 0 {
-        return None;
-    }
-    match detail >> 5 & 3 {
-        1 => Some(Family::Inherit),
-        2 => Some(Family::Protect),
-        _ => Some(Family::None),
+/// Returns the protocol of the mutex of a record, or `None` where the log doesn't know it.
+pub fn family_in(mutex: &Mutex) -> Option<Family> {
+    match mutex.kind?.protocol {
+        Protocol::None => Some(Family::None),
+        Protocol::Inherit => Some(Family::Inherit),
+        Protocol::Protect(_) => Some(Family::Protect),
     }
 }
 
-/// Returns whether the detail of a record says that the mutex is shared between processes.
-pub fn is_shared_in(detail: u16) -> bool {
-    detail & KNOWN != 0 && detail & 0x80 != 0
-}
-
-/// Returns whether the detail of a record says that its owner may lock the mutex again.
-pub fn is_recursive_in(detail: u16) -> bool {
-    detail & KNOWN != 0 && detail & 3 == 1
-}
-
-/// Returns the ceiling in a record of a PROTECT mutex, 0 to 100, or `None` where it says none.
-pub fn ceiling_in(record: &Record) -> Option<u8> {
-    match family_in(record.detail) {
-        Some(Family::Protect) => Some((record.detail >> 8).min(100) as u8),
+/// Returns the level of the ceiling of the PROTECT mutex of a record, or `None` where it says none.
+pub fn ceiling_in(mutex: &Mutex) -> Option<u8> {
+    match mutex.kind?.protocol {
+        Protocol::Protect(ceiling) => Some(ceiling.min(MAX_LEVEL)),
         _ => None,
     }
 }

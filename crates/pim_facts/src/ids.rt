@@ -3,11 +3,11 @@ ghost use Rattle.std.specs.Prelude.{IfErr};
 ghost use Rattle.pim_log.specs.Headers.{header_of, end_of};
 ghost use Rattle.pim_facts.specs.Faults.{NamesOneOf, NamesOnly};
 
-use crate::family::{Family, ceiling_in, family_in, is_recursive_in, is_shared_in};
+use crate::family::{Family, ceiling_in, family_in};
 use crate::fault::IdsFault;
-use crate::level::{MAX_LEVEL, level_in};
+use crate::level::{MAX_LEVEL, level_of};
 use crate::lists::push;
-use pim_log::{Event, Log, Record};
+use pim_log::{Event, Log, Mutex, Priority, Record, ThreadKey};
 use std::alloc::{AllocError, Global};
 use std::collections::HashMap;
 
@@ -34,8 +34,6 @@ pub struct LoggedMutex {
     pub address: u64,
     /// Its protocol.
     pub family: Family,
-    /// The number of its INIT record, or 0 if it was initialised statically.
-    pub init: u64,
     /// The ceiling of a PROTECT mutex in its first record, else 0.
     pub ceiling: u8,
     /// Whether its owner may lock it again.
@@ -106,7 +104,6 @@ impl Ids {
                 process: 0,
                 address: 0,
                 family: Family::None,
-                init: 0,
                 ceiling: 0,
                 is_recursive: false,
             },
@@ -142,29 +139,25 @@ impl Ids {
         ensures { IfErr result (NamesOnly «record».now.number) }
     {
         self.read_thread(record)?;
-        if record.event != Event::Text {
-            self.ended = self.ended.max(record.time);
+        if let Some(time) = record.time {
+            self.ended = self.ended.max(time);
         }
-        match &record.event {
-            Event::Thread => self.begin_thread(places, record),
-            Event::Name => Ok(places.thread(record)),
-            Event::Priority => {
-                self.keep_level(Some(level_in(record.detail, 1)));
-                Ok(places.thread(record))
+        match record.event {
+            Event::Thread { pthread, priority } => {
+                self.begin_thread(places, record, pthread, priority)
             }
-            Event::Init => {
-                let owner = owner_of_place(record);
-                Ok(self.begin_mutex(places, owner, record)?)
+            Event::Name { pthread } => {
+                Ok(places.thread(record.process, ThreadKey::Pthread(pthread)))
             }
-            Event::Destroy
-            | Event::DestroyFailed
-            | Event::Ceiling
-            | Event::Request
-            | Event::Granted
-            | Event::Failed
-            | Event::Release
-            | Event::ReleaseFailed => Ok(self.find_mutex(places, record)?),
-            _ => Ok(0),
+            Event::Priority { of, priority } => {
+                self.keep_level(level_of(priority, 1));
+                Ok(places.thread(record.process, of))
+            }
+            Event::Init(mutex) => Ok(self.begin_mutex(places, record, &mutex)?),
+            _ => match record.event.mutex() {
+                Some(mutex) => Ok(self.find_mutex(places, record, &mutex)?),
+                None => Ok(0),
+            },
         }
     }
 
@@ -184,46 +177,63 @@ impl Ids {
             let is_new = self.threads[thread].task == 0;
             self.threads[thread].process = record.process;
             self.threads[thread].task = record.task;
-            if is_new && record.event != Event::Thread {
-                self.keep_level(Some(0));
+            if is_new && !matches!(record.event, Event::Thread { .. }) {
+                self.keep_level(0);
             }
         }
         Ok(())
     }
 
     /// Keeps where a thread is found that begins.
-    fn begin_thread(&mut self, places: &mut Places, record: &Record) -> Result<u32, IdsFault>
+    fn begin_thread(
+        &mut self,
+        places: &mut Places,
+        record: &Record,
+        pthread: u64,
+        priority: Priority,
+    ) -> Result<u32, IdsFault>
         ensures { IfErr result (NamesOnly «record».now.number) }
     {
-        self.keep_level(Some(level_in(record.detail, 1)));
+        self.keep_level(level_of(priority, 1));
         if (record.thread as usize) < self.threads.len() {
-            self.threads[record.thread as usize].level = level_in(record.detail, 0);
+            self.threads[record.thread as usize].level = level_of(priority, 0);
         }
-        let place = (record.process, record.object);
-        put(&mut places.threads, place, record.thread)?;
+        put(
+            &mut places.threads,
+            (record.process, pthread),
+            record.thread,
+        )?;
         put(&mut places.tasks, record.task, record.thread)?;
         Ok(record.thread)
     }
 
-    fn keep_level(&mut self, level: Option<u8>) {
-        if let Some(level) = level {
-            self.levels[level.min(MAX_LEVEL) as usize] = true;
+    fn keep_level(&mut self, level: u8) {
+        self.levels[level.min(MAX_LEVEL) as usize] = true;
+    }
+
+    fn keep_ceiling(&mut self, ceiling: Option<u8>) {
+        if let Some(ceiling) = ceiling {
+            self.keep_level(ceiling);
         }
     }
 
-    /// Returns the mutex of a record. It is a new one where the log didn't name it before.
-    fn find_mutex(&mut self, places: &mut Places, record: &Record) -> Result<u32, AllocError> {
-        let own = (record.process, record.object);
-        let found = match places.mutexes.get(&own) {
+    /// Returns the number of the mutex of a record. It is a new one where the log didn't name it before.
+    fn find_mutex(
+        &mut self,
+        places: &mut Places,
+        record: &Record,
+        mutex: &Mutex,
+    ) -> Result<u32, AllocError> {
+        let found = match places.mutexes.get(&(record.process, mutex.address)) {
             Some(found) => Some(*found),
-            None => places.mutexes.get(&(0, record.object)).copied(),
+            None => places.mutexes.get(&(0, mutex.address)).copied(),
         };
         match found {
-            Some(mutex) => {
-                self.learn(mutex, record);
-                Ok(mutex)
+            Some(number) => {
+                self.learn(number, mutex);
+                Ok(number)
             }
-            None => self.begin_mutex(places, owner_of_place(record), record),
+            None => self.begin_mutex(places, record, mutex),
         }
     }
 
@@ -231,75 +241,85 @@ impl Ids {
     fn begin_mutex(
         &mut self,
         places: &mut Places,
-        process: u32,
         record: &Record,
+        mutex: &Mutex,
     ) -> Result<u32, AllocError> {
         let count = self.mutexes.len();
         if count > u32::MAX as usize {
             return Err(AllocError);
         }
-        let mutex = count as u32;
-        let is_init = record.event == Event::Init;
-        let ceiling = ceiling_in(record);
-        self.keep_level(ceiling);
+        let number = count as u32;
+        let process = owner_of_place(record, mutex);
+        let ceiling = ceiling_in(mutex);
+        self.keep_ceiling(ceiling);
         push(
             &mut self.mutexes,
             LoggedMutex {
                 process,
-                address: record.object,
-                family: family_in(record.detail).unwrap_or(Family::None),
-                init: if is_init { record.number } else { 0 },
+                address: mutex.address,
+                family: family_in(mutex).unwrap_or(Family::None),
                 ceiling: ceiling.unwrap_or(0),
-                is_recursive: is_recursive_in(record.detail),
+                is_recursive: is_recursive(mutex),
             },
         )?;
-        places.begin_mutex(process, record, mutex)?;
-        Ok(mutex)
+        places.begin_mutex(process, record, mutex.address, number)?;
+        Ok(number)
     }
 
     /// Learns of a mutex what its records say, if its first one didn't say it.
-    fn learn(&mut self, mutex: u32, record: &Record) {
-        let mutex = mutex as usize;
-        let ceiling = ceiling_in(record);
-        self.keep_level(ceiling);
-        let Some(family) = family_in(record.detail) else {
+    fn learn(&mut self, number: u32, mutex: &Mutex) {
+        let place = number as usize;
+        let ceiling = ceiling_in(mutex);
+        self.keep_ceiling(ceiling);
+        let Some(family) = family_in(mutex) else {
             return;
         };
-        if mutex < self.mutexes.len() && self.mutexes[mutex].family == Family::None {
-            self.mutexes[mutex].family = family;
-            self.mutexes[mutex].ceiling = ceiling.unwrap_or(0);
-            self.mutexes[mutex].is_recursive = is_recursive_in(record.detail);
+        if place < self.mutexes.len() && self.mutexes[place].family == Family::None {
+            self.mutexes[place].family = family;
+            self.mutexes[place].ceiling = ceiling.unwrap_or(0);
+            self.mutexes[place].is_recursive = is_recursive(mutex);
         }
     }
 }
 
 impl Places {
-    /// Returns the thread that a record of a priority or a name is about, or 0 where the log doesn't know it.
-    fn thread(&self, record: &Record) -> u32 {
-        let found = if record.object == 0 {
-            self.tasks.get(&record.value)
-        } else {
-            self.threads.get(&(record.process, record.object))
+    /// Returns the thread that a record of this process names, or 0 where the log doesn't know it.
+    fn thread(&self, process: u32, key: ThreadKey) -> u32 {
+        let found = match key {
+            ThreadKey::Task(task) => self.tasks.get(&task),
+            ThreadKey::Pthread(pthread) => self.threads.get(&(process, pthread)),
         };
         found.copied().unwrap_or(0)
     }
 
     /// Keeps where a mutex is found. One that processes share takes the place of the one before it
     /// that wasn't shared.
-    fn begin_mutex(&mut self, process: u32, record: &Record, mutex: u32) -> Result<(), AllocError> {
+    fn begin_mutex(
+        &mut self,
+        process: u32,
+        record: &Record,
+        address: u64,
+        mutex: u32,
+    ) -> Result<(), AllocError> {
         if process == 0 {
-            let _before = self.mutexes.remove(&(record.process, record.object));
+            let _before = self.mutexes.remove(&(record.process, address));
         }
-        put(&mut self.mutexes, (process, record.object), mutex)
+        put(&mut self.mutexes, (process, address), mutex)
     }
 }
 
 /// Returns the process of the mutex of a record: 0 for one that processes share.
-fn owner_of_place(record: &Record) -> u32 {
-    if is_shared_in(record.detail) {
-        0
-    } else {
-        record.process
+fn owner_of_place(record: &Record, mutex: &Mutex) -> u32 {
+    match mutex.kind {
+        Some(kind) if kind.is_shared => 0,
+        _ => record.process,
+    }
+}
+
+fn is_recursive(mutex: &Mutex) -> bool {
+    match mutex.kind {
+        Some(kind) => kind.is_recursive,
+        None => false,
     }
 }
 

@@ -25,4 +25,4 @@ pub use facts::Facts;
 pub use family::{Family, ceiling_in};
 pub use fault::IdsFault;
 pub use ids::{Ids, LoggedMutex, LoggedThread, MAX_THREADS};
-pub use level::level_in;
+pub use level::level_of;

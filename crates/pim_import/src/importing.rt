@@ -178,15 +178,14 @@ fn play(
     ensures fault { IfErr result (NamesOneOf end) }
 {
     let mut tally = Tally::new();
+    let mut time = 0;
     for number in 1..end {
         let moment = walk.read(log, context.sources, number);
         if walk.course.is_contradiction {
             return Err(ImportFault::Contradiction(number));
         }
-        let now = Now {
-            number,
-            time: moment.time,
-        };
+        time = moment.time.unwrap_or(time);
+        let now = Now { number, time };
         let is_used = show(context, sections, walk, builder, findings, &now)?;
         tally.count(is_used, moment.otherwise);
         add_requests(context, sections, walk, builder, findings, &now)?;
@@ -206,10 +205,9 @@ fn add_requests(
     ensures { IfErr result (NamesOnly now.now.number) }
 {
     for _request in 0..walk.missing(context.sources, now.number) {
-        let time = walk.add(context.sources);
         let then = Now {
             number: now.number,
-            time: if time == 0 { now.time } else { time },
+            time: walk.add(context.sources).unwrap_or(now.time),
         };
         let _is_used = show(context, sections, walk, builder, findings, &then)?;
     }

@@ -2,6 +2,7 @@
 
 use crate::inversion::{log_bytes, write};
 use pim_log::*;
+use std::alloc::Global;
 use std::test::*;
 
 #[test]
@@ -13,15 +14,15 @@ fn log_has_its_header_and_its_records(rt: HostRuntime) -> Result<(), Fail> {
     };
     let granted = Record {
         number: 6,
-        time: 930_000,
-        object: 0x500,
-        value: 630_000,
-        detail: 0x24,
-        event: Event::Granted,
-        how: 0,
+        time: Some(930_000),
         process: 700,
         task: 702,
         thread: 2,
+        event: Event::Granted {
+            mutex: INHERIT,
+            took: Some(630_000),
+            call: Call::Lock,
+        },
     };
     assert!(rt; sixth == Some(granted) && ninth.is_none());
     let header = header.ok_or("it is a log")?;
@@ -51,42 +52,233 @@ fn used_bytes_are_fewer_than_a_file_can_have(rt: HostRuntime) -> Result<(), Fail
     Ok(())
 }
 
-/// A number, and the event that a log of version 1 has as it.
-const EVENTS: [(u8, Option<Event>); 28] = [
-    (0, None),
-    (1, Some(Event::Thread)),
-    (2, Some(Event::Name)),
-    (3, Some(Event::Create)),
-    (4, Some(Event::Exit)),
-    (5, Some(Event::Priority)),
-    (6, Some(Event::Fork)),
-    (7, Some(Event::Child)),
-    (8, Some(Event::Exec)),
-    (9, Some(Event::ExecFailed)),
-    (10, Some(Event::End)),
-    (11, Some(Event::Module)),
-    (12, Some(Event::Place)),
-    (13, Some(Event::Text)),
-    (14, None),
-    (15, None),
-    (16, Some(Event::Init)),
-    (17, Some(Event::Destroy)),
-    (18, Some(Event::DestroyFailed)),
-    (19, Some(Event::Ceiling)),
-    (20, Some(Event::Request)),
-    (21, Some(Event::Granted)),
-    (22, Some(Event::Failed)),
-    (23, Some(Event::Release)),
-    (24, Some(Event::ReleaseFailed)),
-    (25, Some(Event::Condition)),
-    (26, None),
-    (255, None),
+/// Where record 6 is in the log.
+const SIXTH: usize = 20576;
+
+/// The mutex of a record without what it is.
+const BARE: Mutex = Mutex {
+    address: 0x500,
+    kind: None,
+};
+
+const INHERIT: Mutex = Mutex {
+    address: 0x500,
+    kind: Some(MutexKind {
+        protocol: Protocol::Inherit,
+        is_recursive: false,
+        is_shared: false,
+    }),
+};
+
+const PROTECT: Mutex = Mutex {
+    address: 0x500,
+    kind: Some(MutexKind {
+        protocol: Protocol::Protect(50),
+        is_recursive: true,
+        is_shared: false,
+    }),
+};
+
+const SHARED: Mutex = Mutex {
+    address: 0x500,
+    kind: Some(MutexKind {
+        protocol: Protocol::None,
+        is_recursive: false,
+        is_shared: true,
+    }),
+};
+
+/// The last eight bytes of a record, which are how, event, detail and value, and the event of a record that has 0x500 as
+/// its object.
+const EVENTS: [(u64, Event); 31] = [
+    (
+        0x00_01_2802_0000_0000,
+        Event::Thread {
+            pthread: 0x500,
+            priority: Priority::RealTime(40),
+        },
+    ),
+    (
+        0x00_01_0003_0000_0000,
+        Event::Thread {
+            pthread: 0x500,
+            priority: Priority::Other,
+        },
+    ),
+    (0x00_02_0000_0000_0004, Event::Name { pthread: 0x500 }),
+    (0x00_03_0000_0000_0000, Event::Create),
+    (0x00_04_0000_0000_0000, Event::Exit),
+    (
+        0x00_05_0006_0000_0000,
+        Event::Priority {
+            of: ThreadKey::Pthread(0x500),
+            priority: Priority::Deadline,
+        },
+    ),
+    (
+        0x00_05_1e0f_0000_0000,
+        Event::Priority {
+            of: ThreadKey::Pthread(0x500),
+            priority: Priority::Kept(30),
+        },
+    ),
+    (0x00_06_0000_0000_0000, Event::Fork),
+    (0x00_07_0000_0000_0003, Event::Child { parent: 3 }),
+    (0x00_08_0000_0000_0004, Event::Exec),
+    (0x02_09_0000_0000_0000, Event::ExecFailed),
+    (0x01_0a_0000_0000_0003, Event::End),
+    (0x00_0b_0000_0000_0009, Event::Module { address: 0x500 }),
+    (0x00_0c_0000_0000_0000, Event::Place { address: 0x500 }),
+    (0x00_10_3245_0000_0000, Event::Init(PROTECT)),
+    (0x00_11_0024_0000_0000, Event::Destroy(BARE)),
+    (0x10_12_0000_0000_0000, Event::DestroyFailed(BARE)),
+    (0x00_13_3245_0000_0000, Event::Ceiling(PROTECT)),
+    (
+        0x00_14_0024_0000_02bd,
+        Event::Request {
+            mutex: INHERIT,
+            owner: Some(701),
+        },
+    ),
+    (
+        0x00_14_0000_0000_0000,
+        Event::Request {
+            mutex: BARE,
+            owner: None,
+        },
+    ),
+    (
+        0x01_15_0024_0000_0000,
+        Event::Granted {
+            mutex: INHERIT,
+            took: Some(0),
+            call: Call::TryLock,
+        },
+    ),
+    (
+        0x84_15_0024_0000_0000,
+        Event::Granted {
+            mutex: INHERIT,
+            took: None,
+            call: Call::Condition,
+        },
+    ),
+    (
+        0x02_15_0084_ffff_ffff,
+        Event::Granted {
+            mutex: SHARED,
+            took: None,
+            call: Call::Lock,
+        },
+    ),
+    (
+        0x80_15_0020_ffff_fffe,
+        Event::Granted {
+            mutex: BARE,
+            took: Some(4_294_967_294),
+            call: Call::Lock,
+        },
+    ),
+    (
+        0x6e_16_0024_0000_1388,
+        Event::Failed {
+            mutex: BARE,
+            took: Some(5000),
+            is_timeout: true,
+        },
+    ),
+    (
+        0x04_16_0000_ffff_ffff,
+        Event::Failed {
+            mutex: BARE,
+            took: None,
+            is_timeout: false,
+        },
+    ),
+    (
+        0x00_17_0024_0000_0000,
+        Event::Release {
+            mutex: INHERIT,
+            call: Call::Lock,
+        },
+    ),
+    (
+        0x04_17_0024_0000_0000,
+        Event::Release {
+            mutex: INHERIT,
+            call: Call::Condition,
+        },
+    ),
+    (0x01_18_0000_0000_0000, Event::ReleaseFailed(BARE)),
+    (0x00_19_0000_0000_0000, Event::Condition),
+    (
+        0x00_05_0101_0000_0000,
+        Event::Priority {
+            of: ThreadKey::Pthread(0x500),
+            priority: Priority::RealTime(1),
+        },
+    ),
 ];
 
+/// Numbers of no event.
+const UNKNOWN: [u64; 5] = [0, 14, 15, 26, 255];
+
+/// Returns record 6 of a log, or the fault that the log has.
+fn sixth(alloc: Global, bytes: &[u8]) -> Result<Option<Record>, LogFault> {
+    let log = Log::read(alloc, bytes)?;
+    Ok(log.record(6))
+}
+
 #[test]
-fn event_has_its_number(rt: HostRuntime) -> Result<(), Fail> {
-    for (code, wanted) in EVENTS {
-        assert!(rt; Event::of(code) == wanted, "{code}");
+fn record_says_what_its_fields_say(rt: HostRuntime) -> Result<(), Fail> {
+    let mut bytes = log_bytes(rt.alloc())?;
+    for (fields, wanted) in EVENTS {
+        write(&mut bytes, SIXTH + 24, 8, fields);
+        let event = sixth(rt.alloc(), &bytes)?.map(|record| record.event);
+        assert!(rt; event == Some(wanted), "{fields:x}");
+    }
+    for code in UNKNOWN {
+        write(&mut bytes, SIXTH + 24, 8, code << 48);
+        let fault = LogFault::Slot(SIXTH, SlotFault::UnknownEvent);
+        assert!(rt; sixth(rt.alloc(), &bytes) == Err(fault), "{code}");
+    }
+    Ok(())
+}
+
+/// A PRIORITY without a pthread_t names a task: 703.
+#[test]
+fn priority_of_a_task_has_its_number(rt: HostRuntime) -> Result<(), Fail> {
+    let mut bytes = log_bytes(rt.alloc())?;
+    write(&mut bytes, SIXTH + 16, 8, 0);
+    write(&mut bytes, SIXTH + 24, 8, 0x00_05_0a01_0000_02bf);
+    let wanted = Event::Priority {
+        of: ThreadKey::Task(703),
+        priority: Priority::RealTime(10),
+    };
+    let event = sixth(rt.alloc(), &bytes)?.map(|record| record.event);
+    assert!(rt; event == Some(wanted));
+    Ok(())
+}
+
+/// The bytes of a text are in the places of the time, the object, the value and the detail.
+#[test]
+fn text_is_in_the_place_of_other_fields(rt: HostRuntime) -> Result<(), Fail> {
+    let mut bytes = log_bytes(rt.alloc())?;
+    for place in 0..22 {
+        write(&mut bytes, SIXTH + 8 + place, 1, b'a' as u64 + place as u64);
+    }
+    for (how, wanted) in [
+        (3, "abc"),
+        (22, "abcdefghijklmnopqrstuv"),
+        (23, "abcdefghijklmnopqrstuv"),
+    ] {
+        write(&mut bytes, SIXTH + 30, 2, how * 256 + 13);
+        let record = sixth(rt.alloc(), &bytes)?.ok_or("there is a record 6")?;
+        assert!(rt; record.time.is_none() && record.began().is_none());
+        let Event::Text(text) = record.event else {
+            return Err("it is a text".into());
+        };
+        assert!(rt; text.as_bytes() == wanted.as_bytes(), "{how}");
     }
     Ok(())
 }

@@ -6,7 +6,8 @@ use Rattle.std.proofs.lemmas.List.{get_or-drop, get_or-take, length-take}
 use Rattle.byteorder.specs.Endian.{little_from}
 use Rattle.pim_log.specs.Numbers.{number_at}
 use Rattle.pim_log.specs.Headers.{header_of, form_fault_of, counter_fault, header_fault, chunks_of, end_of, used_of}
-use Rattle.pim_log.specs.Logs.{slot_at, head_of, slots_of, number_in, mark_in, thread_in, slot_fault, IsNumbered, IsRepeated, AreSlots, IsLog, FailsAt, IsFault, IsRecord, ReadsAs}
+use Rattle.pim_log.specs.Events.{time_of, Says}
+use Rattle.pim_log.specs.Logs.{slot_at, fields_in, head_of, slots_of, number_in, mark_in, thread_in, slot_fault, IsNumbered, IsRepeated, AreSlots, IsLog, FailsAt, IsFault, IsRecord, ReadsAs}
 use Rattle.pim_log.specs.declared.header.Header.{Header}
 use Rattle.pim_log.specs.declared.record.Record.{Record}
 use Rattle.pim_log.specs.declared.fault.LogFault.{LogFault}
@@ -106,15 +107,21 @@ fault-same a b same head (faults.Repeated at) is =
     (is.0, fails a b same head at is.0 is.1, sym (slot-same a b same is.0 is.1.slot) ∙ is.2, repeated a b same is.0 is.3)
 fault-same a b same head faults.Memory is = is
 
+fields-same : (a b : List ℕ) → Same a b → (s : ℕ) → s < slots_of (header_of a) → fields_in a s ≡ fields_in b s
+fields-same a b same s h =
+    let time = same.used.number 8 (slot_at s + 8) (omega (arith, h)) in
+    let object = same.used.number 8 (slot_at s + 16) (omega (arith, h)) in
+    let value = same.used.number 4 (slot_at s + 24) (omega (arith, h)) in
+    let detail = same.used.number 2 (slot_at s + 28) (omega (arith, h)) in
+    let code = same.used.byte (slot_at s + 30) (omega (arith, h)) in
+    let how = same.used.byte (slot_at s + 31) (omega (arith, h)) in
+    cc
+
 fields : (a b : List ℕ) → Same a b → (s : ℕ) (r : Record) → s < slots_of (header_of a) → IsRecord a s r → IsRecord b s r
 fields a b same s r h is = record {
   number = is.number ∙ same.used.number 8 (slot_at s) (omega (arith, h));
-  time = is.time ∙ same.used.number 8 (slot_at s + 8) (omega (arith, h));
-  object = is.object ∙ same.used.number 8 (slot_at s + 16) (omega (arith, h));
-  value = is.value ∙ same.used.number 4 (slot_at s + 24) (omega (arith, h));
-  detail = is.detail ∙ same.used.number 2 (slot_at s + 28) (omega (arith, h));
-  event = is.event ∙ same.used.byte (slot_at s + 30) (omega (arith, h));
-  how = is.how ∙ same.used.byte (slot_at s + 31) (omega (arith, h));
+  time = is.time ∙ ap time_of (fields-same a b same s h);
+  event = subst (λ f. Says f r.event) (fields-same a b same s h) is.event;
   process = is.process ∙ same.used.number 4 (slot_at (head_of s) + 8) (omega (arith, h));
   task = is.task ∙ same.used.number 4 (slot_at (head_of s) + 12) (omega (arith, h));
   thread = is.thread ∙ same.used.number 4 (slot_at (head_of s) + 16) (omega (arith, h));

@@ -4,11 +4,14 @@
 -- a record of that chunk's thread.
 use Rattle.std.specs.Prelude.{◌≡◌, ◌≢◌, ℕ, ◌+◌, ◌-◌, ◌*◌, ◌%◌, ◌<◌, ◌==◌, nat_lt, List, length, slice_index, Bool, not, ◌&&◌, ◌||◌, if◌then◌else◌, Option, Some, None}
 use Rattle.pim_log.specs.Numbers.{number_at}
-use Rattle.pim_log.specs.Events.{is_event, code_of}
+use Rattle.pim_log.specs.Events.{is_event, time_of, Says}
 use Rattle.pim_log.specs.Headers.{header_of, header_fault, end_of, chunks_of}
 use Rattle.pim_log.specs.declared.header.Header.{Header}
 use Rattle.pim_log.specs.declared.header.TheConstants.{HEADER_BYTES, SLOT_BYTES, CHUNK_SLOTS}
 use Rattle.pim_log.specs.declared.slots.TheConstants.{CHUNK_MARK}
+use Rattle.pim_log.specs.declared.event.Event.{Event}
+use Rattle.pim_log.specs.declared.event.Event.TheVariants as events
+use Rattle.pim_log.specs.declared.fields.Fields.{Fields}
 use Rattle.pim_log.specs.declared.record.Record.{Record}
 use Rattle.pim_log.specs.declared.fault.SlotFault.{SlotFault}
 use Rattle.pim_log.specs.declared.fault.SlotFault.TheVariants.{DamagedHead, OutsideChunk, OutOfOrder, NumberTooHigh, UnknownEvent}
@@ -109,15 +112,22 @@ IsFault bytes (faults.Slot at fault) = (s : ℕ) × FailsAt bytes at s × (slot_
 IsFault bytes (faults.Repeated at) = (s : ℕ) × FailsAt bytes at s × (slot_fault bytes s ≡ None) × IsRepeated bytes s
 IsFault bytes faults.Memory = Unit {0}
 
--- the record in a slot: its fields, and those of its chunk's head
+-- the fields of the record in a slot, each by its offset
+abbrev pub fields_in : List ℕ → ℕ → Fields
+fields_in bytes s = record {
+  time = number_at 8 (slot_at s + 8) bytes;
+  object = number_at 8 (slot_at s + 16) bytes;
+  value = number_at 4 (slot_at s + 24) bytes;
+  detail = number_at 2 (slot_at s + 28) bytes;
+  code = slice_index bytes (slot_at s + 30);
+  how = slice_index bytes (slot_at s + 31);
+}
+
+-- the record in a slot: what its fields say, and the numbers of its chunk's head
 pub record IsRecord (bytes : List ℕ) (s : ℕ) (r : Record) : Type 0 where
   pub number : r.number ≡ number_in bytes s
-  pub time : r.time ≡ number_at 8 (slot_at s + 8) bytes
-  pub object : r.object ≡ number_at 8 (slot_at s + 16) bytes
-  pub value : r.value ≡ number_at 4 (slot_at s + 24) bytes
-  pub detail : r.detail ≡ number_at 2 (slot_at s + 28) bytes
-  pub event : code_of r.event ≡ slice_index bytes (slot_at s + 30)
-  pub how : r.how ≡ slice_index bytes (slot_at s + 31)
+  pub time : r.time ≡ time_of (fields_in bytes s)
+  pub event : Says (fields_in bytes s) r.event
   pub process : r.process ≡ number_at 4 (slot_at (head_of s) + 8) bytes
   pub task : r.task ≡ number_at 4 (slot_at (head_of s) + 12) bytes
   pub thread : r.thread ≡ thread_in bytes s
@@ -135,3 +145,18 @@ pub record ReadsAs (bytes others : List ℕ) : Type 0 where
   pub fault : (fault : LogFault) → IsFault bytes fault → IsFault others fault
   pub numbered : (s number : ℕ) → IsNumbered bytes s number → IsNumbered others s number
   pub fields : (s number : ℕ) (r : Record) → IsNumbered bytes s number → IsRecord bytes s r → IsRecord others s r
+
+-- a duration before a time, where both are known
+abbrev pub before : Option ℕ → Option ℕ → Option ℕ
+before (Some time) (Some took) = Some (time - took)
+before _ _ = None
+
+-- when a call began that ends with this event, put at this time
+abbrev pub begin_of : Option ℕ → Event → Option ℕ
+begin_of time (events.Granted _ took _) = before time took
+begin_of time (events.Failed _ took _) = before time took
+begin_of _ _ = None
+
+-- when the call began that a record ends
+abbrev pub began_of : Record → Option ℕ
+began_of r = begin_of r.time r.event

@@ -1,110 +1,126 @@
 //! What a record says happened.
-ghost use Rattle.std.specs.Prelude.{◌≡◌, ◌≤◌, MatchOption, true, false};
-ghost use Rattle.pim_log.specs.Events.{code_of, is_event};
+ghost use Rattle.std.specs.Prelude.{◌≡◌};
+ghost use Rattle.pim_log.specs.Events.{mutex_of};
 
-/// What a record says happened.
+use crate::mutex::Mutex;
+use crate::priority::Priority;
+use crate::text::Text;
+
+/// What a record says happened, with the fields that a reader needs. record/FORMAT.md has them all.
 #[derive(Clone, Copy, PartialEq, Eq)]
 pub enum Event {
     /// A thread's first record.
-    Thread,
-    /// A thread's name.
-    Name,
+    Thread {
+        pthread: u64,
+        priority: Priority,
+    },
+    /// This thread of the process has a name, which follows.
+    Name {
+        pthread: u64,
+    },
     /// A thread was created.
     Create,
     /// A thread ends.
     Exit,
-    /// A priority was set.
-    Priority,
+    /// The priority of a thread was set.
+    Priority {
+        of: ThreadKey,
+        priority: Priority,
+    },
     /// A process is about to fork.
     Fork,
-    /// The first thread of a forked process.
-    Child,
+    /// The first thread of a process that this thread forked.
+    Child {
+        parent: u32,
+    },
     /// A process is about to become another program.
     Exec,
     /// It didn't.
     ExecFailed,
     /// A process ends.
     End,
-    /// A loaded file.
-    Module,
+    /// A file was loaded to this address. Its path follows.
+    Module {
+        address: u64,
+    },
     /// Where in the code the record before it was made.
-    Place,
+    Place {
+        address: u64,
+    },
     /// A part of the text of the record before it.
-    Text,
+    Text(Text),
     /// A mutex was initialised.
-    Init,
+    Init(Mutex),
     /// A mutex is about to be destroyed.
-    Destroy,
+    Destroy(Mutex),
     /// It wasn't.
-    DestroyFailed,
+    DestroyFailed(Mutex),
     /// A mutex has a new ceiling.
-    Ceiling,
-    /// A thread asks for a mutex that is owned.
-    Request,
-    /// A thread was granted a mutex.
-    Granted,
-    /// A thread wasn't granted a mutex.
-    Failed,
+    Ceiling(Mutex),
+    /// A thread asks for a mutex that is owned, by the thread that has this number in the kernel.
+    Request {
+        mutex: Mutex,
+        owner: Option<u32>,
+    },
+    /// A thread was granted a mutex. The call took this long, in nanoseconds, if that is known.
+    Granted {
+        mutex: Mutex,
+        took: Option<u32>,
+        call: Call,
+    },
+    /// A thread wasn't granted a mutex. The call took this long, in nanoseconds, if that is known.
+    Failed {
+        mutex: Mutex,
+        took: Option<u32>,
+        is_timeout: bool,
+    },
     /// A thread is about to release a mutex.
-    Release,
+    Release {
+        mutex: Mutex,
+        call: Call,
+    },
     /// It didn't.
-    ReleaseFailed,
+    ReleaseFailed(Mutex),
     /// A thread is about to wait at a condition variable.
     Condition,
 }
 
+/// How a record names a thread.
+#[derive(Clone, Copy, PartialEq, Eq)]
+pub enum ThreadKey {
+    /// By its pthread_t in the process of the record.
+    Pthread(u64),
+    /// By its number in the kernel.
+    Task(u32),
+}
+
+/// The call that locks or unlocks a mutex.
+#[derive(Clone, Copy, PartialEq, Eq)]
+pub enum Call {
+    /// A lock that waits, with or without a time-out; or an unlock.
+    Lock,
+    /// A trylock, which doesn't wait.
+    TryLock,
+    /// A wait at a condition variable, which releases the mutex and locks it again.
+    Condition,
+}
+
 impl Event {
-    /// Returns the event that a log has as this number, or `None` where there is no such event.
-    pub fn of(code: u8) -> Option<Event>
-        ensures { MatchOption result (is_event code ≡ false) (λ event. (is_event code ≡ true) × (code_of event ≡ code)) }
+    /// Returns the mutex that the event is of.
+    pub fn mutex(&self) -> Option<Mutex>
+        ensures { result ≡ mutex_of self.now }
     {
-        match code {
-            1..=13 => Some(Event::of_program(code)),
-            16..=25 => Some(Event::of_mutex(code)),
+        match *self {
+            Event::Init(mutex)
+            | Event::Destroy(mutex)
+            | Event::DestroyFailed(mutex)
+            | Event::Ceiling(mutex)
+            | Event::Request { mutex, .. }
+            | Event::Granted { mutex, .. }
+            | Event::Failed { mutex, .. }
+            | Event::Release { mutex, .. }
+            | Event::ReleaseFailed(mutex) => Some(mutex),
             _ => None,
-        }
-    }
-
-    /// Returns the event of a thread, a process or a text.
-    fn of_program(code: u8) -> Event
-        requires low { 1 ≤ code }
-        requires high { code ≤ 13 }
-        ensures { code_of result ≡ code }
-    {
-        match code {
-            1 => Event::Thread,
-            2 => Event::Name,
-            3 => Event::Create,
-            4 => Event::Exit,
-            5 => Event::Priority,
-            6 => Event::Fork,
-            7 => Event::Child,
-            8 => Event::Exec,
-            9 => Event::ExecFailed,
-            10 => Event::End,
-            11 => Event::Module,
-            12 => Event::Place,
-            _ => Event::Text,
-        }
-    }
-
-    /// Returns the event of a mutex or a condition variable.
-    fn of_mutex(code: u8) -> Event
-        requires low { 16 ≤ code }
-        requires high { code ≤ 25 }
-        ensures { code_of result ≡ code }
-    {
-        match code {
-            16 => Event::Init,
-            17 => Event::Destroy,
-            18 => Event::DestroyFailed,
-            19 => Event::Ceiling,
-            20 => Event::Request,
-            21 => Event::Granted,
-            22 => Event::Failed,
-            23 => Event::Release,
-            24 => Event::ReleaseFailed,
-            _ => Event::Condition,
         }
     }
 }

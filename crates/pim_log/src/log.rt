@@ -62,6 +62,7 @@ impl<'a> Log<'a> {
     }
 
     /// Returns the record with this number, or `None` where no record has it. Takes the same time for each.
+    #[inline(always)]
     pub fn record(&self, number: u64) -> Option<Record>
         ensures { MatchOption result
             ((slot : ℕ) → IsNumbered self.now slot number → ⊥)

@@ -1,11 +1,11 @@
 //! The slots of a log: a chunk's head, or room for a record.
 ghost use Rattle.std.specs.Prelude.{◌≡◌, ◌≢◌, ◌+◌, ◌-◌, ◌^◌, ◌<◌, ◌≤◌, ◌%◌, length, slice_index, false, MatchOption};
 ghost use Rattle.pim_log.specs.Headers.{header_of};
-ghost use Rattle.pim_log.specs.Logs.{slot_at, number_in, head_fault, is_in_order, record_fault, slot_fault, IsRecord};
+ghost use Rattle.pim_log.specs.Logs.{slot_at, number_in, head_fault, is_in_order, record_fault, slot_fault, fields_in, IsRecord};
 ghost use Rattle.pim_log.specs.Events.{is_event};
 
-use crate::event::Event;
 use crate::fault::SlotFault;
+use crate::fields::{Fields, is_event};
 use crate::header::{CHUNK_SLOTS, HEADER_BYTES, Header, SLOT_BYTES};
 use crate::numbers::{u16_at, u32_at, u64_at};
 use crate::record::Record;
@@ -91,7 +91,7 @@ fn fault_of_record(header: &Header, bytes: &[u8], slot: usize) -> Option<SlotFau
         Some(SlotFault::OutOfOrder)
     } else if number >= header.next_number {
         Some(SlotFault::NumberTooHigh)
-    } else if Event::of(bytes[offset_of(slot) + 30]).is_none() {
+    } else if !is_event(bytes[offset_of(slot) + 30]) {
         Some(SlotFault::UnknownEvent)
     } else {
         None
@@ -112,25 +112,38 @@ fn is_in_order(bytes: &[u8], slot: usize) -> bool
     before > 0 && before < number_of(bytes, slot)
 }
 
+/// Returns the fields of the record in a slot.
+#[inline(always)]
+fn fields_of(bytes: &[u8], slot: usize) -> Fields
+    requires { slot_at slot + 32 ≤ length bytes.now }
+    ensures { result ≡ fields_in bytes.now slot }
+{
+    let at = offset_of(slot);
+    Fields {
+        time: u64_at(bytes, at + 8),
+        object: u64_at(bytes, at + 16),
+        value: u32_at(bytes, at + 24),
+        detail: u16_at(bytes, at + 28),
+        code: bytes[at + 30],
+        how: bytes[at + 31],
+    }
+}
+
 /// Returns the record in a slot.
 #[inline(always)]
 pub fn record_of(bytes: &[u8], slot: usize) -> Option<Record>
     requires { slot_at slot + 32 ≤ length bytes.now }
     ensures { MatchOption result (is_event (slice_index bytes.now (slot_at slot + 30)) ≡ false) (IsRecord bytes.now slot) }
 {
-    let at = offset_of(slot);
     let head = head_of(slot);
-    let event = Event::of(bytes[at + 30])?;
+    let fields = fields_of(bytes, slot);
+    let event = fields.event()?;
     Some(Record {
-        number: u64_at(bytes, at),
-        time: u64_at(bytes, at + 8),
-        object: u64_at(bytes, at + 16),
-        value: u32_at(bytes, at + 24),
-        detail: u16_at(bytes, at + 28),
-        event,
-        how: bytes[at + 31],
+        number: number_of(bytes, slot),
+        time: fields.time(),
         process: u32_at(bytes, head + 8),
         task: u32_at(bytes, head + 12),
         thread: u32_at(bytes, head + 16),
+        event,
     })
 }

@@ -1,16 +1,9 @@
 //! What the log says of its threads, mutexes and files: names and places.
 
 use pim_facts::{Ids, LoggedMutex};
-use pim_log::{Event, Log, Record};
+use pim_log::{Event, Log, Record, Text};
 use pim_out::Out;
 use std::alloc::{AllocError, Global};
-
-/// A name of a thread, of at most 22 bytes. Linux has at most 15.
-#[derive(Clone, Copy)]
-pub struct ThreadName {
-    bytes: [u8; 22],
-    length: u8,
-}
 
 /// A loaded file.
 #[derive(Drop)]
@@ -45,8 +38,8 @@ enum Pending {
 /// What the log says of its threads, mutexes and files.
 #[derive(Drop)]
 pub struct Labels {
-    /// By thread.
-    names: Vec<ThreadName>,
+    /// By thread. Linux has names of at most 15 bytes.
+    names: Vec<Text>,
     /// By mutex where in the code the call that initialised it returned to, or 0.
     places: Vec<u64>,
     modules: Vec<Module>,
@@ -56,10 +49,7 @@ pub struct Labels {
     pending: Vec<Pending>,
 }
 
-const UNNAMED: ThreadName = ThreadName {
-    bytes: [0; 22],
-    length: 0,
-};
+const UNNAMED: Text = Text::EMPTY;
 
 /// An address further than this from the begin of a file isn't in it.
 const MODULE_BYTES: u64 = 1 << 24;
@@ -92,53 +82,56 @@ impl Labels {
             return Ok(());
         }
         let pending = self.pending[thread];
-        match &record.event {
-            Event::Text => return self.read_text(pending, record),
-            Event::Place => {
-                if let Pending::Init(mutex) = pending {
-                    if (mutex as usize) < self.places.len() {
-                        self.places[mutex as usize] = record.object;
-                    }
-                }
+        match record.event {
+            Event::Text(text) => return self.read_text(pending, text),
+            Event::Place { address } => {
+                self.read_place(pending, address);
                 self.pending[thread] = Pending::Nothing;
             }
-            Event::Name => {
+            Event::Name { .. } => {
                 let named = ids.of_record(record.number);
                 if (named as usize) < self.names.len() {
                     self.names[named as usize] = UNNAMED;
                 }
                 self.pending[thread] = Pending::Name(named);
             }
-            Event::Module => {
+            Event::Module { address } => {
                 self.pending[thread] = Pending::Module(self.modules.len());
                 let module = Module {
                     process: record.process,
-                    address: record.object,
+                    address,
                     path: String::new(alloc),
                 };
                 if self.modules.push(module).is_err() {
                     return Err(AllocError);
                 }
             }
-            Event::Init => {
-                self.pending[thread] = Pending::Init(ids.of_record(record.number));
-            }
-            Event::Child => {
+            Event::Init(_) => self.pending[thread] = Pending::Init(ids.of_record(record.number)),
+            Event::Child { parent } => {
                 self.pending[thread] = Pending::Nothing;
-                self.add_child(ids, record)?;
+                self.add_child(ids, record.process, parent)?;
             }
             _ => self.pending[thread] = Pending::Nothing,
         }
         Ok(())
     }
 
-    /// Adds the process of a CHILD, which names a thread of its parent.
-    fn add_child(&mut self, ids: &Ids, record: &Record) -> Result<(), AllocError> {
-        let Some(parent) = ids.threads.get(record.value as usize) else {
+    /// Keeps where a mutex was initialised.
+    fn read_place(&mut self, pending: Pending, address: u64) {
+        if let Pending::Init(mutex) = pending {
+            if (mutex as usize) < self.places.len() {
+                self.places[mutex as usize] = address;
+            }
+        }
+    }
+
+    /// Adds a process that this thread forked.
+    fn add_child(&mut self, ids: &Ids, process: u32, parent: u32) -> Result<(), AllocError> {
+        let Some(parent) = ids.threads.get(parent as usize) else {
             return Ok(());
         };
         let child = Child {
-            process: record.process,
+            process,
             parent: parent.process,
         };
         match self.children.push(child) {
@@ -148,19 +141,20 @@ impl Labels {
     }
 
     /// Adds a part of a text.
-    fn read_text(&mut self, pending: Pending, record: &Record) -> Result<(), AllocError> {
-        let (bytes, length) = text_in(record);
+    fn read_text(&mut self, pending: Pending, text: Text) -> Result<(), AllocError> {
         match pending {
             Pending::Name(thread) => {
                 let thread = thread as usize;
-                if 0 < thread && thread < self.names.len() && self.names[thread].length == 0 {
-                    self.names[thread] = ThreadName { bytes, length };
+                if 0 < thread
+                    && thread < self.names.len()
+                    && self.names[thread].as_bytes().is_empty()
+                {
+                    self.names[thread] = text;
                 }
             }
             Pending::Module(place) => {
                 if place < self.modules.len() {
-                    let end = (length as usize).min(22);
-                    push_text(&mut self.modules[place].path, &bytes[..end])?;
+                    push_text(&mut self.modules[place].path, text.as_bytes())?;
                 }
             }
             Pending::Nothing | Pending::Init(_) => {}
@@ -171,7 +165,7 @@ impl Labels {
     /// Writes the name of a thread, or nothing if it has none.
     pub fn put_name(&self, out: &mut Out, thread: u32) {
         if let Some(name) = self.names.get(thread as usize) {
-            put_text(out, &name.bytes[..(name.length as usize).min(22)]);
+            put_text(out, name.as_bytes());
         }
     }
 
@@ -242,16 +236,6 @@ fn nearer<'a>(one: Option<&'a Module>, other: Option<&'a Module>) -> Option<&'a 
         Some(second) if first.address < second.address => other,
         _ => one,
     }
-}
-
-/// Returns the bytes of a part of a text, and how many there are.
-fn text_in(record: &Record) -> ([u8; 22], u8) {
-    let mut bytes = [0; 22];
-    bytes[..8].copy_from_slice(&record.time.to_le_bytes());
-    bytes[8..16].copy_from_slice(&record.object.to_le_bytes());
-    bytes[16..20].copy_from_slice(&record.value.to_le_bytes());
-    bytes[20..].copy_from_slice(&record.detail.to_le_bytes());
-    (bytes, record.how.min(22))
 }
 
 /// Adds bytes to the path of a file.
