@@ -6,13 +6,21 @@
 //! ```text
 //! let mut findings = Findings::new(alloc, &sources)?;
 //! findings.look(&sources, &walk.course, &fact, time)?;
-//! findings.end(alloc, &sources, &walk.course, ended)?;
-//! findings.longest.first(); // Some: the longest wait
+//! findings.end(alloc, &walk.course, ended)?;
+//! findings.waits.longest.first(); // Some: the longest wait
 //! ```
 #![tactic(auto)]
 
+mod deadlocks;
 mod findings;
+mod found_mutex;
+mod found_wait;
+mod found_waits;
 mod lists;
 mod waiting;
 
-pub use findings::{Findings, FoundMutex, FoundWait, HandOvers};
+pub use deadlocks::Deadlock;
+pub use findings::Findings;
+pub use found_mutex::{FoundMutex, FoundOwnership, HandOvers};
+pub use found_wait::{FoundOwner, FoundWait};
+pub use found_waits::{FoundWaits, LONGEST, MutexWaits};

@@ -1,5 +1,6 @@
 //! Who waits for which mutex, and who is the first waiter.
 
+use crate::found_wait::FoundWait;
 use crate::lists::push;
 use pim_course::{Course, Sources, family_of};
 use pim_facts::{Fact, Family};
@@ -7,21 +8,17 @@ use std::alloc::{AllocError, Global};
 
 /// A wait that lasts.
 #[derive(Clone, Copy, PartialEq, Eq)]
-pub(crate) struct Open {
-    /// From 1 on, in the order in which waits begin. 0: the thread doesn't wait.
-    pub number: u64,
-    pub mutex: u32,
-    pub owner: u32,
-    pub began: u64,
-    pub level: u8,
-    pub owner_level: u8,
+struct Open {
+    /// From 1 on, in the order in which waits begin.
+    number: u64,
+    wait: FoundWait,
 }
 
 /// The waits that last.
 #[derive(Drop)]
 pub(crate) struct Waiting {
     /// By thread.
-    open: Vec<Open>,
+    open: Vec<Option<Open>>,
     /// How many waits have begun.
     begun: u64,
     /// The threads that wait, in the order in which they began to.
@@ -32,15 +29,6 @@ pub(crate) struct Waiting {
     effective: Vec<u8>,
 }
 
-const CLOSED: Open = Open {
-    number: 0,
-    mutex: 0,
-    owner: 0,
-    began: 0,
-    level: 0,
-    owner_level: 0,
-};
-
 impl Waiting {
     /// Returns that none of these threads waits.
     ///
@@ -49,7 +37,7 @@ impl Waiting {
     /// Returns `AllocError` if out of memory.
     pub fn new(alloc: Global, threads: usize) -> Result<Waiting, AllocError> {
         Ok(Waiting {
-            open: vec![in alloc; CLOSED; threads]?,
+            open: vec![in alloc; None; threads]?,
             begun: 0,
             threads: Vec::new(alloc),
             protecting: Vec::new(alloc),
@@ -57,9 +45,14 @@ impl Waiting {
         })
     }
 
-    /// Returns the wait of a thread.
-    pub fn of(&self, thread: u32) -> Open {
-        self.open.get(thread as usize).copied().unwrap_or(CLOSED)
+    /// Returns how many threads there are.
+    pub fn threads(&self) -> usize {
+        self.open.len()
+    }
+
+    /// Returns the wait of the thread with this number.
+    fn of(&self, thread: usize) -> Option<Open> {
+        self.open.get(thread).copied().unwrap_or(None)
     }
 
     /// Returns how many waits have begun.
@@ -67,32 +60,38 @@ impl Waiting {
         self.begun
     }
 
-    /// A thread begins to wait. The wait gets its number.
+    /// Returns the number of the wait of a thread for a mutex, if it waits for that.
+    pub fn number(&self, thread: u32, mutex: u32) -> Option<u64> {
+        match self.of(thread as usize) {
+            Some(open) if open.wait.mutex == mutex => Some(open.number),
+            _ => None,
+        }
+    }
+
+    /// A wait begins.
     ///
     /// # Errors
     ///
     /// Returns `AllocError` if out of memory.
-    pub fn begin(&mut self, thread: u32, wait: Open) -> Result<(), AllocError> {
-        let place = thread as usize;
+    pub fn begin(&mut self, wait: FoundWait) -> Result<(), AllocError> {
+        let place = wait.thread as usize;
         if place < self.open.len() {
-            push(&mut self.threads, thread)?;
+            push(&mut self.threads, wait.thread)?;
             self.begun = self.begun.saturating_add(1);
-            self.open[place] = Open {
-                number: self.begun,
-                ..wait
-            };
+            let number = self.begun;
+            self.open[place] = Some(Open { number, wait });
         }
         Ok(())
     }
 
-    /// Ends the wait of a thread, and returns it.
-    pub fn end(&mut self, thread: u32) -> Open {
-        let wait = self.of(thread);
-        if wait.number != 0 && (thread as usize) < self.open.len() {
-            self.open[thread as usize] = CLOSED;
-            remove(&mut self.threads, thread);
+    /// Ends the wait of the thread with this number, and returns it as it began.
+    pub fn end(&mut self, thread: usize) -> Option<FoundWait> {
+        let open = self.of(thread)?;
+        if thread < self.open.len() {
+            self.open[thread] = None;
+            remove(&mut self.threads, open.wait.thread);
         }
-        wait
+        Some(open.wait)
     }
 
     /// A PROTECT mutex has an owner from now on.
@@ -112,28 +111,30 @@ impl Waiting {
     /// Returns whether a wait for a mutex lasts that was among the first so many to begin.
     pub fn has_early(&self, mutex: u32, begun: u64) -> bool {
         for thread in &self.threads {
-            let wait = self.of(*thread);
-            if wait.mutex == mutex && wait.number <= begun {
-                return true;
+            if let Some(number) = self.number(*thread, mutex) {
+                if number <= begun {
+                    return true;
+                }
             }
         }
         false
     }
 
-    /// Returns the number of the first wait for the mutex that the fact's thread releases: that of the thread with the
-    /// highest effective level, and of equal ones the earliest. 0: nobody waits.
-    pub fn first(&mut self, sources: &Sources, course: &Course, fact: &Fact) -> u64 {
+    /// Returns the number of the first wait for the mutex that the fact's thread releases: that of
+    /// the thread with the highest effective level, and of equal ones the earliest.
+    pub fn first(&mut self, sources: &Sources, course: &Course, fact: &Fact) -> Option<u64> {
         if self.count(fact.mutex) > 1 {
             self.find_levels(sources, course, fact);
         }
-        let mut first = 0;
+        let mut first = None;
         let mut highest = 0;
         for thread in &self.threads {
-            let wait = self.of(*thread);
-            let level = self.effective_of(*thread);
-            if wait.mutex == fact.mutex && (first == 0 || level > highest) {
-                first = wait.number;
-                highest = level;
+            if let Some(number) = self.number(*thread, fact.mutex) {
+                let level = self.effective_of(*thread);
+                if first.is_none() || level > highest {
+                    first = Some(number);
+                    highest = level;
+                }
             }
         }
         first
@@ -143,7 +144,7 @@ impl Waiting {
     fn count(&self, mutex: u32) -> usize {
         let mut count = 0usize;
         for thread in &self.threads {
-            if self.of(*thread).mutex == mutex {
+            if self.number(*thread, mutex).is_some() {
                 count = count.saturating_add(1);
             }
         }
@@ -161,9 +162,10 @@ impl Waiting {
             }
         }
         for place in 0..self.threads.len() {
-            let thread = self.threads.get(place).copied().unwrap_or(0);
-            let level = self.own_level(course, fact, thread);
-            self.raise_from(sources, course, fact, thread, level);
+            if let Some(thread) = self.threads.get(place).copied() {
+                let level = self.own_level(course, fact, thread);
+                self.raise_from(sources, course, fact, thread, level);
+            }
         }
     }
 
@@ -181,7 +183,10 @@ impl Waiting {
             if !self.raise(thread, level) {
                 break;
             }
-            thread = self.heir_of(sources, course, fact, thread);
+            match self.heir_of(sources, course, fact, thread) {
+                Some(heir) => thread = heir,
+                None => break,
+            }
         }
     }
 
@@ -203,30 +208,32 @@ impl Waiting {
     fn own_level(&self, course: &Course, fact: &Fact, thread: u32) -> u8 {
         let mut level = course.thread(thread).level;
         for mutex in &self.protecting {
-            if owner_before(course, fact, *mutex) == thread {
+            if owner_before(course, fact, *mutex) == Some(thread) {
                 level = level.max(course.mutex(*mutex).ceiling);
             }
         }
         level
     }
 
-    /// Returns the thread to which a waiter donates its level, or 0.
-    fn heir_of(&self, sources: &Sources, course: &Course, fact: &Fact, thread: u32) -> u32 {
-        let mutex = self.of(thread).mutex;
-        if mutex != 0 && family_of(sources, mutex) == Family::Inherit {
+    /// Returns the thread to which a waiter donates its level.
+    fn heir_of(&self, sources: &Sources, course: &Course, fact: &Fact, thread: u32) -> Option<u32> {
+        let mutex = self.of(thread as usize)?.wait.mutex;
+        if family_of(sources, mutex) == Family::Inherit {
             owner_before(course, fact, mutex)
         } else {
-            0
+            None
         }
     }
 }
 
 /// Returns the owner of a mutex before the fact's thread releases its own.
-fn owner_before(course: &Course, fact: &Fact, mutex: u32) -> u32 {
+fn owner_before(course: &Course, fact: &Fact, mutex: u32) -> Option<u32> {
     if mutex == fact.mutex {
-        fact.thread
-    } else {
-        course.mutex(mutex).owner
+        return Some(fact.thread);
+    }
+    match course.mutex(mutex).owner {
+        0 => None,
+        owner => Some(owner),
     }
 }
 

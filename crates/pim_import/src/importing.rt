@@ -153,7 +153,7 @@ fn build(
         &mut findings,
         end,
     )?;
-    findings.end(alloc, sources, &walk.course, ended)?;
+    findings.end(alloc, &walk.course, ended)?;
     let (pieces, appearances) = builder.end()?;
     Ok(Built {
         pieces,

@@ -53,11 +53,13 @@ fn log_has_a_trace(rt: HostRuntime) -> Result<(), Fail> {
 fn log_has_findings(rt: HostRuntime) -> Result<(), Fail> {
     let imported = imported(rt.alloc())?;
     let findings = &imported.built.findings;
-    let wait = findings.longest.first().ok_or("a wait")?;
-    let facts = (wait.thread, wait.owner, wait.began, wait.lasted);
+    let wait = findings.waits.longest.first().ok_or("a wait")?;
+    let owner = wait.owner.ok_or("an owner")?.thread;
+    let facts = (wait.thread, owner, wait.began, wait.lasted);
     assert!(rt; facts == (2, 1, 300_000, 630_000));
-    let found = findings.mutex(1);
-    assert!(rt; (found.waits, found.longest, found.longest_owner) == (1, 700_000, 1));
+    let longest = findings.mutex(1).longest.ok_or("an ownership")?;
+    let waits = findings.waits.of_mutex(1).count;
+    assert!(rt; (waits, longest.lasted, longest.thread) == (1, 700_000, 1));
     assert!(rt; !findings.is_bad() && family_of(&imported.sources, 1) == Family::Inherit);
     assert!(rt; blocker_of(&imported, 2) == (0, 0));
     let tally = &imported.built.tally;

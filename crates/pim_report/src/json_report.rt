@@ -2,10 +2,10 @@
 
 use crate::kernel::{Kernel, put_reason};
 use crate::labels::Labels;
-use crate::words::{Told, family_of, found_of, mutexes, put_place};
+use crate::words::{Told, family_of, found_of, mutexes, put_place, waits_of};
 use pim_comparison::{Found, Lengthened};
 use pim_facts::LeftOut;
-use pim_findings::{FoundMutex, FoundWait};
+use pim_findings::{FoundMutex, FoundWait, MutexWaits};
 use pim_import::{Imported, blocker_of};
 use pim_log::Log;
 use pim_out::{JsonOut, Out};
@@ -35,26 +35,26 @@ pub fn json_of(
 }
 
 fn put_all(alloc: Global, out: &mut JsonOut, told: &Told, log: &Log, kernel: Option<&Kernel>) {
-    let findings = &told.imported.built.findings;
+    let waits = &told.imported.built.findings.waits;
     out.begin_object();
     out.number("began", log.header().began);
     out.number("ended", told.imported.ended);
     if let Some(kernel) = kernel {
         put_kernel(alloc, out, told, kernel);
     }
-    out.number("waits", findings.waits);
+    out.number("waits", waits.count);
     out.key("longest_waits");
     out.begin_array();
-    for wait in &findings.longest {
+    for wait in &waits.longest {
         put_wait(alloc, out, told, wait);
     }
     out.end_array();
     out.key("mutexes");
     out.begin_array();
     for mutex in 0..mutexes(told) {
-        let found = found_of(told, mutex);
-        if found.waits > 0 {
-            put_mutex(alloc, out, told, mutex, &found);
+        let waits = waits_of(told, mutex);
+        if waits.count > 0 {
+            put_mutex(alloc, out, told, mutex, &found_of(told, mutex), &waits);
         }
     }
     out.end_array();
@@ -138,29 +138,40 @@ fn put_wait(alloc: Global, out: &mut JsonOut, told: &Told, wait: &FoundWait) {
     out.boolean("at_the_end", wait.is_open);
     put_number(out, told, "mutex", wait.mutex);
     out.string("protocol", family_of(told, wait.mutex).name());
-    if wait.owner != 0 {
-        put_thread(alloc, out, told, "owner", wait.owner);
-        out.number("owner_priority", u64::from(wait.owner_level));
+    if let Some(owner) = wait.owner {
+        put_thread(alloc, out, told, "owner", owner.thread);
+        out.number("owner_priority", u64::from(owner.level));
     }
     out.boolean("bounded", !wait.is_unbounded);
     out.end_object();
 }
 
-fn put_mutex(alloc: Global, out: &mut JsonOut, told: &Told, mutex: u32, found: &FoundMutex) {
+fn put_mutex(
+    alloc: Global,
+    out: &mut JsonOut,
+    told: &Told,
+    mutex: u32,
+    found: &FoundMutex,
+    waits: &MutexWaits,
+) {
     let mut place = Out::new(alloc);
     put_place(&mut place, told, mutex);
     out.begin_object();
     put_number(out, told, "number", mutex);
     out.string("protocol", family_of(told, mutex).name());
     out.text("place", &place);
-    out.number("waits", found.waits);
-    out.number("waits_not_bounded", found.unbounded);
-    out.number("time_not_bounded", found.unbounded_time);
+    out.number("waits", waits.count);
+    out.number("waits_not_bounded", waits.unbounded);
+    out.number("time_not_bounded", waits.unbounded_time);
     out.number("to_the_first_waiter", found.hand_overs.in_order);
     out.number("to_a_later_waiter", found.hand_overs.to_later);
     out.number("to_its_last_owner", found.hand_overs.to_last_owner);
     out.number("to_a_newcomer", found.hand_overs.to_newcomer);
-    out.number("longest_ownership", found.longest);
+    let longest = match found.longest {
+        Some(longest) => longest.lasted,
+        None => 0,
+    };
+    out.number("longest_ownership", longest);
     out.end_object();
 }
 
@@ -168,22 +179,16 @@ fn put_mutex(alloc: Global, out: &mut JsonOut, told: &Told, mutex: u32, found: &
 fn put_deadlocks(alloc: Global, out: &mut JsonOut, told: &Told) {
     out.key("deadlocks");
     out.begin_array();
-    let mut is_first = true;
-    for thread in &told.imported.built.findings.deadlocked {
-        if *thread == 0 {
-            out.end_array();
-            is_first = true;
-            continue;
+    for deadlock in &told.imported.built.findings.deadlocks {
+        out.begin_array();
+        for thread in &deadlock.threads {
+            out.begin_object();
+            put_thread(alloc, out, told, "thread", *thread);
+            let (mutex, _owner) = blocker_of(told.imported, *thread);
+            put_number(out, told, "mutex", mutex);
+            out.end_object();
         }
-        if is_first {
-            out.begin_array();
-            is_first = false;
-        }
-        out.begin_object();
-        put_thread(alloc, out, told, "thread", *thread);
-        let (mutex, _owner) = blocker_of(told.imported, *thread);
-        put_number(out, told, "mutex", mutex);
-        out.end_object();
+        out.end_array();
     }
     out.end_array();
 }

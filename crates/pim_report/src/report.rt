@@ -4,10 +4,10 @@ use crate::kernel::{Kernel, put_compared, put_differences};
 use crate::labels::Labels;
 use crate::words::{
     Told, family_of, found_of, mutexes, put_count, put_duration, put_level, put_moment, put_mutex,
-    put_place, put_thread,
+    put_place, put_thread, waits_of,
 };
 use pim_facts::{Family, LeftOut};
-use pim_findings::{FoundMutex, FoundWait};
+use pim_findings::{FoundMutex, FoundWait, MutexWaits};
 use pim_import::{Imported, blocker_of};
 use pim_log::Log;
 use pim_out::Out;
@@ -60,16 +60,16 @@ pub fn report_of(
 
 /// Writes the longest waits, the longest first.
 fn put_waits(out: &mut Out, told: &Told) {
-    let findings = &told.imported.built.findings;
-    for wait in &findings.longest {
+    let waits = &told.imported.built.findings.waits;
+    for wait in &waits.longest {
         put_wait(out, told, wait);
     }
-    let listed = findings.longest.len() as u64;
-    if findings.waits == 0 {
+    let listed = waits.longest.len() as u64;
+    if waits.count == 0 {
         out.put("no thread waited for a mutex\n");
-    } else if findings.waits > listed {
+    } else if waits.count > listed {
         out.put("and ");
-        put_count(out, findings.waits - listed, "wait");
+        put_count(out, waits.count - listed, "wait");
         out.put(", none of them longer\n");
     }
 }
@@ -93,12 +93,13 @@ fn put_wait(out: &mut Out, told: &Told, wait: &FoundWait) {
     });
     put_mutex(out, told, wait.mutex);
     out.put(" of ");
-    if wait.owner == 0 {
-        out.put("an unknown thread");
-    } else {
-        put_thread(out, told, wait.owner);
-        out.put(", at ");
-        put_level(out, wait.owner_level);
+    match wait.owner {
+        Some(owner) => {
+            put_thread(out, told, owner.thread);
+            out.put(", at ");
+            put_level(out, owner.level);
+        }
+        None => out.put("an unknown thread"),
     }
     put_bound(out, told, wait);
 }
@@ -109,13 +110,13 @@ fn put_bound(out: &mut Out, told: &Told, wait: &FoundWait) {
         out.put(": not bounded: mutex ");
         out.number(u64::from(told.imported.numbering.mutexes.of(wait.mutex)));
         out.put(" is a NONE one");
-        if wait.owner == 0 {
+        if wait.owner.is_none() {
             out.put(", whoever owned it");
         }
         out.put("\n");
         return;
     }
-    if wait.owner_level >= wait.level {
+    if wait.owner_level() >= wait.level {
         out.put(": no inversion\n");
         return;
     }
@@ -129,16 +130,16 @@ fn put_bound(out: &mut Out, told: &Told, wait: &FoundWait) {
 /// Writes the NONE mutexes at which a thread waited for a lower one.
 fn put_conversions(out: &mut Out, told: &Told) {
     for mutex in 0..mutexes(told) {
-        let found = found_of(told, mutex);
-        if found.unbounded > 0 {
+        let waits = waits_of(told, mutex);
+        if waits.unbounded > 0 {
             out.put("should inherit: ");
             put_mutex(out, told, mutex);
             out.put(", from ");
             put_place(out, told, mutex);
             out.put(": ");
-            put_count(out, found.unbounded, "wait");
+            put_count(out, waits.unbounded, "wait");
             out.put(" not bounded, ");
-            put_duration(out, found.unbounded_time);
+            put_duration(out, waits.unbounded_time);
             out.put(" in all\n");
         }
     }
@@ -167,50 +168,48 @@ fn put_hand_overs(out: &mut Out, told: &Told) {
 /// Writes the longest ownership of each mutex that was waited for.
 fn put_ownerships(out: &mut Out, told: &Told) {
     for mutex in 0..mutexes(told) {
-        let found = found_of(told, mutex);
-        if found.waits > 0 {
-            put_ownership(out, told, mutex, &found);
+        let waits = waits_of(told, mutex);
+        if waits.count > 0 {
+            put_ownership(out, told, mutex, &found_of(told, mutex), &waits);
         }
     }
 }
 
-fn put_ownership(out: &mut Out, told: &Told, mutex: u32, found: &FoundMutex) {
+fn put_ownership(out: &mut Out, told: &Told, mutex: u32, found: &FoundMutex, waits: &MutexWaits) {
     out.put("owned: ");
     put_mutex(out, told, mutex);
     out.put(", from ");
     put_place(out, told, mutex);
     out.put(", ");
-    if !found.was_owned() {
-        out.put("by no thread that is known");
-    } else if found.longest_owner == 0 {
-        out.put("to the end");
-    } else {
-        put_duration(out, found.longest);
-        out.put(" at most, by ");
-        put_thread(out, told, found.longest_owner);
+    match found.longest {
+        Some(longest) => {
+            put_duration(out, longest.lasted);
+            out.put(" at most, by ");
+            put_thread(out, told, longest.thread);
+        }
+        None if found.was_owned() => out.put("to the end"),
+        None => out.put("by no thread that is known"),
     }
     out.put("; ");
-    put_count(out, found.waits, "wait");
+    put_count(out, waits.count, "wait");
     out.put("\n");
 }
 
 /// Writes the deadlocks that stood at the end.
 fn put_deadlocks(out: &mut Out, told: &Told) {
-    let mut is_first = true;
-    for thread in &told.imported.built.findings.deadlocked {
-        if *thread == 0 {
-            out.put("\n");
-            is_first = true;
-            continue;
+    for deadlock in &told.imported.built.findings.deadlocks {
+        let mut before = "deadlock: ";
+        for thread in &deadlock.threads {
+            out.put(before);
+            before = ", ";
+            put_thread(out, told, *thread);
+            let (mutex, owner) = blocker_of(told.imported, *thread);
+            out.put(" waits for ");
+            put_mutex(out, told, mutex);
+            out.put(" of ");
+            put_thread(out, told, owner);
         }
-        out.put(if is_first { "deadlock: " } else { ", " });
-        is_first = false;
-        put_thread(out, told, *thread);
-        let (mutex, owner) = blocker_of(told.imported, *thread);
-        out.put(" waits for ");
-        put_mutex(out, told, mutex);
-        out.put(" of ");
-        put_thread(out, told, owner);
+        out.put("\n");
     }
 }
 

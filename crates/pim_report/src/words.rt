@@ -2,7 +2,7 @@
 
 use crate::labels::Labels;
 use pim_facts::Family;
-use pim_findings::FoundMutex;
+use pim_findings::{FoundMutex, MutexWaits};
 use pim_import::Imported;
 use pim_out::Out;
 
@@ -21,9 +21,14 @@ pub fn mutexes(told: &Told) -> u32 {
     count.min(u32::MAX as usize) as u32
 }
 
-/// Returns what is found of a mutex.
+/// Returns what is found of a mutex, but for the waits.
 pub fn found_of(told: &Told, mutex: u32) -> FoundMutex {
     told.imported.built.findings.mutex(mutex)
+}
+
+/// Returns what is found of the waits for a mutex.
+pub fn waits_of(told: &Told, mutex: u32) -> MutexWaits {
+    told.imported.built.findings.waits.of_mutex(mutex)
 }
 
 /// Writes how many there are of something, such as `1 wait` or `2 waits`.

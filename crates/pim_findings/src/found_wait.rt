@@ -1,0 +1,95 @@
+//! A wait for a mutex.
+
+use pim_course::{Course, Sources, family_of};
+use pim_facts::{Fact, Family};
+
+/// A thread that owned a mutex as a wait for it began.
+#[derive(Clone, Copy, PartialEq, Eq)]
+pub struct FoundOwner {
+    pub thread: u32,
+    /// Its level then.
+    pub level: u8,
+}
+
+/// A wait for a mutex.
+#[derive(Clone, Copy, PartialEq, Eq)]
+pub struct FoundWait {
+    /// The thread that waited.
+    pub thread: u32,
+    /// Its level as it began to wait.
+    pub level: u8,
+    pub mutex: u32,
+    /// Another thread: who owned the mutex as the wait began. `None` if no record says it.
+    pub owner: Option<FoundOwner>,
+    /// When the wait began: CLOCK_MONOTONIC in nanoseconds.
+    pub began: u64,
+    /// How long it lasted, in nanoseconds; up to the end of the log if the thread waits still.
+    pub lasted: u64,
+    /// Whether the thread waits still at the end of the log.
+    pub is_open: bool,
+    /// Whether nothing bounds the wait: the mutex is a NONE one, and its owner's level was lower.
+    pub is_unbounded: bool,
+}
+
+impl FoundWait {
+    /// Returns the wait that a fact of this time begins, as if the log ended then.
+    pub(crate) fn begun(sources: &Sources, course: &Course, fact: &Fact, time: u64) -> FoundWait {
+        let level = level_of(course, fact.thread);
+        let owner = awaited_owner(course, fact.thread);
+        let is_none = family_of(sources, fact.mutex) == Family::None;
+        FoundWait {
+            thread: fact.thread,
+            level,
+            mutex: fact.mutex,
+            owner,
+            began: time,
+            lasted: 0,
+            is_open: true,
+            is_unbounded: is_none && lowest_if_unknown(owner) < level,
+        }
+    }
+
+    /// Returns the wait that lasts until this time, and whether to the end of the log.
+    pub(crate) fn until(self, time: u64, is_open: bool) -> FoundWait {
+        FoundWait {
+            lasted: time.saturating_sub(self.began),
+            is_open,
+            ..self
+        }
+    }
+
+    /// Returns the level of the owner as the wait began. If it isn't known, that is 0, the lowest.
+    pub fn owner_level(&self) -> u8 {
+        lowest_if_unknown(self.owner)
+    }
+}
+
+fn lowest_if_unknown(owner: Option<FoundOwner>) -> u8 {
+    match owner {
+        Some(owner) => owner.level,
+        None => 0,
+    }
+}
+
+/// Returns the level of a thread.
+fn level_of(course: &Course, thread: u32) -> u8 {
+    match course.threads.get(thread as usize) {
+        Some(is) => is.level,
+        None => 0,
+    }
+}
+
+/// Returns the owner of the mutex for which a thread begins to wait, if it is known.
+fn awaited_owner(course: &Course, thread: u32) -> Option<FoundOwner> {
+    let owner = match course.threads.get(thread as usize) {
+        Some(is) => is.awaited_owner,
+        None => 0,
+    };
+    if owner == 0 || owner == thread {
+        return None;
+    }
+    Some(FoundOwner {
+        thread: owner,
+        level: level_of(course, owner),
+    })
+}
