@@ -1,4 +1,8 @@
 //! What is found in a recording.
+ghost use Rattle.std.specs.Prelude.{◌≡◌, ℕ, ◌<◌, ◌==◌, ◌↔◌, ◌⊎◌, List, [], length, Any, IfOk, IsTrue, if◌then◌else◌, vec_len};
+ghost use Rattle.pim_findings.specs.Waits.{Moment, all_waits, and_fact, and_until};
+ghost use Rattle.pim_findings.specs.Longest.{AreReported};
+ghost use Rattle.pim_findings.specs.Found.{Finds, KeepsWaits, wait_at};
 
 use crate::deadlocks::{Deadlock, deadlocks_of};
 use crate::found_mutex::{FoundMutex, Left};
@@ -26,7 +30,9 @@ impl Findings {
     /// # Errors
     ///
     /// Returns `AllocError` if out of memory.
-    pub fn new(alloc: Global, sources: &Sources) -> Result<Findings, AllocError> {
+    pub fn new(alloc: Global, sources: &Sources) -> Result<Findings, AllocError>
+        ensures { IfOk result (λ found. Finds (length sources.now.ids.threads.items) (length sources.now.ids.mutexes.items) [] found) }
+    {
         let mutexes = sources.ids.mutexes.len();
         Ok(Findings {
             waits: FoundWaits::new(alloc, mutexes)?,
@@ -45,7 +51,10 @@ impl Findings {
     }
 
     /// Returns whether a wait that nothing bounds was found, or a deadlock.
-    pub fn is_bad(&self) -> bool {
+    pub fn is_bad(&self) -> bool
+        ensures { IsTrue result ↔
+            (Any (λ found. 0 < found.unbounded) self.now.waits.by_mutex.items ⊎ (0 < vec_len self.now.deadlocks)) }
+    {
         self.waits.has_unbounded() || !self.deadlocks.is_empty()
     }
 
@@ -60,7 +69,15 @@ impl Findings {
         course: &Course,
         fact: &Fact,
         time: u64,
-    ) -> Result<(), AllocError> {
+    ) -> Result<(), AllocError>
+        ensures { IfOk result (λ _. (n k : ℕ) (facts : List Moment) → Finds n k facts self.old →
+            Finds n k (and_fact n (record {
+              fact = fact.now;
+              time = time;
+              course = course.now;
+              sources = sources.now;
+            }) facts) self.new) }
+    {
         match fact.what {
             What::Waits => self
                 .waiting
@@ -79,7 +96,12 @@ impl Findings {
     }
 
     /// Ends the wait of the thread with this number, if it waits.
-    fn end_wait(&mut self, thread: usize, time: u64, is_open: bool) -> Result<(), AllocError> {
+    fn end_wait(&mut self, thread: usize, time: u64, is_open: bool) -> Result<(), AllocError>
+        ensures waits { IfOk result (λ _. (k : ℕ) (waits : List FoundWait) → AreReported k waits self.old.waits →
+            AreReported k (and_until time is_open (wait_at self.old.waiting thread) waits) self.new.waits) }
+        ensures len { length self.new.waiting.open.items ≡ length self.old.waiting.open.items }
+        ensures others { (t : ℕ) → wait_at self.new.waiting t ≡ (if t == thread then None else wait_at self.old.waiting t) }
+    {
         match self.waiting.end(thread) {
             Some(wait) => self.waits.add(wait.until(time, is_open)),
             None => Ok(()),
@@ -87,7 +109,9 @@ impl Findings {
     }
 
     /// A thread has a mutex from now on.
-    fn own(&mut self, sources: &Sources, fact: &Fact, time: u64) -> Result<(), AllocError> {
+    fn own(&mut self, sources: &Sources, fact: &Fact, time: u64) -> Result<(), AllocError>
+        ensures { KeepsWaits self.old self.new }
+    {
         let mut found = self.mutex(fact.mutex);
         if let Some(left) = found.left() {
             if self.waiting.has_early(fact.mutex, left.begun) {
@@ -104,7 +128,9 @@ impl Findings {
     }
 
     /// The owner of a mutex has it no more. Keeps who waits for it then, and who is first.
-    fn release(&mut self, sources: &Sources, course: &Course, fact: &Fact, time: u64) {
+    fn release(&mut self, sources: &Sources, course: &Course, fact: &Fact, time: u64)
+        ensures { KeepsWaits self.old self.new }
+    {
         let mut found = self.mutex(fact.mutex);
         let left = match self.waiting.first(sources, course, fact) {
             Some(first) => Some(Left {
@@ -124,7 +150,10 @@ impl Findings {
     /// # Errors
     ///
     /// Returns `AllocError` if out of memory.
-    pub fn end(&mut self, alloc: Global, course: &Course, time: u64) -> Result<(), AllocError> {
+    pub fn end(&mut self, alloc: Global, course: &Course, time: u64) -> Result<(), AllocError>
+        ensures { IfOk result (λ _. (n k : ℕ) (facts : List Moment) → Finds n k facts self.old →
+            AreReported k (all_waits facts time n) self.new.waits) }
+    {
         for thread in 0..self.waiting.threads() {
             self.end_wait(thread, time, true)?;
         }

@@ -1,4 +1,6 @@
 //! A wait for a mutex.
+ghost use Rattle.std.specs.Prelude.{◌≡◌};
+ghost use Rattle.pim_findings.specs.Waits.{begun_wait, lasting_until, level_in, level_of_owner, owner_for};
 
 use pim_course::{Course, Sources, family_of};
 use pim_facts::{Fact, Family};
@@ -33,7 +35,14 @@ pub struct FoundWait {
 
 impl FoundWait {
     /// Returns the wait that a fact of this time begins, as if the log ended then.
-    pub(crate) fn begun(sources: &Sources, course: &Course, fact: &Fact, time: u64) -> FoundWait {
+    pub(crate) fn begun(sources: &Sources, course: &Course, fact: &Fact, time: u64) -> FoundWait
+        ensures { result ≡ begun_wait (record {
+          fact = fact.now;
+          time = time;
+          course = course.now;
+          sources = sources.now;
+        }) }
+    {
         let level = level_of(course, fact.thread);
         let owner = awaited_owner(course, fact.thread);
         let is_none = family_of(sources, fact.mutex) == Family::None;
@@ -50,7 +59,9 @@ impl FoundWait {
     }
 
     /// Returns the wait that lasts until this time, and whether to the end of the log.
-    pub(crate) fn until(self, time: u64, is_open: bool) -> FoundWait {
+    pub(crate) fn until(self, time: u64, is_open: bool) -> FoundWait
+        ensures { result ≡ lasting_until self time is_open }
+    {
         FoundWait {
             lasted: time.saturating_sub(self.began),
             is_open,
@@ -59,12 +70,16 @@ impl FoundWait {
     }
 
     /// Returns the level of the owner as the wait began. If it isn't known, that is 0, the lowest.
-    pub fn owner_level(&self) -> u8 {
+    pub fn owner_level(&self) -> u8
+        ensures { result ≡ level_of_owner self.now.owner }
+    {
         lowest_if_unknown(self.owner)
     }
 }
 
-fn lowest_if_unknown(owner: Option<FoundOwner>) -> u8 {
+fn lowest_if_unknown(owner: Option<FoundOwner>) -> u8
+    ensures { result ≡ level_of_owner owner }
+{
     match owner {
         Some(owner) => owner.level,
         None => 0,
@@ -72,7 +87,9 @@ fn lowest_if_unknown(owner: Option<FoundOwner>) -> u8 {
 }
 
 /// Returns the level of a thread.
-fn level_of(course: &Course, thread: u32) -> u8 {
+fn level_of(course: &Course, thread: u32) -> u8
+    ensures { result ≡ level_in course.now thread }
+{
     match course.threads.get(thread as usize) {
         Some(is) => is.level,
         None => 0,
@@ -80,7 +97,9 @@ fn level_of(course: &Course, thread: u32) -> u8 {
 }
 
 /// Returns the owner of the mutex for which a thread begins to wait, if it is known.
-fn awaited_owner(course: &Course, thread: u32) -> Option<FoundOwner> {
+fn awaited_owner(course: &Course, thread: u32) -> Option<FoundOwner>
+    ensures { result ≡ owner_for course.now thread }
+{
     let owner = match course.threads.get(thread as usize) {
         Some(is) => is.awaited_owner,
         None => 0,

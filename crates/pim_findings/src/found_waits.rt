@@ -1,5 +1,7 @@
 //! The waits of a program: how many, and the longest.
-ghost use Rattle.std.specs.Prelude.{◌≤◌, length};
+ghost use Rattle.std.specs.Prelude.{◌≡◌, ℕ, ◌<◌, ◌==◌, ◌↔◌, List, [], ◌∷◌, length, take, Any, IsTrue, IfOk, if◌then◌else◌};
+ghost use Rattle.std.specs.List.{position_or_len};
+ghost use Rattle.pim_findings.specs.Longest.{AreReported, counted_with, is_shorter, placed, waits_at};
 
 use crate::found_wait::FoundWait;
 use std::alloc::{AllocError, Global};
@@ -42,7 +44,9 @@ impl FoundWaits {
     /// # Errors
     ///
     /// Returns `AllocError` if out of memory.
-    pub(crate) fn new(alloc: Global, mutexes: usize) -> Result<FoundWaits, AllocError> {
+    pub(crate) fn new(alloc: Global, mutexes: usize) -> Result<FoundWaits, AllocError>
+        ensures { IfOk result (λ found. AreReported mutexes [] found) }
+    {
         Ok(FoundWaits {
             count: 0,
             longest: Vec::with_capacity(alloc, LONGEST + 1)?,
@@ -51,7 +55,9 @@ impl FoundWaits {
     }
 
     /// Returns what is found of the waits for a mutex.
-    pub fn of_mutex(&self, mutex: u32) -> MutexWaits {
+    pub fn of_mutex(&self, mutex: u32) -> MutexWaits
+        ensures { result ≡ waits_at self.now.by_mutex.items mutex }
+    {
         self.by_mutex
             .get(mutex as usize)
             .copied()
@@ -59,7 +65,9 @@ impl FoundWaits {
     }
 
     /// Returns whether there is one that nothing bounds.
-    pub fn has_unbounded(&self) -> bool {
+    pub fn has_unbounded(&self) -> bool
+        ensures { IsTrue result ↔ Any (λ found. 0 < found.unbounded) self.now.by_mutex.items }
+    {
         self.by_mutex.iter().any(|found| found.unbounded > 0)
     }
 
@@ -68,7 +76,10 @@ impl FoundWaits {
     /// # Errors
     ///
     /// Returns `AllocError` if out of memory.
-    pub(crate) fn add(&mut self, wait: FoundWait) -> Result<(), AllocError> {
+    pub(crate) fn add(&mut self, wait: FoundWait) -> Result<(), AllocError>
+        ensures { IfOk result (λ _. (k : ℕ) (waits : List FoundWait) →
+            AreReported k waits self.old → AreReported k (wait ∷ waits) self.new) }
+    {
         self.count = self.count.saturating_add(1);
         count(&mut self.by_mutex, &wait);
         put(&mut self.longest, wait)
@@ -77,7 +88,9 @@ impl FoundWaits {
 
 impl MutexWaits {
     /// Returns these and one more wait.
-    fn with(self, wait: &FoundWait) -> MutexWaits {
+    fn with(self, wait: &FoundWait) -> MutexWaits
+        ensures { result ≡ counted_with self wait.now }
+    {
         let count = self.count.saturating_add(1);
         if !wait.is_unbounded {
             return MutexWaits { count, ..self };
@@ -91,7 +104,11 @@ impl MutexWaits {
 }
 
 /// Counts a wait for its mutex.
-fn count(by_mutex: &mut Vec<MutexWaits>, wait: &FoundWait) {
+fn count(by_mutex: &mut Vec<MutexWaits>, wait: &FoundWait)
+    ensures len { length by_mutex.new.items ≡ length by_mutex.old.items }
+    ensures each { (mutex : ℕ) → mutex < length by_mutex.old.items → waits_at by_mutex.new.items mutex ≡
+        (if mutex == wait.now.mutex then counted_with (waits_at by_mutex.old.items mutex) wait.now else waits_at by_mutex.old.items mutex) }
+{
     let mutex = wait.mutex as usize;
     if mutex < by_mutex.len() {
         by_mutex[mutex] = by_mutex[mutex].with(wait);
@@ -103,7 +120,9 @@ fn count(by_mutex: &mut Vec<MutexWaits>, wait: &FoundWait) {
 /// # Errors
 ///
 /// Returns `AllocError` if out of memory.
-fn put(longest: &mut Vec<FoundWait>, wait: FoundWait) -> Result<(), AllocError> {
+fn put(longest: &mut Vec<FoundWait>, wait: FoundWait) -> Result<(), AllocError>
+    ensures { IfOk result (λ _. longest.new.items ≡ take LONGEST (placed wait longest.old.items)) }
+{
     let place = place_of(longest, wait.lasted);
     if longest.insert(place, wait).is_err() {
         return Err(AllocError);
@@ -114,7 +133,7 @@ fn put(longest: &mut Vec<FoundWait>, wait: FoundWait) -> Result<(), AllocError> 
 
 /// Returns the place of the first wait that is shorter, or how many there are.
 fn place_of(longest: &[FoundWait], lasted: u64) -> usize
-    ensures { result ≤ length longest.now }
+    ensures { result ≡ position_or_len (is_shorter lasted) longest.now }
 {
     for (place, other) in longest.iter().enumerate() {
         if other.lasted < lasted {

@@ -1,7 +1,10 @@
 //! What is found in a recorded program: waits, hand-overs, ownerships, deadlocks.
 //!
 //! [`Findings`] learns from each [`Fact`](pim_facts::Fact) of a log, in order, beside the
-//! [`Course`](pim_course::Course) of the program. They are tested: no contract says what is found.
+//! [`Course`](pim_course::Course) of the program. It is proved that the waits it reports are those
+//! of these facts, with the owner and the levels that the course has as each begins: `specs/` says
+//! what they are, and [`waits_law`] what that comes to. Hand-overs, ownerships and deadlocks are
+//! tested.
 //!
 //! ```text
 //! let mut findings = Findings::new(alloc, &sources)?;
@@ -16,6 +19,7 @@ mod findings;
 mod found_mutex;
 mod found_wait;
 mod found_waits;
+mod laws;
 mod lists;
 mod waiting;
 
@@ -24,3 +28,4 @@ pub use findings::Findings;
 pub use found_mutex::{FoundMutex, FoundOwnership, HandOvers};
 pub use found_wait::{FoundOwner, FoundWait};
 pub use found_waits::{FoundWaits, LONGEST, MutexWaits};
+pub use laws::{longest_law, others_law, waits_law};

@@ -1,4 +1,6 @@
 //! Who waits for which mutex, and who is the first waiter.
+ghost use Rattle.std.specs.Prelude.{◌≡◌, ℕ, ◌==◌, ◌&&◌, nat_lt, length, IfOk, if◌then◌else◌, slice_index_or};
+ghost use Rattle.pim_findings.specs.Found.{wait_at};
 
 use crate::found_wait::FoundWait;
 use crate::lists::push;
@@ -35,7 +37,10 @@ impl Waiting {
     /// # Errors
     ///
     /// Returns `AllocError` if out of memory.
-    pub fn new(alloc: Global, threads: usize) -> Result<Waiting, AllocError> {
+    pub fn new(alloc: Global, threads: usize) -> Result<Waiting, AllocError>
+        ensures len { IfOk result (λ waiting. length waiting.open.items ≡ threads) }
+        ensures none { IfOk result (λ waiting. (t : ℕ) → wait_at waiting t ≡ None) }
+    {
         Ok(Waiting {
             open: vec![in alloc; None; threads]?,
             begun: 0,
@@ -46,12 +51,16 @@ impl Waiting {
     }
 
     /// Returns how many threads there are.
-    pub fn threads(&self) -> usize {
+    pub fn threads(&self) -> usize
+        ensures { result ≡ length self.now.open.items }
+    {
         self.open.len()
     }
 
     /// Returns the wait of the thread with this number.
-    fn of(&self, thread: usize) -> Option<Open> {
+    fn of(&self, thread: usize) -> Option<Open>
+        ensures { result ≡ slice_index_or self.now.open.items thread None }
+    {
         self.open.get(thread).copied().unwrap_or(None)
     }
 
@@ -73,7 +82,11 @@ impl Waiting {
     /// # Errors
     ///
     /// Returns `AllocError` if out of memory.
-    pub fn begin(&mut self, wait: FoundWait) -> Result<(), AllocError> {
+    pub fn begin(&mut self, wait: FoundWait) -> Result<(), AllocError>
+        ensures len { length self.new.open.items ≡ length self.old.open.items }
+        ensures waits { IfOk result (λ _. (t : ℕ) → wait_at self.new t ≡
+            (if (t == wait.thread) && nat_lt t (length self.old.open.items) then Some wait else wait_at self.old t)) }
+    {
         let place = wait.thread as usize;
         if place < self.open.len() {
             push(&mut self.threads, wait.thread)?;
@@ -85,7 +98,11 @@ impl Waiting {
     }
 
     /// Ends the wait of the thread with this number, and returns it as it began.
-    pub fn end(&mut self, thread: usize) -> Option<FoundWait> {
+    pub fn end(&mut self, thread: usize) -> Option<FoundWait>
+        ensures wait { result ≡ wait_at self.old thread }
+        ensures len { length self.new.open.items ≡ length self.old.open.items }
+        ensures others { (t : ℕ) → wait_at self.new t ≡ (if t == thread then None else wait_at self.old t) }
+    {
         let open = self.of(thread)?;
         if thread < self.open.len() {
             self.open[thread] = None;
@@ -99,12 +116,16 @@ impl Waiting {
     /// # Errors
     ///
     /// Returns `AllocError` if out of memory.
-    pub fn protect(&mut self, mutex: u32) -> Result<(), AllocError> {
+    pub fn protect(&mut self, mutex: u32) -> Result<(), AllocError>
+        ensures { self.new.open ≡ self.old.open }
+    {
         push(&mut self.protecting, mutex)
     }
 
     /// A mutex has no owner any more.
-    pub fn leave(&mut self, mutex: u32) {
+    pub fn leave(&mut self, mutex: u32)
+        ensures { self.new.open ≡ self.old.open }
+    {
         remove(&mut self.protecting, mutex);
     }
 
@@ -122,7 +143,9 @@ impl Waiting {
 
     /// Returns the number of the first wait for the mutex that the fact's thread releases: that of
     /// the thread with the highest effective level, and of equal ones the earliest.
-    pub fn first(&mut self, sources: &Sources, course: &Course, fact: &Fact) -> Option<u64> {
+    pub fn first(&mut self, sources: &Sources, course: &Course, fact: &Fact) -> Option<u64>
+        ensures { self.new.open ≡ self.old.open }
+    {
         if self.count(fact.mutex) > 1 {
             self.find_levels(sources, course, fact);
         }
@@ -154,7 +177,9 @@ impl Waiting {
     /// Computes the effective level of each thread that waits, before the fact's thread releases its mutex: the highest
     /// of its own level, the ceilings of its PROTECT mutexes, and the effective levels of those that wait for its INHERIT
     /// mutexes. Each thread raises those along its chain, up to one that isn't lower.
-    fn find_levels(&mut self, sources: &Sources, course: &Course, fact: &Fact) {
+    fn find_levels(&mut self, sources: &Sources, course: &Course, fact: &Fact)
+        ensures { self.new.open ≡ self.old.open }
+    {
         for thread in &self.threads {
             let place = *thread as usize;
             if place < self.effective.len() {
@@ -170,14 +195,9 @@ impl Waiting {
     }
 
     /// Raises the effective level of a thread, and of those along its chain, to this one.
-    fn raise_from(
-        &mut self,
-        sources: &Sources,
-        course: &Course,
-        fact: &Fact,
-        first: u32,
-        level: u8,
-    ) {
+    fn raise_from(&mut self, sources: &Sources, course: &Course, fact: &Fact, first: u32, level: u8)
+        ensures { self.new.open ≡ self.old.open }
+    {
         let mut thread = first;
         for _hop in 0..self.open.len() {
             if !self.raise(thread, level) {
@@ -191,7 +211,9 @@ impl Waiting {
     }
 
     /// Raises the effective level of a thread to this one. Returns whether it was lower.
-    fn raise(&mut self, thread: u32, level: u8) -> bool {
+    fn raise(&mut self, thread: u32, level: u8) -> bool
+        ensures { self.new.open ≡ self.old.open }
+    {
         let place = thread as usize;
         if place >= self.effective.len() || self.effective[place] >= level {
             return false;

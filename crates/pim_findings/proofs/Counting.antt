@@ -1,0 +1,96 @@
+-- What is reported with one wait more.
+use Rattle.std.proofs.Common.{◌≡◌, ◌≢◌, ℕ, ◌+◌, ◌<◌, ◌==◌, Bool, true, false, cond, ◌&&◌, List, ◌∷◌, length, take, count_by, sum_by, suc, Result, Ok, Err, inl, inr, refl, sym, ap, ◌∙◌, arith, eq-eqb}
+use Rattle.std.specs.Result.{IfOk}
+use Rattle.std.proofs.lemmas.Bool.{ne_eqb, cases_eq}
+use Rattle.std.proofs.lemmas.List.Sums.{sum_by-cons}
+use Rattle.pim_findings.specs.declared.found_wait.FoundWait.{FoundWait}
+use Rattle.pim_findings.specs.declared.found_waits.FoundWaits.{FoundWaits}
+use Rattle.pim_findings.specs.declared.found_waits.MutexWaits.{MutexWaits}
+use Rattle.pim_findings.specs.declared.found_waits.TheConstants.{LONGEST}
+use Rattle.pim_findings.specs.Longest.{AreReported, capped, counted_with, counts_of, is_unbounded_for, longest_first, placed, waits_at}
+use Rattle.pim_findings.proofs.Placing.{take-placed}
+
+sum-more : (p : FoundWait → Bool) (f : FoundWait → ℕ) (b : Bool) (x : FoundWait) (xs : List FoundWait) → p x ≡ b →
+    sum_by (λ y. cond (p y) (f y) 0) (x ∷ xs) ≡ cond b (sum_by (λ y. cond (p y) (f y) 0) xs + f x) (sum_by (λ y. cond (p y) (f y) 0) xs)
+sum-more p f b x xs is =
+    sum_by-cons (λ y. cond (p y) (f y) 0) x xs ∙ ap (λ c. cond c (f x) 0 + sum_by (λ y. cond (p y) (f y) 0) xs) is ∙ go b
+  where
+    go : (b : Bool) → cond b (f x) 0 + sum_by (λ y. cond (p y) (f y) 0) xs ≡ cond b (sum_by (λ y. cond (p y) (f y) 0) xs + f x) (sum_by (λ y. cond (p y) (f y) 0) xs)
+    go true = omega arith
+    go false = omega arith
+
+capped-more : (n k : ℕ) → capped (capped n + k) ≡ capped (n + k)
+capped-more n k = omega arith
+
+capped-cond : (b : Bool) (n k : ℕ) → cond b (capped (capped n + k)) (capped n) ≡ capped (cond b (n + k) n)
+capped-cond true n k = capped-more n k
+capped-cond false n k = refl
+
+abbrev of_three : ℕ → ℕ → ℕ → MutexWaits
+of_three a b c = record { count = a; unbounded = b; unbounded_time = c }
+
+same-three : (a b c x y z : ℕ) → a ≡ x → b ≡ y → c ≡ z → of_three a b c ≡ of_three x y z
+same-three a b c x y z e f g = ap (λ n. of_three n b c) e ∙ ap (λ n. of_three x n c) f ∙ ap (λ n. of_three x y n) g
+
+unbounded-same : (m : ℕ) (wait : FoundWait) → (wait.mutex == m) ≡ true → is_unbounded_for m wait ≡ wait.is_unbounded
+unbounded-same m wait here = ap (λ b. b && wait.is_unbounded) here
+
+unbounded-other : (m : ℕ) (wait : FoundWait) → (wait.mutex == m) ≡ false → is_unbounded_for m wait ≡ false
+unbounded-other m wait there = ap (λ b. b && wait.is_unbounded) there
+
+-- the counts for the wait's mutex have it
+pub counts-same : (m : ℕ) (wait : FoundWait) (waits : List FoundWait) → wait.mutex ≡ m →
+    counted_with (counts_of m waits) wait ≡ counts_of m (wait ∷ waits)
+counts-same m wait waits e =
+    let here : (wait.mutex == m) ≡ true = eq-eqb wait.mutex m e in
+    let unbounded : is_unbounded_for m wait ≡ wait.is_unbounded = unbounded-same m wait here in
+    same-three _ _ _ _ _ _
+    (capped-more (count_by (λ w. w.mutex == m) waits) 1 ∙ sym (ap capped (sum-more (λ w. w.mutex == m) (λ w. 1) true wait waits here)))
+    (capped-cond wait.is_unbounded (count_by (is_unbounded_for m) waits) 1
+    ∙ sym (ap capped (sum-more (is_unbounded_for m) (λ w. 1) wait.is_unbounded wait waits unbounded)))
+    (capped-cond wait.is_unbounded (sum_by (λ w. cond (is_unbounded_for m w) w.lasted 0) waits) wait.lasted
+    ∙ sym (ap capped (sum-more (is_unbounded_for m) (λ w. w.lasted) wait.is_unbounded wait waits unbounded)))
+
+-- the counts for another mutex stay
+pub counts-other : (m : ℕ) (wait : FoundWait) (waits : List FoundWait) → wait.mutex ≢ m → counts_of m waits ≡ counts_of m (wait ∷ waits)
+counts-other m wait waits ne =
+    let there : (wait.mutex == m) ≡ false = ne_eqb wait.mutex m ne in
+    let unbounded : is_unbounded_for m wait ≡ false = unbounded-other m wait there in
+    same-three _ _ _ _ _ _
+    (sym (ap capped (sum-more (λ w. w.mutex == m) (λ w. 1) false wait waits there)))
+    (sym (ap capped (sum-more (is_unbounded_for m) (λ w. 1) false wait waits unbounded)))
+    (sym (ap capped (sum-more (is_unbounded_for m) (λ w. w.lasted) false wait waits unbounded)))
+
+-- the longest with one wait more
+pub longest-more : (wait : FoundWait) (waits old new : List FoundWait) →
+    old ≡ take LONGEST (longest_first waits) → new ≡ take LONGEST (placed wait old) → new ≡ take LONGEST (longest_first (wait ∷ waits))
+longest-more wait waits old new e f =
+    f ∙ ap (λ l. take LONGEST (placed wait l)) e ∙ take-placed LONGEST wait (longest_first waits)
+
+-- what holds where a call succeeded
+pub ok-then : {T E P Q : Type 0} (r : Result T E) → (P → Q) → IfOk r (λ _. P) → IfOk r (λ _. Q)
+ok-then (Ok x) f h = f h
+ok-then (Err e) f h = tt
+
+suc-more : (n : ℕ) → n + 1 ≡ suc n
+suc-more n = omega arith
+
+-- one wait more is reported
+pub reported-more : (wait : FoundWait) (old new : FoundWaits) → new.count ≡ capped (old.count + 1) →
+    new.longest.items ≡ take LONGEST (placed wait old.longest.items) → length new.by_mutex.items ≡ length old.by_mutex.items →
+    ((m : ℕ) → m < length old.by_mutex.items → waits_at new.by_mutex.items m ≡
+    cond (m == wait.mutex) (counted_with (waits_at old.by_mutex.items m) wait) (waits_at old.by_mutex.items m)) →
+    (k : ℕ) (waits : List FoundWait) → AreReported k waits old → AreReported k (wait ∷ waits) new
+reported-more wait old new count longest len each k waits r = record {
+  count = count ∙ ap (λ n. capped (n + 1)) r.count ∙ capped-more (length waits) 1 ∙ ap capped (suc-more (length waits));
+  longest = longest-more wait waits old.longest.items new.longest.items r.longest longest;
+  mutexes = len ∙ r.mutexes;
+  by_mutex = λ m h.
+      let inside : m < length old.by_mutex.items = omega (arith, r.mutexes) in
+      each m inside ∙ elim (cases_eq m wait.mutex) [
+        | inl e ↦ ap (λ b. cond b (counted_with (waits_at old.by_mutex.items m) wait) (waits_at old.by_mutex.items m)) (eq-eqb m wait.mutex e)
+            ∙ ap (λ counts. counted_with counts wait) (r.by_mutex m h) ∙ counts-same m wait waits (sym e)
+        | inr ne ↦ ap (λ b. cond b (counted_with (waits_at old.by_mutex.items m) wait) (waits_at old.by_mutex.items m)) (ne_eqb m wait.mutex ne)
+            ∙ r.by_mutex m h ∙ counts-other m wait waits (λ e. ne (sym e))
+      ];
+}

@@ -1,0 +1,9 @@
+use Rattle.std.proofs.Common.{ℕ, List}
+use Rattle.pim_findings.specs.Waits.{Moment}
+use Rattle.pim_findings.specs.Found.{Finds}
+use Rattle.pim_findings.proofs.Following.{IsEnding}
+use Rattle.pim_findings.proofs.findings.Findings.end.Given as goal
+
+-- the waits of the threads so far have ended
+abbrev pub invariant-loop-thread : goal.invariant-loop-thread
+invariant-loop-thread l = (n k : ℕ) (facts : List Moment) → Finds n k facts l.fn.self → IsEnding n k facts l.time l.thread l.self

@@ -1,0 +1,64 @@
+-- What the definitions of waits come to.
+use Rattle.std.specs.Prelude.{◌≡◌, ◌≢◌, ◌↔◌, ℕ, ◌≤◌, false, List, ◌∷◌, ◌++◌, Some, IsTrue, IfSome, All, AllPairs, Contains, IsPermutation}
+use Rattle.pim_facts.specs.declared.fact.What.{What}
+use Rattle.pim_facts.specs.declared.fact.What.TheVariants.{Granted, Waits, GaveUp, Released, Level, Ceiling}
+use Rattle.pim_findings.specs.declared.found_wait.FoundWait.{FoundWait}
+use Rattle.pim_findings.specs.Waits.{Moment, all_waits, begun_wait, ended_waits, ends_wait, lasting_until, wait_of}
+use Rattle.pim_findings.specs.Longest.{longest_first}
+
+-- what happened neither begins a wait of its thread nor ends one
+abbrev pub IsStill : What → Type 0
+IsStill Waits = ⊥
+IsStill Granted = ⊥
+IsStill GaveUp = ⊥
+IsStill (Released next) = Unit {0}
+IsStill (Level level) = Unit {0}
+IsStill (Ceiling level) = Unit {0}
+
+-- if it happened to this thread
+abbrev pub StaysStill : ℕ → Moment → Type 0
+StaysStill t m = m.fact.thread ≡ t → IsStill m.fact.what
+
+-- a thread waits after these facts: one of them began the wait, and no later one began or ended one of that thread
+pub record IsWaiting (facts : List Moment) (t : ℕ) (wait : FoundWait) : Type 0 where
+  pub later : List Moment
+  pub beginning : Moment
+  pub earlier : List Moment
+  pub these : facts ≡ later ++ beginning ∷ earlier
+  pub begins : beginning.fact.what ≡ What.Waits
+  pub thread : beginning.fact.thread ≡ t
+  pub still : All (StaysStill t) later
+  pub is : wait ≡ begun_wait beginning
+
+-- a thread waited: one of these facts ended the wait, which lasted before that
+pub record HasWaited (facts : List Moment) (wait : FoundWait) : Type 0 where
+  pub later : List Moment
+  pub ending : Moment
+  pub earlier : List Moment
+  pub these : facts ≡ later ++ ending ∷ earlier
+  pub ends : IsTrue (ends_wait ending.fact.what)
+  pub begun : FoundWait
+  pub waiting : IsWaiting earlier ending.fact.thread begun
+  pub is : wait ≡ lasting_until begun ending.time false
+
+-- the waits are those that lasted from one fact to another, or last still: none is invented, and none is missing
+pub record WaitsLaw : Type 0 where
+  pub ended : (facts : List Moment) (wait : FoundWait) → Contains (ended_waits facts) wait ↔ HasWaited facts wait
+  pub lasting : (facts : List Moment) (t : ℕ) (wait : FoundWait) → (wait_of facts t ≡ Some wait) ↔ IsWaiting facts t wait
+
+-- the owner of a wait is another thread
+abbrev pub HasOther : FoundWait → Type 0
+HasOther wait = IfSome wait.owner (λ owner. owner.thread ≢ wait.thread)
+
+-- no thread waits for itself
+abbrev pub OthersLaw : Type 0
+OthersLaw = (facts : List Moment) (time n : ℕ) → All HasOther (all_waits facts time n)
+
+-- the second wait isn't longer
+abbrev pub IsNoShorter : FoundWait → FoundWait → Type 0
+IsNoShorter a b = b.lasted ≤ a.lasted
+
+-- the longest first: all of the waits, each no shorter than all later ones
+pub record LongestLaw : Type 0 where
+  pub same : (waits : List FoundWait) → IsPermutation waits (longest_first waits)
+  pub ordered : (waits : List FoundWait) → AllPairs IsNoShorter (longest_first waits)

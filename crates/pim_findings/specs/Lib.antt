@@ -1,0 +1,4 @@
+pub mod Waits
+pub mod Longest
+pub mod Found
+pub mod Laws

@@ -1,0 +1,19 @@
+//! Laws of the definitions by which waits are reported. Each is the contract of a function that does
+//! nothing, so that it is proved.
+
+ghost use Rattle.pim_findings.specs.Laws.{LongestLaw, OthersLaw, WaitsLaw};
+
+/// The waits are those that lasted from one fact to another of their thread, or last still.
+pub fn waits_law()
+    ensures { WaitsLaw }
+{}
+
+/// The longest waits first: all of them, each before those that are shorter.
+pub fn longest_law()
+    ensures { LongestLaw }
+{}
+
+/// No thread waits for itself.
+pub fn others_law()
+    ensures { OthersLaw }
+{}
