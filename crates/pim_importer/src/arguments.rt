@@ -11,6 +11,8 @@ use std::io;
 pub struct Arguments {
     /// The path of the log. Empty: only the kernel's events are to be read.
     pub log: String,
+    /// The path of a text of facts, which is read in place of a log, or `-`. Empty: there is none.
+    pub facts: String,
     /// Whether ownerships are written for which nobody waited.
     pub is_all: bool,
     /// Whether the findings are written as JSON.
@@ -69,11 +71,23 @@ that ran at the priority of a boost, how often and for how long; and what these 
     boosted: low[4710] ran at 80 in place of 10: 1 time, 1.999 s in all, 1.999 s at most
     ...
 
+What another recorder wrote as text, as the trace hooks of an RTOS can in a few lines, is read with --facts. It writes
+FILE.pim and FILE.names, or facts.pim and facts.names if FILE is -:
+
+    facts 1
+    thread 1 30 high
+    thread 2 10 low
+    mutex 1 none map_lock
+    500 2 granted 1
+    1000 1 waits 1
+    2500000 2 released 1
+    2500000 1 granted 1
+
 Priorities are those of SCHED_FIFO and SCHED_RR; threads of all other policies are below them.
 
 Exit status: 0 nothing is wrong, or there is no log; 1 a wait that is not bounded, a deadlock, or a thread that ran at
 another priority; 2 any fault: no log, a damaged log, a log that contradicts itself (with the record), damaged events of
-the kernel (with the line), a file that can't be read or written, out of memory.";
+the kernel or facts (with the line), a file that can't be read or written, out of memory.";
 
 /// Returns what the arguments ask for. Where they ask for a text, or are wrong, it shows that.
 ///
@@ -119,6 +133,7 @@ fn parsed(alloc: Global, words: &[&str]) -> Result<Arguments, Error> {
     let matches = command(alloc)?.try_get_matches_from(words)?;
     Ok(Arguments {
         log: text_of(alloc, &matches, "log")?,
+        facts: text_of(alloc, &matches, "facts")?,
         is_all: matches.get_flag("all"),
         is_json: matches.get_flag("json"),
         kernel: text_of(alloc, &matches, "kernel")?,
@@ -161,31 +176,40 @@ fn duration_of(text: &[u8]) -> Option<u64> {
     number.checked_mul(unit)
 }
 
+/// Returns an option without a value.
+fn flag<'a>(alloc: Global, name: &'a str, help: &'a str) -> Arg<'a> {
+    Arg::new(alloc, name)
+        .long(name)
+        .help(help)
+        .action(ArgAction::SetTrue)
+}
+
+/// Returns an option with a value.
+fn option<'a>(alloc: Global, name: &'a str, value: &'a str, help: &'a str) -> Arg<'a> {
+    Arg::new(alloc, name)
+        .long(name)
+        .value_name(value)
+        .help(help)
+        .action(ArgAction::Set)
+}
+
 /// Returns the program's command line.
 fn command<'a>(alloc: Global) -> Result<Command<'a>, AllocError> {
     let log = Arg::new(alloc, "log")
         .value_name("LOG")
         .help("What pim-record wrote")
         .action(ArgAction::Set)
-        .required_unless_present("kernel")?;
-    let all = Arg::new(alloc, "all")
-        .long("all")
-        .help("Write all ownerships, also those for which nobody waited")
-        .action(ArgAction::SetTrue);
-    let json = Arg::new(alloc, "json")
-        .long("json")
-        .help("Write the findings as JSON")
-        .action(ArgAction::SetTrue);
-    let kernel = Arg::new(alloc, "kernel")
-        .long("kernel")
-        .value_name("FILE")
-        .help("The kernel's events, in place of LOG.kernel. Without LOG they are read alone")
-        .action(ArgAction::Set);
-    let tolerance = Arg::new(alloc, "tolerance")
-        .long("tolerance")
-        .value_name("TIME")
-        .help("How long a thread may run at another priority: 50us unless set")
-        .action(ArgAction::Set);
+        .required_unless_present("kernel")?
+        .required_unless_present("facts")?;
+    let all = "Write all ownerships, also those for which nobody waited";
+    let json = "Write the findings as JSON";
+    let kernel = "The kernel's events, in place of LOG.kernel. Without LOG they are read alone";
+    let tolerance = "How long a thread may run at another priority: 50us unless set";
+    let facts = "Read facts as text, in place of a log. - is standard input";
+    let facts = option(alloc, "facts", "FILE", facts)
+        .conflicts_with("log")?
+        .conflicts_with("kernel")?
+        .conflicts_with("tolerance")?;
     Command::new(alloc, PROGRAM)
         .about(
             "Make a trace of a recorded program, and say who waited for whom, at which priorities",
@@ -193,8 +217,9 @@ fn command<'a>(alloc: Global) -> Result<Command<'a>, AllocError> {
         .version("0.2.0")
         .after_help(MORE)
         .arg(log)?
-        .arg(all)?
-        .arg(json)?
-        .arg(kernel)?
-        .arg(tolerance)
+        .arg(flag(alloc, "all", all))?
+        .arg(flag(alloc, "json", json))?
+        .arg(option(alloc, "kernel", "FILE", kernel))?
+        .arg(option(alloc, "tolerance", "TIME", tolerance))?
+        .arg(facts)
 }

@@ -1,5 +1,6 @@
 //! Why a log isn't imported.
 
+use pim_facts_text::FactsFault;
 use pim_import::ImportFault;
 use pim_kernel_events::TextFault;
 use pim_log::LogFault;
@@ -24,6 +25,12 @@ pub enum Fault {
     /// The kernel's events can't be read.
     #[error("{0}: {1}")]
     Kernel(String, TextFault),
+    /// The facts can't be read.
+    #[error("{0}: {1}")]
+    Facts(String, FactsFault),
+    /// The fact of this line gives a thread a mutex whose ceiling is below its level.
+    #[error("{0}: line {1}: the level of its thread is above the ceiling of its mutex")]
+    AboveCeiling(String, u64),
     /// The tolerance is no duration.
     #[error("the tolerance is no time, as 50us or 1ms")]
     Tolerance,

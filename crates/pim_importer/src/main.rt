@@ -9,6 +9,7 @@
 
 mod alone;
 mod arguments;
+mod facts;
 mod fault;
 mod files;
 mod kernel;
@@ -17,11 +18,12 @@ mod results;
 
 use crate::alone::{alone_of, path_alone};
 use crate::arguments::{Arguments, Asked, read_arguments};
+use crate::facts::{Facts, read_facts};
 use crate::fault::Fault;
 use crate::files::{read_log, write_names, write_traces};
 use crate::kernel::{events_of, kernel_of, waits_in};
 use crate::results::Results;
-use pim_import::{Imported, import_log};
+use pim_import::{ImportFault, Imported, import_log};
 use pim_log::Log;
 use pim_report::{Kernel, Labels, json_alone, json_of, report_alone, report_of};
 use std::alloc::Global;
@@ -49,11 +51,19 @@ fn main(rt: HostRuntime) -> ExitCode {
 /// Does what the arguments ask for, and returns the exit status.
 fn work(rt: &HostRuntime) -> Result<u8, Fault> {
     match read_arguments(rt)? {
-        Asked::Import(arguments) => match path_alone(rt, rt.alloc(), &arguments)? {
-            Some(path) => tell_alone(rt, rt.alloc(), path.as_str(), arguments.is_json),
-            None => import(rt, rt.alloc(), &arguments),
-        },
+        Asked::Import(arguments) => import_any(rt, rt.alloc(), &arguments),
         Asked::Shown(status) => Ok(status),
+    }
+}
+
+/// Imports what the arguments name, and returns the exit status.
+fn import_any(rt: &HostRuntime, alloc: Global, arguments: &Arguments) -> Result<u8, Fault> {
+    if !arguments.facts.is_empty() {
+        return import_facts(rt, alloc, arguments);
+    }
+    match path_alone(rt, alloc, arguments)? {
+        Some(path) => tell_alone(rt, alloc, path.as_str(), arguments.is_json),
+        None => import(rt, alloc, arguments),
     }
 }
 
@@ -65,27 +75,61 @@ fn import(rt: &HostRuntime, alloc: Global, arguments: &Arguments) -> Result<u8, 
     let waits = waits_in(alloc, events.as_ref())?;
     let imported = import_log(alloc, &log, arguments.is_all, &waits)?;
     let kernel = kernel_of(alloc, arguments, &log, &imported, events)?;
-    tell(rt, alloc, arguments, &log, &imported, kernel.as_ref())
+    let labels = Labels::of(alloc, &log, &imported.sources.ids)?;
+    let path = arguments.log.as_str();
+    tell(
+        rt,
+        alloc,
+        path,
+        arguments.is_json,
+        &log,
+        &imported,
+        &labels,
+        kernel.as_ref(),
+    )
+}
+
+/// Imports a text of facts, and returns the exit status. Record n of its log is line n of the text.
+fn import_facts(rt: &HostRuntime, alloc: Global, arguments: &Arguments) -> Result<u8, Fault> {
+    let Facts { path, log, names } = read_facts(rt, alloc, arguments.facts.as_str())?;
+    let log = Log::read(alloc, &log)?;
+    let imported = match import_log(alloc, &log, arguments.is_all, &[]) {
+        Ok(imported) => imported,
+        Err(ImportFault::Contradiction(line)) => return Err(Fault::AboveCeiling(path, line)),
+        Err(fault) => return Err(Fault::from(fault)),
+    };
+    let mut labels = Labels::of(alloc, &log, &imported.sources.ids)?;
+    labels.give(names);
+    tell(
+        rt,
+        alloc,
+        path.as_str(),
+        arguments.is_json,
+        &log,
+        &imported,
+        &labels,
+        None,
+    )
 }
 
 /// Writes the traces, the names and the findings, and returns the exit status.
 fn tell(
     rt: &HostRuntime,
     alloc: Global,
-    arguments: &Arguments,
+    path: &str,
+    is_json: bool,
     log: &Log,
     imported: &Imported,
+    labels: &Labels,
     kernel: Option<&Kernel>,
 ) -> Result<u8, Fault> {
-    let labels = Labels::of(alloc, log, &imported.sources.ids)?;
-    let text = if arguments.is_json {
-        json_of(alloc, log, imported, &labels, kernel)?
+    let text = if is_json {
+        json_of(alloc, log, imported, labels, kernel)?
     } else {
-        report_of(alloc, log, imported, &labels, kernel)?.into_bytes()
+        report_of(alloc, log, imported, labels, kernel)?.into_bytes()
     };
     let mut results = Results::new(alloc);
-    let path = arguments.log.as_str();
-    match write_all(rt, alloc, path, imported, &labels, &text, &mut results) {
+    match write_all(rt, alloc, path, imported, labels, &text, &mut results) {
         Ok(()) => Ok(status_of(imported, kernel)),
         Err(fault) => {
             results.remove(rt);

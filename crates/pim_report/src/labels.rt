@@ -47,6 +47,17 @@ pub struct Labels {
     children: Vec<Child>,
     /// By thread what its next record belongs to.
     pending: Vec<Pending>,
+    /// The names of a text of facts.
+    given: Option<GivenNames>,
+}
+
+/// The names that a text of facts gives. A name `-` is no name.
+#[derive(Drop)]
+pub struct GivenNames {
+    /// By thread.
+    pub threads: Vec<Vec<u8>>,
+    /// By mutex.
+    pub mutexes: Vec<Vec<u8>>,
 }
 
 const UNNAMED: Text = Text::EMPTY;
@@ -67,6 +78,7 @@ impl Labels {
             modules: Vec::new(alloc),
             children: Vec::new(alloc),
             pending: vec![in alloc; Pending::Nothing; ids.threads.len()]?,
+            given: None,
         };
         for number in 1..log.header().end() {
             if let Some(record) = log.record(number) {
@@ -74,6 +86,16 @@ impl Labels {
             }
         }
         Ok(labels)
+    }
+
+    /// Takes the names of the text of facts that the log was made of.
+    pub fn give(&mut self, names: GivenNames) {
+        self.given = Some(names);
+    }
+
+    /// Returns whether the log was made of a text of facts.
+    pub fn are_given(&self) -> bool {
+        self.given.is_some()
     }
 
     fn read(&mut self, alloc: Global, ids: &Ids, record: &Record) -> Result<(), AllocError> {
@@ -164,14 +186,26 @@ impl Labels {
 
     /// Writes the name of a thread, or nothing if it has none.
     pub fn put_name(&self, out: &mut Out, thread: u32) {
+        if let Some(given) = &self.given {
+            put_text(out, name_in(&given.threads, thread));
+            return;
+        }
         if let Some(name) = self.names.get(thread as usize) {
             put_text(out, name.as_bytes());
         }
     }
 
     /// Writes where a mutex was initialised, or where it is if it was initialised statically: the file and the offset
-    /// there, or an address. A place in the code is the last byte of the call, whose line `addr2line` finds.
+    /// there, or an address. A place in the code is the last byte of the call, whose line `addr2line` finds. Of a text of
+    /// facts it is the name of the mutex.
     pub fn put_place(&self, out: &mut Out, number: u32, mutex: &LoggedMutex) {
+        if let Some(given) = &self.given {
+            let name = name_in(&given.mutexes, number);
+            if !name.is_empty() {
+                put_text(out, name);
+                return;
+            }
+        }
         let place = self.places.get(number as usize).copied().unwrap_or(0);
         let address = if place == 0 { mutex.address } else { place - 1 };
         match self.module_of(mutex.process, address) {
@@ -224,6 +258,14 @@ impl Labels {
             }
         }
         found
+    }
+}
+
+/// Returns the name with this number, or nothing if it is no name.
+fn name_in(names: &[Vec<u8>], number: u32) -> &[u8] {
+    match names.get(number as usize) {
+        Some(name) if name.as_slice() != b"-".as_slice() => name.as_slice(),
+        _ => &[],
     }
 }
 

@@ -25,5 +25,5 @@ pub use alone::{Alone, report_alone};
 pub use alone_json::json_alone;
 pub use json_report::json_of;
 pub use kernel::Kernel;
-pub use labels::Labels;
+pub use labels::{GivenNames, Labels};
 pub use report::report_of;

@@ -53,7 +53,9 @@ pub fn report_of(
     put_deadlocks(&mut out, &told);
     put_left_out(&mut out, &told, log);
     put_added(&mut out, &told);
-    put_unknown(&mut out, kernel);
+    if !labels.are_given() {
+        put_unknown(&mut out, kernel);
+    }
     put_summary(&mut out, &told, log);
     out.finish()
 }
