@@ -1,12 +1,15 @@
 """What is found in the facts of a log: waits, ownerships, hand-overs and deadlocks.
 
 docs/FINDINGS.md says what each is. It is a second implementation of what pim-import finds, as
-plain_facts.py is of what it reads.
+record/log_facts.py is of what it reads.
 """
 from collections import defaultdict
 
-from plain_facts import CEILING, GAVE_UP, GRANTED, OTHER_LEVEL, PRIORITY, RELEASED, WAITS
+from record_logs import log_facts
 
+CEILING, GAVE_UP, GRANTED = log_facts.CEILING, log_facts.GAVE_UP, log_facts.GRANTED
+OTHER_LEVEL, PRIORITY = log_facts.OTHER_LEVEL, log_facts.PRIORITY
+RELEASED, WAITS = log_facts.RELEASED, log_facts.WAITS
 LONGEST = 10
 FIRST, LATER, LAST_OWNER, NEWCOMER = "first", "later", "last owner", "newcomer"
 

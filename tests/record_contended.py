@@ -2,11 +2,11 @@
 import os
 import pathlib
 
-import plain_facts
 import plain_findings
 from checks import check, difference, skip, until
 from record_collector import PROGRAMS, RECORD, counted, read, run
 from record_last import PAIRS, does, is_permitted, snapshot, started
+from record_logs import log_facts
 
 CONTENDED = "--contended"
 MILLISECONDS = 1_000_000
@@ -79,8 +79,8 @@ def found(reader, path):
     names = {r.object: r.text.decode() for r in raw.records if r.event == reader.NAME}
     selves = {r.chunk.thread: r.object for r in raw.records if r.event == reader.THREAD}
     name = {thread: names.get(it) for thread, it in selves.items()}
-    log = plain_facts.Log(raw.records)
-    findings, deadlocks = plain_findings.findings_of(plain_facts.facts_of(log)[0], log, False)
+    log = log_facts.Log(raw.records)
+    findings, deadlocks = plain_findings.findings_of(log_facts.facts_of(log)[0], log, False)
     waits = [(name[w.thread], name.get(w.owner), w.level, w.owner_level, log.mutexes.protocol(w.mutex), w.is_open)
              for w in findings.waits]
     owned = [findings.longest(mutex) > 0 for mutex in {w.mutex for w in findings.waits}]
@@ -117,7 +117,7 @@ def unannounced(reader, broken, folder):
     waits = [wait for wait in found(reader, path)[0] if wait[0] == "high"]
     others = [wait for wait in waits if wait[1] != "low"]
     check("each wait of high in missed is for low", broken(log) or difference((others,), ([],)))
-    _, lacking, _ = plain_facts.facts_of(plain_facts.Log(log.records))
+    _, lacking, _ = log_facts.facts_of(log_facts.Log(log.records))
     return check("waits without a REQUEST", None if lacking > 0 else f"none of {len(waits)}")
 
 

@@ -1,15 +1,22 @@
-"""The part of tests/record about facts as text: suite/facts.
+"""The part of tests/record about facts as text: suite/facts, and what pim-log writes of logs.
 
 `python3 tests/record_facts.py` plays it alone, with the pim-import that is built.
 """
 import pathlib
+import re
 import tempfile
 
 from checks import ROOT, answer, check, difference, end, files_of
 from record_import import IMPORTER, PIM
-from record_suite import Case
+from record_logs import read_text
+from record_suite import Case, lines_differ
 
-SUITE = ROOT / "suite/facts"
+SUITE, PIM_LOG = ROOT / "suite/facts", ROOT / "record/pim-log"
+# What a text can't have: docs/FACTS.md says it.
+APART = ("left out: ", "lost: ", "unseen: ", "added: ", "not known: ")
+# Recordings whose text has other findings: a damaged one, and those in which a mutex is granted while another owns it.
+OTHER = {"chunks_without_room_are_cut_short", "owner_keeps_its_place_where_it_waits", "owner_that_waits_loses_its_mutex",
+         "release_before_the_grant_is_not_by_the_owner"}
 
 
 class Text(Case):
@@ -85,9 +92,48 @@ def streams(folder):
         check(f"the arguments {' '.join(arguments)}", difference((status, out, bool(err)), (2, b"", True)))
 
 
+# ---- logs and their facts
+
+def findings_of(folder, arguments, text=b"", name="facts"):
+    """Returns the status, the findings that a text can have, and the trace."""
+    status, out, err = answer([str(IMPORTER), *arguments], text, cwd=folder)
+    lines = [re.sub(r" of \d+ records? make ", " make ", line) for line in out.decode().splitlines()
+             if not line.startswith(APART)]
+    trace = pathlib.Path(folder, f"{name}.pim")
+    pieces = trace.read_text().splitlines() if trace.exists() else []
+    trace.unlink(missing_ok=True)
+    return status, [*lines, err.decode()], pieces
+
+
+def same_findings(folder, name, data):
+    """Compares what pim-import finds in a log with what it finds in the facts of that log."""
+    path = pathlib.Path(folder, "log")
+    path.write_bytes(data)
+    status, text, err = answer([str(PIM_LOG), "--facts", str(path)])
+    check(f"pim-log --facts of {name}", None if (status, err) == (0, b"") else f"{status}: {err}")
+    for options in ([], ["--all"]):
+        wanted = findings_of(folder, [*options, "log"], name="log")
+        got = findings_of(folder, [*options, "--facts", "-"], text)
+        if wanted[0] == 2:  # a fault names a record of the log, and a line of the text
+            wanted, got = ((2,), wanted[2]), ((got[0],), got[2])
+        why = difference(got[:1], wanted[:1]) or lines_differ(got[1], wanted[1])
+        why = why or (lines_differ(got[2], wanted[2]) if len(got) > 2 else None)
+        check(f"the findings of {name} by its facts{' '.join(['', *options])}", why)
+
+
+def logs(folder):
+    """The logs of suite/recordings, and recordings that are kept."""
+    for text in sorted((ROOT / "suite/recordings").glob("*.log.txt")):
+        name = text.name.split(".")[0]
+        if name not in OTHER:
+            same_findings(folder, name, bytes(read_text(text.read_text())))
+    for log in sorted((ROOT / "record/recorded").glob("*.log")):
+        same_findings(folder, log.name, log.read_bytes())
+
+
 def facts(folder):
     """Plays all of it."""
-    for part in (texts, streams):
+    for part in (texts, streams, logs):
         with tempfile.TemporaryDirectory(dir=folder) as own:
             part(own)
 

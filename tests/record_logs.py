@@ -1,5 +1,6 @@
 """Logs by record/FORMAT.md, for tests: of rows, and of a text with a line for each record. suite/recordings/README.md
 says what such a text has."""
+import importlib
 import importlib.machinery
 import importlib.util
 import struct
@@ -21,6 +22,7 @@ def module(path):
 
 
 reader = module(ROOT / "record/pim-log")
+log_facts = importlib.import_module("log_facts")  # of record/, as pim-log
 
 
 def log_of(rows, chunks=2, times=None, tasks=None, processes=None, **fields):

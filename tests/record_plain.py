@@ -1,7 +1,7 @@
 """What tests/record does with random logs: pim-import finds in each what the plain second
 implementation finds.
 
-random_log.py makes the logs; plain_facts.py and plain_findings.py are the second implementation.
+random_log.py makes the logs; record/log_facts.py and plain_findings.py are the second implementation.
 tests/findings compares more of them. docs/FINDINGS.md says what is compared.
 """
 import json
@@ -10,12 +10,11 @@ import re
 import subprocess
 from collections import Counter
 
-import plain_facts
 import plain_findings
 from checks import ROOT, check
 from random_log import RandomLog
 from record_import import IMPORTER
-from record_logs import read_text, reader
+from record_logs import log_facts, read_text, reader
 
 LOGS, FIRST_SEED = 300, 301
 COMPARED = ("faults", "waits", "deadlocks", "added requests", "hand-overs", "ownerships")
@@ -108,8 +107,8 @@ class Plain:
     """What the second implementation finds in a log."""
 
     def __init__(self, data, has_modules=False):
-        self.log, self.has_modules = plain_facts.Log(reader.Log(data).records), has_modules
-        self.facts, self.added, world = plain_facts.facts_of(self.log)
+        self.log, self.has_modules = log_facts.Log(reader.Log(data).records), has_modules
+        self.facts, self.added, world = log_facts.facts_of(self.log)
         self.fault, self.tally = next(iter(world.contradictions), None), world.tally
 
     def found(self, is_all):

@@ -1,11 +1,24 @@
 """The facts of a log: what happened to each thread, by record/FORMAT.md and docs/FINDINGS.md.
 
-It is a second implementation of what pim-import reads, which tests/record_plain.py compares with
-it. It is short and slow, and nothing of it is taken from the crates.
+`pim-log --facts` prints them. It is a second implementation of what pim-import reads, which
+tests/record_plain.py compares with it. It is short, and nothing of it is taken from the crates.
 """
+import bisect
+import importlib.machinery
+import importlib.util
+import pathlib
 from collections import defaultdict, namedtuple
 
-from record_logs import reader
+
+def module_of(path):
+    """Returns a script as a module."""
+    loader = importlib.machinery.SourceFileLoader("pim_log", str(path))
+    made = importlib.util.module_from_spec(importlib.util.spec_from_loader("pim_log", loader))
+    loader.exec_module(made)
+    return made
+
+
+reader = module_of(pathlib.Path(__file__).with_name("pim-log"))
 
 GRANTED, WAITS, GAVE_UP = "granted", "waits", "gave up"
 RELEASED, PRIORITY, CEILING = "released", "priority", "ceiling"
@@ -98,6 +111,8 @@ class Log:
         self.first_level = {}                # by thread the level of its THREAD
         self.begins = defaultdict(list)      # by task its THREADs
         self.grants = defaultdict(list)      # by mutex its GRANTEDs
+        self.numbers = defaultdict(list)     # by mutex the numbers of those
+        self.latest = defaultdict(list)      # by mutex the latest time up to each of those
         last = {}
         for record in records:
             thread = record.chunk.thread
@@ -113,7 +128,11 @@ class Log:
             self.begins[record.chunk.task].append(record)
             self.first_level[thread] = level_of(record.detail, OTHER_LEVEL)
         elif record.event == reader.GRANTED:
-            self.grants[self.mutexes.of[record.number]].append(record)
+            mutex = self.mutexes.of[record.number]
+            before = self.latest[mutex][-1] if self.latest[mutex] else 0
+            self.grants[mutex].append(record)
+            self.numbers[mutex].append(record.number)
+            self.latest[mutex].append(max(before, record.time))
 
     def fails(self, record):
         """Returns whether a RELEASE_FAILED of its mutex follows a RELEASE."""
@@ -139,8 +158,15 @@ class Log:
 
     def next_grant(self, record):
         """Returns the first GRANTED of a record's mutex behind it, or None."""
-        grants = self.grants[self.mutexes.of[record.number]]
-        return next((grant for grant in grants if grant.number > record.number), None)
+        mutex = self.mutexes.of[record.number]
+        at = bisect.bisect_right(self.numbers[mutex], record.number)
+        return self.grants[mutex][at] if at < len(self.grants[mutex]) else None
+
+    def grants_since(self, mutex, time, end):
+        """Returns the GRANTEDs of a mutex after a time, before the record of this number."""
+        begin = bisect.bisect_right(self.latest[mutex], time)  # none before it is later
+        behind = bisect.bisect_left(self.numbers[mutex], end)
+        return [grant for grant in self.grants[mutex][begin:behind] if grant.time > time]
 
     def named(self, request):
         """Returns the thread that a REQUEST names as the owner, or None if there is none: the last
@@ -396,9 +422,8 @@ def begin_of_wait(log, record, owned):
         return None
     took, own, end = log.took(record), log.last_of.get(record.number), record.number
     latest = record.time - (reader.SATURATED if took is None else took)
-    grants = log.grants[log.mutexes.of[end]]
-    since = [Moment(one.number, one.time, one.chunk.thread) for one in grants
-             if one.number < end and one.time > latest]
+    since = [Moment(one.number, one.time, one.chunk.thread)
+             for one in log.grants_since(log.mutexes.of[end], latest, end)]
     if took is None:
         since += [one.granted for one in owned if one.lasts_at(latest, end)]
     first = min(since, default=None)
