@@ -1,4 +1,4 @@
-"""The part of tests/record about facts as text: suite/facts, and what pim-log writes of logs.
+"""The part of tests/record about facts as text: suite/facts, what pim-log writes of logs, and the example.
 
 `python3 tests/record_facts.py` plays it alone, with the pim-import that is built.
 """
@@ -131,9 +131,26 @@ def logs(folder):
         same_findings(folder, log.name, log.read_bytes())
 
 
+def example(folder):
+    """The hooks of a made-up RTOS print a text whose findings are these. log holds the map for 4 ms: plan waits for 3 of
+    them, and spare for 1 until it gives up."""
+    hooks = pathlib.Path(folder, "hooks")
+    built = answer(["cc", "-std=c11", "-Wall", "-Wextra", "-Werror", "-o", str(hooks), str(ROOT / "examples/hooks.c")])
+    check("examples/hooks.c is built without a warning", None if built == (0, b"", b"") else f"{built}")
+    status, text, _ = answer([str(hooks)])
+    got = answer([str(IMPORTER), "--facts", "-"], text, cwd=folder)
+    lines = got[1].decode().splitlines()[:3]
+    wanted = ["plan[2], at 30, waited 3.000 ms from 0.001000 s on for mutex 1 (inherit) of log[1], at 10:"
+              " bounded by inheritance",
+              "spare[3], at 20, waited 1.000 ms from 0.002000 s on for mutex 1 (inherit) of log[1], at 10:"
+              " bounded by inheritance",
+              "owned: mutex 1 (inherit), from map_lock, 4.000 ms at most, by log[1]; 2 waits"]
+    check("the findings of the example", difference((status, got[0], *lines), (0, 0, *wanted)))
+
+
 def facts(folder):
     """Plays all of it."""
-    for part in (texts, streams, logs):
+    for part in (texts, streams, logs, example):
         with tempfile.TemporaryDirectory(dir=folder) as own:
             part(own)
 
