@@ -100,42 +100,60 @@ impl Labels {
 
     fn read(&mut self, alloc: Global, ids: &Ids, record: &Record) -> Result<(), AllocError> {
         let thread = record.thread as usize;
-        if thread >= self.pending.len() {
+        let Some(pending) = self.pending.get(thread).copied() else {
             return Ok(());
-        }
-        let pending = self.pending[thread];
-        match record.event {
+        };
+        let next = match record.event {
             Event::Text(text) => return self.read_text(pending, text),
             Event::Place { address } => {
                 self.read_place(pending, address);
-                self.pending[thread] = Pending::Nothing;
+                Pending::Nothing
             }
-            Event::Name { .. } => {
-                let named = ids.of_record(record.number);
-                if (named as usize) < self.names.len() {
-                    self.names[named as usize] = UNNAMED;
-                }
-                self.pending[thread] = Pending::Name(named);
-            }
-            Event::Module { address } => {
-                self.pending[thread] = Pending::Module(self.modules.len());
-                let module = Module {
-                    process: record.process,
-                    address,
-                    path: String::new(alloc),
-                };
-                if self.modules.push(module).is_err() {
-                    return Err(AllocError);
-                }
-            }
-            Event::Init(_) => self.pending[thread] = Pending::Init(ids.of_record(record.number)),
+            Event::Name { .. } => self.begin_name(ids.of_record(record.number)),
+            Event::Module { address } => self.add_module(alloc, record.process, address)?,
+            Event::Init(_) => Pending::Init(ids.of_record(record.number)),
             Event::Child { parent } => {
-                self.pending[thread] = Pending::Nothing;
                 self.add_child(ids, record.process, parent)?;
+                Pending::Nothing
             }
-            _ => self.pending[thread] = Pending::Nothing,
-        }
+            _ => Pending::Nothing,
+        };
+        self.expect(thread, next);
         Ok(())
+    }
+
+    /// Keeps what the next record of a thread belongs to.
+    fn expect(&mut self, thread: usize, next: Pending) {
+        if let Some(pending) = self.pending.get_mut(thread) {
+            *pending = next;
+        }
+    }
+
+    /// Begins another name of a thread.
+    fn begin_name(&mut self, thread: u32) -> Pending {
+        if let Some(name) = self.names.get_mut(thread as usize) {
+            *name = UNNAMED;
+        }
+        Pending::Name(thread)
+    }
+
+    /// Begins the path of a file that was loaded at an address.
+    fn add_module(
+        &mut self,
+        alloc: Global,
+        process: u32,
+        address: u64,
+    ) -> Result<Pending, AllocError> {
+        let module = Module {
+            process,
+            address,
+            path: String::new(alloc),
+        };
+        let place = self.modules.len();
+        match self.modules.push(module) {
+            Ok(()) => Ok(Pending::Module(place)),
+            Err(_) => Err(AllocError),
+        }
     }
 
     /// Keeps where a mutex was initialised.
