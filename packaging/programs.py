@@ -26,8 +26,13 @@ COMPILED = (
 
 
 def build(to, work):
-    """Builds all of the folder but its page PROOFS.md."""
+    """Builds all of the folder but its page PROOFS.md.
+
+    `rt ci` leaves a program without its object file where it had kept the proof: both are made anew.
+    """
     for program, crate in PROGRAMS.items():
+        if not built(crate).with_suffix(".o").exists():
+            built(crate).unlink(missing_ok=True)
         run(ROOT / program, "install", work / "installed")
         copy(work / f"installed/share/man/man1/{program}.1", to / f"man/man1/{program}.1")
         link(crate, work, to / program)
@@ -58,13 +63,18 @@ def is_current(page):
     return page.exists() and page.stat().st_mtime > newest
 
 
+def built(crate):
+    """Returns where the toolchain leaves the program of a crate."""
+    return ROOT / "crates" / crate / "out" / crate
+
+
 def link(crate, work, to):
     """Links a program that was proved and built with a C library of its own.
 
     The toolchain links to the C library of the machine, and a program of an earlier Debian then
     finds functions missing. The object file must be that of the program which the tests run.
     """
-    made = ROOT / "crates" / crate / "out" / crate
+    made = built(crate)
     objects = [made.with_suffix(".o"), kit() / "c/libos_c.a", kit() / "c/liblibc_c.a"]
     words = ["--target", "x86_64-unknown-linux-gnu", "--toolchain", kit() / "toolchain"]
     run(kit() / "bin/rattle-link", *words, "-o", work / crate, *objects)
