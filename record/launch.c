@@ -236,6 +236,7 @@ int main(int count, char **arguments) {
     if (wanted.log) what = unlogged(arguments[2], path);
     if (what && !wanted.kernel) refuse_unlogged(path, what);
     if (what) wanted.log = NULL;
+    wanted.program = path;
     if (wanted.log && wanted.amount.room.bytes < HEADER_BYTES + CHUNK_BYTES)
         refuse(FAULT, "PIM_RECORD_BYTES", "not a size");
     if (wanted.log) refuse_library(arguments[1]);

@@ -13,6 +13,7 @@ import time
 
 from checks import (ROOT, SECONDS, check, children_of, difference, ended, is_gone, orphan_of, proc_text, skip, stat_of,
                     until)
+from record_collector import without_imports
 
 RECORD = ROOT / "record"
 PROGRAMS = RECORD / "out/programs"
@@ -494,7 +495,7 @@ def no_room(reader, folder):
     words = (PROGRAMS / "random", "1", "12000")  # several megabytes of events
     recording = Recording(reader, folder, *words, options=["--size", "1"], preexec_fn=limit)
     wanted = f"pim-record: {recording.file} isn't whole: File too large\n"
-    got = (recording.status, recording.done.stderr, len(recording.data or b""))
+    got = (recording.status, without_imports(recording.done.stderr), len(recording.data or b""))
     check("a file beyond the limit of a file", difference(got, (0, wanted, 1 << 20)))
     faults = [fault for fault in faults_of(recording.data) if fault != "the last line isn't whole"]
     check("it is the beginning of a recording", difference((faults,), ([END_MISSING],)))

@@ -3,6 +3,7 @@
 
 #include "../kernel/record.h"
 #include "guard.h"
+#include "imports.h"
 #include "ordinary.h"
 
 #include <errno.h>
@@ -18,7 +19,7 @@
 #include <time.h>
 #include <unistd.h>
 
-enum { FAULT = 2 };
+enum { FAULT = 2, NAMES_BYTES = 256 };
 
 static const long PERIOD = 50000000; /* nanoseconds between two looks at the kernel's events */
 
@@ -115,6 +116,15 @@ static void say_unrecorded(const struct report *report) {
                 report->failed, report->why);
 }
 
+/* A log without waits isn't to be read as if there were none. */
+static void say_unseen(void) {
+    char names[NAMES_BYTES];
+    read_unseen(parent.wanted->program, names, sizeof names);
+    if (names[0])
+        fprintf(stderr, "pim-record: %s also calls %s: what waits by these isn't recorded\n",
+                parent.wanted->program, names);
+}
+
 static void say_snapshots(const struct report *report) {
     const char *log = parent.wanted->log;
     if (report->wait[0]) fprintf(stderr, "pim-record: %s\n", report->wait);
@@ -138,6 +148,7 @@ static bool end_logs(void) {
     }
     say_snapshots(&report);
     say_unrecorded(&report);
+    if (report.logs) say_unseen();
     return report.logs > 0;
 }
 
