@@ -43,7 +43,7 @@ void held_start(struct shared *in);
  * then the owner learns of it before it releases the mutex, or while it does so. */
 bool held_announce(const pthread_mutex_t *mutex);
 
-/* Says that it waits no more. */
+/* Says that it has stopped waiting. */
 void held_withdraw(const pthread_mutex_t *mutex);
 
 static inline bool held_is_on(void) {
