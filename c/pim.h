@@ -165,6 +165,10 @@ extern "C" {
 /* How often a recursive mutex may be locked at the same time. */
 #define PIM_MAX_COUNT 255u
 
+/* Stands for the task that asks, in pim_cancel, pim_set_base and pim_set_ceiling alone, where no task
+ * does: in an interrupt, a shell or the idle thread. */
+#define PIM_KERNEL 0u
+
 /* What stands for the owner, the count and the protocol of an unknown mutex, and for what an
  * unknown task waits for. */
 #define PIM_UNKNOWN 65535u
@@ -338,6 +342,9 @@ struct pim_answer pim_unlock(struct pim_handle *h, uint16_t task, uint16_t mutex
 /* Unlocks all mutexes of the task in ascending order (PIM_RELEASED), as where a thread ends, each
  * wholly, however often it was locked. Refused: NO_TASK, WAITING. */
 struct pim_answer pim_release_all(struct pim_handle *h, uint16_t task);
+
+/* The next three may also be asked for by the kernel itself, with PIM_KERNEL as the task. It is
+ * answered as a task is that doesn't wait and owns no mutex: never NO_TASK for itself, nor WAITING. */
 
 /* Withdraws the target, which waits, from its queue (PIM_WITHDRAWN), as where a time is out or a
  * thread is cancelled. Any task may ask that does not wait, and the target itself. Refused: NO_TASK,

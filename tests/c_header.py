@@ -56,7 +56,7 @@ def numbers(folder):
     """The header has the names and numbers of both numbers.rt, and the limits, and no other names in its tables."""
     wanted = constants("\n".join(text for path, text in sources().items() if path.name == "numbers.rt"))
     in_tables = re.findall(r"^ *PIM_([A-Z_]+) = \d+", HEADER, re.M)
-    check("the header's tables", difference((set(in_tables) | {"UNKNOWN"},), (set(wanted),)))
+    check("the header's tables", difference((set(in_tables) | {"UNKNOWN", "KERNEL"},), (set(wanted),)))
     limits = {"MAX_TASKS": 256, "MAX_MUTEXES": 256, "MAX_COUNT": 255}
     limits_file = (ROOT / "crates/pim_base/src/limits.rt").read_text()
     check("the limits", difference((limits,), ({k: constants(limits_file)[k] for k in limits},)))

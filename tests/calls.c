@@ -156,6 +156,27 @@ static void each_refusal(void) {
     dropped(&h);
 }
 
+/* Task 2 waits for mutex 1 of task 1. */
+static void kernel_asks(void) {
+    static const struct row rows[] = {
+        ROW(ANSWER(PIM_GRANTED), LOCK, 1, 1), ROW(ANSWER(PIM_QUEUED), LOCK, 2, 1),
+        ROW(ANSWER(PIM_SET), SET_BASE, PIM_KERNEL, 2, 70), ROW(2, CHANGED), ROW(70, EFFECTIVE_PRIO, 1),
+        ROW(REFUSED(NO_TASK), SET_BASE, PIM_KERNEL, 4, 5), ROW(0, CHANGED),
+        ROW(REFUSED(PRIORITY), SET_BASE, PIM_KERNEL, 1, 100), ROW(REFUSED(NO_TASK), CANCEL, PIM_KERNEL, PIM_KERNEL),
+        ROW(ANSWER(PIM_WITHDRAWN), CANCEL, PIM_KERNEL, 2), ROW(1, CHANGED), ROW(10, EFFECTIVE_PRIO, 1),
+        ROW(REFUSED(NOT_WAITING), CANCEL, PIM_KERNEL, 2), ROW(0, WAITS_FOR, 2),
+        ROW(ANSWER(PIM_SET), SET_CEILING, PIM_KERNEL, 2, 80), ROW(KIND(PIM_PROTECT, 80), PROTOCOL, 2),
+        ROW(ANSWER(PIM_GRANTED), LOCK, 1, 2), ROW(80, EFFECTIVE_PRIO, 1),
+        ROW(REFUSED(BUSY), SET_CEILING, PIM_KERNEL, 2, 70), ROW(KIND(PIM_PROTECT, 80), PROTOCOL, 2),
+        ROW(REFUSED(NOT_PROTECT), SET_CEILING, PIM_KERNEL, 1, 70), ROW(REFUSED(NO_MUTEX), SET_CEILING, PIM_KERNEL, 5, 70),
+        ROW(REFUSED(NO_TASK), LOCK, PIM_KERNEL, 4), ROW(REFUSED(NO_TASK), TRY, PIM_KERNEL, 4),
+        ROW(REFUSED(NO_TASK), UNLOCK, PIM_KERNEL, 1), ROW(REFUSED(NO_TASK), RELEASE_ALL, PIM_KERNEL)
+    };
+    struct pim_handle h = made("the kernel asks where no task does");
+    PLAY(&h, rows);
+    dropped(&h);
+}
+
 static void new_protocols(void) {
     static const struct row rows[] = {
         ROW(ANSWER(PIM_GRANTED), LOCK, 1, 2), ROW(1, CHANGED),
@@ -206,7 +227,7 @@ static void unknown_numbers(void) {
 static void no_manager(void) {
     static const struct row rows[] = {
         ROW(0, LOCK, 1, 1), ROW(0, TRY, 1, 1), ROW(0, UNLOCK, 1, 1), ROW(0, RELEASE_ALL, 1), ROW(0, CANCEL, 1, 1),
-        ROW(0, SET_BASE, 1, 1, 20), ROW(0, SET_CEILING, 1, 2, 20), ROW(0, SET_PROTOCOL, 1, PIM_PROTECT, 60),
+        ROW(0, CANCEL, PIM_KERNEL, 1), ROW(0, SET_BASE, 1, 1, 20), ROW(0, SET_CEILING, 1, 2, 20), ROW(0, SET_PROTOCOL, 1, PIM_PROTECT, 60),
         ROW(0, CHANGED), ROW(0, WAITERS, 1), ROW(0, TASK_COUNT), ROW(0, MUTEX_COUNT), ROW(0, NEXT_TICKET),
         ROW(0, EFFECTIVE_PRIO, 1), ROW(0, BASE_PRIO, 1), ROW(0, REASON, 1), ROW(65535, WAITS_FOR, 1),
         ROW(65535, OWNER, 1), ROW(65535, LOCK_COUNT, 1), ROW(KIND(65535, 0), PROTOCOL, 1), ROW(0, DROP)
@@ -312,8 +333,8 @@ static void faults(void) {
 
 int main(void) {
     static void (*const cases[])(void) = {
-        each_answer, each_refusal, new_protocols, read_protocols, unknown_numbers, no_manager, copied_waiters,
-        copied_changes, faults
+        each_answer, each_refusal, kernel_asks, new_protocols, read_protocols, unknown_numbers, no_manager,
+        copied_waiters, copied_changes, faults
     };
     for (size_t i = 0; i < sizeof cases / sizeof *cases; i++) {
         int before = wrongs;

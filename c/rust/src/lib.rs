@@ -18,6 +18,9 @@ mod c;
 #[cfg(test)]
 mod tests;
 
+/// Stands for the task that asks, in `Cancel`, `SetBase` and `SetCeiling` alone, where the kernel asks and no task.
+pub const KERNEL: u16 = 0;
+
 /// The protocol of a mutex.
 #[derive(Clone, Copy, Debug, PartialEq, Eq)]
 pub enum Protocol {
@@ -156,7 +159,7 @@ impl Manager {
         }
     }
 
-    /// Makes one step of the task. Any numbers may be passed.
+    /// Makes one step of the task, or of [`KERNEL`]. Any numbers may be passed.
     pub fn step(&mut self, task: u16, op: Op) -> Reply {
         let h = &mut self.handle;
         Reply::of(unsafe {

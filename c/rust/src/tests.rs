@@ -350,6 +350,27 @@ fn ceilings_are_reasons_and_are_set() {
 }
 
 #[test]
+fn kernel_asks_where_no_task_does() {
+    let mut locks = four();
+    assert_eq!(locks.step(1, Op::Lock(1)), Reply::Granted);
+    assert_eq!(locks.step(2, Op::Lock(1)), Reply::Queued);
+    assert_eq!(locks.step(KERNEL, Op::SetBase(2, 70)), Reply::Set);
+    assert_eq!(locks.effective(1), Some(70));
+    assert_eq!(locks.step(KERNEL, Op::Cancel(2)), Reply::Withdrawn);
+    assert_eq!(locks.effective(1), Some(10));
+    assert_eq!(locks.step(KERNEL, Op::SetCeiling(3, 70)), Reply::Set);
+    assert_eq!(locks.step(1, Op::Lock(3)), Reply::Granted);
+    assert_eq!(
+        locks.step(KERNEL, Op::SetCeiling(3, 80)),
+        Reply::Refused(Refusal::Busy)
+    );
+    assert_eq!(
+        locks.step(KERNEL, Op::Lock(2)),
+        Reply::Refused(Refusal::NoTask)
+    );
+}
+
+#[test]
 fn free_mutex_gets_another_protocol() {
     let mut locks = four();
     assert_eq!(locks.step(1, Op::Lock(3)), Reply::Granted);

@@ -1,6 +1,7 @@
 pub mod Answers
 pub mod Changing
 pub mod Getters
+pub mod Kernel
 pub mod Lending
 pub mod Lists
 pub mod Making

@@ -6,6 +6,10 @@ ghost use Rattle.pim_base.specs.Reports.{refusal_number};
 
 use pim_base::Refusal;
 
+// ---- What stands for the kernel where a task asks
+
+pub const KERNEL: u16 = 0;
+
 // ---- Replies to steps
 
 pub const NO_MANAGER: u8 = 0;

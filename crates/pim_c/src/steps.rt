@@ -1,12 +1,15 @@
 //! The steps, a function each.
 
-ghost use Rattle.std.specs.Prelude.{◌≡◌};
+ghost use Rattle.std.specs.Prelude.{◌≡◌, ◌≤◌, ◌+◌, ◌*◌};
+ghost use Rattle.pim_base.specs.Counts.{changed_task_count, handed_mutex_count};
 ghost use Rattle.pim_c.specs.Answers.{IsAnswered, after_step};
+ghost use Rattle.pim_c.specs.Kernel.{kernel_op, c_reply, c_after, c_stepped};
 
 use crate::answer::CAnswer;
 use crate::handle::Handle;
+use crate::numbers::KERNEL;
 use pim_base::{MutexNo, Op, Step, TaskNo};
-use pim_manager::Done;
+use pim_manager::{Done, KernelOp, TrackedManager};
 use std::alloc::Global;
 
 /// `pthread_mutex_lock`: the task locks the mutex if it is free, or if the task owns it and it is recursive. Else the
@@ -48,7 +51,7 @@ pub extern "C" fn pim_release_all(alloc: Global, handle: &mut Handle, task: u16)
     make_step(alloc, handle, task, Op::ReleaseAll)
 }
 
-/// Withdraws the waiting target from its queue. The task asks for it.
+/// Withdraws the waiting target from its queue. The task asks for it, or the kernel, with `KERNEL` as the task.
 #[unsafe(no_mangle)]
 pub extern "C" fn pim_cancel(alloc: Global, handle: &mut Handle, task: u16, target: u16) -> CAnswer
     ensures answer { IsAnswered handle.old.held (record { actor = task; op = Op.Cancel target }) result }
@@ -57,7 +60,8 @@ pub extern "C" fn pim_cancel(alloc: Global, handle: &mut Handle, task: u16, targ
     make_step(alloc, handle, task, Op::Cancel(TaskNo(target)))
 }
 
-/// `pthread_setschedprio`: sets the base priority of the target to this level. The task asks for it.
+/// `pthread_setschedprio`: sets the base priority of the target to this level. The task asks for it, or the kernel,
+/// with `KERNEL` as the task.
 #[unsafe(no_mangle)]
 pub extern "C" fn pim_set_base(
     alloc: Global,
@@ -72,8 +76,8 @@ pub extern "C" fn pim_set_base(
     make_step(alloc, handle, task, Op::SetBase(TaskNo(target), level))
 }
 
-/// `pthread_mutex_setprioceiling`: sets the ceiling of the PROTECT mutex to this level. The task asks for it. Unlike
-/// the call of POSIX it locks nothing, and the owner may ask for it.
+/// `pthread_mutex_setprioceiling`: sets the ceiling of the PROTECT mutex to this level. The task asks for it, or the
+/// kernel, with `KERNEL` as the task. Unlike the call of POSIX it locks nothing, and the owner may ask for it.
 #[unsafe(no_mangle)]
 pub extern "C" fn pim_set_ceiling(
     alloc: Global,
@@ -100,7 +104,38 @@ fn make_step(alloc: Global, handle: &mut Handle, task: u16, op: Op) -> CAnswer
         return CAnswer::none();
     };
     let actor = TaskNo(task);
-    let Done { reply, visits } = held.step(Step { actor, op });
+    let Done { reply, visits } = step_of(&mut held, Step { actor, op });
     handle.put(held);
     CAnswer::of(reply, visits)
+}
+
+/// Makes the step of a task, or that of the kernel.
+#[inline(always)]
+fn step_of(held: &mut TrackedManager, step: Step) -> Done
+    ensures reply { result.reply ≡ c_reply held.old.state step }
+    ensures state { held.new ≡ c_stepped held.old step }
+    ensures least { changed_task_count held.old.state (c_after held.old.state step) ≤ result.visits }
+    ensures most { result.visits ≤ 1 + changed_task_count held.old.state (c_after held.old.state step)
+        + 2 * handed_mutex_count held.old.state (c_after held.old.state step) }
+{
+    match of_kernel(&step) {
+        Some(op) => held.kernel_step(op),
+        None => held.step(step),
+    }
+}
+
+/// Returns what the kernel asks for, if `KERNEL` stands where a task asks and the kernel may ask for this.
+#[inline(always)]
+fn of_kernel(step: &Step) -> Option<KernelOp>
+    ensures { result ≡ kernel_op step.now }
+{
+    if step.actor.get() != KERNEL {
+        return None;
+    }
+    match step.op {
+        Op::Lock(_) | Op::Try(_) | Op::Unlock(_) | Op::ReleaseAll => None,
+        Op::Cancel(target) => Some(KernelOp::Cancel(target)),
+        Op::SetBase(target, level) => Some(KernelOp::SetBase(target, level)),
+        Op::SetCeiling(mutex, level) => Some(KernelOp::SetCeiling(mutex, level)),
+    }
 }

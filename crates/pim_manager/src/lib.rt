@@ -23,6 +23,7 @@
 
 mod changed_tasks;
 mod done;
+mod kernel_op;
 mod make_fault;
 mod manager;
 mod runs;
@@ -32,6 +33,7 @@ mod tracked_manager;
 
 pub use changed_tasks::{ChangedTask, ChangedTasks};
 pub use done::Done;
+pub use kernel_op::KernelOp;
 pub use make_fault::MakeFault;
 pub use manager::Manager;
 pub use shared_fault::SharedFault;

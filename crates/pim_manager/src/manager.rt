@@ -14,11 +14,13 @@ ghost use Rattle.pim_base.specs.Steps.{reply_of, after};
 ghost use Rattle.pim_base.specs.declared.limits.TheConstants.{MAX_TASKS, MAX_MUTEXES};
 ghost use Rattle.pim_base.specs.declared.steps.Wait.{Wait};
 ghost use Rattle.pim_manager.specs.Changed.{changed_task, noted_changes};
+ghost use Rattle.pim_manager.specs.Kernel.{kernel_reply, after_kernel, IsBystander, IsAnsweredAlike, IsForOwned};
 ghost use Rattle.pim_manager.specs.Known.{of_task, of_mutex};
 ghost use Rattle.pim_manager.specs.Protocols.{protocol_refusal};
 
 use crate::changed_tasks::ChangedTask;
 use crate::done::Done;
+use crate::kernel_op::KernelOp;
 use crate::make_fault::MakeFault;
 use pim_base::{
     MAX_MUTEXES, MAX_TASKS, MutexNo, Prio, Protocol, Reason, Refusal, Step, TaskNo, Waiter,
@@ -233,6 +235,26 @@ impl Manager {
             reply,
             visits: visits.get(),
         }
+    }
+
+    /// Makes a step that the kernel asks for itself, and always returns a reply. A refused one changes nothing.
+    ///
+    /// It does what the step of a task does that doesn't wait, nor owns the mutex whose ceiling is set. So the ceiling
+    /// of an owned mutex stays.
+    pub fn kernel_step(&mut self, op: KernelOp) -> Done
+        ensures reply { result.reply ≡ kernel_reply self.old op }
+        ensures state { self.new ≡ after_kernel self.old op }
+        ensures alike { (task : ℕ) → IsBystander self.old task op → IsAnsweredAlike self.old task op }
+        ensures owned { IsForOwned self.old op → self.new ≡ self.old }
+        ensures least { changed_task_count self.old self.new ≤ result.visits }
+        ensures most { result.visits ≤ 1 + changed_task_count self.old self.new }
+    {
+        // The contract of this call gives the proof that owners are tasks.
+        let _tasks = self.tables.tasks();
+        let mut visits = Visits::new();
+        let reply = self.reply_to_kernel(op, &mut visits);
+        let visits = visits.get();
+        Done { reply, visits }
     }
 
     /// Gives a free mutex this protocol, as where a mutex is destroyed and another one is initialized in its place.

@@ -7,12 +7,17 @@ ghost use Rattle.pim_base.specs.Checks.{unknown_mutex};
 ghost use Rattle.pim_base.specs.Counts.{changed_task_count, handed_mutex_count};
 ghost use Rattle.pim_base.specs.Steps.{answer, after_reply, reply_of, after};
 ghost use Rattle.pim_sets.specs.Work.{Work};
+ghost use Rattle.pim_manager.specs.Kernel.{kernel_reply, after_kernel};
 ghost use Rattle.pim_manager.specs.Relocks.{relocked};
 ghost use Rattle.pim_manager.specs.Settled.{Worked};
 
+use crate::kernel_op::KernelOp;
 use crate::manager::Manager;
 use pim_base::{LAST_TICKET, MAX_COUNT, MutexNo, Op, Prio, Refusal, Reply, Step, TaskNo};
 use pim_chain::Visits;
+
+/// Stands for the kernel where a task asks otherwise: no task has this number.
+const NOBODY: TaskNo = TaskNo(0);
 
 impl Manager {
     /// Makes the step, counts its visits from 0, and returns the reply.
@@ -39,6 +44,24 @@ impl Manager {
             Op::Cancel(task) => self.answer_cancel(actor, task, visits),
             Op::SetBase(task, level) => self.answer_set_base(actor, task, level, visits),
             Op::SetCeiling(mutex, level) => self.answer_set_ceiling(actor, mutex, level, visits),
+        }
+    }
+
+    /// Makes the kernel's step, counts its visits from 0, and returns the reply.
+    #[inline(always)]
+    pub(crate) fn reply_to_kernel(&mut self, op: KernelOp, visits: &mut Visits) -> Reply
+        requires { visits.old.count ≡ 0 }
+        ensures reply { result ≡ kernel_reply self.old op }
+        ensures state { self.new ≡ after_kernel self.old op }
+        ensures work { Worked self.old visits.old self.new visits.new }
+        ensures most { visits.new.count ≤ 1 + changed_task_count self.old self.new }
+    {
+        match op {
+            KernelOp::Cancel(task) => self.answer_cancel(NOBODY, task, visits),
+            KernelOp::SetBase(task, level) => self.answer_set_base(NOBODY, task, level, visits),
+            KernelOp::SetCeiling(mutex, level) => {
+                self.answer_set_ceiling(NOBODY, mutex, level, visits)
+            }
         }
     }
 

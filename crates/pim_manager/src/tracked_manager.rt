@@ -9,10 +9,12 @@ ghost use Rattle.pim_base.specs.State.{start, with_protocol};
 ghost use Rattle.pim_base.specs.Steps.{reply_of, after};
 ghost use Rattle.pim_base.specs.declared.limits.TheConstants.{MAX_MUTEXES, MAX_TASKS};
 ghost use Rattle.pim_manager.specs.Changed.{listed, stepped};
+ghost use Rattle.pim_manager.specs.Kernel.{kernel_reply, after_kernel, kernel_stepped};
 ghost use Rattle.pim_manager.specs.Protocols.{protocol_refusal};
 
 use crate::changed_tasks::ChangedTasks;
 use crate::done::Done;
+use crate::kernel_op::KernelOp;
 use crate::make_fault::MakeFault;
 use crate::manager::Manager;
 use pim_base::{MutexNo, Prio, Protocol, Refusal, Step};
@@ -111,6 +113,24 @@ impl TrackedManager {
     {
         self.visits.restart();
         let reply = self.manager.reply_to(step, &mut self.visits);
+        Done {
+            reply,
+            visits: self.visits.get(),
+        }
+    }
+
+    /// Makes a step that the kernel asks for itself as [`Manager::kernel_step`] does. `changed` then returns the tasks
+    /// whose effective priority it changed.
+    #[inline(always)]
+    pub fn kernel_step(&mut self, op: KernelOp) -> Done
+        ensures reply { result.reply ≡ kernel_reply self.old.state op }
+        ensures state { self.new ≡ kernel_stepped self.old op }
+        ensures changed { self.new.changed ≡ listed self.new.state (changed_tasks self.old.state self.new.state) }
+        ensures least { changed_task_count self.old.state (after_kernel self.old.state op) ≤ result.visits }
+        ensures most { result.visits ≤ 1 + changed_task_count self.old.state (after_kernel self.old.state op) }
+    {
+        self.visits.restart();
+        let reply = self.manager.reply_to_kernel(op, &mut self.visits);
         Done {
             reply,
             visits: self.visits.get(),

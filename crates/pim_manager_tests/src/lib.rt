@@ -14,6 +14,8 @@ mod chain;
 #[cfg(test)]
 mod faults;
 #[cfg(test)]
+mod kernel;
+#[cfg(test)]
 mod manager;
 #[cfg(test)]
 mod priorities;

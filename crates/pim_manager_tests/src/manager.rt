@@ -10,21 +10,21 @@ use std::alloc::Global;
 use std::process::Abort;
 use std::test::Fail;
 
-const FIRST: MutexNo = MutexNo(1);
+pub(crate) const FIRST: MutexNo = MutexNo(1);
 
-const SECOND: MutexNo = MutexNo(2);
+pub(crate) const SECOND: MutexNo = MutexNo(2);
 
 const THIRD: MutexNo = MutexNo(3);
 
 const FOURTH: MutexNo = MutexNo(4);
 
 /// The step of this task.
-fn by(actor: u16, op: Op) -> Step {
+pub(crate) fn by(actor: u16, op: Op) -> Step {
     let actor = TaskNo(actor);
     Step { actor, op }
 }
 
-fn made(
+pub(crate) fn made(
     rt: &impl Abort,
     alloc: Global,
     levels: &[u16],
@@ -34,7 +34,7 @@ fn made(
     Ok(Manager::new(alloc, &bases, protocols)?)
 }
 
-fn tracked(
+pub(crate) fn tracked(
     rt: &impl Abort,
     alloc: Global,
     levels: &[u16],
@@ -106,7 +106,7 @@ fn copy_has_the_same_state_and_goes_its_own_way(rt: HostRuntime) -> Result<(), F
 
 /// Why a task has its priority, in plain numbers.
 #[derive(Clone, Copy)]
-enum Why {
+pub(crate) enum Why {
     Base,
     /// The ceiling of this mutex.
     Ceiling(u16),
@@ -115,7 +115,7 @@ enum Why {
 }
 
 /// A task that a step changes, its priority then, and why.
-type Listed = (u16, u16, Why);
+pub(crate) type Listed = (u16, u16, Why);
 
 /// A step, its reply, how many visits it makes, and the tasks whose priority it changes.
 #[derive(Clone, Copy)]
@@ -129,7 +129,7 @@ fn reason(why: Why) -> Reason {
     }
 }
 
-fn expect_changed(rt: &impl Abort, tracked: &TrackedManager, expected: &[Listed]) {
+pub(crate) fn expect_changed(rt: &impl Abort, tracked: &TrackedManager, expected: &[Listed]) {
     let mut changed = tracked.changed();
     for (task, level, why) in expected {
         let listed = ChangedTask {
