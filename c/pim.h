@@ -105,6 +105,7 @@
  *   pim_set_base         512   the walk
  *   pim_set_ceiling      512   the walk
  *   pim_set_protocol      64   a few stores
+ *   pim_adopt             64   a few stores
  *   pim_changed          384   the mutexes of each task that is listed
  *   pim_waiters          256   what it copies
  *   pim_task_reason      256   the mutexes that the task owns
@@ -250,7 +251,8 @@ enum pim_refusal {
     PIM_REFUSED_CEILING = 5,      /* the task's base priority is above the ceiling of a PROTECT mutex
                                    * (EINVAL) */
     PIM_REFUSED_BUSY = 6,         /* a try on an owned mutex, its own recursive one excepted (EBUSY); a
-                                   * new ceiling of one that another owns; a new protocol of an owned one */
+                                   * new ceiling of one that another owns; a new protocol of an owned one,
+                                   * or its adoption */
     PIM_REFUSED_NOT_OWNER = 7,    /* the task doesn't own the mutex (EPERM) */
     PIM_REFUSED_NOT_WAITING = 8,  /* the target of a cancel doesn't wait */
     PIM_REFUSED_PRIORITY = 9,     /* the new base priority or the new ceiling isn't 1 to 99 (EINVAL) */
@@ -258,8 +260,9 @@ enum pim_refusal {
     PIM_REFUSED_NOT_PROTECT = 11, /* a new ceiling of a mutex that isn't a PROTECT one (EINVAL) */
     PIM_REFUSED_AGAIN = 12,       /* the task has locked the recursive mutex PIM_MAX_COUNT times
                                    * (EAGAIN) */
-    PIM_REFUSED_NO_PROTOCOL = 13  /* the kind of a new protocol is unknown, or its ceiling isn't 1 to 99
+    PIM_REFUSED_NO_PROTOCOL = 13, /* the kind of a new protocol is unknown, or its ceiling isn't 1 to 99
                                    * (EINVAL) */
+    PIM_REFUSED_PROTECT = 14      /* a PROTECT mutex is to be adopted */
 };
 
 /* Why a task has its effective priority: the first of these that gives it. */
@@ -280,7 +283,7 @@ struct pim_protocol {
 
 struct pim_answer {
     uint8_t kind;    /* PIM_NO_MANAGER .. PIM_KEPT */
-    uint8_t refusal; /* PIM_REFUSED_NO_TASK .. PIM_REFUSED_NO_PROTOCOL, or 0 */
+    uint8_t refusal; /* PIM_REFUSED_NO_TASK .. PIM_REFUSED_PROTECT, or 0 */
     uint16_t number; /* the task that was handed the mutex, or how many mutexes were released, or 0 */
     uint32_t visits; /* how many priorities the step computed */
 };
@@ -361,13 +364,19 @@ struct pim_answer pim_set_base(struct pim_handle *h, uint16_t task, uint16_t tar
  * Refused: NO_TASK, WAITING, NO_MUTEX, NOT_PROTECT, PRIORITY, BUSY. */
 struct pim_answer pim_set_ceiling(struct pim_handle *h, uint16_t task, uint16_t mutex, uint16_t ceiling);
 
-/* ---- a change that is no step ---------------------------------------------------------------- */
+/* ---- changes that are no steps --------------------------------------------------------------- */
 
 /* pthread_mutex_destroy and pthread_mutex_init: gives a free mutex another protocol (PIM_SET), so that
  * its number can be lent to another mutex. The ceiling is read where the kind is PIM_PROTECT. No
  * priority changes, and pim_changed lists no task then. A trace has no line for it. Refused:
  * NO_PROTOCOL, NO_MUTEX, BUSY. */
 struct pim_answer pim_set_protocol(struct pim_handle *h, uint16_t mutex, uint16_t kind, uint16_t ceiling);
+
+/* Makes the task the owner of a free NONE or INHERIT mutex (PIM_GRANTED), also where the task waits: as
+ * where a lock that nobody contends is taken without a call, and its owner is told here once somebody
+ * comes to wait. No priority and no queue changes, and pim_changed lists no task then. A recursive
+ * mutex counts 1. A trace has no line for it. Refused: NO_TASK, NO_MUTEX, PROTECT, BUSY. */
+struct pim_answer pim_adopt(struct pim_handle *h, uint16_t task, uint16_t mutex);
 #endif
 
 /* ---- what the last step changed -------------------------------------------------------------- */
@@ -375,8 +384,8 @@ struct pim_answer pim_set_protocol(struct pim_handle *h, uint16_t mutex, uint16_
 /* Copies the tasks whose effective priority the last step changed, in ascending order, at most
  * `room` of them, and returns how many there are. They are the tasks that a scheduler has to queue
  * anew: all of them, and no others. None where no step was made yet, where the last one was refused,
- * and where pim_set_protocol was answered PIM_SET since. Where the answer's `visits` is 0 there is
- * none. */
+ * and where pim_set_protocol was answered PIM_SET since, or pim_adopt PIM_GRANTED. Where the answer's
+ * `visits` is 0 there is none. */
 uint64_t pim_changed(const struct pim_handle *h, struct pim_changed_task *to, uint64_t room);
 
 /* ---- what stands ----------------------------------------------------------------------------- */
@@ -438,6 +447,7 @@ void pim_set_ceiling_to(struct pim_handle *h, uint16_t task, uint16_t mutex, uin
                         struct pim_answer *to);
 void pim_set_protocol_to(struct pim_handle *h, uint16_t mutex, uint16_t kind, uint16_t ceiling,
                          struct pim_answer *to);
+void pim_adopt_to(struct pim_handle *h, uint16_t task, uint16_t mutex, struct pim_answer *to);
 void pim_task_reason_to(const struct pim_handle *h, uint16_t task, struct pim_reason *to);
 void pim_mutex_protocol_to(const struct pim_handle *h, uint16_t mutex, struct pim_protocol *to);
 
@@ -489,6 +499,12 @@ static inline struct pim_answer pim_set_protocol(struct pim_handle *h, uint16_t 
                                                  uint16_t ceiling) {
     struct pim_answer to;
     pim_set_protocol_to(h, mutex, kind, ceiling, &to);
+    return to;
+}
+
+static inline struct pim_answer pim_adopt(struct pim_handle *h, uint16_t task, uint16_t mutex) {
+    struct pim_answer to;
+    pim_adopt_to(h, task, mutex, &to);
     return to;
 }
 

@@ -38,6 +38,7 @@ static inline const char *pim_refusal_name(unsigned refusal) {
     case PIM_REFUSED_NOT_PROTECT: return "not-protect";
     case PIM_REFUSED_AGAIN: return "again";
     case PIM_REFUSED_NO_PROTOCOL: return "no-protocol";
+    case PIM_REFUSED_PROTECT: return "protect";
     default: return "?";
     }
 }

@@ -69,7 +69,7 @@ def sizes():
 def symbols(exports):
     """The archive of each CPU has the exports, and needs what the page names."""
     by_pointer = set(re.findall(r"^void (pim_\w+_to)\(", HEADER, re.M))
-    check("ten functions write a struct through a pointer", difference((len(by_pointer),), (10,)))
+    check("eleven functions write a struct through a pointer", difference((len(by_pointer),), (11,)))
     named = set(re.findall(r"`(\w+)`", re.search(r"^On ARM it calls (.*?)\.$", PAGE, re.M | re.S)[1]))
     for cpu in CPUS:
         done = subprocess.run(["nm", "-g", C / f"out/narrow/{cpu}/libpim.a"], capture_output=True, text=True)

@@ -10,8 +10,8 @@
 #include <string.h>
 
 enum call {
-    LOCK, TRY, UNLOCK, RELEASE_ALL, CANCEL, SET_BASE, SET_CEILING, SET_PROTOCOL, CHANGED, WAITERS, TASK_COUNT,
-    MUTEX_COUNT, NEXT_TICKET, EFFECTIVE_PRIO, BASE_PRIO, REASON, WAITS_FOR, OWNER, LOCK_COUNT, PROTOCOL, DROP
+    LOCK, TRY, UNLOCK, RELEASE_ALL, CANCEL, SET_BASE, SET_CEILING, SET_PROTOCOL, ADOPT, CHANGED, WAITERS,
+    TASK_COUNT, MUTEX_COUNT, NEXT_TICKET, EFFECTIVE_PRIO, BASE_PRIO, REASON, WAITS_FOR, OWNER, LOCK_COUNT, PROTOCOL, DROP
 };
 
 /* A call with its numbers, and what it returns. A struct is one number: its parts are 16 bits each. */
@@ -67,7 +67,8 @@ static uint64_t step(struct pim_handle *h, const uint16_t *n) {
     case CANCEL: return of_answer(pim_cancel(h, n[1], n[2]));
     case SET_BASE: return of_answer(pim_set_base(h, n[1], n[2], n[3]));
     case SET_CEILING: return of_answer(pim_set_ceiling(h, n[1], n[2], n[3]));
-    default: return of_answer(pim_set_protocol(h, n[1], n[2], n[3]));
+    case SET_PROTOCOL: return of_answer(pim_set_protocol(h, n[1], n[2], n[3]));
+    default: return of_answer(pim_adopt(h, n[1], n[2]));
     }
 }
 
@@ -94,7 +95,7 @@ static void play(struct pim_handle *h, const struct row *rows, size_t count) {
     for (size_t i = 0; i < count; i++) {
         const uint16_t *call = rows[i].call;
         if (call[0] == DROP) pim_drop(h);
-        else expect(rows[i].line, call[0] <= SET_PROTOCOL ? step(h, call) : getter(h, call), rows[i].wanted);
+        else expect(rows[i].line, call[0] <= ADOPT ? step(h, call) : getter(h, call), rows[i].wanted);
     }
 }
 
@@ -195,6 +196,25 @@ static void new_protocols(void) {
     dropped(&h);
 }
 
+/* Task 1 waits for mutex 4 of task 2, and owns mutex 1 all the while. Then task 3 comes to wait. */
+static void adopted(void) {
+    static const struct row rows[] = {
+        ROW(ANSWER(PIM_SET), SET_PROTOCOL, 4, PIM_INHERIT, 0),
+        ROW(ANSWER(PIM_GRANTED), LOCK, 2, 4), ROW(ANSWER(PIM_QUEUED), LOCK, 1, 4), ROW(0, CHANGED),
+        ROW(ANSWER(PIM_GRANTED), ADOPT, 1, 1), ROW(1, OWNER, 1), ROW(1, LOCK_COUNT, 1), ROW(10, EFFECTIVE_PRIO, 1),
+        ROW(ANSWER(PIM_GRANTED), ADOPT, 1, 3), ROW(1, LOCK_COUNT, 3), ROW(4, WAITS_FOR, 1),
+        ROW(ANSWER(PIM_QUEUED), LOCK, 3, 1), ROW(2, CHANGED), ROW(90, EFFECTIVE_PRIO, 1), ROW(90, EFFECTIVE_PRIO, 2),
+        ROW(REFUSED(NO_TASK), ADOPT, 0, 5), ROW(REFUSED(NO_TASK), ADOPT, 4, 1), ROW(REFUSED(NO_MUTEX), ADOPT, 1, 0),
+        ROW(REFUSED(NO_MUTEX), ADOPT, 1, 5), ROW(REFUSED(PROTECT), ADOPT, 1, 2), ROW(REFUSED(BUSY), ADOPT, 1, 1),
+        ROW(2, CHANGED), ROW(REFUSED(DEADLOCK), LOCK, 2, 1),
+        ROW(ABOUT(PIM_HANDED, 1), UNLOCK, 2, 4), ROW(ABOUT(PIM_HANDED, 3), UNLOCK, 1, 1), ROW(10, EFFECTIVE_PRIO, 1),
+        ROW(ANSWER(PIM_FREED), UNLOCK, 1, 3), ROW(ANSWER(PIM_GRANTED), ADOPT, 2, 3), ROW(0, CHANGED)
+    };
+    struct pim_handle h = made("a task adopts a free mutex, also while it waits");
+    PLAY(&h, rows);
+    dropped(&h);
+}
+
 /* ---- getters --------------------------------------------------------------------------------- */
 
 static void read_protocols(void) {
@@ -228,7 +248,7 @@ static void no_manager(void) {
     static const struct row rows[] = {
         ROW(0, LOCK, 1, 1), ROW(0, TRY, 1, 1), ROW(0, UNLOCK, 1, 1), ROW(0, RELEASE_ALL, 1), ROW(0, CANCEL, 1, 1),
         ROW(0, CANCEL, PIM_KERNEL, 1), ROW(0, SET_BASE, 1, 1, 20), ROW(0, SET_CEILING, 1, 2, 20), ROW(0, SET_PROTOCOL, 1, PIM_PROTECT, 60),
-        ROW(0, CHANGED), ROW(0, WAITERS, 1), ROW(0, TASK_COUNT), ROW(0, MUTEX_COUNT), ROW(0, NEXT_TICKET),
+        ROW(0, ADOPT, 1, 1), ROW(0, CHANGED), ROW(0, WAITERS, 1), ROW(0, TASK_COUNT), ROW(0, MUTEX_COUNT), ROW(0, NEXT_TICKET),
         ROW(0, EFFECTIVE_PRIO, 1), ROW(0, BASE_PRIO, 1), ROW(0, REASON, 1), ROW(65535, WAITS_FOR, 1),
         ROW(65535, OWNER, 1), ROW(65535, LOCK_COUNT, 1), ROW(KIND(65535, 0), PROTOCOL, 1), ROW(0, DROP)
     };
@@ -333,7 +353,7 @@ static void faults(void) {
 
 int main(void) {
     static void (*const cases[])(void) = {
-        each_answer, each_refusal, kernel_asks, new_protocols, read_protocols, unknown_numbers, no_manager,
+        each_answer, each_refusal, kernel_asks, new_protocols, adopted, read_protocols, unknown_numbers, no_manager,
         copied_waiters, copied_changes, faults
     };
     for (size_t i = 0; i < sizeof cases / sizeof *cases; i++) {

@@ -61,6 +61,7 @@ extern "C" {
     pub fn pim_set_base(h: &mut Handle, task: u16, target: u16, prio: u16) -> Answer;
     pub fn pim_set_ceiling(h: &mut Handle, task: u16, mutex: u16, ceiling: u16) -> Answer;
     pub fn pim_set_protocol(h: &mut Handle, mutex: u16, kind: u16, ceiling: u16) -> Answer;
+    pub fn pim_adopt(h: &mut Handle, task: u16, mutex: u16) -> Answer;
     pub fn pim_changed(h: &Handle, to: *mut ChangedTask, room: usize) -> usize;
     pub fn pim_task_count(h: &Handle) -> u16;
     pub fn pim_effective_prio(h: &Handle, task: u16) -> u16;

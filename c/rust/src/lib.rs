@@ -59,6 +59,7 @@ pub enum Refusal {
     NotProtect,
     Again,
     NoProtocol,
+    Protect,
     /// One of a later version of libpim.
     Other(u8),
 }
@@ -181,10 +182,13 @@ impl Manager {
         let answer = unsafe {
             c::pim_set_protocol(&mut self.handle, mutex, protocol.kind, protocol.ceiling)
         };
-        match Reply::of(answer) {
-            Reply::Refused(refusal) => Err(refusal),
-            _ => Ok(()),
-        }
+        Reply::of(answer).done()
+    }
+
+    /// Makes the task the owner of a free mutex that isn't a PROTECT one, even while the task waits. No priority
+    /// changes. It is no step.
+    pub fn adopt(&mut self, task: u16, mutex: u16) -> Result<(), Refusal> {
+        Reply::of(unsafe { c::pim_adopt(&mut self.handle, task, mutex) }).done()
     }
 
     /// Returns the tasks whose effective priority the last step changed, in ascending order.
@@ -297,6 +301,14 @@ impl Reply {
             other => Reply::Other(other),
         }
     }
+
+    // what a change that is no step is answered
+    fn done(self) -> Result<(), Refusal> {
+        match self {
+            Reply::Refused(refusal) => Err(refusal),
+            _ => Ok(()),
+        }
+    }
 }
 
 impl Refusal {
@@ -315,6 +327,7 @@ impl Refusal {
             11 => Refusal::NotProtect,
             12 => Refusal::Again,
             13 => Refusal::NoProtocol,
+            14 => Refusal::Protect,
             other => Refusal::Other(other),
         }
     }

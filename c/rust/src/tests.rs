@@ -116,7 +116,7 @@ fn each_variant_has_its_number() {
     use Refusal::*;
     let refusals = [
         NoTask, Waiting, NoMutex, Deadlock, Ceiling, Busy, NotOwner, NotWaiting, Priority, Tickets,
-        NotProtect, Again, NoProtocol,
+        NotProtect, Again, NoProtocol, Protect,
     ];
     assert_eq!(names_from("REFUSED_NO_TASK"), refusals.len());
     for refusal in refusals {
@@ -130,7 +130,7 @@ fn each_variant_has_its_number() {
         };
         assert_eq!(Reply::of(answer), Reply::Refused(refusal));
     }
-    assert_eq!(Refusal::of(14), Other(14));
+    assert_eq!(Refusal::of(15), Other(15));
 }
 
 #[test]
@@ -395,6 +395,27 @@ fn free_mutex_gets_another_protocol() {
         listed(&mut locks),
         [changed(2, 70, Reason::Ceiling { mutex: 1 })]
     );
+}
+
+#[test]
+fn waiting_task_adopts_a_free_mutex() {
+    let mut locks = four();
+    assert_eq!(locks.step(2, Op::Lock(1)), Reply::Granted);
+    assert_eq!(locks.step(1, Op::Lock(1)), Reply::Queued);
+    assert_eq!(locks.adopt(1, 2), Ok(()));
+    assert!(listed(&mut locks).is_empty());
+    assert_eq!((locks.owner(2), locks.count(2)), (Some(1), Some(1)));
+    assert_eq!(locks.step(4, Op::Lock(2)), Reply::Queued);
+    let waiter = |task, mutex| Reason::Waiter { task, mutex };
+    assert_eq!(
+        listed(&mut locks),
+        [changed(1, 40, waiter(4, 2)), changed(2, 40, waiter(1, 1))]
+    );
+    assert_eq!(locks.adopt(9, 5), Err(Refusal::NoTask));
+    assert_eq!(locks.adopt(1, 9), Err(Refusal::NoMutex));
+    assert_eq!(locks.adopt(1, 3), Err(Refusal::Protect));
+    assert_eq!(locks.adopt(1, 2), Err(Refusal::Busy));
+    assert_eq!(listed(&mut locks).len(), 2);
 }
 
 #[test]

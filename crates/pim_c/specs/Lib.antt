@@ -1,3 +1,4 @@
+pub mod Adopting
 pub mod Answers
 pub mod Changing
 pub mod Getters

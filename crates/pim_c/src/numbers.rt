@@ -3,8 +3,10 @@
 
 ghost use Rattle.std.specs.Prelude.{◌≡◌};
 ghost use Rattle.pim_base.specs.Reports.{refusal_number};
+ghost use Rattle.pim_c.specs.Adopting.{fault_number};
 
 use pim_base::Refusal;
+use pim_manager::AdoptFault;
 
 // ---- What stands for the kernel where a task asks
 
@@ -61,6 +63,9 @@ pub const REFUSED_AGAIN: u8 = 12;
 /// Only `pim_set_protocol` returns it.
 pub const REFUSED_NO_PROTOCOL: u8 = 13;
 
+/// Only `pim_adopt` returns it.
+pub const REFUSED_PROTECT: u8 = 14;
+
 // ---- Why a task has its effective priority
 
 pub const OF_NOTHING: u16 = 0;
@@ -104,5 +109,17 @@ pub fn number_of_refusal(refusal: Refusal) -> u8
         Refusal::Tickets => REFUSED_TICKETS,
         Refusal::NotProtect => REFUSED_NOT_PROTECT,
         Refusal::Again => REFUSED_AGAIN,
+    }
+}
+
+/// Returns the number of the refusal of `pim_adopt`.
+pub fn number_of_adopt_fault(fault: AdoptFault) -> u8
+    ensures { result ≡ fault_number fault }
+{
+    match fault {
+        AdoptFault::NoTask => REFUSED_NO_TASK,
+        AdoptFault::NoMutex => REFUSED_NO_MUTEX,
+        AdoptFault::Protect => REFUSED_PROTECT,
+        AdoptFault::Busy => REFUSED_BUSY,
     }
 }

@@ -135,26 +135,29 @@ ready_with v T tasks mutexes wait sound owners ready = record {
   room = λ k known. rw tasks (ready.room k (rw (← mutexes) known));
 }
 
-ready_bound :
+-- another owner, or none, which closes no cycle
+ready_owner :
     (v : View) (m : ℕ) (o : Option ℕ)
-    → ((t : ℕ) → o ≡ Some t → (IsTask v.state t) × (wait_of v.state t ≡ None))
+    → IsSound (with_owner v.state m o)
+    → ((t : ℕ) → o ≡ Some t → IsTask v.state t)
     → Ready v
     → Ready (with_state v (with_owner v.state m o))
-ready_bound v m o may ready =
-    ready_with v (with_owner v.state m o) refl refl refl (owner_sound v.state m o (λ t e. (may t e).1) ready.sound)
-    (λ k t e. elim (owner_from v.state m o k t e) [ inl now ↦ (may t now).0 | inr before ↦ ready.waits.owners k t before ]) ready
+ready_owner v m o sound known ready =
+    ready_with v (with_owner v.state m o) refl refl refl sound
+    (λ k t e. elim (owner_from v.state m o k t e) [ inl now ↦ known t now | inr before ↦ ready.waits.owners k t before ]) ready
 
--- a task that waits for nothing is the owner
+-- a known task is the owner, which closes no cycle
 pub ready_owned :
     (v : View) (m t : ℕ)
     → IsTask v.state t
-    → wait_of v.state t ≡ None
+    → (IsSound v.state → IsSound (with_owner v.state m (Some t)))
     → Ready v
     → Ready (with_state v (with_owner v.state m (Some t)))
-ready_owned v m t known idle = ready_bound v m (Some t) (λ y e. rw (sym (same_Some t y e)) (known, idle))
+ready_owned v m t known sound ready = ready_owner v m (Some t) (sound ready.sound) (λ y e. rw (sym (same_Some t y e)) known) ready
 
 pub ready_freed : (v : View) (m : ℕ) → Ready v → Ready (with_state v (with_owner v.state m None))
-ready_freed v m = ready_bound v m None (λ y e. absurd (none-some y e))
+ready_freed v m ready =
+    ready_owner v m None (owner_sound v.state m None (λ t e. absurd (none-some t e)) ready.sound) (λ t e. absurd (none-some t e)) ready
 
 pub ready_based : (v : View) (t p : ℕ) → Ready v → Ready (with_state v (with_base v.state t p))
 ready_based v t p ready =

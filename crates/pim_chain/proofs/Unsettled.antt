@@ -10,6 +10,8 @@ use Rattle.pim_base.proofs.Stored.{heir_in-owner, heir-blocker}
 use Rattle.pim_chain.specs.Settled.{SettledBut}
 use Rattle.pim_chain.proofs.Changes.{AtMost, DiffersAt, differs_settled, differs_owner, differs_wait, differs_base}
 use Rattle.pim_chain.proofs.Protocols.{differs_ceiling, differs_protocol}
+use Rattle.pim_chain.specs.Adopted.{IsUnawaited, is_protect}
+use Rattle.pim_chain.proofs.Adopted.{differs_adopted}
 
 -- nobody but this one
 module _ (S T : State) (stored : ℕ → ℕ) (settled : SettledBut S stored None) where
@@ -26,6 +28,16 @@ pub bound_unsettles :
     → SettledBut (with_owner S m (Some t)) stored (Some t)
 bound_unsettles S stored m t free settled =
     but S (with_owner S m (Some t)) stored settled (Some t) (λ x at. differs_owner S m (Some t) x (λ y e. cc) at)
+
+pub adopted_unsettles :
+    (S : State) (stored : ℕ → ℕ) (m t : ℕ)
+    → IsUnawaited S m
+    → owner_of S m ≡ None
+    → is_protect S m ≡ false
+    → SettledBut S stored None
+    → SettledBut (with_owner S m (Some t)) stored None
+adopted_unsettles S stored m t unawaited free plain settled =
+    but S (with_owner S m (Some t)) stored settled None (λ x _. differs_adopted S m t unawaited free plain x)
 
 pub unbound_unsettles :
     (S : State) (stored : ℕ → ℕ) (m : ℕ)

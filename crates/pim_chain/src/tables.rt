@@ -8,12 +8,14 @@ ghost use Rattle.pim_base.specs.Lists.{nth, first_item, put};
 ghost use Rattle.pim_base.specs.State.{IsTask, IsMutex, task_numbers, base_of, protocol_of, owner_of, count_of, first_count, owned, wait_of, is_recursive, with_owner, with_count, with_base, with_protocol, with_ceiling};
 ghost use Rattle.pim_base.specs.Chains.{blocker, heir_of, leads_back};
 ghost use Rattle.pim_base.specs.Checks.{not_protect};
+ghost use Rattle.pim_base.specs.Laws.{IsSound};
 ghost use Rattle.pim_base.specs.Priorities.{ceiling};
 ghost use Rattle.pim_base.specs.declared.steps.Wait.{Wait};
 ghost use Rattle.pim_queue.specs.QueueView.{QueueView};
 ghost use Rattle.pim_chain.specs.Views.{Ready, fresh, with_state, queue_at, stored_at, waiter_at};
 ghost use Rattle.pim_sets.specs.Work.{has_changed};
 ghost use Rattle.pim_sets.specs.Numbers.{members};
+ghost use Rattle.pim_chain.specs.Adopted.{IsUnawaited, is_protect};
 ghost use Rattle.pim_chain.specs.Settled.{Calm, Unsettles, joined, left};
 
 use crate::visits::Visits;
@@ -346,6 +348,34 @@ impl Tables {
         requires idle { wait_of self.old.state task ≡ None }
         ensures state { self.new ≡ with_state self.old (with_owner self.old.state mutex (Some task)) }
         ensures unsettles { Unsettles self.old self.new (Some task) }
+        ensures ready { Ready self.new }
+    {
+        self.put_owner(mutex, task);
+    }
+
+    /// Makes the task, which may wait, the owner of the mutex, which must be free, have no waiters and be no PROTECT
+    /// one. So it gives the task no priority, and no chain leads through it.
+    pub fn adopt(&mut self, mutex: MutexNo, task: TaskNo)
+        requires mutex { IsMutex self.old.state mutex }
+        requires free { owner_of self.old.state mutex ≡ None }
+        requires unawaited { IsUnawaited self.old.state mutex }
+        requires plain { is_protect self.old.state mutex ≡ false }
+        requires known { IsTask self.old.state task }
+        ensures state { self.new ≡ with_state self.old (with_owner self.old.state mutex (Some task)) }
+        ensures unsettles { Unsettles self.old self.new None }
+        ensures ready { Ready self.new }
+    {
+        self.put_owner(mutex, task);
+    }
+
+    // Makes the task the owner of the mutex, which must be free, where that closes no cycle of waits.
+    #[inline(always)]
+    fn put_owner(&mut self, mutex: MutexNo, task: TaskNo)
+        requires mutex { IsMutex self.old.state mutex }
+        requires free { owner_of self.old.state mutex ≡ None }
+        requires known { IsTask self.old.state task }
+        requires sound { IsSound self.old.state → IsSound (with_owner self.old.state mutex (Some task)) }
+        ensures state { self.new ≡ with_state self.old (with_owner self.old.state mutex (Some task)) }
         ensures ready { Ready self.new }
     {
         put(&mut self.owner, mutex.get(), Some(task));

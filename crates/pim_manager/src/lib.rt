@@ -21,6 +21,7 @@
 //! ```
 #![tactic(auto)]
 
+mod adopt_fault;
 mod changed_tasks;
 mod done;
 mod kernel_op;
@@ -31,6 +32,7 @@ mod shared_fault;
 mod steps;
 mod tracked_manager;
 
+pub use adopt_fault::AdoptFault;
 pub use changed_tasks::{ChangedTask, ChangedTasks};
 pub use done::Done;
 pub use kernel_op::KernelOp;

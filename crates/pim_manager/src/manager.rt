@@ -3,7 +3,7 @@
 
 ghost use Rattle.std.specs.Prelude.{◌≡◌, ◌≤◌, ◌<◌, ◌+◌, ◌*◌, ◌↔◌, length, AllPairs, IfOk, IfErr, IfSome, IsErrOf, IsTrue, Some, None, ℕ};
 ghost use Rattle.std.specs.Option.{option_map, option_copied};
-ghost use Rattle.pim_base.specs.State.{IsTask, start, base_of, protocol_of, owner_of, count_of, wait_of, with_protocol};
+ghost use Rattle.pim_base.specs.State.{IsTask, start, base_of, protocol_of, owner_of, count_of, wait_of, with_owner, with_protocol};
 ghost use Rattle.pim_base.specs.Chains.{HasCycle};
 ghost use Rattle.pim_base.specs.Queues.{Precedes, queue_of};
 ghost use Rattle.pim_base.specs.Priorities.{effective_priority};
@@ -13,11 +13,13 @@ ghost use Rattle.pim_base.specs.Counts.{changed_task_count, handed_mutex_count};
 ghost use Rattle.pim_base.specs.Steps.{reply_of, after};
 ghost use Rattle.pim_base.specs.declared.limits.TheConstants.{MAX_TASKS, MAX_MUTEXES};
 ghost use Rattle.pim_base.specs.declared.steps.Wait.{Wait};
+ghost use Rattle.pim_manager.specs.Adopting.{adopt_fault};
 ghost use Rattle.pim_manager.specs.Changed.{changed_task, noted_changes};
 ghost use Rattle.pim_manager.specs.Kernel.{kernel_reply, after_kernel, IsBystander, IsAnsweredAlike, IsForOwned};
 ghost use Rattle.pim_manager.specs.Known.{of_task, of_mutex};
 ghost use Rattle.pim_manager.specs.Protocols.{protocol_refusal};
 
+use crate::adopt_fault::AdoptFault;
 use crate::changed_tasks::ChangedTask;
 use crate::done::Done;
 use crate::kernel_op::KernelOp;
@@ -278,6 +280,42 @@ impl Manager {
             return Err(Refusal::Busy);
         }
         self.tables.put_protocol(mutex, protocol);
+        Ok(())
+    }
+
+    /// Makes the task the owner of a free NONE or INHERIT mutex, with the count 1, even while the task waits: as where
+    /// it has owned the mutex since before the manager had to know of it. Nothing else changes: no effective priority
+    /// does, and no queue. It is no step: a trace has no line for it.
+    ///
+    /// It takes constant time, and never allocates.
+    ///
+    /// # Errors
+    ///
+    /// Returns `NoTask` or `NoMutex` if the task or the mutex is unknown, `Protect` if the mutex has a ceiling, and `Busy`
+    /// if a task owns it, in this order. Nothing changes then.
+    pub fn adopt(&mut self, task: TaskNo, mutex: MutexNo) -> Result<(), AdoptFault>
+        ensures adopted { IfOk result (λ _. (adopt_fault self.old task mutex ≡ None) × (self.new ≡ with_owner self.old mutex (Some task))) }
+        ensures refused { IfErr result (λ fault. (adopt_fault self.old task mutex ≡ Some fault) × (self.new ≡ self.old)) }
+        ensures priorities { (t : ℕ) → effective_priority self.new t ≡ effective_priority self.old t }
+        ensures queues { (m : ℕ) → queue_of self.new m ≡ queue_of self.old m }
+        ensures no_cycle { ¬ HasCycle self.new }
+    {
+        // The contract of this call gives the proof that there is no cycle of waits.
+        let _steady = self.tasks();
+        if self.tables.is_unknown_task(task) {
+            return Err(AdoptFault::NoTask);
+        }
+        if self.tables.is_unknown_mutex(mutex) {
+            return Err(AdoptFault::NoMutex);
+        }
+        if self.tables.known_protocol(mutex).ceiling().is_some() {
+            return Err(AdoptFault::Protect);
+        }
+        let owner = self.tables.known_owner(mutex);
+        if owner.is_some() {
+            return Err(AdoptFault::Busy);
+        }
+        self.tables.adopt(mutex, task);
         Ok(())
     }
 

@@ -8,16 +8,18 @@ ghost use Rattle.pim_base.specs.Reports.{changed_tasks};
 ghost use Rattle.pim_base.specs.State.{start, with_protocol};
 ghost use Rattle.pim_base.specs.Steps.{reply_of, after};
 ghost use Rattle.pim_base.specs.declared.limits.TheConstants.{MAX_MUTEXES, MAX_TASKS};
+ghost use Rattle.pim_manager.specs.Adopting.{adopt_fault, with_adopted};
 ghost use Rattle.pim_manager.specs.Changed.{listed, stepped};
 ghost use Rattle.pim_manager.specs.Kernel.{kernel_reply, after_kernel, kernel_stepped};
 ghost use Rattle.pim_manager.specs.Protocols.{protocol_refusal};
 
+use crate::adopt_fault::AdoptFault;
 use crate::changed_tasks::ChangedTasks;
 use crate::done::Done;
 use crate::kernel_op::KernelOp;
 use crate::make_fault::MakeFault;
 use crate::manager::Manager;
-use pim_base::{MutexNo, Prio, Protocol, Refusal, Step};
+use pim_base::{MutexNo, Prio, Protocol, Refusal, Step, TaskNo};
 use pim_chain::Visits;
 use std::alloc::Global;
 use std::marker::Model;
@@ -138,7 +140,8 @@ impl TrackedManager {
     }
 
     /// Returns the tasks whose effective priority the last step changed, in ascending order, each as it is after the
-    /// step. There are none before the first step, after a refused one, and once `set_protocol` has set a protocol.
+    /// step. There are none before the first step, after a refused one, and once `set_protocol` or `adopt` has changed
+    /// something.
     pub fn changed(&self) -> ChangedTasks<'_>
         ensures changed { result ≡ self.now.changed }
         ensures few { length result ≤ MAX_TASKS }
@@ -160,6 +163,20 @@ impl TrackedManager {
         ensures priorities { (task : ℕ) → effective_priority self.new.state task ≡ effective_priority self.old.state task }
     {
         self.manager.set_protocol(mutex, protocol)?;
+        self.visits.restart();
+        Ok(())
+    }
+    /// Makes the task the owner of a free mutex as [`Manager::adopt`] does. No task is listed as changed then.
+    ///
+    /// # Errors
+    ///
+    /// Returns the errors of `Manager::adopt`. Nothing changes then, and the same tasks are listed.
+    pub fn adopt(&mut self, task: TaskNo, mutex: MutexNo) -> Result<(), AdoptFault>
+        ensures adopted { IfOk result (λ _. (adopt_fault self.old.state task mutex ≡ None) × (self.new ≡ with_adopted self.old task mutex)) }
+        ensures refused { IfErr result (λ fault. (adopt_fault self.old.state task mutex ≡ Some fault) × (self.new ≡ self.old)) }
+        ensures priorities { (t : ℕ) → effective_priority self.new.state t ≡ effective_priority self.old.state t }
+    {
+        self.manager.adopt(task, mutex)?;
         self.visits.restart();
         Ok(())
     }

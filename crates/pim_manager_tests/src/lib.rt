@@ -8,6 +8,8 @@
 #![tactic(auto)]
 
 #[cfg(test)]
+mod adopting;
+#[cfg(test)]
 mod base;
 #[cfg(test)]
 mod chain;

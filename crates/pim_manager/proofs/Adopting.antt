@@ -1,0 +1,24 @@
+-- What a free mutex that a task adopts leaves steady.
+use Rattle.std.proofs.Common.{◌≡◌, ℕ, is_some, Some, None, sym, ◌∙◌, ap}
+use Rattle.pim_base.specs.State.{State, owner_of, with_owner, with_wait}
+use Rattle.pim_base.specs.Steady.{WaitsAreForOwned, IsSteady}
+use Rattle.pim_base.proofs.NoCycle.{idle_now}
+use Rattle.pim_base.proofs.Steady.{steady_kept}
+use Rattle.pim_chain.specs.Adopted.{IsUnawaited}
+use Rattle.pim_chain.proofs.Adopted.{awaited-same, adopted_sound}
+
+-- nobody waits for a free mutex
+pub free_unawaited : (S : State) (m : ℕ) → owner_of S m ≡ None → WaitsAreForOwned S → IsUnawaited S m
+free_unawaited S m free ok x w e same =
+    let some = sym (ok x w e) ∙ ap is_some (ap (owner_of S) same ∙ free) in cc
+
+pub steady_adopted : (S : State) (m t : ℕ) → owner_of S m ≡ None → IsSteady S → IsSteady (with_owner S m (Some t))
+steady_adopted S m t free ok =
+    let none = free_unawaited S m free ok.owned in
+    record {
+      sound = adopted_sound S m t none ok.sound;
+      tickets = record { given = ok.tickets.given; own = ok.tickets.own };
+      owned = λ x w e. ap is_some (awaited-same S m t none x w e) ∙ ok.owned x w e;
+      -- whether t waits is no matter of the counts
+      counts = (steady_kept.grant (with_wait S t None) t m (steady_kept.withdraw S t ok) (idle_now S t)).counts;
+    }
