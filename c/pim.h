@@ -45,7 +45,7 @@
  *
  *   1. It wakes each task that was handed a mutex or was withdrawn: PIM_HANDED, PIM_RELEASED,
  *      PIM_WITHDRAWN.
- *   2. It gives each task of pim_changed its new priority, except the task that made the step.
+ *   2. It gives each task of pim_changed_prios its new priority, except the task that made the step.
  *   3. It gives the task that made the step its own new priority.
  *   4. It blocks the task that made the step, if the answer is PIM_QUEUED.
  *
@@ -107,6 +107,7 @@
  *   pim_set_protocol      64   a few stores
  *   pim_adopt             64   a few stores
  *   pim_changed          384   the mutexes of each task that is listed
+ *   pim_changed_prios    256   what it copies
  *   pim_waiters          256   what it copies
  *   pim_task_reason      256   the mutexes that the task owns
  *   pim_effective_prio    64   a few loads
@@ -285,7 +286,8 @@ struct pim_answer {
     uint8_t kind;    /* PIM_NO_MANAGER .. PIM_KEPT */
     uint8_t refusal; /* PIM_REFUSED_NO_TASK .. PIM_REFUSED_PROTECT, or 0 */
     uint16_t number; /* the task that was handed the mutex, or how many mutexes were released, or 0 */
-    uint32_t visits; /* how many priorities the step computed */
+    uint16_t visits; /* how many priorities the step computed */
+    uint16_t changed; /* how many tasks have another effective priority then: 0 where `visits` is 0 */
 };
 
 struct pim_reason {
@@ -306,6 +308,12 @@ struct pim_changed_task {
     uint16_t task;
     uint16_t prio; /* its effective priority after the step */
     struct pim_reason reason;
+};
+
+/* The same without the reason. */
+struct pim_changed_prio {
+    uint16_t task;
+    uint16_t prio; /* its effective priority after the step */
 };
 
 /* Returns the PIM_VERSION_NUMBER of the library: libpim.so may be another version than this file. */
@@ -384,9 +392,13 @@ struct pim_answer pim_adopt(struct pim_handle *h, uint16_t task, uint16_t mutex)
 /* Copies the tasks whose effective priority the last step changed, in ascending order, at most
  * `room` of them, and returns how many there are. They are the tasks that a scheduler has to queue
  * anew: all of them, and no others. None where no step was made yet, where the last one was refused,
- * and where pim_set_protocol was answered PIM_SET since, or pim_adopt PIM_GRANTED. Where the answer's
- * `visits` is 0 there is none. */
+ * and where pim_set_protocol was answered PIM_SET since, or pim_adopt PIM_GRANTED. The answer's
+ * `changed` is how many there are: 0 where `visits` is 0. */
 uint64_t pim_changed(const struct pim_handle *h, struct pim_changed_task *to, uint64_t room);
+
+/* Copies the tasks of pim_changed, in the same order, without the reasons, at most `room` of them, and
+ * returns how many there are. It reads no mutex. */
+uint64_t pim_changed_prios(const struct pim_handle *h, struct pim_changed_prio *to, uint64_t room);
 
 /* ---- what stands ----------------------------------------------------------------------------- */
 
@@ -536,10 +548,11 @@ PIM_ASSERT(sizeof(size_t) == 8 && sizeof(void *) == 8, "libpim is built for 64 b
 #endif
 PIM_ASSERT(sizeof(struct pim_handle) == 8, "struct pim_handle");
 PIM_ASSERT(sizeof(struct pim_protocol) == 4, "struct pim_protocol");
-PIM_ASSERT(sizeof(struct pim_answer) == 8 && offsetof(struct pim_answer, visits) == 4, "struct pim_answer");
+PIM_ASSERT(sizeof(struct pim_answer) == 8 && offsetof(struct pim_answer, changed) == 6, "struct pim_answer");
 PIM_ASSERT(sizeof(struct pim_reason) == 6, "struct pim_reason");
 PIM_ASSERT(sizeof(struct pim_waiter) == 16 && offsetof(struct pim_waiter, ticket) == 8, "struct pim_waiter");
 PIM_ASSERT(sizeof(struct pim_changed_task) == 10 && offsetof(struct pim_changed_task, reason) == 4, "struct pim_changed_task");
+PIM_ASSERT(sizeof(struct pim_changed_prio) == 4, "struct pim_changed_prio");
 #undef PIM_ASSERT
 
 #ifdef __cplusplus

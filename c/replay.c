@@ -107,9 +107,18 @@ static void print_answer(char *to, size_t room, struct pim_answer answer) {
         snprintf(to, room, "%s", pim_answer_name(answer.kind));
 }
 
+/* The tasks without their reasons are the same. */
+static void check_prios(const struct pim_changed_task *changed, size_t count) {
+    static struct pim_changed_prio prios[PIM_MAX_TASKS];
+    must(pim_changed_prios(&locks, prios, PIM_MAX_TASKS) == count, "as many changed priorities as tasks");
+    for (size_t i = 0; i < count; i++)
+        must(prios[i].task == changed[i].task && prios[i].prio == changed[i].prio, "the same changed priorities");
+}
+
 static void print_changes(void) {
     static struct pim_changed_task changed[PIM_MAX_TASKS];
     size_t count = pim_changed(&locks, changed, PIM_MAX_TASKS);
+    check_prios(changed, count);
     for (size_t i = 0; i < count; i++) {
         struct pim_reason why = changed[i].reason;
         listed[changed[i].task] = changed[i].prio;

@@ -10,7 +10,7 @@
 #include <string.h>
 
 enum call {
-    LOCK, TRY, UNLOCK, RELEASE_ALL, CANCEL, SET_BASE, SET_CEILING, SET_PROTOCOL, ADOPT, CHANGED, WAITERS,
+    LOCK, TRY, UNLOCK, RELEASE_ALL, CANCEL, SET_BASE, SET_CEILING, SET_PROTOCOL, ADOPT, CHANGED, PRIOS, WAITERS,
     TASK_COUNT, MUTEX_COUNT, NEXT_TICKET, EFFECTIVE_PRIO, BASE_PRIO, REASON, WAITS_FOR, OWNER, LOCK_COUNT, PROTOCOL, DROP
 };
 
@@ -74,9 +74,11 @@ static uint64_t step(struct pim_handle *h, const uint16_t *n) {
 
 static uint64_t getter(const struct pim_handle *h, const uint16_t *n) {
     static struct pim_changed_task changed[ROOM];
+    static struct pim_changed_prio prios[ROOM];
     static struct pim_waiter waiters[ROOM];
     switch (n[0]) {
     case CHANGED: return pim_changed(h, changed, ROOM);
+    case PRIOS: return pim_changed_prios(h, prios, ROOM);
     case WAITERS: return pim_waiters(h, n[1], waiters, ROOM);
     case TASK_COUNT: return pim_task_count(h);
     case MUTEX_COUNT: return pim_mutex_count(h);
@@ -119,7 +121,7 @@ static void each_answer(void) {
     static const struct row rows[] = {
         ROW(1, NEXT_TICKET), ROW(0, CHANGED),
         ROW(ANSWER(PIM_GRANTED), LOCK, 1, 1), ROW(0, CHANGED),
-        ROW(ANSWER(PIM_QUEUED), LOCK, 3, 1), ROW(1, CHANGED),
+        ROW(ANSWER(PIM_QUEUED), LOCK, 3, 1), ROW(1, CHANGED), ROW(1, PRIOS),
         ROW(2, NEXT_TICKET), ROW(90, EFFECTIVE_PRIO, 1), ROW(10, BASE_PRIO, 1),
         ROW(REFUSED(WAITING), LOCK, 3, 4), ROW(0, CHANGED),
         ROW(ABOUT(PIM_HANDED, 3), UNLOCK, 1, 1), ROW(10, EFFECTIVE_PRIO, 1),
@@ -186,7 +188,7 @@ static void new_protocols(void) {
         ROW(REFUSED(NO_PROTOCOL), SET_PROTOCOL, 1, 4, 10), ROW(REFUSED(NO_PROTOCOL), SET_PROTOCOL, 1, PIM_PROTECT, 0),
         ROW(REFUSED(NO_PROTOCOL), SET_PROTOCOL, 1, PIM_PROTECT, 100), ROW(KIND(PIM_INHERIT, 0), PROTOCOL, 1),
         ROW(1, CHANGED),
-        ROW(ANSWER(PIM_SET), SET_PROTOCOL, 1, PIM_INHERIT_RECURSIVE, 7), ROW(0, CHANGED),
+        ROW(ANSWER(PIM_SET), SET_PROTOCOL, 1, PIM_INHERIT_RECURSIVE, 7), ROW(0, CHANGED), ROW(0, PRIOS),
         ROW(KIND(PIM_INHERIT_RECURSIVE, 0), PROTOCOL, 1), ROW(60, EFFECTIVE_PRIO, 1),
         ROW(ANSWER(PIM_SET), SET_PROTOCOL, 4, PIM_PROTECT, 99), ROW(KIND(PIM_PROTECT, 99), PROTOCOL, 4),
         ROW(ANSWER(PIM_GRANTED), LOCK, 2, 1), ROW(ANSWER(PIM_GRANTED), LOCK, 2, 1), ROW(2, LOCK_COUNT, 1)
@@ -248,7 +250,8 @@ static void no_manager(void) {
     static const struct row rows[] = {
         ROW(0, LOCK, 1, 1), ROW(0, TRY, 1, 1), ROW(0, UNLOCK, 1, 1), ROW(0, RELEASE_ALL, 1), ROW(0, CANCEL, 1, 1),
         ROW(0, CANCEL, PIM_KERNEL, 1), ROW(0, SET_BASE, 1, 1, 20), ROW(0, SET_CEILING, 1, 2, 20), ROW(0, SET_PROTOCOL, 1, PIM_PROTECT, 60),
-        ROW(0, ADOPT, 1, 1), ROW(0, CHANGED), ROW(0, WAITERS, 1), ROW(0, TASK_COUNT), ROW(0, MUTEX_COUNT), ROW(0, NEXT_TICKET),
+        ROW(0, ADOPT, 1, 1), ROW(0, CHANGED), ROW(0, PRIOS), ROW(0, WAITERS, 1), ROW(0, TASK_COUNT), ROW(0, MUTEX_COUNT),
+        ROW(0, NEXT_TICKET),
         ROW(0, EFFECTIVE_PRIO, 1), ROW(0, BASE_PRIO, 1), ROW(0, REASON, 1), ROW(65535, WAITS_FOR, 1),
         ROW(65535, OWNER, 1), ROW(65535, LOCK_COUNT, 1), ROW(KIND(65535, 0), PROTOCOL, 1), ROW(0, DROP)
     };
@@ -313,6 +316,27 @@ static void copied_changes(void) {
     dropped(&h);
 }
 
+/* The same tasks without their reasons; and each answer has their number. */
+static void copied_prios(void) {
+    struct pim_handle h = made("changed priorities are copied as far as there is room");
+    IS(pim_lock(&h, 1, 1).changed, 0);
+    IS(pim_lock(&h, 2, 3).changed, 0);
+    IS(pim_lock(&h, 2, 1).changed, 1);
+    IS(pim_lock(&h, 3, 3).changed, 2);
+    for (size_t room = 0; room <= ROOM; room++) {
+        struct pim_changed_prio got[ROOM];
+        memset(got, 0xAA, sizeof got);
+        IS(pim_changed_prios(&h, got, room), 2);
+        size_t copied = room < 2 ? room : 2;
+        for (size_t i = 0; i < copied; i++) {
+            IS(got[i].task, i + 1);
+            IS(got[i].prio, 90);
+        }
+        see_untouched(__LINE__, got, sizeof *got, copied);
+    }
+    dropped(&h);
+}
+
 /* ---- pim_make -------------------------------------------------------------------------------- */
 
 struct making {
@@ -354,7 +378,7 @@ static void faults(void) {
 int main(void) {
     static void (*const cases[])(void) = {
         each_answer, each_refusal, kernel_asks, new_protocols, adopted, read_protocols, unknown_numbers, no_manager,
-        copied_waiters, copied_changes, faults
+        copied_waiters, copied_changes, copied_prios, faults
     };
     for (size_t i = 0; i < sizeof cases / sizeof *cases; i++) {
         int before = wrongs;

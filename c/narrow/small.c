@@ -29,11 +29,13 @@ void __aeabi_memclr8(void *to, size_t n) { __aeabi_memclr(to, n); }
 /* Task t owns mutex t, and waits for mutex t - 1. So all execute at the priority of the last one. */
 static int chain(struct pim_handle *locks) {
     static struct pim_changed_task changed[TASKS];
+    static struct pim_changed_prio prios[TASKS];
     for (uint16_t t = 1; t <= TASKS; t++) {
         if (pim_lock(locks, t, t).kind != PIM_GRANTED) return 2;
         if (t > 1 && pim_lock(locks, t, t - 1).kind != PIM_QUEUED) return 3;
     }
     if (pim_changed(locks, changed, TASKS) != TASKS - 1) return 4;
+    if (pim_changed_prios(locks, prios, TASKS) != TASKS - 1 || prios[TASKS - 2].prio != 10 + TASKS) return 4;
     for (uint16_t t = 1; t < TASKS; t++)
         if (changed[t - 1].task != t || changed[t - 1].prio != 10 + TASKS) return 5;
     if (pim_lock(locks, 1, TASKS).refusal != PIM_REFUSED_DEADLOCK) return 6;

@@ -25,7 +25,8 @@ pub struct Answer {
     pub kind: u8,
     pub refusal: u8,
     pub number: u16,
-    pub visits: u32,
+    pub visits: u16,
+    pub changed: u16,
 }
 
 #[repr(C)]
@@ -42,6 +43,13 @@ pub struct ChangedTask {
     pub task: u16,
     pub prio: u16,
     pub reason: Reason,
+}
+
+#[repr(C)]
+#[derive(Clone, Copy, Default)]
+pub struct ChangedPrio {
+    pub task: u16,
+    pub prio: u16,
 }
 
 extern "C" {
@@ -63,6 +71,7 @@ extern "C" {
     pub fn pim_set_protocol(h: &mut Handle, mutex: u16, kind: u16, ceiling: u16) -> Answer;
     pub fn pim_adopt(h: &mut Handle, task: u16, mutex: u16) -> Answer;
     pub fn pim_changed(h: &Handle, to: *mut ChangedTask, room: usize) -> usize;
+    pub fn pim_changed_prios(h: &Handle, to: *mut ChangedPrio, room: usize) -> usize;
     pub fn pim_task_count(h: &Handle) -> u16;
     pub fn pim_effective_prio(h: &Handle, task: u16) -> u16;
     pub fn pim_owner(h: &Handle, mutex: u16) -> u16;

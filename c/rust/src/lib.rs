@@ -126,10 +126,18 @@ pub struct ChangedTask {
     pub reason: Reason,
 }
 
+/// A task whose effective priority a step changed, with its priority after the step.
+#[derive(Clone, Copy, Debug, PartialEq, Eq)]
+pub struct ChangedPrio {
+    pub task: u16,
+    pub prio: u16,
+}
+
 /// A manager of tasks and mutexes.
 pub struct Manager {
     handle: c::Handle,
     changed: Vec<c::ChangedTask>,
+    prios: Vec<c::ChangedPrio>,
 }
 
 // Nothing behind the handle belongs to a thread, and no other handle leads there.
@@ -155,6 +163,7 @@ impl Manager {
             None => Ok(Manager {
                 handle,
                 changed: vec![c::ChangedTask::default(); bases.len()],
+                prios: vec![c::ChangedPrio::default(); bases.len()],
             }),
             Some(fault) => Err(fault),
         }
@@ -199,6 +208,16 @@ impl Manager {
             task: one.task,
             prio: one.prio,
             reason: Reason::of(one.reason),
+        })
+    }
+
+    /// Returns the tasks of `changed`, in the same order, without the reasons.
+    pub fn changed_prios(&mut self) -> impl Iterator<Item = ChangedPrio> + '_ {
+        let room = self.prios.len();
+        let count = unsafe { c::pim_changed_prios(&self.handle, self.prios.as_mut_ptr(), room) };
+        self.prios[..count].iter().map(|one| ChangedPrio {
+            task: one.task,
+            prio: one.prio,
         })
     }
 

@@ -127,6 +127,7 @@ fn each_variant_has_its_number() {
             refusal: number,
             number: 0,
             visits: 0,
+            changed: 0,
         };
         assert_eq!(Reply::of(answer), Reply::Refused(refusal));
     }
@@ -154,6 +155,7 @@ fn each_reply_has_its_number() {
             refusal: 2,
             number: 7,
             visits: 9,
+            changed: 0,
         };
         assert_eq!(Reply::of(answer), reply);
     }
@@ -162,6 +164,7 @@ fn each_reply_has_its_number() {
         refusal: 0,
         number: 0,
         visits: 0,
+        changed: 0,
     };
     assert_eq!(Reply::of(later), Other(10));
 }
@@ -226,8 +229,10 @@ fn each_struct_has_the_layout_of_the_header() {
         refusal: 0,
         number: 0,
         visits: 0,
+        changed: 0,
     };
     let one = c::ChangedTask::default();
+    let prio = c::ChangedPrio::default();
     let why = &one.reason;
     assert_eq!(size_of::<c::Handle>(), 8);
     assert_eq!(
@@ -250,6 +255,11 @@ fn each_struct_has_the_layout_of_the_header() {
     );
     assert_eq!((size_of::<c::ChangedTask>(), offset(&one, why)), (10, 4));
     assert_eq!((offset(&one, &one.task), offset(&one, &one.prio)), (0, 2));
+    assert_eq!(
+        (size_of::<c::ChangedPrio>(), offset(&prio, &prio.prio)),
+        (4, 2)
+    );
+    assert_eq!(offset(&answer, &answer.changed), 6);
     assert_eq!(size_of::<c::Reason>(), 6);
     assert_eq!(
         (

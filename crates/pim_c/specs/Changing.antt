@@ -20,7 +20,7 @@ c_protocol_refusal S m p =
 
 -- the answer with this refusal, or 0
 abbrev pub set_or_refused : ℕ → CAnswer
-set_or_refused r = record { kind = if r == 0 then SET else REFUSED; refusal = r; number = 0; visits = 0 }
+set_or_refused r = record { kind = if r == 0 then SET else REFUSED; refusal = r; number = 0; visits = 0; changed = 0 }
 
 -- the answer, also of a handle without a manager
 abbrev pub protocol_answer : Option TrackedState → ℕ → CProtocol → CAnswer

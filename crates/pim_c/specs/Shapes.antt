@@ -1,10 +1,12 @@
 -- The values of the structs that cross to C.
 use Rattle.pim_base.specs.declared.steps.Reason.{Reason}
 use Rattle.pim_base.specs.declared.steps.Waiter.{Waiter}
+use Rattle.pim_manager.specs.declared.changed_prios.ChangedPrio.{ChangedPrio}
 use Rattle.pim_manager.specs.declared.changed_tasks.ChangedTask.{ChangedTask}
 use Rattle.pim_c.specs.declared.numbers.TheConstants.{OF_NOTHING, OF_BASE, OF_CEILING, OF_WAITER}
 use Rattle.pim_c.specs.declared.reason.CReason.{CReason}
 use Rattle.pim_c.specs.declared.waiter.CWaiter.{CWaiter}
+use Rattle.pim_c.specs.declared.changed_prio.CChangedPrio.{CChangedPrio}
 use Rattle.pim_c.specs.declared.changed_task.CChangedTask.{CChangedTask}
 
 -- the reason, with 0 for what it doesn't name
@@ -22,3 +24,6 @@ c_waiter w = record { task = w.task; prio = w.prio; ticket = w.ticket }
 
 abbrev pub c_changed_task : ChangedTask → CChangedTask
 c_changed_task c = record { task = c.task; prio = c.prio; reason = c_reason c.reason }
+
+abbrev pub c_changed_prio : ChangedPrio → CChangedPrio
+c_changed_prio c = record { task = c.task; prio = c.prio }

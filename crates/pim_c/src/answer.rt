@@ -22,7 +22,9 @@ pub struct CAnswer {
     /// The task that the mutex was handed to, or how many mutexes were released, or 0.
     pub number: u16,
     /// How many visits the step made: each computes one task's priority.
-    pub visits: u32,
+    pub visits: u16,
+    /// How many tasks have another effective priority then.
+    pub changed: u16,
 }
 
 impl CAnswer {
@@ -35,24 +37,26 @@ impl CAnswer {
             refusal: 0,
             number: 0,
             visits: 0,
+            changed: 0,
         }
     }
 
     /// Returns the answer of a call that is refused with this number.
     pub fn refused(refusal: u8) -> CAnswer
-        ensures { result ≡ record { kind = REFUSED; refusal = refusal; number = 0; visits = 0 } }
+        ensures { result ≡ record { kind = REFUSED; refusal = refusal; number = 0; visits = 0; changed = 0 } }
     {
         CAnswer {
             kind: REFUSED,
             refusal,
             number: 0,
             visits: 0,
+            changed: 0,
         }
     }
 
-    /// Returns this reply to a step with this number of visits.
-    pub fn of(reply: Reply, visits: u32) -> CAnswer
-        ensures { result ≡ record { kind = reply_number reply; refusal = reply_refusal reply; number = reply_detail reply; visits = visits } }
+    /// Returns this reply to a step that made this number of visits and changed this number of tasks.
+    pub fn of(reply: Reply, visits: u16, changed: u16) -> CAnswer
+        ensures { result ≡ record { kind = reply_number reply; refusal = reply_refusal reply; number = reply_detail reply; visits = visits; changed = changed } }
     {
         let (kind, refusal, number) = match reply {
             Reply::Granted => (GRANTED, 0, 0),
@@ -70,6 +74,7 @@ impl CAnswer {
             refusal,
             number,
             visits,
+            changed,
         }
     }
 }

@@ -10,12 +10,13 @@
 //! pim_make(&locks, bases, 3, protocols, 1); // PIM_MADE
 //! pim_lock(&locks, 1, 1); // PIM_GRANTED
 //! pim_lock(&locks, 3, 1); // PIM_QUEUED
-//! pim_changed(&locks, changed, 3); // 1: task 1 now executes at the priority of task 3
+//! pim_changed_prios(&locks, changed, 3); // 1: task 1 now executes at the priority of task 3
 //! pim_drop(&locks);
 //! ```
 #![tactic(auto)]
 
 mod answer;
+mod changed_prio;
 mod changed_task;
 mod changing;
 mod getters;

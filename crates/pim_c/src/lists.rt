@@ -2,9 +2,11 @@
 
 ghost use Rattle.std.specs.Prelude.{◌≡◌, length, map};
 ghost use Rattle.pim_ffi.specs.Copied.{copied};
-ghost use Rattle.pim_c.specs.Shapes.{c_changed_task, c_waiter};
-ghost use Rattle.pim_c.specs.Lists.{changed_in, waiters_in};
+ghost use Rattle.pim_c.specs.Shapes.{c_changed_prio, c_changed_task, c_waiter};
+ghost use Rattle.pim_c.specs.Lists.{changed_in, prios_in, waiters_in};
+ghost use Rattle.pim_manager.specs.Changed.{changed_prio};
 
+use crate::changed_prio::CChangedPrio;
 use crate::changed_task::CChangedTask;
 use crate::handle::Handle;
 use crate::waiter::CWaiter;
@@ -42,6 +44,20 @@ pub extern "C" fn pim_changed(handle: &mut Handle, to: &mut [CChangedTask]) -> u
     }
 }
 
+/// Copies the tasks that `pim_changed` does, with their priorities and without the reasons, as many as there is room for.
+/// Returns how many there are, 0 without a manager.
+#[unsafe(no_mangle)]
+pub extern "C" fn pim_changed_prios(handle: &mut Handle, to: &mut [CChangedPrio]) -> usize
+    ensures count { result ≡ length (prios_in handle.old.held) }
+    ensures copied { to.new ≡ copied (map c_changed_prio (prios_in handle.old.held)) to.old }
+    ensures same { handle.new.held ≡ handle.old.held }
+{
+    match handle.get_mut() {
+        None => 0,
+        Some(held) => copy_prios(held, to),
+    }
+}
+
 /// Copies the waiters, as many as there is room for. Returns how many there are.
 fn copy_waiters(from: &[Waiter], to: &mut [CWaiter]) -> usize
     ensures count { result ≡ length from.now }
@@ -63,6 +79,22 @@ fn copy_changed(held: &TrackedManager, to: &mut [CChangedTask]) -> usize
     for changed in held.changed() {
         if count < to.len() {
             to[count] = CChangedTask::of(changed);
+        }
+        count += 1;
+    }
+    count
+}
+
+/// Copies the tasks whose effective priority the manager's last step changed, with their priorities, as many as there is
+/// room for. Returns how many there are.
+fn copy_prios(held: &TrackedManager, to: &mut [CChangedPrio]) -> usize
+    ensures count { result ≡ length (map changed_prio held.now.changed) }
+    ensures copied { to.new ≡ copied (map c_changed_prio (map changed_prio held.now.changed)) to.old }
+{
+    let mut count = 0;
+    for changed in held.changed_prios() {
+        if count < to.len() {
+            to[count] = CChangedPrio::of(changed);
         }
         count += 1;
     }

@@ -2,7 +2,8 @@
 
 ghost use Rattle.std.specs.Prelude.{◌≡◌, ◌≤◌, ◌+◌, ◌*◌};
 ghost use Rattle.pim_base.specs.Counts.{changed_task_count, handed_mutex_count};
-ghost use Rattle.pim_c.specs.Answers.{IsAnswered, after_step};
+ghost use Rattle.pim_base.specs.declared.limits.TheConstants.{MAX_TASKS, MAX_MUTEXES};
+ghost use Rattle.pim_c.specs.Answers.{IsAnswer, IsAnswered, after_step};
 ghost use Rattle.pim_c.specs.Kernel.{kernel_op, c_reply, c_after, c_stepped};
 
 use crate::answer::CAnswer;
@@ -104,9 +105,20 @@ fn make_step(alloc: Global, handle: &mut Handle, task: u16, op: Op) -> CAnswer
         return CAnswer::none();
     };
     let actor = TaskNo(task);
-    let Done { reply, visits } = step_of(&mut held, Step { actor, op });
+    let answer = answer_step(&mut held, Step { actor, op });
     handle.put(held);
-    CAnswer::of(reply, visits)
+    answer
+}
+
+/// Makes the step.
+#[inline(always)]
+fn answer_step(held: &mut TrackedManager, step: Step) -> CAnswer
+    ensures answer { IsAnswer held.old.state step result }
+    ensures state { held.new ≡ c_stepped held.old step }
+{
+    let Done { reply, visits } = step_of(held, step);
+    let changed = held.changed_count();
+    CAnswer::of(reply, visits as u16, changed)
 }
 
 /// Makes the step of a task, or that of the kernel.
@@ -117,6 +129,7 @@ fn step_of(held: &mut TrackedManager, step: Step) -> Done
     ensures least { changed_task_count held.old.state (c_after held.old.state step) ≤ result.visits }
     ensures most { result.visits ≤ 1 + changed_task_count held.old.state (c_after held.old.state step)
         + 2 * handed_mutex_count held.old.state (c_after held.old.state step) }
+    ensures few { result.visits ≤ 1 + MAX_TASKS + 2 * MAX_MUTEXES }
 {
     match of_kernel(&step) {
         Some(op) => held.kernel_step(op),

@@ -1,13 +1,8 @@
 -- What the work of walks records of a change of the stored priorities.
-use Rattle.std.proofs.Common.{◌≡◌, ℕ, ◌+◌, ◌-◌, ◌<◌, ◌≤◌, ◌&&◌, false, inl, inr, refl, ◌∙◌, ap, arith, List, filter, length, Some, None, unwrap_or, if◌then◌else◌}
-use Rattle.std.proofs.lemmas.Bool.{cases_eq}
-use Rattle.pim_base.specs.Lists.{nth}
-use Rattle.pim_base.specs.State.{task_numbers}
-use Rattle.pim_base.proofs.Places.{nth-get_or, nth_within}
-use Rattle.pim_sets.specs.Numbers.{has, members}
-use Rattle.pim_chain.specs.Views.{View, Ready, stored_in, stored_at}
-use Rattle.pim_sets.specs.Work.{Work, noted_of, has_changed, differs_in, IsNoted, KeepsTelling, VisitedOnce, Tells}
-use Rattle.pim_sets.proofs.Members.{filter_members}
+use Rattle.std.proofs.Common.{◌≡◌, ◌==◌, ℕ, ◌+◌, ◌≤◌, Bool, true, false, inl, inr, refl, sym, ◌∙◌, ap, arith, Option, Some, None, IsSome, unwrap_or, if◌then◌else◌}
+use Rattle.std.specs.Option.{option_and_then}
+use Rattle.std.proofs.lemmas.Bool.{both_ways, cases_eq, eqb-true, eq-eqb}
+use Rattle.pim_sets.specs.Work.{Work, Noted, noted_in, noted_of, note_of, AreChanged, IsNoted, KeepsTelling, VisitedOnce, Tells}
 use Rattle.pim_chain.proofs.Walking.{differing_none, differing_one, differing_over}
 
 -- ---- the notes
@@ -16,33 +11,86 @@ pub keeps-trans :
     → KeepsTelling n f a g b
     → KeepsTelling n g b h d
     → KeepsTelling n f a h d
-keeps-trans n f g h a b d one two =
-    (two.0 ∙ one.0, λ some t low high. two.1 (one.0 ∙ some) t low high ∙ one.1 some t low high)
+keeps-trans n f g h a b d one two = (
+  two.0 ∙ one.0,
+  λ some t low high. two.1 (one.0 ∙ some) t low high ∙ one.1 some t low high,
+  λ noted. two.2 (one.2 noted),
+)
+
+-- the noted tasks are changed ones, also of equal priorities
+changed-same :
+    (n : ℕ) (f g : ℕ → ℕ) (a : Work)
+    → ((t : ℕ) → 1 ≤ t → t ≤ n → g t ≡ f t)
+    → AreChanged n f a
+    → AreChanged n g a
+changed-same n f g a same noted t p is =
+    let at = noted t p is in (at.0, at.1, λ e. at.2 (e ∙ same t at.0 at.1))
+
+-- what has a note keeps notes
+notes_kept : (w : Work) (t p : ℕ) → noted_of w t ≡ Some p → IsSome w.notes
+notes_kept w t p is = go w.notes is
+  where
+    go : (n : Option Noted) → option_and_then (λ (m : Noted). noted_in m t) n ≡ Some p → IsSome n
+    go None e = cc
+    go (Some m) e = refl
 
 -- ---- one visit, which is counted
+-- the note of a task gives what it had at first, and isn't what it has
+note_of-gives : (had prio : ℕ) → unwrap_or (note_of had prio) prio ≡ had
+note_of-gives had prio = go (had == prio) refl
+  where
+    go : (b : Bool) → (had == prio) ≡ b → unwrap_or (if b then None else Some had) prio ≡ had
+    go true is = sym (eqb-true had prio is)
+    go false is = refl
+
+note_of-differs : (had prio p : ℕ) → note_of had prio ≡ Some p → p ≡ prio → ⊥
+note_of-differs had prio p is same = go (had == prio) refl is
+  where
+    go : (b : Bool) → (had == prio) ≡ b → (if b then None else Some had) ≡ Some p → ⊥
+    go true at e = cc
+    go false at e = both_ways _ at (eq-eqb had prio (ap (λ o. unwrap_or o had) e ∙ same))
+
 -- it changes the priority of x, and notes the one before
 pub worked-noted :
-    (n : ℕ) (f g : ℕ → ℕ) (a b d : Work) (x had : ℕ)
+    (n : ℕ) (f g : ℕ → ℕ) (a b d : Work) (x had prio : ℕ)
+    → (1 ≤ x) × (x ≤ n)
     → b ≡ record a { count = a.count + 1 }
     → had ≡ f x
-    → IsNoted b x had d
+    → IsNoted b x had prio d
+    → g x ≡ prio
     → ((u : ℕ) → (u ≡ x → ⊥) → g u ≡ f u)
     → VisitedOnce n f a g d
-worked-noted n f g a b d x had is same noted others =
+worked-noted n f g a b d x had prio known is same noted now others =
     let here = rw (is, same) at noted in
     record {
       counted = here.count;
       noted = (
         here.keeps,
-        λ some t _ _. elim (cases_eq t x) [ inl at ↦ rw at (cc (here.first some)) | inr ne ↦ cc (here.others t ne, others t ne) ],
+        λ some t _ _. elim (cases_eq t x) [
+          | inl at ↦ rw (at, now, here.first some) (note_of-gives (unwrap_or (noted_of a x) (f x)) prio)
+          | inr ne ↦ cc (here.others t ne, others t ne)
+        ],
+        λ before t p noted_p. elim (cases_eq t x) [
+          | inl at ↦ (rw at known.0, rw at known.1, λ e. differs here t p at noted_p e)
+          | inr ne ↦
+              let was = before t p (sym (here.others t ne) ∙ noted_p) in (was.0, was.1, λ e. was.2 (e ∙ others t ne))
+        ],
       );
     }
+  where
+    differs : IsNoted (record a { count = a.count + 1 }) x (f x) prio d → (t p : ℕ) → t ≡ x → noted_of d t ≡ Some p → p ≡ g t → ⊥
+    differs here t p at noted_p e =
+        note_of-differs (unwrap_or (noted_of a x) (f x)) prio p
+        (sym (here.first (kept here (rw at at noted_p))) ∙ (rw at at noted_p)) (e ∙ ap g at ∙ now)
+      where
+        kept : IsNoted (record a { count = a.count + 1 }) x (f x) prio d → noted_of d x ≡ Some p → IsSome a.notes
+        kept here is_noted = sym here.keeps ∙ notes_kept d x p is_noted
 
 -- ---- the work of several walks
 pub tells-same : (n : ℕ) (f g : ℕ → ℕ) (a : Work) → ((t : ℕ) → 1 ≤ t → t ≤ n → g t ≡ f t) → Tells n f a g a
 tells-same n f g a same = record {
   counted = omega (arith, differing_none n f g same);
-  noted = (refl, λ some t low high. ap (unwrap_or (noted_of a t)) (same t low high));
+  noted = (refl, λ some t low high. ap (unwrap_or (noted_of a t)) (same t low high), changed-same n f g a same);
 }
 
 pub tells-refl : (n : ℕ) (f : ℕ → ℕ) (a : Work) → Tells n f a f a
@@ -73,24 +121,3 @@ pub tells_over :
     → Tells k g b h d
     → Tells n f a h d
 tells_over n k f g h a b d one same two = tells-trans n f g h a b d one (rw same at two)
-
--- ---- which tasks changed
--- the noted tasks that differ are those that changed
-pub changed_noted :
-    (v u : View) (w : Work) (had words : List ℕ)
-    → v ≡ u
-    → Ready v
-    → ((t : ℕ) → noted_of w t ≡ (if has words t then Some (stored_in had t) else None))
-    → filter (differs_in had v.stored) (members words) ≡ filter (has_changed (stored_at u) w) (task_numbers u.state)
-changed_noted v u w had words same ready noted =
-    filter_members words (differs_in had v.stored) (has_changed (stored_at v) w) (length v.state.base)
-    (let few = ready.few_tasks in omega (arith, few)) refl each past
-    ∙ ap (λ (x : View). filter (has_changed (stored_at x) w) (task_numbers x.state)) same
-  where
-    past : (t : ℕ) → length v.state.base < t → differs_in had v.stored t ≡ false
-    past t high = grind (arith, nth_within v.stored t, ready.stored_len)
-
-    each : (t : ℕ) → 1 ≤ t → t ≤ length v.state.base → (differs_in had v.stored t && has words t) ≡ has_changed (stored_at v) w t
-    each t low high =
-        let known : nth v.stored t ≡ Some (stored_at v t) = grind (arith, nth-get_or v.stored t (t - 1) 0, ready.stored_len) in
-        grind (arith, known, noted t)

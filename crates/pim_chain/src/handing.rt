@@ -33,7 +33,7 @@ impl Tables {
         if prio == had {
             return;
         }
-        visits.note(task, had);
+        visits.note(task, had, prio);
         put(&mut self.stored, task.get(), prio);
     }
 
@@ -161,7 +161,6 @@ impl Tables {
     /// Each new owner is visited once, unless a comparison shows that its priority stays, and the task itself once, at
     /// the end, if it owned a mutex. Until then its stored priority may differ from its local one: it waits for nothing, so no other task's
     /// priority depends on it.
-    #[tactic(auto, using(crate::proofs::Told::tells_over))]
     pub fn release_all(&mut self, task: TaskNo, visits: &mut Visits) -> u16
         requires settled { SettledBut self.old.state (stored_at self.old) None }
         requires known { IsTask self.old.state task }

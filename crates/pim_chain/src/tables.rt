@@ -1,11 +1,10 @@
 //! What is owned and waited for, with the stored priorities and the queues.
 
 ghost use Rattle.std.specs.Prelude.{◌≡◌, ◌≢◌, ◌≤◌, ◌<◌, ◌+◌, ◌-◌, ◌↔◌, IsTrue, length, IfOk, None, Some, true, false, ℕ};
-ghost use Rattle.std.specs.List.{filter};
 ghost use Rattle.std.specs.Option.{option_copied, option_map};
 ghost use Rattle.pim_base.specs.declared.limits.TheConstants.{MAX_TASKS, MAX_MUTEXES, MAX_COUNT};
 ghost use Rattle.pim_base.specs.Lists.{nth, first_item, put};
-ghost use Rattle.pim_base.specs.State.{IsTask, IsMutex, task_numbers, base_of, protocol_of, owner_of, count_of, first_count, owned, wait_of, is_recursive, with_owner, with_count, with_base, with_protocol, with_ceiling};
+ghost use Rattle.pim_base.specs.State.{IsTask, IsMutex, base_of, protocol_of, owner_of, count_of, first_count, owned, wait_of, is_recursive, with_owner, with_count, with_base, with_protocol, with_ceiling};
 ghost use Rattle.pim_base.specs.Chains.{blocker, heir_of, leads_back};
 ghost use Rattle.pim_base.specs.Checks.{not_protect};
 ghost use Rattle.pim_base.specs.Laws.{IsSound};
@@ -13,7 +12,6 @@ ghost use Rattle.pim_base.specs.Priorities.{ceiling};
 ghost use Rattle.pim_base.specs.declared.steps.Wait.{Wait};
 ghost use Rattle.pim_queue.specs.QueueView.{QueueView};
 ghost use Rattle.pim_chain.specs.Views.{Ready, fresh, with_state, queue_at, stored_at, waiter_at};
-ghost use Rattle.pim_sets.specs.Work.{has_changed};
 ghost use Rattle.pim_sets.specs.Numbers.{members};
 ghost use Rattle.pim_chain.specs.Adopted.{IsUnawaited, is_protect};
 ghost use Rattle.pim_chain.specs.Settled.{Calm, Unsettles, joined, left};
@@ -21,7 +19,7 @@ ghost use Rattle.pim_chain.specs.Settled.{Calm, Unsettles, joined, left};
 use crate::visits::Visits;
 use pim_base::{MutexNo, Prio, Protocol, TaskNo, Wait, Waiter, nth};
 use pim_queue::Queues;
-use pim_sets::{Changed, NumberSet, Owned, OwnedSets, filled, put};
+use pim_sets::{NumberSet, Owned, OwnedSets, filled, put};
 use std::alloc::{AllocError, Global};
 use std::marker::Model;
 
@@ -207,7 +205,7 @@ impl Tables {
 
     /// Returns the set of the mutexes that a known task owns.
     #[tactic(auto, using(crate::proofs::Owning::owned_members))]
-    pub(crate) fn owned_set(&self, task: TaskNo) -> NumberSet
+    pub fn owned_set(&self, task: TaskNo) -> NumberSet
         requires { IsTask self.now.state task }
         ensures { members result.words ≡ owned self.now.state task }
     {
@@ -317,17 +315,6 @@ impl Tables {
     {
         let prio = self.known_stored(task);
         Waiter { task, prio, ticket }
-    }
-
-    /// Returns the tasks whose stored priority isn't the one that the visits noted, in ascending order. There are
-    /// none if the visits keep no notes. Reads the noted tasks alone.
-    pub fn changed<'a>(&'a self, visits: &'a Visits) -> Changed<'a>
-        ensures { result ≡ filter (has_changed (stored_at self.now) visits.now) (task_numbers self.now.state) }
-    {
-        match visits.notes() {
-            Some(notes) => Changed::new(notes, &self.stored),
-            None => Changed::none(&self.stored),
-        }
     }
 
     /// Sets the next ticket.

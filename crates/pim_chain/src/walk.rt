@@ -116,7 +116,7 @@ impl Tables {
             return None;
         }
         // [3]
-        visits.note(task, had);
+        visits.note(task, had, prio);
         let wait = self.known_wait(task);
         put(&mut self.stored, task.get(), prio);
         let wait = wait?;

@@ -20,7 +20,6 @@ use Rattle.pim_chain.proofs.Walking.{settled_effective}
 use Rattle.pim_chain.proofs.Models.{queue_is}
 use Rattle.pim_manager.specs.Known.{of_task, of_mutex}
 use Rattle.pim_manager.specs.Settled.{IsSettled}
-use Rattle.pim_manager.proofs.Listing.{noted_changes_shown}
 use Rattle.pim_manager.proofs.Works.{steady_shown}
 
 -- an item by its number, if there is one
@@ -64,4 +63,4 @@ queue_in_order v S m None settled shown is = tt
 queue_in_order v S m (Some ws) settled shown is =
     let law = queue_law S m (steady_shown settled shown).tickets in grind (arith, nat_tests)
 
-pub ruleset shown = (stored_shown, queue_shown, noted_changes_shown)
+pub ruleset shown = (stored_shown, queue_shown)

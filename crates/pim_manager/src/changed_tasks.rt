@@ -2,7 +2,10 @@
 
 ghost use Rattle.std.specs.Prelude.{◌≡◌};
 ghost use Rattle.std.specs.Iterator.{YieldsFirst, item_count};
-ghost use Rattle.pim_manager.specs.Changed.{listed, noted_changes};
+ghost use Rattle.std.specs.List.{AllByRecursion};
+ghost use Rattle.pim_base.specs.State.{IsTask};
+ghost use Rattle.pim_manager.specs.Changed.{listed};
+ghost use Rattle.pim_sets.specs.Work.{noted_tasks};
 
 use crate::manager::Manager;
 use pim_base::{Prio, Reason, TaskNo};
@@ -22,18 +25,16 @@ pub struct ChangedTask {
 
 /// The tasks whose effective priority the last step changed, in ascending order.
 ///
-/// Its value in contracts is the list of those that are left. It reads the tasks whose priority was stored and, for
-/// the reason of each that it yields, the mutexes that this task owns.
+/// Its value in contracts is the list of those that are left. For the reason of each it reads the mutexes that the task
+/// owns.
 #[derive(Drop)]
 pub struct ChangedTasks<'a> {
     manager: &'a Manager,
-    // None if nothing is noted, as after most steps: then there is nothing to go through.
-    tasks: Option<Changed<'a>>,
+    tasks: Changed<'a>,
 }
 
 impl<'a> Model for ChangedTasks<'a> {
-    ghost use Rattle.std.specs.Prelude.{List, [], IfSome};
-    ghost use Rattle.std.specs.Option.{option_map_or};
+    ghost use Rattle.std.specs.Prelude.{List};
     ghost use Rattle.std.specs.List.{AllByRecursion};
     ghost use Rattle.pim_base.specs.State.{IsTask};
     ghost use Rattle.pim_manager.specs.Changed.{listed};
@@ -41,26 +42,20 @@ impl<'a> Model for ChangedTasks<'a> {
 
     ghost Value = { List ChangedTask };
 
-    ghost view = { λ c. option_map_or (listed c.manager.now) c.tasks [] };
+    ghost view = { λ c. listed c.manager.now c.tasks };
 
-    ghost invariant = { λ c. IfSome c.tasks (AllByRecursion (IsTask c.manager.now)) };
+    ghost invariant = { λ c. AllByRecursion (IsTask c.manager.now) c.tasks };
 }
 
 impl<'a> ChangedTasks<'a> {
-    /// Returns the tasks whose effective priority isn't the noted one.
-    #[tactic(auto, using(crate::proofs::Listing::unnoted_changes, crate::proofs::Listing::noted_known))]
+    /// Returns the noted tasks, each as it is now.
     pub(crate) fn new(manager: &'a Manager, visits: &'a Visits) -> ChangedTasks<'a>
-        ensures { result ≡ listed manager.now (noted_changes manager.now visits.now) }
+        requires { AllByRecursion (IsTask manager.now) (noted_tasks visits.now) }
+        ensures { result ≡ listed manager.now (noted_tasks visits.now) }
     {
-        if visits.is_unnoted() {
-            return ChangedTasks {
-                manager,
-                tasks: None,
-            };
-        }
         ChangedTasks {
             manager,
-            tasks: Some(manager.noted_changes(visits)),
+            tasks: visits.noted(),
         }
     }
 }
@@ -73,7 +68,7 @@ impl<'a> Iterator for ChangedTasks<'a> {
     ghost remaining = { item_count (λ rest. rest) };
 
     fn next(&mut self) -> Option<ChangedTask> {
-        let task = self.tasks.as_mut()?.next()?;
+        let task = self.tasks.next()?;
         Some(self.manager.changed_task(task))
     }
 }

@@ -14,12 +14,13 @@ ghost use Rattle.pim_base.specs.Steps.{reply_of, after};
 ghost use Rattle.pim_base.specs.declared.limits.TheConstants.{MAX_TASKS, MAX_MUTEXES};
 ghost use Rattle.pim_base.specs.declared.steps.Wait.{Wait};
 ghost use Rattle.pim_manager.specs.Adopting.{adopt_fault};
-ghost use Rattle.pim_manager.specs.Changed.{changed_task, noted_changes};
+ghost use Rattle.pim_manager.specs.Changed.{changed_prio, changed_task};
 ghost use Rattle.pim_manager.specs.Kernel.{kernel_reply, after_kernel, IsBystander, IsAnsweredAlike, IsForOwned};
 ghost use Rattle.pim_manager.specs.Known.{of_task, of_mutex};
 ghost use Rattle.pim_manager.specs.Protocols.{protocol_refusal};
 
 use crate::adopt_fault::AdoptFault;
+use crate::changed_prios::ChangedPrio;
 use crate::changed_tasks::ChangedTask;
 use crate::done::Done;
 use crate::kernel_op::KernelOp;
@@ -27,7 +28,7 @@ use crate::make_fault::MakeFault;
 use pim_base::{
     MAX_MUTEXES, MAX_TASKS, MutexNo, Prio, Protocol, Reason, Refusal, Step, TaskNo, Waiter,
 };
-use pim_chain::{Changed, Tables, Visits};
+use pim_chain::{Tables, Visits};
 use std::alloc::{AllocError, Global};
 use std::marker::Model;
 
@@ -319,12 +320,15 @@ impl Manager {
         Ok(())
     }
 
-    /// Returns the tasks whose effective priority isn't the noted one, in ascending order. Reads the noted tasks
-    /// alone.
-    pub(crate) fn noted_changes<'a>(&'a self, visits: &'a Visits) -> Changed<'a>
-        ensures { result ≡ noted_changes self.now visits.now }
+    /// Returns the task with its effective priority.
+    pub(crate) fn changed_prio(&self, task: TaskNo) -> ChangedPrio
+        requires { IsTask self.now task }
+        ensures { result ≡ changed_prio (changed_task self.now task) }
     {
-        self.tables.changed(visits)
+        ChangedPrio {
+            task,
+            prio: self.tables.known_stored(task),
+        }
     }
 
     /// Returns the task with its effective priority and the reason. Reads the mutexes that the task owns.

@@ -1,7 +1,7 @@
 //! A manager that keeps which tasks its last step changed.
-#![tactic(auto, using(crate::proofs::Listing::unnoted_changes))]
+#![tactic(auto, using(crate::proofs::Listing::unnoted, crate::proofs::Listing::unnoted_changed))]
 
-ghost use Rattle.std.specs.Prelude.{◌≡◌, ◌↔◌, ◌<◌, ◌≤◌, ◌+◌, ◌*◌, [], length, IfOk, IfErr, IsErrOf, Some, None, ℕ};
+ghost use Rattle.std.specs.Prelude.{◌≡◌, ◌↔◌, ◌<◌, ◌≤◌, ◌+◌, ◌*◌, [], length, map, IfOk, IfErr, IsErrOf, Some, None, ℕ};
 ghost use Rattle.pim_base.specs.Counts.{changed_task_count, handed_mutex_count};
 ghost use Rattle.pim_base.specs.Priorities.{effective_priority};
 ghost use Rattle.pim_base.specs.Reports.{changed_tasks};
@@ -9,11 +9,12 @@ ghost use Rattle.pim_base.specs.State.{start, with_protocol};
 ghost use Rattle.pim_base.specs.Steps.{reply_of, after};
 ghost use Rattle.pim_base.specs.declared.limits.TheConstants.{MAX_MUTEXES, MAX_TASKS};
 ghost use Rattle.pim_manager.specs.Adopting.{adopt_fault, with_adopted};
-ghost use Rattle.pim_manager.specs.Changed.{listed, stepped};
+ghost use Rattle.pim_manager.specs.Changed.{changed_prio, listed, stepped};
 ghost use Rattle.pim_manager.specs.Kernel.{kernel_reply, after_kernel, kernel_stepped};
 ghost use Rattle.pim_manager.specs.Protocols.{protocol_refusal};
 
 use crate::adopt_fault::AdoptFault;
+use crate::changed_prios::ChangedPrios;
 use crate::changed_tasks::ChangedTasks;
 use crate::done::Done;
 use crate::kernel_op::KernelOp;
@@ -26,7 +27,7 @@ use std::marker::Model;
 
 /// A manager, and the tasks whose effective priority its last step changed.
 ///
-/// A step notes each task whose priority it stores, and `changed` reads these notes. Only the constructors allocate.
+/// A step notes each task whose priority it changes, and `changed` reads these notes. Only the constructors allocate.
 ///
 /// ```text
 /// let mut tracked = TrackedManager::new(alloc, &[low, high], &[Protocol::Inherit])?;
@@ -41,14 +42,16 @@ pub struct TrackedManager {
 }
 
 impl Model for TrackedManager {
-    ghost use Rattle.std.specs.Prelude.{IsSome};
-    ghost use Rattle.pim_manager.specs.Changed.{TrackedState, listed, noted_changes};
+    ghost use Rattle.std.specs.Prelude.{IsSome, length};
+    ghost use Rattle.pim_base.specs.Priorities.{effective_priority};
+    ghost use Rattle.pim_sets.specs.Work.{noted_tasks, AreChanged};
+    ghost use Rattle.pim_manager.specs.Changed.{TrackedState, listed};
 
     ghost Value = { TrackedState };
 
-    ghost view = { λ t. record { state = t.manager; changed = listed t.manager (noted_changes t.manager t.visits) } };
+    ghost view = { λ t. record { state = t.manager; changed = listed t.manager (noted_tasks t.visits) } };
 
-    ghost invariant = { λ t. IsSome t.visits.notes };
+    ghost invariant = { λ t. IsSome t.visits.notes × AreChanged (length t.manager.base) (effective_priority t.manager) t.visits };
 }
 
 impl TrackedManager {
@@ -112,7 +115,10 @@ impl TrackedManager {
         ensures least { changed_task_count self.old.state (after self.old.state step) ≤ result.visits }
         ensures most { result.visits ≤ 1 + changed_task_count self.old.state (after self.old.state step)
             + 2 * handed_mutex_count self.old.state (after self.old.state step) }
+        ensures few { result.visits ≤ 1 + MAX_TASKS + 2 * MAX_MUTEXES }
     {
+        // The contracts of these calls give the proof the greatest numbers of tasks and mutexes.
+        let (_tasks, _mutexes) = (self.manager.tasks(), self.manager.mutexes());
         self.visits.restart();
         let reply = self.manager.reply_to(step, &mut self.visits);
         Done {
@@ -130,7 +136,10 @@ impl TrackedManager {
         ensures changed { self.new.changed ≡ listed self.new.state (changed_tasks self.old.state self.new.state) }
         ensures least { changed_task_count self.old.state (after_kernel self.old.state op) ≤ result.visits }
         ensures most { result.visits ≤ 1 + changed_task_count self.old.state (after_kernel self.old.state op) }
+        ensures few { result.visits ≤ 1 + MAX_TASKS }
     {
+        // The contract of this call gives the proof the greatest number of tasks.
+        let _tasks = self.manager.tasks();
         self.visits.restart();
         let reply = self.manager.reply_to_kernel(op, &mut self.visits);
         Done {
@@ -151,6 +160,24 @@ impl TrackedManager {
         ChangedTasks::new(&self.manager, &self.visits)
     }
 
+    /// Returns how many tasks `changed` lists.
+    pub fn changed_count(&self) -> u16
+        ensures { result ≡ length self.now.changed }
+    {
+        self.visits.noted_count()
+    }
+
+    /// Returns the tasks that `changed` lists, in the same order, with their priorities and without the reasons. So it
+    /// reads no mutex.
+    pub fn changed_prios(&self) -> ChangedPrios<'_>
+        ensures changed { result ≡ map changed_prio self.now.changed }
+        ensures few { length result ≤ MAX_TASKS }
+    {
+        // The contract of this call gives the proof the greatest number of tasks.
+        let _tasks = self.manager.tasks();
+        ChangedPrios::new(&self.manager, &self.visits)
+    }
+
     /// Gives a free mutex this protocol as [`Manager::set_protocol`] does. No task is listed as changed then.
     ///
     /// # Errors
@@ -166,6 +193,7 @@ impl TrackedManager {
         self.visits.restart();
         Ok(())
     }
+
     /// Makes the task the owner of a free mutex as [`Manager::adopt`] does. No task is listed as changed then.
     ///
     /// # Errors

@@ -120,7 +120,8 @@ fn tables_show_tasks_mutexes_and_reasons(rt: HostRuntime) -> Result<(), Fail> {
     expect_queue(&rt, &tables);
     expect_known_task(&rt, &tables);
     expect_known_mutex(&rt, &tables);
-    expect_changed(&rt, &tables, &Visits::new(), &[]);
+    expect_changed(&rt, &Visits::new(), &[]);
+    assert!(rt; Visits::new().noted_count() == 0);
     Ok(())
 }
 

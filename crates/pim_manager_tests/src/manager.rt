@@ -5,7 +5,7 @@ use Op::{Cancel, Lock, ReleaseAll, SetBase, SetCeiling, Try, Unlock};
 use Protocol::Inherit;
 use Reply::{Freed, Granted, Handed, Queued, Refused, Released, Set, Withdrawn};
 use pim_base::{MutexNo, Op, Prio, Protocol, Reason, Refusal, Reply, Step, TaskNo, Waiter};
-use pim_manager::{ChangedTask, Done, Manager, TrackedManager};
+use pim_manager::{ChangedPrio, ChangedTask, Done, Manager, TrackedManager};
 use std::alloc::Global;
 use std::process::Abort;
 use std::test::Fail;
@@ -130,7 +130,7 @@ fn reason(why: Why) -> Reason {
 }
 
 pub(crate) fn expect_changed(rt: &impl Abort, tracked: &TrackedManager, expected: &[Listed]) {
-    let mut changed = tracked.changed();
+    let (mut changed, mut prios) = (tracked.changed(), tracked.changed_prios());
     for (task, level, why) in expected {
         let listed = ChangedTask {
             task: TaskNo(*task),
@@ -138,8 +138,14 @@ pub(crate) fn expect_changed(rt: &impl Abort, tracked: &TrackedManager, expected
             reason: reason(*why),
         };
         assert!(rt; changed.next() == Some(listed), "{task}");
+        let ChangedTask { task, prio, .. } = listed;
+        assert!(rt;
+            prios.next() == Some(ChangedPrio { task, prio }),
+            "{task:?}"
+        );
     }
-    assert!(rt; changed.next().is_none());
+    assert!(rt; changed.next().is_none() && prios.next().is_none());
+    assert!(rt; tracked.changed_count() as usize == expected.len());
 }
 
 /// Makes the step of a row on a manager of each kind, and tests what both return, and what the tracked one lists.

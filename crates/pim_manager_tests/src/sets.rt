@@ -1,5 +1,8 @@
 //! pim_sets: sets of numbers, the mutexes that tasks own, and notes of the priorities that tasks had.
 
+ghost use Rattle.std.specs.Prelude.{◌≤◌};
+ghost use Rattle.pim_base.specs.declared.limits.TheConstants.{MAX_TASKS};
+
 use crate::priorities::prio;
 use pim_base::{MutexNo, TaskNo};
 use pim_sets::{Changed, Notes, NumberSet, Numbers, Owned, OwnedSets, filled, put};
@@ -55,26 +58,42 @@ fn places_are_counted_from_1(rt: HostRuntime) -> Result<(), Fail> {
     Ok(())
 }
 
-/// Tests that tasks 1 and 3 are noted with 10 and 40, and that only task 3 has another priority now.
+/// Tests that tasks 1 and 3 are noted, and no others.
 fn expect_noted(rt: &impl Abort, notes: &Notes) {
     assert!(rt; three(notes.tasks()) == [Some(1), Some(3), None]);
-    assert!(rt; [notes.had().first(), notes.had().get(2)] == [Some(&10), Some(&40)]);
-    let stored = [prio(rt, 10), prio(rt, 20), prio(rt, 50)];
-    let mut changed = Changed::new(notes, &stored);
-    assert!(rt; [changed.next(), changed.next()] == [Some(TaskNo(3)), None]);
-    assert!(rt; Changed::none(&stored).next().is_none());
+    let mut changed = Changed::new(notes);
+    let tasks = [changed.next(), changed.next(), changed.next()];
+    assert!(rt; tasks == [Some(TaskNo(1)), Some(TaskNo(3)), None]);
+    assert!(rt; Changed::none().next().is_none());
+    assert!(rt; notes.count() == 2);
+}
+
+/// Notes that the task had one level and has another one.
+fn note(rt: &impl Abort, notes: &mut Notes, task: u16, levels: [u16; 2])
+    requires least { 1 ≤ task }
+    requires most { task ≤ MAX_TASKS }
+{
+    let (had, prio) = (prio(rt, levels[0]), prio(rt, levels[1]));
+    if had != prio {
+        notes.note(TaskNo(task), had, prio);
+    }
 }
 
 #[test]
-fn first_priority_of_a_noted_task_is_kept(rt: HostRuntime) -> Result<(), Fail> {
+fn task_that_has_its_first_priority_again_is_not_noted(rt: HostRuntime) -> Result<(), Fail> {
     let mut notes = Notes::new(rt.alloc())?;
     let is_new = notes.is_empty();
-    notes.note(TaskNo(3), prio(&rt, 40));
-    notes.note(TaskNo(3), prio(&rt, 50));
-    notes.note(TaskNo(1), prio(&rt, 10));
+    note(&rt, &mut notes, 3, [40, 50]);
+    note(&rt, &mut notes, 2, [20, 30]);
+    note(&rt, &mut notes, 3, [50, 60]);
+    note(&rt, &mut notes, 2, [30, 20]);
+    note(&rt, &mut notes, 1, [10, 20]);
     expect_noted(&rt, &notes);
+    note(&rt, &mut notes, 3, [60, 40]);
+    assert!(rt; notes.count() == 1);
     let is_noted = notes.is_empty();
     notes.clear();
     assert!(rt; [is_new, is_noted, notes.is_empty()] == [true, false, true]);
+    assert!(rt; notes.count() == 0);
     Ok(())
 }

@@ -240,8 +240,8 @@ fn expect_stored(rt: &impl Abort, tables: &Tables, act: Act, levels: [u16; 4]) {
 }
 
 /// Tests that exactly these tasks changed since the visits began.
-pub(crate) fn expect_changed(rt: &impl Abort, tables: &Tables, visits: &Visits, tasks: &[u16]) {
-    let mut changed = tables.changed(visits);
+pub(crate) fn expect_changed(rt: &impl Abort, visits: &Visits, tasks: &[u16]) {
+    let mut changed = visits.noted();
     for task in tasks {
         assert!(rt; changed.next() == Some(TaskNo(*task)), "{task}");
     }
@@ -255,11 +255,11 @@ fn play(rt: &impl Abort, tables: &mut Tables, visits: &mut Visits, rows: &[Row])
     for row in rows {
         let act = row.0;
         visits.restart();
-        assert!(rt; visits.get() == 0 && visits.is_unnoted(), "{act:?}");
+        assert!(rt; visits.get() == 0 && visits.noted_count() == 0, "{act:?}");
         change(rt, tables, act, visits);
         assert!(rt; visits.get() == row.1, "{act:?}");
         expect_stored(rt, tables, act, row.2);
-        expect_changed(rt, tables, visits, row.3);
+        expect_changed(rt, visits, row.3);
     }
 }
 

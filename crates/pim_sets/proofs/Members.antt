@@ -1,5 +1,5 @@
 -- The numbers of a set, in ascending order.
-use Rattle.std.proofs.Common.{◌≡◌, ◌≢◌, ℕ, zero, suc, ◌+◌, ◌/◌, ◌%◌, ◌<◌, ◌≤◌, ◌==◌, ◌&&◌, Bool, true, false, not, cond, ◌⊎◌, inl, inr, refl, ◌∙◌, ap, arith, List, [], ◌∷◌, filter, length}
+use Rattle.std.proofs.Common.{◌≡◌, ◌≢◌, ℕ, zero, suc, ◌+◌, ◌/◌, ◌%◌, ◌<◌, ◌≤◌, ◌==◌, ◌&&◌, ◌||◌, Bool, true, false, not, cond, ◌⊎◌, inl, inr, refl, ◌∙◌, ap, arith, List, [], ◌∷◌, filter, length}
 use Rattle.std.specs.List.{range_with_len}
 use Rattle.std.proofs.lemmas.Bool.{cases_eq, cases_lt}
 use Rattle.std.proofs.lemmas.Bool.Decides.{nat_tests}
@@ -26,6 +26,17 @@ filter_same p q a zero same = refl
 filter_same p q a (suc n) same =
     let rest = filter_same p q (a + 1) n (λ k low high. same k (omega arith) (omega arith)) in
     rw (same a (omega arith) (omega arith), rest) refl
+
+filter_few : (p : ℕ → Bool) (a n : ℕ) → length (filter p (range_with_len a n)) ≤ n
+filter_few p a zero = omega arith
+filter_few p a (suc n) = go (p a) (filter_few p (a + 1) n)
+  where
+    go :
+        (b : Bool)
+        → length (filter p (range_with_len (a + 1) n)) ≤ n
+        → length (cond b (a ∷ filter p (range_with_len (a + 1) n)) (filter p (range_with_len (a + 1) n))) ≤ suc n
+    go true few = omega (arith, few)
+    go false few = omega (arith, few)
 
 filter_filter : (p q : ℕ → Bool) (xs : List ℕ) → filter p (filter q xs) ≡ filter (λ k. p k && q k) xs
 filter_filter p q [] = refl
@@ -81,6 +92,39 @@ filter_least p q a (suc n) x low high passes none others =
         let gone : q a ≡ false = let at = others a in grind (arith, nat_tests) in
         rw (away, gone) (later ne)
 
+-- where one number more passes, one number more is given
+one_more :
+    (p q : ℕ → Bool) (a n x : ℕ)
+    → a ≤ x
+    → x < a + n
+    → p x ≡ false
+    → ((k : ℕ) → q k ≡ (k == x || p k))
+    → length (filter q (range_with_len a n)) ≡ length (filter p (range_with_len a n)) + 1
+one_more p q a zero x low high fails others = absurd (omega arith)
+one_more p q a (suc n) x low high fails others =
+    go (cases_eq a x) (λ ne. one_more p q (a + 1) n x (omega (arith, low, ne)) (omega (arith, high)) fails others)
+  where
+    go :
+        (a ≡ x) ⊎ (a ≢ x)
+        → (a ≢ x → length (filter q (range_with_len (a + 1) n)) ≡ length (filter p (range_with_len (a + 1) n)) + 1)
+        → length (filter q (range_with_len a (suc n))) ≡ length (filter p (range_with_len a (suc n))) + 1
+    go (inl is) _ =
+        let here : p a ≡ false = rw is fails in
+        let new : q a ≡ true = let at = others a in grind (arith, nat_tests) in
+        let rest = filter_same q p (a + 1) n (λ k above _. let at = others k in grind (arith, nat_tests)) in
+        rw (here, new, rest) (omega arith)
+    go (inr ne) later =
+        let same : q a ≡ p a = let at = others a in grind (arith, nat_tests) in
+        rw same (each (p a) (later ne))
+      where
+        each :
+            (b : Bool)
+            → length (filter q (range_with_len (a + 1) n)) ≡ length (filter p (range_with_len (a + 1) n)) + 1
+            → length (cond b (a ∷ filter q (range_with_len (a + 1) n)) (filter q (range_with_len (a + 1) n)))
+            ≡ length (cond b (a ∷ filter p (range_with_len (a + 1) n)) (filter p (range_with_len (a + 1) n))) + 1
+        each true e = omega (arith, e)
+        each false e = e
+
 -- those of the numbers below m that pass are the known numbers that pass another test, where no other number passes
 filter_known :
     (p q : ℕ → Bool) (n m : ℕ)
@@ -133,6 +177,38 @@ has_none words len none k = go (cases_lt k 320)
 -- a set without words has no number
 pub no_number : (k : ℕ) → has [] k ≡ false
 no_number k = ap (λ b. b == 1) (bit_at-zero (k % 64))
+
+-- a number that is put in is one more
+pub length-inserted :
+    (old new : List ℕ) (x : ℕ)
+    → x < 320
+    → has old x ≡ false
+    → ((k : ℕ) → has new k ≡ (k == x || has old k))
+    → length (members new) ≡ length (members old) + 1
+unfolding members
+length-inserted old new x small free put_in = one_more (has old) (has new) 0 320 x (omega arith) small free put_in
+
+-- a number that is taken out is one fewer
+pub length-removed :
+    (old new : List ℕ) (x : ℕ)
+    → x < 320
+    → has old x ≡ true
+    → ((k : ℕ) → has new k ≡ (not (k == x) && has old k))
+    → length (members old) ≡ length (members new) + 1
+unfolding members
+length-removed old new x small there taken =
+    one_more (has new) (has old) 0 320 x (omega arith) small
+    (let at = taken x in grind (arith, nat_tests))
+    (λ k. each k (cases_eq k x))
+  where
+    each : (k : ℕ) → (k ≡ x) ⊎ (k ≢ x) → has old k ≡ (k == x || has new k)
+    each k (inl is) = let at = taken k in rw is (grind (arith, nat_tests))
+    each k (inr ne) = let at = taken k in grind (arith, nat_tests)
+
+-- a set has at most 320 numbers
+pub members_few : (words : List ℕ) → length (members words) ≤ 320
+unfolding members
+members_few words = filter_few (has words) 0 320
 
 -- the set has the known numbers that pass, and no others
 pub members_known :

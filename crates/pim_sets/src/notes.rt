@@ -1,20 +1,22 @@
 //! Notes of the priorities that tasks had.
 
-ghost use Rattle.std.specs.Prelude.{◌≡◌, ◌≢◌, ◌≤◌, ◌↔◌, IsTrue, ℕ, Some, None, IfOk, unwrap_or};
+ghost use Rattle.std.specs.Prelude.{◌≡◌, ◌≢◌, ◌≤◌, ◌↔◌, IsTrue, ℕ, None, IfOk, unwrap_or, length};
 ghost use Rattle.pim_base.specs.declared.limits.TheConstants.{MAX_TASKS};
 ghost use Rattle.pim_sets.specs.Numbers.{members};
-ghost use Rattle.pim_sets.specs.Work.{noted_in};
+ghost use Rattle.pim_sets.specs.Work.{noted_in, note_of};
 
 use crate::number_set::{NumberSet, Numbers};
 use crate::numbered::{filled, put};
-use pim_base::{MAX_TASKS, Prio, TaskNo};
+use pim_base::{MAX_TASKS, Prio, TaskNo, nth};
 use std::alloc::{AllocError, Global};
 use std::marker::Model;
 
-/// Which tasks are noted, and the priority that each of them had.
+/// Which tasks are noted, how many, and the priority that each of them had. A task that has its first priority again
+/// isn't noted any more.
 #[derive(Debug, Drop)]
 pub struct Notes {
     tasks: NumberSet,
+    count: u16,
     // The level of each noted task. The other items have no meaning.
     had: Vec<u16>,
 }
@@ -22,13 +24,14 @@ pub struct Notes {
 impl Model for Notes {
     ghost use Rattle.std.specs.Prelude.{◌≡◌, length};
     ghost use Rattle.pim_base.specs.declared.limits.TheConstants.{MAX_TASKS};
+    ghost use Rattle.pim_sets.specs.Numbers.{members};
     ghost use Rattle.pim_sets.specs.Work.{Noted};
 
     ghost Value = { Noted };
 
     ghost view = { λ n. record { tasks = n.tasks.words; had = n.had.items } };
 
-    ghost invariant = { λ n. length n.had.items ≡ MAX_TASKS };
+    ghost invariant = { λ n. (length n.had.items ≡ MAX_TASKS) × (n.count ≡ length (members n.tasks.words)) };
 }
 
 impl Notes {
@@ -38,6 +41,7 @@ impl Notes {
     {
         Ok(Notes {
             tasks: NumberSet::new(),
+            count: 0,
             had: filled(alloc, MAX_TASKS, 0)?,
         })
     }
@@ -49,20 +53,35 @@ impl Notes {
         // Most steps note nothing.
         if !self.tasks.is_empty() {
             self.tasks = NumberSet::new();
+            self.count = 0;
         }
     }
 
-    /// Notes that the task had this priority, unless it is noted already.
-    pub fn note(&mut self, task: TaskNo, had: Prio)
+    /// Notes that the task had this priority and has another one now, unless it is noted already. Forgets the note of a
+    /// task that has the noted priority again.
+    pub fn note(&mut self, task: TaskNo, had: Prio, prio: Prio)
         requires least { 1 ≤ task }
         requires most { task ≤ MAX_TASKS }
-        ensures first { noted_in self.new task ≡ Some (unwrap_or (noted_in self.old task) had) }
+        requires other { had ≢ prio }
+        ensures first { noted_in self.new task ≡ note_of (unwrap_or (noted_in self.old task) had) prio }
         ensures others { (u : ℕ) → u ≢ task → noted_in self.new u ≡ noted_in self.old u }
     {
-        if !self.tasks.contains(task.get()) {
-            self.tasks.insert(task.get());
-            put(&mut self.had, task.get(), had.get());
+        let number = task.get();
+        if !self.tasks.contains(number) {
+            self.tasks.insert(number);
+            self.count += 1;
+            put(&mut self.had, number, had.get());
+        } else if nth(&self.had, number) == Some(prio.get()) {
+            self.tasks.remove(number);
+            self.count -= 1;
         }
+    }
+
+    /// Returns how many tasks are noted.
+    pub fn count(&self) -> u16
+        ensures { result ≡ length (members self.now.tasks) }
+    {
+        self.count
     }
 
     /// Returns whether no task is noted.
@@ -77,12 +96,5 @@ impl Notes {
         ensures { result ≡ members self.now.tasks }
     {
         self.tasks.iter()
-    }
-
-    /// Returns the level that each noted task had, in the order of the tasks.
-    pub fn had(&self) -> &[u16]
-        ensures { result.now ≡ self.now.had }
-    {
-        &self.had
     }
 }

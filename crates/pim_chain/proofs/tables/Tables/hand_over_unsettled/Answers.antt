@@ -1,4 +1,4 @@
-use Rattle.std.proofs.Common.{◌≡◌, ◌∙◌, ◌+◌, ap, arith, refl, subst, sym, Some, None}
+use Rattle.std.proofs.Common.{◌≡◌, ◌∙◌, ◌+◌, ap, arith, length, refl, subst, sym, Some, None}
 use Rattle.std.specs.Option.{option_map}
 use Rattle.std.proofs.lemmas.Option.{none-some}
 use Rattle.pim_base.specs.State.{owner_of, wait_of}
@@ -8,6 +8,7 @@ use Rattle.pim_base.specs.declared.steps.Waiter.{Waiter}
 use Rattle.pim_chain.specs.Views.{View, stored_at}
 use Rattle.pim_chain.specs.Owned.{new_owner_visits}
 use Rattle.pim_chain.specs.Settled.{SettledBut}
+use Rattle.pim_sets.specs.Work.{Tells}
 use Rattle.pim_chain.proofs.Known.{owned_mutex}
 use Rattle.pim_chain.proofs.NoHigher.{lost_settled}
 use Rattle.pim_chain.proofs.OwnerVisits.{new_owner_visits-none}
@@ -92,3 +93,8 @@ returns-clause-counted c =
     let none = new_owner_visits-none c.args.self.now c.unbind_from.new.self c.args.mutex
     (ap (λ (w : View). owner_of w.state c.args.mutex) c.unbind_from.ensures.state ∙ freed_owner c.args.self.now.state c.args.mutex) in
     omega (arith, none)
+
+pub returns-in-Some-clause-work : goal.returns-in-Some-clause-work
+returns-in-Some-clause-work c =
+    subst (λ (w : View). Tells (length w.state.base) (stored_at w) c.args.visits.now (stored_at c.give_to.new.self) c.give_to.new.visits)
+    c.unbind_from.ensures.state c.give_to.ensures.work

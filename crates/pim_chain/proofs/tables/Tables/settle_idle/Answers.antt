@@ -34,5 +34,8 @@ returns-clause-right c =
 pub returns-clause-work : goal.returns-clause-work
 returns-clause-work c =
     worked-noted (length c.args.self.now.state.base) (stored_at c.args.self.now) _ c.args.visits.now c.local-prio.new.visits c.note.new.self
-    c.args.task c.known_stored-had.result c.local-prio.ensures.counted c.known_stored-had.ensures c.note.ensures
+    c.args.task c.known_stored-had.result c.local-prio.result c.requires.known c.local-prio.ensures.counted
+    c.known_stored-had.ensures c.note.ensures
+    (ap (λ (w : View). stored_at w c.args.task) (stored_written c.local-prio.result c.self.view_is c.put.ensures c.get.ensures)
+    ∙ stored_now c.args.self.now c.args.task c.local-prio.result c.local-prio.ensures.ready c.requires.known)
     (λ u ne. ap (λ (w : View). stored_at w u) (stored_written c.local-prio.result c.self.view_is c.put.ensures c.get.ensures) ∙ stored_else c.args.self.now c.args.task c.local-prio.result u ne)

@@ -1,8 +1,9 @@
-use Rattle.std.proofs.Common.{subst, arith, ap, ◌∙◌, None, option_and_then}
+use Rattle.std.proofs.Common.{subst, arith, ap, ◌∙◌, None, length, option_and_then}
 use Rattle.pim_base.specs.State.{owner_of}
 use Rattle.pim_base.specs.declared.steps.Wait.{Wait}
 use Rattle.pim_chain.specs.Views.{View, stored_at}
 use Rattle.pim_chain.specs.Settled.{SettledBut}
+use Rattle.pim_sets.specs.Work.{Tells}
 use Rattle.pim_chain.proofs.NoHigher.{left_settled}
 use Rattle.pim_chain.proofs.Known.{owned_mutex}
 use Rattle.pim_chain.proofs.Told.{tells-same}
@@ -23,3 +24,8 @@ returns-else-get-donated-clause-settled c =
 
 pub returns-else-get-donated-clause-work : goal.returns-else-get-donated-clause-work
 returns-else-get-donated-clause-work c = tells-same _ _ _ _ (λ t _ _. ap (λ (w : View). stored_at w t) c.end_wait.ensures.left)
+
+pub returns-then-get-donated-clause-work : goal.returns-then-get-donated-clause-work
+returns-then-get-donated-clause-work c =
+    subst (λ (w : View). Tells (length w.state.base) (stored_at w) c.args.visits.now (stored_at c.settle_from.new.self) c.settle_from.new.visits)
+    c.end_wait.ensures.left c.settle_from.ensures.work

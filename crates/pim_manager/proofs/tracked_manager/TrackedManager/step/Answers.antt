@@ -1,21 +1,25 @@
-use Rattle.std.proofs.Common.{◌≡◌, ◌∙◌, ap, length, List}
+use Rattle.std.proofs.Common.{◌≡◌, ◌∙◌, ap, arith, length, List, sym, subst}
+use Rattle.pim_sets.specs.Work.{AreChanged}
 use Rattle.pim_base.specs.State.{State}
 use Rattle.pim_base.specs.Reports.{changed_tasks}
-use Rattle.pim_manager.specs.Changed.{TrackedState, listed, noted_changes, stepped}
+use Rattle.pim_base.specs.Priorities.{effective_priority}
+use Rattle.pim_sets.specs.Work.{noted_tasks}
+use Rattle.pim_manager.specs.Changed.{TrackedState, listed, stepped}
 use Rattle.pim_manager.specs.declared.changed_tasks.ChangedTask.{ChangedTask}
-use Rattle.pim_manager.proofs.Listing.{bases_after, noted_changes_of_step}
+use Rattle.pim_manager.proofs.Listing.{bases_after, changed_few, handed_few, noted_tasks_of_step, unnoted_changed}
 use Rattle.pim_manager.proofs.tracked_manager.TrackedManager.step.Goals as goal
 
 -- what the notes tell of the manager's new state
 noted :
     (c : goal.After-get)
-    → noted_changes c.reply_to-reply.new.self c.reply_to-reply.new.visits
+    → noted_tasks c.reply_to-reply.new.visits
     ≡ changed_tasks c.self.inside.manager c.reply_to-reply.new.self
 noted c =
     let S : State = c.self.inside.manager in
-    noted_changes_of_step S c.reply_to-reply.new.self c.restart.new.self c.reply_to-reply.new.visits
-    (ap (λ (U : State). length U.base) c.reply_to-reply.ensures.state ∙ bases_after S c.args.step)
-    c.reply_to-reply.ensures.work (c.restart.ensures.keeps ∙ c.self.invariant) c.restart.ensures.none
+    let tasks = c.tasks-tasks.ensures in
+    noted_tasks_of_step S c.reply_to-reply.new.self c.restart.new.self c.reply_to-reply.new.visits
+    (omega (arith, tasks.count, tasks.few))
+    c.reply_to-reply.ensures.work (c.restart.ensures.keeps ∙ c.self.invariant.0) c.restart.ensures.none
 
 pub returns-clause-state : goal.returns-clause-state
 returns-clause-state c =
@@ -29,3 +33,22 @@ pub returns-clause-changed : goal.returns-clause-changed
 returns-clause-changed c =
     let S : State = c.self.inside.manager in let T : State = c.reply_to-reply.new.self in
     ap (listed T) (noted c) ∙ ap (λ (h : TrackedState). listed T (changed_tasks h.state T)) c.self.view_is
+
+pub invariant_of-self : goal.invariant_of-self
+invariant_of-self c =
+    let S : State = c.self.inside.manager in let T : State = c.reply_to-reply.new.self in
+    let bases = ap (λ (U : State). length U.base) c.reply_to-reply.ensures.state ∙ bases_after S c.args.step in (
+      c.reply_to-reply.ensures.work.noted.0 ∙ c.restart.ensures.keeps ∙ c.self.invariant.0,
+      subst (λ k. AreChanged k (effective_priority T) c.reply_to-reply.new.visits) (sym bases)
+          (c.reply_to-reply.ensures.work.noted.2
+          (unnoted_changed (length S.base) (effective_priority S) c.restart.new.self c.restart.ensures.none)),
+    )
+
+pub returns-clause-few : goal.returns-clause-few
+returns-clause-few c =
+    let S : State = c.self.inside.manager in let T : State = c.reply_to-reply.new.self in
+    let most = c.reply_to-reply.ensures.most in
+    let changed = changed_few S T in let handed = handed_few S T in
+    let tasks = c.tasks-tasks.ensures in let mutexes = c.mutexes-mutexes.ensures in
+    let visits = c.get.ensures in
+    omega (arith, most, changed, handed, tasks.count, tasks.few, mutexes.count, mutexes.few, visits)
