@@ -43,8 +43,8 @@
  * A step changes what the manager knows. The caller then does four things, in this order, and no
  * other step is made until it has done them:
  *
- *   1. It wakes each task that was handed a mutex or was withdrawn: PIM_HANDED, PIM_RELEASED,
- *      PIM_WITHDRAWN.
+ *   1. It wakes each task that was handed a mutex or was withdrawn: PIM_HANDED, PIM_RELEASED (the
+ *      tasks of pim_handed), PIM_WITHDRAWN.
  *   2. It gives each task of pim_changed_prios its new priority, except the task that made the step.
  *   3. It gives the task that made the step its own new priority.
  *   4. It blocks the task that made the step, if the answer is PIM_QUEUED.
@@ -108,6 +108,7 @@
  *   pim_adopt             64   a few stores
  *   pim_changed          384   the mutexes of each task that is listed
  *   pim_changed_prios    256   what it copies
+ *   pim_handed           256   the owner of each mutex that the step released
  *   pim_waiters          256   what it copies
  *   pim_task_reason      256   the mutexes that the task owns
  *   pim_effective_prio    64   a few loads
@@ -181,8 +182,7 @@ extern "C" {
 
 /* The most bytes that a manager takes from heap/static.c or heap/given.c, where the memory is
  * aligned to 16. */
-#define PIM_MEMORY(tasks, mutexes) \
-    (1136u + 104u * (tasks) + 34u * (mutexes))
+#define PIM_MEMORY(tasks, mutexes) (1200u + 104u * (tasks) + 34u * (mutexes))
 
 /* ---- the handle ------------------------------------------------------------------------------ */
 
@@ -234,7 +234,7 @@ enum pim_reply {
     PIM_QUEUED = 2,     /* the task waits for the mutex: it is to block */
     PIM_FREED = 3,      /* the mutex had no waiter, and is free */
     PIM_HANDED = 4,     /* task `number` was the first waiter, and owns the mutex: it is to run on */
-    PIM_RELEASED = 5,   /* `number` mutexes were unlocked; pim_owner says who owns one that had waiters */
+    PIM_RELEASED = 5,   /* `number` mutexes were unlocked; the tasks of pim_handed are to run on */
     PIM_WITHDRAWN = 6,  /* the target waits no more: it is to run on, without the mutex */
     PIM_SET = 7,        /* the target has the new base priority, or the mutex the new ceiling or protocol */
     PIM_REFUSED = 8,    /* nothing changed at all; `refusal` says why */
@@ -316,6 +316,12 @@ struct pim_changed_prio {
     uint16_t prio; /* its effective priority after the step */
 };
 
+/* A mutex that a step handed to a waiter. */
+struct pim_handed {
+    uint16_t mutex;
+    uint16_t task; /* its new owner */
+};
+
 /* Returns the PIM_VERSION_NUMBER of the library: libpim.so may be another version than this file. */
 uint32_t pim_version(void);
 
@@ -376,7 +382,7 @@ struct pim_answer pim_set_ceiling(struct pim_handle *h, uint16_t task, uint16_t 
 
 /* pthread_mutex_destroy and pthread_mutex_init: gives a free mutex another protocol (PIM_SET), so that
  * its number can be lent to another mutex. The ceiling is read where the kind is PIM_PROTECT. No
- * priority changes, and pim_changed lists no task then. A trace has no line for it. Refused:
+ * priority changes, pim_changed lists no task and pim_handed no mutex then. A trace has no line for it. Refused:
  * NO_PROTOCOL, NO_MUTEX, BUSY. */
 struct pim_answer pim_set_protocol(struct pim_handle *h, uint16_t mutex, uint16_t kind, uint16_t ceiling);
 
@@ -399,6 +405,12 @@ uint64_t pim_changed(const struct pim_handle *h, struct pim_changed_task *to, ui
 /* Copies the tasks of pim_changed, in the same order, without the reasons, at most `room` of them, and
  * returns how many there are. It reads no mutex. */
 uint64_t pim_changed_prios(const struct pim_handle *h, struct pim_changed_prio *to, uint64_t room);
+
+/* Copies the mutexes that the last step handed to waiters, in ascending order, with their new owners, at
+ * most `room` of them, and returns how many there are. Each of these tasks is to run on: after
+ * PIM_RELEASED as after PIM_HANDED. None where no step was made yet, where the last one handed none
+ * over, and where pim_set_protocol was answered PIM_SET since. */
+uint64_t pim_handed(const struct pim_handle *h, struct pim_handed *to, uint64_t room);
 
 /* ---- what stands ----------------------------------------------------------------------------- */
 
@@ -553,6 +565,7 @@ PIM_ASSERT(sizeof(struct pim_reason) == 6, "struct pim_reason");
 PIM_ASSERT(sizeof(struct pim_waiter) == 16 && offsetof(struct pim_waiter, ticket) == 8, "struct pim_waiter");
 PIM_ASSERT(sizeof(struct pim_changed_task) == 10 && offsetof(struct pim_changed_task, reason) == 4, "struct pim_changed_task");
 PIM_ASSERT(sizeof(struct pim_changed_prio) == 4, "struct pim_changed_prio");
+PIM_ASSERT(sizeof(struct pim_handed) == 4, "struct pim_handed");
 #undef PIM_ASSERT
 
 #ifdef __cplusplus

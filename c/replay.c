@@ -115,9 +115,24 @@ static void check_prios(const struct pim_changed_task *changed, size_t count) {
         must(prios[i].task == changed[i].task && prios[i].prio == changed[i].prio, "the same changed priorities");
 }
 
-static void print_changes(void) {
+/* Each mutex that was handed over is its new owner's: one after an unlock that hands it over, none after
+ * any other step but a release. */
+static void check_handed(struct pim_answer answer) {
+    static struct pim_handed handed[PIM_MAX_MUTEXES];
+    size_t count = pim_handed(&locks, handed, PIM_MAX_MUTEXES);
+    for (size_t i = 0; i < count; i++) {
+        must(i == 0 || handed[i - 1].mutex < handed[i].mutex, "handed mutexes in ascending order");
+        must(pim_owner(&locks, handed[i].mutex) == handed[i].task, "the new owner of a handed mutex");
+    }
+    if (answer.kind == PIM_HANDED) must(count == 1 && handed[0].task == answer.number, "who was handed the mutex");
+    else must(answer.kind == PIM_RELEASED ? count <= answer.number : count == 0, "few handed mutexes");
+}
+
+static void print_changes(struct pim_answer answer) {
+    check_handed(answer);
     static struct pim_changed_task changed[PIM_MAX_TASKS];
     size_t count = pim_changed(&locks, changed, PIM_MAX_TASKS);
+    must(answer.changed == count, "the answer's number of changed tasks");
     check_prios(changed, count);
     for (size_t i = 0; i < count; i++) {
         struct pim_reason why = changed[i].reason;
@@ -184,7 +199,7 @@ static struct pim_answer set_ceiling(uint16_t task, uint16_t mutex, uint16_t cei
 
 /* Makes the step of a line; PIM_NO_MANAGER where it is none. */
 static struct pim_answer step(const char *line) {
-    struct pim_answer none = { PIM_NO_MANAGER, 0, 0, 0 };
+    struct pim_answer none = { PIM_NO_MANAGER, 0, 0, 0, 0 };
     unsigned actor, first = 0, second = 0;
     char op[16];
     if (sscanf(line, "%u %15s %u %u", &actor, op, &first, &second) < 2) return none;
@@ -214,7 +229,7 @@ static int answer_line(char *line, int checks) {
         return 1;
     }
     printf("%lu %s\n", number, text);
-    print_changes();
+    print_changes(answer);
     if (checks) check_all();
     return 0;
 }

@@ -12,7 +12,7 @@ MAIN = "int main(void) { struct pim_handle h = PIM_HANDLE_INIT; return h.at != 0
 
 STRUCTS = {"Handle": "pim_handle", "CProtocol": "pim_protocol", "CAnswer": "pim_answer", "CReason": "pim_reason",
            "CWaiter": "pim_waiter", "CChangedTask": "pim_changed_task",
-           "CChangedPrio": "pim_changed_prio"}
+           "CChangedPrio": "pim_changed_prio", "CHanded": "pim_handed"}
 TYPES = {"u8": "uint8_t", "u16": "uint16_t", "u32": "uint32_t", "u64": "uint64_t", "usize": "uint64_t",
          "*mut u8": "void *", **{name: f"struct {c}" for name, c in STRUCTS.items()}}
 

@@ -10,8 +10,8 @@
 #include <string.h>
 
 enum call {
-    LOCK, TRY, UNLOCK, RELEASE_ALL, CANCEL, SET_BASE, SET_CEILING, SET_PROTOCOL, ADOPT, CHANGED, PRIOS, WAITERS,
-    TASK_COUNT, MUTEX_COUNT, NEXT_TICKET, EFFECTIVE_PRIO, BASE_PRIO, REASON, WAITS_FOR, OWNER, LOCK_COUNT, PROTOCOL, DROP
+    LOCK, TRY, UNLOCK, RELEASE_ALL, CANCEL, SET_BASE, SET_CEILING, SET_PROTOCOL, ADOPT, CHANGED, PRIOS, HANDED,
+    WAITERS, TASK_COUNT, MUTEX_COUNT, NEXT_TICKET, EFFECTIVE_PRIO, BASE_PRIO, REASON, WAITS_FOR, OWNER, LOCK_COUNT, PROTOCOL, DROP
 };
 
 /* A call with its numbers, and what it returns. A struct is one number: its parts are 16 bits each. */
@@ -75,10 +75,12 @@ static uint64_t step(struct pim_handle *h, const uint16_t *n) {
 static uint64_t getter(const struct pim_handle *h, const uint16_t *n) {
     static struct pim_changed_task changed[ROOM];
     static struct pim_changed_prio prios[ROOM];
+    static struct pim_handed handed[ROOM];
     static struct pim_waiter waiters[ROOM];
     switch (n[0]) {
     case CHANGED: return pim_changed(h, changed, ROOM);
     case PRIOS: return pim_changed_prios(h, prios, ROOM);
+    case HANDED: return pim_handed(h, handed, ROOM);
     case WAITERS: return pim_waiters(h, n[1], waiters, ROOM);
     case TASK_COUNT: return pim_task_count(h);
     case MUTEX_COUNT: return pim_mutex_count(h);
@@ -124,8 +126,8 @@ static void each_answer(void) {
         ROW(ANSWER(PIM_QUEUED), LOCK, 3, 1), ROW(1, CHANGED), ROW(1, PRIOS),
         ROW(2, NEXT_TICKET), ROW(90, EFFECTIVE_PRIO, 1), ROW(10, BASE_PRIO, 1),
         ROW(REFUSED(WAITING), LOCK, 3, 4), ROW(0, CHANGED),
-        ROW(ABOUT(PIM_HANDED, 3), UNLOCK, 1, 1), ROW(10, EFFECTIVE_PRIO, 1),
-        ROW(ANSWER(PIM_FREED), UNLOCK, 3, 1),
+        ROW(ABOUT(PIM_HANDED, 3), UNLOCK, 1, 1), ROW(10, EFFECTIVE_PRIO, 1), ROW(1, HANDED),
+        ROW(ANSWER(PIM_FREED), UNLOCK, 3, 1), ROW(0, HANDED),
         ROW(ANSWER(PIM_GRANTED), TRY, 1, 3), ROW(ANSWER(PIM_GRANTED), TRY, 1, 3),
         ROW(ANSWER(PIM_KEPT), UNLOCK, 1, 3), ROW(1, LOCK_COUNT, 3),
         ROW(ANSWER(PIM_QUEUED), LOCK, 2, 3), ROW(3, NEXT_TICKET), ROW(3, WAITS_FOR, 2),
@@ -250,7 +252,7 @@ static void no_manager(void) {
     static const struct row rows[] = {
         ROW(0, LOCK, 1, 1), ROW(0, TRY, 1, 1), ROW(0, UNLOCK, 1, 1), ROW(0, RELEASE_ALL, 1), ROW(0, CANCEL, 1, 1),
         ROW(0, CANCEL, PIM_KERNEL, 1), ROW(0, SET_BASE, 1, 1, 20), ROW(0, SET_CEILING, 1, 2, 20), ROW(0, SET_PROTOCOL, 1, PIM_PROTECT, 60),
-        ROW(0, ADOPT, 1, 1), ROW(0, CHANGED), ROW(0, PRIOS), ROW(0, WAITERS, 1), ROW(0, TASK_COUNT), ROW(0, MUTEX_COUNT),
+        ROW(0, ADOPT, 1, 1), ROW(0, CHANGED), ROW(0, PRIOS), ROW(0, HANDED), ROW(0, WAITERS, 1), ROW(0, TASK_COUNT), ROW(0, MUTEX_COUNT),
         ROW(0, NEXT_TICKET),
         ROW(0, EFFECTIVE_PRIO, 1), ROW(0, BASE_PRIO, 1), ROW(0, REASON, 1), ROW(65535, WAITS_FOR, 1),
         ROW(65535, OWNER, 1), ROW(65535, LOCK_COUNT, 1), ROW(KIND(65535, 0), PROTOCOL, 1), ROW(0, DROP)
@@ -337,6 +339,30 @@ static void copied_prios(void) {
     dropped(&h);
 }
 
+/* Task 1 owns mutexes 1, 2 and 3; tasks 2 and 3 wait for 1 and 3, and get them when it releases all. */
+static void copied_owners(void) {
+    static const struct row rows[] = {
+        ROW(ANSWER(PIM_GRANTED), LOCK, 1, 1), ROW(ANSWER(PIM_GRANTED), LOCK, 1, 2),
+        ROW(ANSWER(PIM_GRANTED), LOCK, 1, 3), ROW(ANSWER(PIM_QUEUED), LOCK, 2, 1),
+        ROW(ANSWER(PIM_QUEUED), LOCK, 3, 3), ROW(0, HANDED), ROW(ABOUT(PIM_RELEASED, 3), RELEASE_ALL, 1)
+    };
+    static const struct pim_handed wanted[] = { { 1, 2 }, { 3, 3 } };
+    struct pim_handle h = made("handed mutexes are copied as far as there is room");
+    PLAY(&h, rows);
+    for (size_t room = 0; room <= ROOM; room++) {
+        struct pim_handed got[ROOM];
+        memset(got, 0xAA, sizeof got);
+        IS(pim_handed(&h, got, room), 2);
+        size_t copied = room < 2 ? room : 2;
+        for (size_t i = 0; i < copied; i++) {
+            IS(got[i].mutex, wanted[i].mutex);
+            IS(got[i].task, wanted[i].task);
+        }
+        see_untouched(__LINE__, got, sizeof *got, copied);
+    }
+    dropped(&h);
+}
+
 /* ---- pim_make -------------------------------------------------------------------------------- */
 
 struct making {
@@ -378,7 +404,7 @@ static void faults(void) {
 int main(void) {
     static void (*const cases[])(void) = {
         each_answer, each_refusal, kernel_asks, new_protocols, adopted, read_protocols, unknown_numbers, no_manager,
-        copied_waiters, copied_changes, copied_prios, faults
+        copied_waiters, copied_changes, copied_prios, copied_owners, faults
     };
     for (size_t i = 0; i < sizeof cases / sizeof *cases; i++) {
         int before = wrongs;

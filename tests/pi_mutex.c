@@ -528,7 +528,7 @@ static void faults_of_start(void) {
 
 /* Answers that no start of this test can bring about. */
 static void rare_answers(void) {
-    struct pim_answer tickets = { PIM_REFUSED, PIM_REFUSED_TICKETS, 0, 0 }, none = { PIM_NO_MANAGER, 0, 0, 0 };
+    struct pim_answer tickets = { PIM_REFUSED, PIM_REFUSED_TICKETS, 0, 0, 0 }, none = { PIM_NO_MANAGER, 0, 0, 0, 0 };
     begin("rare answers");
     answered = &tickets;
     CALL(pi_lock(LOW, FIRST), EAGAIN, "[ ]");

@@ -50,17 +50,20 @@ static void see_structs(const struct pim_handle *h) {
     struct pim_waiter waiter;
     struct pim_changed_task changed;
     struct pim_changed_prio prio;
+    struct pim_handed handed;
     must(reason.kind == PIM_OF_WAITER && reason.task == 3 && reason.mutex == 1, "pim_task_reason");
     must(pim_mutex_protocol(h, 2).ceiling == 60, "pim_mutex_protocol");
     must(pim_waiters(h, 1, &waiter, 1) == 1 && waiter.task == 3 && waiter.ticket == 1, "pim_waiters");
     must(pim_changed(h, &changed, 1) == 1 && changed.task == 1 && changed.prio == 90, "pim_changed");
     must(pim_changed_prios(h, &prio, 1) == 1 && prio.task == 1 && prio.prio == 90, "pim_changed_prios");
+    must(pim_handed(h, &handed, 1) == 0, "pim_handed");
 }
 
 static void see_no_manager(const struct pim_handle *h) {
     struct pim_waiter waiter;
     struct pim_changed_task changed;
     struct pim_changed_prio prio;
+    struct pim_handed handed;
     must(pim_task_count(h) == 0 && pim_mutex_count(h) == 0 && pim_next_ticket(h) == 0, "counts of none");
     must(pim_effective_prio(h, 1) == 0 && pim_base_prio(h, 1) == 0, "priorities of none");
     must(pim_waits_for(h, 1) == PIM_UNKNOWN && pim_owner(h, 1) == PIM_UNKNOWN, "a wait and an owner of none");
@@ -68,6 +71,7 @@ static void see_no_manager(const struct pim_handle *h) {
     must(pim_task_reason(h, 1).kind == PIM_OF_NOTHING, "a reason of none");
     must(pim_waiters(h, 1, &waiter, 1) == 0 && pim_changed(h, &changed, 1) == 0, "lists of none");
     must(pim_changed_prios(h, &prio, 1) == 0, "priorities of none");
+    must(pim_handed(h, &handed, 1) == 0, "handed mutexes of none");
 }
 
 int main(void) {

@@ -30,6 +30,7 @@ void __aeabi_memclr8(void *to, size_t n) { __aeabi_memclr(to, n); }
 static int chain(struct pim_handle *locks) {
     static struct pim_changed_task changed[TASKS];
     static struct pim_changed_prio prios[TASKS];
+    struct pim_handed handed;
     for (uint16_t t = 1; t <= TASKS; t++) {
         if (pim_lock(locks, t, t).kind != PIM_GRANTED) return 2;
         if (t > 1 && pim_lock(locks, t, t - 1).kind != PIM_QUEUED) return 3;
@@ -40,7 +41,8 @@ static int chain(struct pim_handle *locks) {
         if (changed[t - 1].task != t || changed[t - 1].prio != 10 + TASKS) return 5;
     if (pim_lock(locks, 1, TASKS).refusal != PIM_REFUSED_DEADLOCK) return 6;
     for (uint16_t t = 1; t < TASKS; t++)
-        if (pim_release_all(locks, t).kind != PIM_RELEASED || pim_owner(locks, t) != t + 1) return 7;
+        if (pim_release_all(locks, t).kind != PIM_RELEASED || pim_owner(locks, t) != t + 1 ||
+            pim_handed(locks, &handed, 1) != 1 || handed.mutex != t || handed.task != t + 1) return 7;
     return pim_effective_prio(locks, 1) == 11 ? 0 : 8;
 }
 

@@ -52,6 +52,13 @@ pub struct ChangedPrio {
     pub prio: u16,
 }
 
+#[repr(C)]
+#[derive(Clone, Copy, Default)]
+pub struct Handed {
+    pub mutex: u16,
+    pub task: u16,
+}
+
 extern "C" {
     pub fn pim_make(
         h: &mut Handle,
@@ -72,6 +79,7 @@ extern "C" {
     pub fn pim_adopt(h: &mut Handle, task: u16, mutex: u16) -> Answer;
     pub fn pim_changed(h: &Handle, to: *mut ChangedTask, room: usize) -> usize;
     pub fn pim_changed_prios(h: &Handle, to: *mut ChangedPrio, room: usize) -> usize;
+    pub fn pim_handed(h: &Handle, to: *mut Handed, room: usize) -> usize;
     pub fn pim_task_count(h: &Handle) -> u16;
     pub fn pim_effective_prio(h: &Handle, task: u16) -> u16;
     pub fn pim_owner(h: &Handle, mutex: u16) -> u16;

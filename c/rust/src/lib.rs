@@ -133,11 +133,20 @@ pub struct ChangedPrio {
     pub prio: u16,
 }
 
+/// A mutex that a step handed to a waiter.
+#[derive(Clone, Copy, Debug, PartialEq, Eq)]
+pub struct HandedMutex {
+    pub mutex: u16,
+    /// Its new owner.
+    pub task: u16,
+}
+
 /// A manager of tasks and mutexes.
 pub struct Manager {
     handle: c::Handle,
     changed: Vec<c::ChangedTask>,
     prios: Vec<c::ChangedPrio>,
+    handed: Vec<c::Handed>,
 }
 
 // Nothing behind the handle belongs to a thread, and no other handle leads there.
@@ -164,6 +173,7 @@ impl Manager {
                 handle,
                 changed: vec![c::ChangedTask::default(); bases.len()],
                 prios: vec![c::ChangedPrio::default(); bases.len()],
+                handed: vec![c::Handed::default(); protocols.len()],
             }),
             Some(fault) => Err(fault),
         }
@@ -218,6 +228,16 @@ impl Manager {
         self.prios[..count].iter().map(|one| ChangedPrio {
             task: one.task,
             prio: one.prio,
+        })
+    }
+
+    /// Returns the mutexes that the last step handed to waiters, in ascending order.
+    pub fn handed(&mut self) -> impl Iterator<Item = HandedMutex> + '_ {
+        let room = self.handed.len();
+        let count = unsafe { c::pim_handed(&self.handle, self.handed.as_mut_ptr(), room) };
+        self.handed[..count].iter().map(|one| HandedMutex {
+            mutex: one.mutex,
+            task: one.task,
         })
     }
 

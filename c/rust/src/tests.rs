@@ -62,6 +62,33 @@ fn owner_is_boosted_until_it_unlocks() {
 }
 
 #[test]
+fn release_lists_priorities_and_new_owners() {
+    let mut locks = four();
+    for mutex in [1, 2, 4] {
+        assert_eq!(locks.step(1, Op::Lock(mutex)), Reply::Granted);
+    }
+    assert_eq!(locks.step(2, Op::Lock(1)), Reply::Queued);
+    assert_eq!(locks.step(4, Op::Lock(4)), Reply::Queued);
+    assert_eq!(
+        locks.changed_prios().collect::<Vec<_>>(),
+        [ChangedPrio { task: 1, prio: 40 }]
+    );
+    assert_eq!(locks.handed().count(), 0);
+    assert_eq!(locks.step(1, Op::ReleaseAll), Reply::Released(3));
+    assert_eq!(
+        locks.changed_prios().collect::<Vec<_>>(),
+        [ChangedPrio { task: 1, prio: 10 }]
+    );
+    assert_eq!(
+        locks.handed().collect::<Vec<_>>(),
+        [
+            HandedMutex { mutex: 1, task: 2 },
+            HandedMutex { mutex: 4, task: 4 }
+        ]
+    );
+}
+
+#[test]
 fn recursive_mutex_is_kept_until_it_is_unlocked_as_often() {
     let mut locks = Manager::new(&[10, 90], &[Protocol::InheritRecursive]).unwrap();
     assert_eq!((locks.count(1), locks.count(2)), (Some(0), None));
@@ -233,6 +260,7 @@ fn each_struct_has_the_layout_of_the_header() {
     };
     let one = c::ChangedTask::default();
     let prio = c::ChangedPrio::default();
+    let handed = c::Handed::default();
     let why = &one.reason;
     assert_eq!(size_of::<c::Handle>(), 8);
     assert_eq!(
@@ -257,6 +285,10 @@ fn each_struct_has_the_layout_of_the_header() {
     assert_eq!((offset(&one, &one.task), offset(&one, &one.prio)), (0, 2));
     assert_eq!(
         (size_of::<c::ChangedPrio>(), offset(&prio, &prio.prio)),
+        (4, 2)
+    );
+    assert_eq!(
+        (size_of::<c::Handed>(), offset(&handed, &handed.task)),
         (4, 2)
     );
     assert_eq!(offset(&answer, &answer.changed), 6);

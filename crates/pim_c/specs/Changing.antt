@@ -26,9 +26,9 @@ set_or_refused r = record { kind = if r == 0 then SET else REFUSED; refusal = r;
 abbrev pub protocol_answer : Option TrackedState → ℕ → CProtocol → CAnswer
 protocol_answer held m p = option_map_or (λ (h : TrackedState). set_or_refused (c_protocol_refusal h.state m p)) held no_answer
 
--- m has the protocol that C means, and no task is listed as changed
+-- m has the protocol that C means, no task is listed as changed, and no mutex as handed over
 abbrev pub with_meant : TrackedState → ℕ → CProtocol → TrackedState
-with_meant h m p = option_map_or (λ q. record { state = with_protocol h.state m q; changed = [] }) (protocol_meant p) h
+with_meant h m p = option_map_or (λ q. record { state = with_protocol h.state m q; changed = []; handed = [] }) (protocol_meant p) h
 
 -- the value after the change, or what it was if that is refused
 abbrev pub reprotocoled : TrackedState → ℕ → CProtocol → TrackedState

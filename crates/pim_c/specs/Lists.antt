@@ -6,6 +6,7 @@ use Rattle.pim_base.specs.declared.steps.Waiter.{Waiter}
 use Rattle.pim_manager.specs.Known.{of_mutex}
 use Rattle.pim_manager.specs.declared.changed_prios.ChangedPrio.{ChangedPrio}
 use Rattle.pim_manager.specs.declared.changed_tasks.ChangedTask.{ChangedTask}
+use Rattle.pim_manager.specs.declared.handed_mutexes.HandedMutex.{HandedMutex}
 use Rattle.pim_c.specs.Getters.{in_manager}
 use Rattle.pim_manager.specs.Changed.{TrackedState, changed_prio}
 
@@ -20,3 +21,7 @@ changed_in held = option_map_or (λ (h : TrackedState). h.changed) held []
 -- the same without the reasons
 abbrev pub prios_in : Option TrackedState → List ChangedPrio
 prios_in held = map changed_prio (changed_in held)
+
+-- the mutexes that the last step handed over, with their new owners
+abbrev pub handed_in : Option TrackedState → List HandedMutex
+handed_in held = option_map_or (λ (h : TrackedState). h.handed) held []

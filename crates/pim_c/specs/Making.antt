@@ -34,4 +34,4 @@ first_fault held bases protocols =
 
 -- a manager of these tasks and mutexes, before any step: all mutexes are free
 abbrev pub made : List ℕ → List CProtocol → TrackedState
-made bases protocols = record { state = start bases (protocols_meant protocols) 1; changed = [] }
+made bases protocols = record { state = start bases (protocols_meant protocols) 1; changed = []; handed = [] }

@@ -3,6 +3,8 @@ use Rattle.pim_base.specs.declared.steps.Reason.{Reason}
 use Rattle.pim_base.specs.declared.steps.Waiter.{Waiter}
 use Rattle.pim_manager.specs.declared.changed_prios.ChangedPrio.{ChangedPrio}
 use Rattle.pim_manager.specs.declared.changed_tasks.ChangedTask.{ChangedTask}
+use Rattle.pim_manager.specs.declared.handed_mutexes.HandedMutex.{HandedMutex}
+use Rattle.pim_c.specs.declared.handed.CHanded.{CHanded}
 use Rattle.pim_c.specs.declared.numbers.TheConstants.{OF_NOTHING, OF_BASE, OF_CEILING, OF_WAITER}
 use Rattle.pim_c.specs.declared.reason.CReason.{CReason}
 use Rattle.pim_c.specs.declared.waiter.CWaiter.{CWaiter}
@@ -27,3 +29,6 @@ c_changed_task c = record { task = c.task; prio = c.prio; reason = c_reason c.re
 
 abbrev pub c_changed_prio : ChangedPrio → CChangedPrio
 c_changed_prio c = record { task = c.task; prio = c.prio }
+
+abbrev pub c_handed : HandedMutex → CHanded
+c_handed h = record { mutex = h.mutex; task = h.task }

@@ -54,9 +54,9 @@ impl CAnswer {
         }
     }
 
-    /// Returns this reply to a step that made this number of visits and changed this number of tasks.
-    pub fn of(reply: Reply, visits: u16, changed: u16) -> CAnswer
-        ensures { result ≡ record { kind = reply_number reply; refusal = reply_refusal reply; number = reply_detail reply; visits = visits; changed = changed } }
+    /// Returns this reply to a step that made this number of visits and changed no task.
+    pub fn of(reply: Reply, visits: u16) -> CAnswer
+        ensures { result ≡ record { kind = reply_number reply; refusal = reply_refusal reply; number = reply_detail reply; visits = visits; changed = 0 } }
     {
         let (kind, refusal, number) = match reply {
             Reply::Granted => (GRANTED, 0, 0),
@@ -74,7 +74,7 @@ impl CAnswer {
             refusal,
             number,
             visits,
-            changed,
+            changed: 0,
         }
     }
 }

@@ -43,8 +43,8 @@ fn set_protocol(held: &mut TrackedManager, mutex: MutexNo, protocol: CProtocol) 
         return CAnswer::refused(REFUSED_NO_PROTOCOL);
     };
     match held.set_protocol(mutex, protocol) {
-        Ok(()) => CAnswer::of(Reply::Set, 0, 0),
-        Err(refusal) => CAnswer::of(Reply::Refused(refusal), 0, 0),
+        Ok(()) => CAnswer::of(Reply::Set, 0),
+        Err(refusal) => CAnswer::of(Reply::Refused(refusal), 0),
     }
 }
 
@@ -69,7 +69,7 @@ fn adopt(held: &mut TrackedManager, task: TaskNo, mutex: MutexNo) -> CAnswer
     ensures state { held.new ≡ adopted held.old task mutex }
 {
     match held.adopt(task, mutex) {
-        Ok(()) => CAnswer::of(Reply::Granted, 0, 0),
+        Ok(()) => CAnswer::of(Reply::Granted, 0),
         Err(fault) => CAnswer::refused(number_of_adopt_fault(fault)),
     }
 }

@@ -20,6 +20,7 @@ mod changed_prio;
 mod changed_task;
 mod changing;
 mod getters;
+mod handed;
 mod handle;
 mod lists;
 mod making;

@@ -2,12 +2,13 @@
 
 ghost use Rattle.std.specs.Prelude.{◌≡◌, length, map};
 ghost use Rattle.pim_ffi.specs.Copied.{copied};
-ghost use Rattle.pim_c.specs.Shapes.{c_changed_prio, c_changed_task, c_waiter};
-ghost use Rattle.pim_c.specs.Lists.{changed_in, prios_in, waiters_in};
+ghost use Rattle.pim_c.specs.Shapes.{c_changed_prio, c_changed_task, c_handed, c_waiter};
+ghost use Rattle.pim_c.specs.Lists.{changed_in, handed_in, prios_in, waiters_in};
 ghost use Rattle.pim_manager.specs.Changed.{changed_prio};
 
 use crate::changed_prio::CChangedPrio;
 use crate::changed_task::CChangedTask;
+use crate::handed::CHanded;
 use crate::handle::Handle;
 use crate::waiter::CWaiter;
 use pim_base::{MutexNo, Waiter};
@@ -58,6 +59,20 @@ pub extern "C" fn pim_changed_prios(handle: &mut Handle, to: &mut [CChangedPrio]
     }
 }
 
+/// Copies the mutexes that the last step handed to waiters, in ascending order, with their new owners, as many as there
+/// is room for. Returns how many there are, 0 without a manager.
+#[unsafe(no_mangle)]
+pub extern "C" fn pim_handed(handle: &mut Handle, to: &mut [CHanded]) -> usize
+    ensures count { result ≡ length (handed_in handle.old.held) }
+    ensures copied { to.new ≡ copied (map c_handed (handed_in handle.old.held)) to.old }
+    ensures same { handle.new.held ≡ handle.old.held }
+{
+    match handle.get_mut() {
+        None => 0,
+        Some(held) => copy_handed(held, to),
+    }
+}
+
 /// Copies the waiters, as many as there is room for. Returns how many there are.
 fn copy_waiters(from: &[Waiter], to: &mut [CWaiter]) -> usize
     ensures count { result ≡ length from.now }
@@ -95,6 +110,22 @@ fn copy_prios(held: &TrackedManager, to: &mut [CChangedPrio]) -> usize
     for changed in held.changed_prios() {
         if count < to.len() {
             to[count] = CChangedPrio::of(changed);
+        }
+        count += 1;
+    }
+    count
+}
+
+/// Copies the mutexes that the manager's last step handed over, with their new owners, as many as there is room for.
+/// Returns how many there are.
+fn copy_handed(held: &TrackedManager, to: &mut [CHanded]) -> usize
+    ensures count { result ≡ length held.now.handed }
+    ensures copied { to.new ≡ copied (map c_handed held.now.handed) to.old }
+{
+    let mut count = 0;
+    for handed in held.handed() {
+        if count < to.len() {
+            to[count] = CHanded::of(handed);
         }
         count += 1;
     }

@@ -117,8 +117,12 @@ fn answer_step(held: &mut TrackedManager, step: Step) -> CAnswer
     ensures state { held.new ≡ c_stepped held.old step }
 {
     let Done { reply, visits } = step_of(held, step);
-    let changed = held.changed_count();
-    CAnswer::of(reply, visits as u16, changed)
+    let mut answer = CAnswer::of(reply, visits as u16);
+    // A step without a visit changed no priority: on the fast paths the compiler knows that.
+    if visits > 0 {
+        answer.changed = held.changed_count();
+    }
+    answer
 }
 
 /// Makes the step of a task, or that of the kernel.

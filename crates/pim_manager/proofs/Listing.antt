@@ -1,5 +1,5 @@
 -- The tasks that are listed are those whose priority a step changed.
-use Rattle.std.proofs.Common.{◌≡◌, ◌≢◌, ◌==◌, ◌≤◌, ◌<◌, ◌+◌, ℕ, zero, suc, Bool, true, false, not, cond, [], ◌∷◌}
+use Rattle.std.proofs.Common.{◌≡◌, ◌==◌, ◌≤◌, ◌<◌, ◌+◌, ℕ, zero, suc, Bool, true, false, not, cond, [], ◌∷◌}
 use Rattle.std.proofs.Common.{List, filter, length, unwrap_or, refl, sym, if◌then◌else◌}
 use Rattle.std.proofs.Common.{◌∙◌, ap, arith, Option, None, Some, IsSome, is_some}
 use Rattle.std.specs.List.{AllByRecursion, range_with_len}
@@ -125,17 +125,18 @@ noted_tasks_of_step S T a b few work kept none =
     changed = work.noted.2 (unnoted_changed (length S.base) (effective_priority S) a none)
 
 -- ---- all that are noted are known
-each_known :
-    (S : State) (p : ℕ → Bool) (a n : ℕ)
-    → ((t : ℕ) → p t ≡ true → IsTask S t)
-    → AllByRecursion (IsTask S) (filter p (range_with_len a n))
-each_known S p a zero known = tt
-each_known S p a (suc n) known = go (p a) refl (each_known S p (a + 1) n known)
+-- what holds of all that pass holds of those that are left
+pub each_passing :
+    (P : ℕ → Type 0) (p : ℕ → Bool) (a n : ℕ)
+    → ((t : ℕ) → p t ≡ true → P t)
+    → AllByRecursion P (filter p (range_with_len a n))
+each_passing P p a zero known = tt
+each_passing P p a (suc n) known = go (p a) refl (each_passing P p (a + 1) n known)
   where
     more : List ℕ
     more = filter p (range_with_len (a + 1) n)
 
-    go : (b : Bool) → p a ≡ b → AllByRecursion (IsTask S) more → AllByRecursion (IsTask S) (cond b (a ∷ more) more)
+    go : (b : Bool) → p a ≡ b → AllByRecursion P more → AllByRecursion P (cond b (a ∷ more) more)
     go true is rest = (known a is, rest)
     go false is rest = rest
 
@@ -151,7 +152,7 @@ noted_known S f w changed = go w.notes refl
         → w.notes ≡ n
         → AllByRecursion (IsTask S) (option_map_or (λ (m : Noted). members m.tasks) n [])
     go None is = tt
-    go (Some m) is = each_known S (has m.tasks) 0 320 known
+    go (Some m) is = each_passing (IsTask S) (has m.tasks) 0 320 known
       where
         known : (t : ℕ) → has m.tasks t ≡ true → IsTask S t
         known t there = with_note (noted_of w t) refl

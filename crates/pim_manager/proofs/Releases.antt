@@ -38,10 +38,10 @@ first_of-waits S m w tickets first idle = go (queue_of S m) (queue_law S m ticke
     go (v ∷ vs) all e = let waits = waits_for S m v.task v (all 0 v (omega arith)).1 in cc
 
 -- an owner who doesn't wait loses the mutex
-lost : (S : State) (m a : ℕ) → HasOwnTickets S → wait_of S a ≡ None → holds (owner_of (hand_over S m) m) a ≡ false
+pub lost : (S : State) (m a : ℕ) → HasOwnTickets S → wait_of S a ≡ None → holds (owner_of (hand_over S m) m) a ≡ false
 lost S m a tickets idle = grind (arith, nat_tests, first_of-waits, freed_owner, unwrap_or-put_same)
 
-lost_differs : (o r : Option ℕ) (a : ℕ) → o ≡ Some a → holds r a ≡ false → not (same_owner o r) ≡ true
+pub lost_differs : (o r : Option ℕ) (a : ℕ) → o ≡ Some a → holds r a ≡ false → not (same_owner o r) ≡ true
 lost_differs o r a is h = grind (arith, nat_tests)
 
 keeps_not : (S : State) (m a : ℕ) → HasOwnTickets S → wait_of S a ≡ None → owner_of (hand_over S m) m ≡ Some a → ⊥

@@ -16,6 +16,6 @@ adopt_fault S t m =
     else if is_owned S m then Some AdoptFault.Busy
     else None
 
--- t owns m, and no task is listed as changed
+-- t owns m, no task is listed as changed, and no mutex as handed over
 abbrev pub with_adopted : TrackedState → ℕ → ℕ → TrackedState
-with_adopted h t m = record { state = with_owner h.state m (Some t); changed = [] }
+with_adopted h t m = record { state = with_owner h.state m (Some t); changed = []; handed = [] }

@@ -1,4 +1,4 @@
--- The tasks whose priority a step changed.
+-- The tasks whose priority a step changed, and the mutexes that it handed over.
 use Rattle.std.specs.Prelude.{ℕ, List, map}
 use Rattle.pim_base.specs.State.{State}
 use Rattle.pim_base.specs.Priorities.{effective_priority}
@@ -6,6 +6,8 @@ use Rattle.pim_base.specs.Reasons.{reason_of}
 use Rattle.pim_base.specs.Reports.{changed_tasks}
 use Rattle.pim_base.specs.Steps.{after}
 use Rattle.pim_base.specs.declared.steps.Step.{Step}
+use Rattle.pim_manager.specs.Handed.{handed_mutexes}
+use Rattle.pim_manager.specs.declared.handed_mutexes.HandedMutex.{HandedMutex}
 use Rattle.pim_manager.specs.declared.changed_prios.ChangedPrio.{ChangedPrio}
 use Rattle.pim_manager.specs.declared.changed_tasks.ChangedTask.{ChangedTask}
 
@@ -21,14 +23,17 @@ listed S ts = map (changed_task S) ts
 abbrev pub changed_prio : ChangedTask → ChangedPrio
 changed_prio c = record { task = c.task; prio = c.prio }
 
--- a manager's state, and the tasks whose effective priority its last step changed
+-- a manager's state, the tasks whose effective priority its last step changed, and the mutexes that it handed over
 pub record TrackedState : Type 0 where
   pub state : State
   pub changed : List ChangedTask
+  pub handed : List HandedMutex
 
--- the state after the step, and the tasks whose effective priority it changed, as they are then
+-- the state after the step, the tasks whose effective priority it changed, as they are then, and the mutexes that it
+-- handed over
 abbrev pub stepped : TrackedState → Step → TrackedState
 stepped h step = record {
   state = after h.state step;
   changed = listed (after h.state step) (changed_tasks h.state (after h.state step));
+  handed = handed_mutexes h.state (after h.state step);
 }

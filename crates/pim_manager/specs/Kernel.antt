@@ -1,5 +1,5 @@
 -- What a kernel asks for itself, where no task asks.
-use Rattle.std.specs.Prelude.{◌≡◌, ◌≢◌, ℕ, true, None, Some}
+use Rattle.std.specs.Prelude.{◌≡◌, ◌≢◌, ℕ, [], true, None, Some}
 use Rattle.pim_base.specs.State.{State, IsTask, owner_of, wait_of}
 use Rattle.pim_base.specs.Checks.{is_owned}
 use Rattle.pim_base.specs.Reports.{changed_tasks}
@@ -23,11 +23,12 @@ kernel_reply S k = answer S 0 (as_op k)
 abbrev pub after_kernel : State → KernelOp → State
 after_kernel S k = after_reply S 0 (as_op k) (kernel_reply S k)
 
--- that state, and the tasks whose effective priority differs, as they are then
+-- that state, and the tasks whose effective priority differs, as they are then. No mutex is handed over.
 abbrev pub kernel_stepped : TrackedState → KernelOp → TrackedState
 kernel_stepped h k = record {
   state = after_kernel h.state k;
   changed = listed (after_kernel h.state k) (changed_tasks h.state (after_kernel h.state k));
+  handed = [];
 }
 
 -- a known task that doesn't wait, nor owns the mutex that the operation names

@@ -4,7 +4,7 @@
 //! execute. [`Manager::step`] answers one request: the reply and the state after it are those of the definitions. It
 //! computes only the priorities that the step may change, and [`Done::visits`] counts them. Steps never allocate, and
 //! between two calls there is never a cycle of waits. A [`TrackedManager`] also lists the tasks whose priority the last
-//! step changed, each with its priority and, on request, the reason.
+//! step changed, each with its priority and, on request, the reason, and the mutexes that it handed over.
 //!
 //! A low task owns the mutex that a high one requests. So it executes at the high priority, and a medium one can't
 //! delay it:
@@ -25,9 +25,11 @@ mod adopt_fault;
 mod changed_prios;
 mod changed_tasks;
 mod done;
+mod handed_mutexes;
 mod kernel_op;
 mod make_fault;
 mod manager;
+mod released;
 mod runs;
 mod shared_fault;
 mod steps;
@@ -37,6 +39,7 @@ pub use adopt_fault::AdoptFault;
 pub use changed_prios::{ChangedPrio, ChangedPrios};
 pub use changed_tasks::{ChangedTask, ChangedTasks};
 pub use done::Done;
+pub use handed_mutexes::{HandedMutex, HandedMutexes};
 pub use kernel_op::KernelOp;
 pub use make_fault::MakeFault;
 pub use manager::Manager;

@@ -18,6 +18,8 @@ ghost use Rattle.pim_manager.specs.Changed.{changed_prio, changed_task};
 ghost use Rattle.pim_manager.specs.Kernel.{kernel_reply, after_kernel, IsBystander, IsAnsweredAlike, IsForOwned};
 ghost use Rattle.pim_manager.specs.Known.{of_task, of_mutex};
 ghost use Rattle.pim_manager.specs.Protocols.{protocol_refusal};
+ghost use Rattle.pim_manager.specs.Released.{releasable};
+ghost use Rattle.pim_sets.specs.Numbers.{members};
 
 use crate::adopt_fault::AdoptFault;
 use crate::changed_prios::ChangedPrio;
@@ -29,6 +31,7 @@ use pim_base::{
     MAX_MUTEXES, MAX_TASKS, MutexNo, Prio, Protocol, Reason, Refusal, Step, TaskNo, Waiter,
 };
 use pim_chain::{Tables, Visits};
+use pim_sets::NumberSet;
 use std::alloc::{AllocError, Global};
 use std::marker::Model;
 
@@ -318,6 +321,25 @@ impl Manager {
         }
         self.tables.adopt(mutex, task);
         Ok(())
+    }
+
+    /// Returns the owner of the mutex, `None` if it is free or unknown.
+    pub(crate) fn owner_of(&self, mutex: MutexNo) -> Option<TaskNo>
+        ensures { result ≡ owner_of self.now mutex }
+    {
+        self.tables.owner(mutex)
+    }
+
+    /// Returns the set of the mutexes that the task releases if it releases all: it is empty if the task is unknown or
+    /// waits.
+    #[tactic(auto, using(pim_sets::proofs::Members::members_empty))]
+    pub(crate) fn releasable(&self, task: TaskNo) -> NumberSet
+        ensures { members result.words ≡ releasable self.now task }
+    {
+        if self.tables.is_unknown_task(task) || self.tables.known_wait(task).is_some() {
+            return NumberSet::new();
+        }
+        self.tables.owned_set(task)
     }
 
     /// Returns the task with its effective priority.

@@ -5,7 +5,7 @@ use Op::{Cancel, Lock, ReleaseAll, SetBase, SetCeiling, Try, Unlock};
 use Protocol::Inherit;
 use Reply::{Freed, Granted, Handed, Queued, Refused, Released, Set, Withdrawn};
 use pim_base::{MutexNo, Op, Prio, Protocol, Reason, Refusal, Reply, Step, TaskNo, Waiter};
-use pim_manager::{ChangedPrio, ChangedTask, Done, Manager, TrackedManager};
+use pim_manager::{ChangedPrio, ChangedTask, Done, HandedMutex, Manager, TrackedManager};
 use std::alloc::Global;
 use std::process::Abort;
 use std::test::Fail;
@@ -250,6 +250,62 @@ fn steps_make_few_visits_and_list_what_they_change(rt: HostRuntime) -> Result<()
         Protocol::Protect(prio(&rt, 95)),
     ];
     play(&rt, rt.alloc(), &[10, 20, 90], &protocols, &STEPS)
+}
+
+/// Tests that the last step handed over exactly these mutexes, each to this task.
+fn expect_handed(rt: &impl Abort, tracked: &TrackedManager, expected: &[(u16, u16)]) {
+    let mut handed = tracked.handed();
+    for (mutex, task) in expected {
+        let wanted = HandedMutex {
+            mutex: MutexNo(*mutex),
+            task: TaskNo(*task),
+        };
+        assert!(rt; handed.next() == Some(wanted), "{mutex}");
+    }
+    assert!(rt; handed.next().is_none());
+}
+
+/// Steps of tasks 1 to 4, each with what it lists and what it hands over: mutex 1 to task 2 by an unlock, and of the
+/// three mutexes of task 1 then two by its release.
+const HANDING: [(Row, &[(u16, u16)]); 11] = [
+    (Row(1, Lock(FIRST), Granted, 0, &[]), &[]),
+    (Row(2, Lock(FIRST), Queued, 1, &[(1, 20, BY_SECOND)]), &[]),
+    (
+        Row(
+            1,
+            Unlock(FIRST),
+            Handed(TaskNo(2)),
+            1,
+            &[(1, 10, Why::Base)],
+        ),
+        &[(1, 2)],
+    ),
+    (Row(2, Unlock(FIRST), Freed, 0, &[]), &[]),
+    (Row(1, Lock(FIRST), Granted, 0, &[]), &[]),
+    (Row(1, Lock(SECOND), Granted, 0, &[]), &[]),
+    (Row(1, Lock(THIRD), Granted, 0, &[]), &[]),
+    (Row(2, Lock(FIRST), Queued, 1, &[(1, 20, BY_SECOND)]), &[]),
+    (
+        Row(4, Lock(THIRD), Queued, 1, &[(1, 90, Why::Waiter(4, 3))]),
+        &[],
+    ),
+    (
+        Row(1, ReleaseAll, Released(3), 1, &[(1, 10, Why::Base)]),
+        &[(1, 2), (3, 4)],
+    ),
+    (Row(1, ReleaseAll, Released(0), 0, &[]), &[]),
+];
+
+#[test]
+fn mutexes_that_a_step_hands_over_are_listed(rt: HostRuntime) -> Result<(), Fail> {
+    let (levels, protocols) = ([10, 20, 30, 90], [Inherit, Inherit, Inherit]);
+    let mut manager = made(&rt, rt.alloc(), &levels, &protocols)?;
+    let mut tracked = tracked(&rt, rt.alloc(), &levels, &protocols)?;
+    for (row, handed) in &HANDING {
+        expect_row(&rt, &mut tracked, &mut manager, row);
+        expect_handed(&rt, &tracked, handed);
+    }
+    Ok(())
 }
 
 const BY_CEILING: Why = Why::Ceiling(1);
