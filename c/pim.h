@@ -409,7 +409,7 @@ uint64_t pim_changed_prios(const struct pim_handle *h, struct pim_changed_prio *
 /* Copies the mutexes that the last step handed to waiters, in ascending order, with their new owners, at
  * most `room` of them, and returns how many there are. Each of these tasks is to run on: after
  * PIM_RELEASED as after PIM_HANDED. None where no step was made yet, where the last one handed none
- * over, and where pim_set_protocol was answered PIM_SET since. */
+ * over, and where pim_set_protocol was answered PIM_SET since, or pim_adopt PIM_GRANTED. */
 uint64_t pim_handed(const struct pim_handle *h, struct pim_handed *to, uint64_t room);
 
 /* ---- what stands ----------------------------------------------------------------------------- */

@@ -25,7 +25,7 @@
 
 enum {
     MAX_THREADS = 32, /* tasks of libpim; the kernel has two threads more */
-    MAX_MUTEXES = 64, /* at most 64, since wake_new_owners has a bit for each */
+    MAX_MUTEXES = 64,
     STACK_BYTES = 4096
 };
 

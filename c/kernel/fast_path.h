@@ -1,9 +1,8 @@
 /* Locks and unlocks without libpim, for mutexes.c alone.
  *
  * Owning a NONE or INHERIT mutex for which nobody waits changes no priority. So the kernel keeps
- * the owner of such a mutex in a table, and registers it by pim_lock when it must: when another
- * thread asks for the mutex, or when the owner is about to wait, since pim_lock is refused to a
- * task that waits. The mutex is libpim's until it is free again.
+ * the owner of such a mutex in a table, and registers it by pim_adopt when another thread asks for
+ * the mutex, also if the owner waits for another one. The mutex is libpim's until it is free again.
  *
  * All functions are called within the kernel's lock. A mutex of an unknown number has no owner. */
 #ifndef FAST_PATH_H
@@ -60,13 +59,7 @@ static void fast_register(struct pim_handle *locks, uint16_t mutex) {
     if (!owner) return;
     fast_unlock(owner, mutex);
     is_registered[mutex] = true;
-    if (pim_lock(locks, owner, mutex).kind != PIM_GRANTED) panic("a free mutex isn't granted");
-}
-
-/* Registers what libpim has to know before the thread may wait for the mutex. */
-static void fast_register_before_wait(struct pim_handle *locks, uint16_t thread, uint16_t mutex) {
-    while (first_of_owner[thread]) fast_register(locks, first_of_owner[thread]);
-    fast_register(locks, mutex);
+    if (pim_adopt(locks, owner, mutex).kind != PIM_GRANTED) panic("a free mutex has an owner");
 }
 
 /* Notes whether libpim still has an owner of the mutex, after an unlock with this answer. */
@@ -94,9 +87,6 @@ static int fast_unlock_all(uint16_t thread) {
 }
 static void fast_register(struct pim_handle *locks, uint16_t mutex) {
     (void)locks, (void)mutex;
-}
-static void fast_register_before_wait(struct pim_handle *locks, uint16_t thread, uint16_t mutex) {
-    (void)locks, (void)thread, (void)mutex;
 }
 static void fast_note(uint16_t mutex, struct pim_answer answer) {
     (void)mutex, (void)answer;

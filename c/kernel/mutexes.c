@@ -5,35 +5,28 @@
 
 /* The kernel's lock is held from a step of libpim until its answer is carried out. */
 static struct pim_handle locks = PIM_HANDLE_INIT;
-static struct pim_changed_task changed[MAX_THREADS];
+static struct pim_changed_prio changed[MAX_THREADS];
+static struct pim_handed handed[MAX_MUTEXES];
 static _Alignas(16) unsigned char memory[PIM_MEMORY(MAX_THREADS, MAX_MUTEXES)];
-
-_Static_assert(MAX_MUTEXES <= 64, "wake_new_owners has a bit for each mutex");
 
 /* ---- carrying out an answer ---- */
 
-/* Schedules each thread whose priority the step changed at its new one, the caller last. A step
- * that computed no priority changed none. */
+/* Schedules each thread whose priority the step changed at its new one, the caller last. */
 static void apply_changes(struct thread *caller, struct pim_answer answer) {
-    if (answer.visits == 0) return;
-    size_t count = pim_changed(&locks, changed, MAX_THREADS);
+    if (answer.changed == 0) return;
+    pim_changed_prios(&locks, changed, MAX_THREADS);
     uint16_t own = 0;
-    for (size_t i = 0; i < count; i++) {
+    for (uint16_t i = 0; i < answer.changed; i++) {
         if (changed[i].task == caller->number) own = changed[i].prio;
         else sched_set_prio(&threads[changed[i].task], (uint8_t)changed[i].prio);
     }
     if (own) sched_set_prio(caller, (uint8_t)own);
 }
 
-/* Wakes the threads that a release gave a mutex, in the order of the mutexes. libpim names none:
- * they are those that are blocked and no longer wait. */
+/* Wakes the threads that a release gave a mutex, in the order of the mutexes. */
 static void wake_new_owners(void) {
-    uint64_t handed = 0; /* bit m - 1: mutex m has a new owner */
-    for (uint16_t t = 1; t <= pim_task_count(&locks); t++)
-        if (threads[t].state == LOCKING && pim_waits_for(&locks, t) == 0)
-            handed |= 1ull << (threads[t].mutex - 1);
-    for (; handed; handed &= handed - 1)
-        sched_wake(&threads[pim_owner(&locks, (uint16_t)(__builtin_ctzll(handed) + 1))], 0);
+    uint64_t count = pim_handed(&locks, handed, MAX_MUTEXES);
+    for (uint64_t i = 0; i < count; i++) sched_wake(&threads[handed[i].task], 0);
 }
 
 /* Wakes the new owners of mutexes, then sets priorities. Returns what the caller's call
@@ -50,14 +43,6 @@ static int carry_out(struct thread *caller, struct pim_answer answer) {
     }
     apply_changes(caller, answer);
     return returned;
-}
-
-/* Ends the wait of the target, whose call returns the result. Returns what the caller's call
- * returns. */
-static int withdraw(struct thread *caller, uint16_t target, int result) {
-    struct pim_answer answer = pim_cancel(&locks, caller->number, target);
-    if (answer.kind == PIM_WITHDRAWN) sched_wake(&threads[target], result);
-    return carry_out(caller, answer);
 }
 
 /* Leaves the kernel after a step that blocks nobody. */
@@ -89,7 +74,7 @@ uint32_t mutexes_start(const uint16_t *bases, uint16_t thread_count,
 int mutex_timedlock(uint16_t mutex, uint64_t deadline) {
     kernel_enter();
     if (fast_lock(current->number, mutex)) return finish_fast();
-    fast_register_before_wait(&locks, current->number, mutex);
+    fast_register(&locks, mutex);
     struct pim_answer answer = pim_lock(&locks, current->number, mutex);
     if (answer.kind != PIM_QUEUED) return finish(answer);
     current->mutex = mutex;
@@ -128,9 +113,9 @@ int mutex_unlock_all(void) {
 
 int mutex_withdraw(uint16_t thread) {
     kernel_enter();
-    int returned = withdraw(current, thread, MUTEX_WITHDRAWN);
-    kernel_leave();
-    return returned;
+    struct pim_answer answer = pim_cancel(&locks, current->number, thread);
+    if (answer.kind == PIM_WITHDRAWN) sched_wake(&threads[thread], MUTEX_WITHDRAWN);
+    return finish(answer);
 }
 
 int thread_set_priority(uint16_t thread, uint16_t prio) {
@@ -144,8 +129,10 @@ int mutex_set_ceiling(uint16_t mutex, uint16_t ceiling) {
 }
 
 void mutex_time_is_out(struct thread *thread) {
-    int refusal = withdraw(thread, thread->number, MUTEX_TIMED_OUT);
-    if (refusal) panic("a blocked thread doesn't wait");
+    struct pim_answer answer = pim_cancel(&locks, PIM_KERNEL, thread->number);
+    if (answer.kind != PIM_WITHDRAWN) panic("a blocked thread doesn't wait");
+    sched_wake(thread, MUTEX_TIMED_OUT);
+    apply_changes(thread, answer);
 }
 
 struct pim_handle *mutexes_manager(void) {

@@ -35,8 +35,8 @@ static int run_at(struct thread *thread, uint16_t prio) {
  * once it has lowered itself, a thread of medium priority may run in its place. So this follows
  * wake. */
 void apply_changes(void) {
-    struct pim_changed_task changed[TASKS];
-    size_t count = pim_changed(&locks, changed, TASKS);
+    struct pim_changed_prio changed[TASKS];
+    size_t count = pim_changed_prios(&locks, changed, TASKS);
     for (size_t i = 0; i < count; i++)
         if (&threads[changed[i].task] != me) run_at(&threads[changed[i].task], changed[i].prio);
     if (me != NULL) run_at(me, pim_effective_prio(&locks, me->number));

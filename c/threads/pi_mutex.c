@@ -44,8 +44,8 @@ static void run_at(uint16_t thread, uint16_t prio) {
  * once it has lowered itself, a thread of medium priority may run in its place. So this follows
  * wake. */
 static void apply_changes(uint16_t caller) {
-    struct pim_changed_task changed[PIM_MAX_TASKS];
-    size_t count = pim_changed(&locks, changed, PIM_MAX_TASKS);
+    struct pim_changed_prio changed[PIM_MAX_TASKS];
+    size_t count = pim_changed_prios(&locks, changed, PIM_MAX_TASKS);
     uint16_t own = 0;
     for (size_t i = 0; i < count; i++) {
         if (changed[i].task == caller) own = changed[i].prio;

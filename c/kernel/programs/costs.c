@@ -57,16 +57,16 @@ static void measure_after_release(void *name) {
 
 static void measure_libpim(void *unused) {
     struct pim_handle *locks = mutexes_manager();
-    struct pim_changed_task changed[1];
+    struct pim_changed_prio changed[1];
     (void)unused;
     kernel_enter();
     uint64_t lock = COST_OF(pim_lock(locks, LOW, 1));
-    uint64_t lock_list = COST_OF(pim_changed(locks, changed, 1));
+    uint64_t lock_list = COST_OF(pim_changed_prios(locks, changed, 1));
     uint64_t unlock = COST_OF(pim_unlock(locks, LOW, 1));
-    uint64_t unlock_list = COST_OF(pim_changed(locks, changed, 1));
+    uint64_t unlock_list = COST_OF(pim_changed_prios(locks, changed, 1));
     kernel_leave();
     print_row("pim_lock and pim_unlock alone, INHERIT", lock, unlock);
-    print_row("pim_changed after each, which lists none", lock_list, unlock_list);
+    print_row("pim_changed_prios after each, which lists none", lock_list, unlock_list);
     one_has_finished();
 }
 
@@ -98,6 +98,7 @@ static void measure_contended(void *name) {
 /* Makes the steps by itself: no thread is blocked. */
 static void measure_chain(void *unused) {
     static struct pim_changed_task changed[MOST];
+    static struct pim_changed_prio prios[MOST];
     struct pim_handle *locks = mutexes_manager();
     (void)unused;
     kernel_enter();
@@ -108,9 +109,11 @@ static void measure_chain(void *unused) {
     pim_set_base(locks, MOST, MOST, 99);
     uint64_t lock = COST_OF(pim_lock(locks, MOST, MOST - 1));
     uint64_t list = COST_OF(pim_changed(locks, changed, MOST));
+    uint64_t list_of_prios = COST_OF(pim_changed_prios(locks, prios, MOST));
     kernel_leave();
     print("pim_lock that joins a chain of 31: %llu\n", (unsigned long long)lock);
     print("pim_changed after it, which lists 31: %llu\n", (unsigned long long)list);
+    print("pim_changed_prios, of the same: %llu\n", (unsigned long long)list_of_prios);
     one_has_finished();
 }
 

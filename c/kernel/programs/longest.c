@@ -137,7 +137,7 @@ static void chain_joined(void) {
     measure(n, lock, (uint16_t)(n - 1), 0);
 }
 
-/* With a fast path, libpim is told of all its mutexes first. */
+/* With a fast path, libpim isn't told of its mutexes, since nobody waits for them. */
 static void owner_of_many_waits(void) {
     begin(PIM_INHERIT, 0);
     let(2, lock, 1, 0);
