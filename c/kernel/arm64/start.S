@@ -78,20 +78,35 @@ unexpected:
     bl      on_unexpected
     b       halt
 
+/* Stores or loads the registers that a call may change, and the frame pointer. */
+.macro caller_saved access
+    \access  x0, x1, [sp]
+    \access  x2, x3, [sp, #16]
+    \access  x4, x5, [sp, #32]
+    \access  x6, x7, [sp, #48]
+    \access  x8, x9, [sp, #64]
+    \access  x10, x11, [sp, #80]
+    \access  x12, x13, [sp, #96]
+    \access  x14, x15, [sp, #112]
+    \access  x16, x17, [sp, #128]
+    \access  x18, x29, [sp, #144]
+.endm
+
+/* Stores or loads those that a call keeps, and where it returns to. */
+.macro callee_saved access
+    \access  x19, x20, [sp]
+    \access  x21, x22, [sp, #16]
+    \access  x23, x24, [sp, #32]
+    \access  x25, x26, [sp, #48]
+    \access  x27, x28, [sp, #64]
+    \access  x29, x30, [sp, #80]
+.endm
+
 /* Saves what a call may change on the stack of the interrupted thread. on_interrupt may switch to
  * another thread. It returns here when this one runs again. */
 interrupt:
     sub     sp, sp, #192
-    stp     x0, x1, [sp]
-    stp     x2, x3, [sp, #16]
-    stp     x4, x5, [sp, #32]
-    stp     x6, x7, [sp, #48]
-    stp     x8, x9, [sp, #64]
-    stp     x10, x11, [sp, #80]
-    stp     x12, x13, [sp, #96]
-    stp     x14, x15, [sp, #112]
-    stp     x16, x17, [sp, #128]
-    stp     x18, x29, [sp, #144]
+    caller_saved stp
     mrs     x0, elr_el1
     mrs     x1, spsr_el1
     stp     x30, x0, [sp, #160]
@@ -101,16 +116,7 @@ interrupt:
     ldp     x30, x0, [sp, #160]
     msr     elr_el1, x0
     msr     spsr_el1, x1
-    ldp     x18, x29, [sp, #144]
-    ldp     x16, x17, [sp, #128]
-    ldp     x14, x15, [sp, #112]
-    ldp     x12, x13, [sp, #96]
-    ldp     x10, x11, [sp, #80]
-    ldp     x8, x9, [sp, #64]
-    ldp     x6, x7, [sp, #48]
-    ldp     x4, x5, [sp, #32]
-    ldp     x2, x3, [sp, #16]
-    ldp     x0, x1, [sp]
+    caller_saved ldp
     add     sp, sp, #192
     eret
 
@@ -121,22 +127,12 @@ interrupt:
 .globl switch_to
 switch_to:
     sub     sp, sp, #96
-    stp     x19, x20, [sp]
-    stp     x21, x22, [sp, #16]
-    stp     x23, x24, [sp, #32]
-    stp     x25, x26, [sp, #48]
-    stp     x27, x28, [sp, #64]
-    stp     x29, x30, [sp, #80]
+    callee_saved stp
     mov     x2, sp
     str     x2, [x0]
     ldr     x2, [x1]
     mov     sp, x2
-    ldp     x19, x20, [sp]
-    ldp     x21, x22, [sp, #16]
-    ldp     x23, x24, [sp, #32]
-    ldp     x25, x26, [sp, #48]
-    ldp     x27, x28, [sp, #64]
-    ldp     x29, x30, [sp, #80]
+    callee_saved ldp
     add     sp, sp, #96
     ret
 

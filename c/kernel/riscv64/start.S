@@ -24,27 +24,31 @@ halt:
 
 /* ---- exceptions ---- */
 
+/* Stores or loads the registers that a call may change, but for the stack pointer. */
+.macro caller_saved access
+    .set    offset, 0
+    .irp    register, ra, t0, t1, t2, t3, t4, t5, t6, a0, a1, a2, a3, a4, a5, a6, a7
+    \access  \register, offset(sp)
+    .set    offset, offset + 8
+    .endr
+.endm
+
+/* Stores or loads those that a call keeps, and where it returns to. */
+.macro callee_saved access
+    .set    offset, 0
+    .irp    register, s0, s1, s2, s3, s4, s5, s6, s7, s8, s9, s10, s11
+    \access  \register, offset(sp)
+    .set    offset, offset + 8
+    .endr
+    \access  ra, 104(sp)
+.endm
+
 /* Saves what a call may change on the stack of the interrupted thread. on_interrupt may switch to
  * another thread. It returns here when this one runs again. */
 .balign 4
 exception:
     addi    sp, sp, -144
-    sd      ra, 0(sp)
-    sd      t0, 8(sp)
-    sd      t1, 16(sp)
-    sd      t2, 24(sp)
-    sd      t3, 32(sp)
-    sd      t4, 40(sp)
-    sd      t5, 48(sp)
-    sd      t6, 56(sp)
-    sd      a0, 64(sp)
-    sd      a1, 72(sp)
-    sd      a2, 80(sp)
-    sd      a3, 88(sp)
-    sd      a4, 96(sp)
-    sd      a5, 104(sp)
-    sd      a6, 112(sp)
-    sd      a7, 120(sp)
+    caller_saved sd
     csrr    a0, mcause
     csrr    a1, mepc
     csrr    a2, mstatus
@@ -56,22 +60,7 @@ exception:
     ld      a2, 136(sp)
     csrw    mepc, a1
     csrw    mstatus, a2
-    ld      ra, 0(sp)
-    ld      t0, 8(sp)
-    ld      t1, 16(sp)
-    ld      t2, 24(sp)
-    ld      t3, 32(sp)
-    ld      t4, 40(sp)
-    ld      t5, 48(sp)
-    ld      t6, 56(sp)
-    ld      a0, 64(sp)
-    ld      a1, 72(sp)
-    ld      a2, 80(sp)
-    ld      a3, 88(sp)
-    ld      a4, 96(sp)
-    ld      a5, 104(sp)
-    ld      a6, 112(sp)
-    ld      a7, 120(sp)
+    caller_saved ld
     addi    sp, sp, 144
     mret
 
@@ -85,34 +74,10 @@ unexpected:
 .globl switch_to
 switch_to:
     addi    sp, sp, -112
-    sd      s0, 0(sp)
-    sd      s1, 8(sp)
-    sd      s2, 16(sp)
-    sd      s3, 24(sp)
-    sd      s4, 32(sp)
-    sd      s5, 40(sp)
-    sd      s6, 48(sp)
-    sd      s7, 56(sp)
-    sd      s8, 64(sp)
-    sd      s9, 72(sp)
-    sd      s10, 80(sp)
-    sd      s11, 88(sp)
-    sd      ra, 104(sp)
+    callee_saved sd
     sd      sp, (a0)                    /* the first field of a thread */
     ld      sp, (a1)
-    ld      s0, 0(sp)
-    ld      s1, 8(sp)
-    ld      s2, 16(sp)
-    ld      s3, 24(sp)
-    ld      s4, 32(sp)
-    ld      s5, 40(sp)
-    ld      s6, 48(sp)
-    ld      s7, 56(sp)
-    ld      s8, 64(sp)
-    ld      s9, 72(sp)
-    ld      s10, 80(sp)
-    ld      s11, 88(sp)
-    ld      ra, 104(sp)
+    callee_saved ld
     addi    sp, sp, 112
     ret
 
