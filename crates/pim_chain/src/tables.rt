@@ -342,6 +342,7 @@ impl Tables {
 
     /// Makes the task, which may wait, the owner of the mutex, which must be free, have no waiters and be no PROTECT
     /// one. So it gives the task no priority, and no chain leads through it.
+    #[inline(always)]
     pub fn adopt(&mut self, mutex: MutexNo, task: TaskNo)
         requires mutex { IsMutex self.old.state mutex }
         requires free { owner_of self.old.state mutex ≡ None }

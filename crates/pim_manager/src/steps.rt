@@ -147,6 +147,11 @@ impl Manager {
         if self.tables.known_above_ceiling(actor, mutex) {
             return Reply::Refused(Refusal::Ceiling);
         }
+        if self.tables.known_protocol(mutex).ceiling().is_none() {
+            // Nobody waits for a free mutex, so it gives no priority without a ceiling.
+            self.tables.adopt(mutex, actor);
+            return Reply::Granted;
+        }
         self.tables.grant(mutex, actor, visits);
         Reply::Granted
     }
