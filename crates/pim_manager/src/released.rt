@@ -2,6 +2,7 @@
 
 ghost use Rattle.std.specs.Prelude.{◌≡◌, ◌<◌, ℕ, [], Some};
 ghost use Rattle.pim_base.specs.declared.steps.Reply.{Reply};
+ghost use Rattle.pim_sets.specs.Numbers.{members};
 ghost use Rattle.pim_manager.specs.Released.{released_at_once, released_then, unlocked};
 
 use crate::manager::Manager;
@@ -14,38 +15,36 @@ use std::marker::Model;
 /// Its value in contracts is their list, in ascending order.
 #[derive(Drop)]
 pub(crate) struct Released {
+    // Else there are none, whatever is in the set.
+    is_any: bool,
     set: NumberSet,
 }
 
 impl Model for Released {
-    ghost use Rattle.std.specs.Prelude.{List, ℕ};
+    ghost use Rattle.std.specs.Prelude.{List, [], ℕ, if◌then◌else◌};
     ghost use Rattle.pim_sets.specs.Numbers.{members};
 
     ghost Value = { List ℕ };
 
-    ghost view = { λ r. members r.set.words };
+    ghost view = { λ r. if r.is_any then members r.set.words else [] };
 }
 
 impl Released {
     /// Returns no mutexes.
-    #[tactic(auto, using(pim_sets::proofs::Members::members_empty))]
     pub(crate) fn new() -> Released
         ensures { result ≡ [] }
     {
         Released {
+            is_any: false,
             set: NumberSet::new(),
         }
     }
 
     /// Forgets all mutexes.
-    #[tactic(auto, using(pim_sets::proofs::Members::members_empty))]
     pub(crate) fn clear(&mut self)
         ensures { self.new ≡ [] }
     {
-        // Most steps release nothing.
-        if !self.set.is_empty() {
-            self.set = NumberSet::new();
-        }
+        self.is_any = false;
     }
 
     /// Begins with the mutexes that the step is going to release if it releases all of its actor's.
@@ -54,9 +53,17 @@ impl Released {
         ensures { self.new ≡ released_at_once manager.now step.now.actor step.now.op }
     {
         match step.op {
-            Op::ReleaseAll => self.set = manager.releasable(step.actor),
+            Op::ReleaseAll => self.put(manager.releasable(step.actor)),
             _ => self.clear(),
         }
+    }
+
+    /// Has these mutexes in place of all others.
+    fn put(&mut self, set: NumberSet)
+        ensures { self.new ≡ members set.words }
+    {
+        self.set = set;
+        self.is_any = true;
     }
 
     /// Forgets all but the unlocked mutex if it was handed over.
@@ -69,7 +76,7 @@ impl Released {
             if let Reply::Handed(_) = reply {
                 let mut set = NumberSet::new();
                 set.insert(mutex.get());
-                self.set = set;
+                self.put(set);
             }
         }
     }
@@ -78,7 +85,11 @@ impl Released {
     pub(crate) fn iter(&self) -> Numbers<'_>
         ensures { result ≡ self.now }
     {
-        self.set.iter()
+        if self.is_any {
+            self.set.iter()
+        } else {
+            Numbers::none()
+        }
     }
 }
 

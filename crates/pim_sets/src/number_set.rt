@@ -55,6 +55,7 @@ impl NumberSet {
     }
 
     /// Takes the number out.
+    #[inline(always)]
     pub fn remove(&mut self, number: u16)
         requires { number < 320 }
         ensures { (k : ℕ) → has self.new.words k ≡ (not (k == number) && has self.old.words k) }

@@ -35,7 +35,8 @@ returns-in-Handed c =
     let m = c.in-Some.mutex in let t = c.in-Handed.field-0 in let x = c.get.result in
     let small = c.requires m t c.in-Some.is c.in-Handed.is in
     let at = c.get.ensures in
-    members_only c.insert.new.self.words x (omega (arith, at, small))
+    c.put.ensures
+    ∙ members_only c.insert.new.self.words x (omega (arith, at, small))
     (λ k. c.insert.ensures k ∙ ap (λ b. (k == x) || b) (c.new-set.ensures k) ∙ or_false (k == x))
     ∙ ap (λ n. n ∷ []) at
     ∙ sym (ap (λ o. released_then c.args.self.now o c.args.reply.now) c.in-Some.is
