@@ -11,12 +11,12 @@ static _Alignas(16) unsigned char memory[PIM_MEMORY(MAX_THREADS, MAX_MUTEXES)];
 
 /* ---- carrying out an answer ---- */
 
-/* Schedules each thread whose priority the step changed at its new one, the caller last. */
-static void apply_changes(struct thread *caller, struct pim_answer answer) {
-    if (answer.changed == 0) return;
-    pim_changed_prios(&locks, changed, MAX_THREADS);
+/* Schedules the threads whose priority the step changed, so many, at their new ones, the caller
+ * last. */
+static void apply_changes(struct thread *caller, uint16_t count) {
+    pim_changed_prios(&locks, changed, count);
     uint16_t own = 0;
-    for (uint16_t i = 0; i < answer.changed; i++) {
+    for (uint16_t i = 0; i < count; i++) {
         if (changed[i].task == caller->number) own = changed[i].prio;
         else sched_set_prio(&threads[changed[i].task], (uint8_t)changed[i].prio);
     }
@@ -41,7 +41,7 @@ static int carry_out(struct thread *caller, struct pim_answer answer) {
     case PIM_RELEASED: wake_new_owners(); returned = answer.number; break;
     default: panic("libpim: an answer of another version");
     }
-    apply_changes(caller, answer);
+    if (answer.changed) apply_changes(caller, answer.changed);
     return returned;
 }
 
@@ -132,7 +132,7 @@ void mutex_time_is_out(struct thread *thread) {
     struct pim_answer answer = pim_cancel(&locks, PIM_KERNEL, thread->number);
     if (answer.kind != PIM_WITHDRAWN) panic("a blocked thread doesn't wait");
     sched_wake(thread, MUTEX_TIMED_OUT);
-    apply_changes(thread, answer);
+    if (answer.changed) apply_changes(thread, answer.changed);
 }
 
 struct pim_handle *mutexes_manager(void) {
