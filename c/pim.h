@@ -182,7 +182,8 @@ extern "C" {
 
 /* The most bytes that a manager takes from heap/static.c or heap/given.c, where the memory is
  * aligned to 16. */
-#define PIM_MEMORY(tasks, mutexes) (1200u + 104u * (tasks) + 34u * (mutexes))
+#define PIM_MEMORY(tasks, mutexes) \
+    (1168u + 88u * (tasks) + 64u * (mutexes) + 16u * (tasks) * (mutexes))
 
 /* ---- the handle ------------------------------------------------------------------------------ */
 

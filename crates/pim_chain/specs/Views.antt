@@ -2,15 +2,14 @@
 use Rattle.std.specs.Prelude.{◌≡◌, ◌≤◌, ℕ, Bool, true, false, ◌==◌, List, [], Option, Some, length, replicate, unwrap_or}
 use Rattle.std.specs.List.{list_any, AllByRecursion}
 use Rattle.std.specs.Option.{option_map_or}
-use Rattle.pim_base.specs.Lists.{nth}
+use Rattle.pim_base.specs.Lists.{nth, put, first_item}
 use Rattle.pim_base.specs.State.{State, start, IsTask, IsMutex, wait_of, owner_of}
 use Rattle.pim_base.specs.Laws.{IsSound}
 use Rattle.pim_base.specs.declared.limits.TheConstants.{MAX_TASKS, MAX_MUTEXES}
 use Rattle.pim_base.specs.declared.steps.Protocol.{Protocol}
 use Rattle.pim_base.specs.declared.steps.Wait.{Wait}
 use Rattle.pim_base.specs.declared.steps.Waiter.{Waiter}
-use Rattle.pim_queue.specs.QueueView.{QueueView}
-pub use Rattle.pim_queue.specs.QueueView.{view_in, queue_in, first_prio, put_queue}
+use Rattle.pim_queue.specs.QueueView.{QueueView, with_waiters}
 use Rattle.pim_queue.specs.Waiters.{is_of, IsOrdered}
 
 -- the state, the stored priorities, and the queue of each mutex
@@ -36,8 +35,22 @@ stored_in stored t = unwrap_or (nth stored t) 0
 abbrev pub stored_at : View → ℕ → ℕ
 stored_at v t = stored_in v.stored t
 
+abbrev pub view_in : List QueueView → ℕ → QueueView
+view_in queues m = unwrap_or (nth queues m) (record { waiters = []; room = 0 })
+
+abbrev pub queue_in : List QueueView → ℕ → List Waiter
+queue_in queues m = (view_in queues m).waiters
+
 abbrev pub queue_at : View → ℕ → List Waiter
 queue_at v m = queue_in v.queues m
+
+-- the same queues with another queue at this mutex
+abbrev pub put_queue : List QueueView → ℕ → List Waiter → List QueueView
+put_queue queues m ws = put queues m (with_waiters (view_in queues m) ws)
+
+-- the priority of the first waiter, or 0 if nobody waits
+abbrev pub first_prio : List Waiter → ℕ
+first_prio ws = option_map_or (λ (w : Waiter). w.prio) (first_item ws) 0
 
 abbrev pub waits_for : (ℕ → Option Wait) → ℕ → ℕ → Bool
 waits_for wait m t = option_map_or (λ (w : Wait). w.mutex == m) (wait t) false

@@ -1,15 +1,13 @@
 //! The checks of a step, but for the deadlock test.
 
 ghost use Rattle.std.specs.Prelude.{◌≡◌, ◌↔◌, IsTrue, ℕ, Some};
-ghost use Rattle.std.specs.List.{list_any};
 ghost use Rattle.pim_base.specs.Lists.{holds};
 ghost use Rattle.pim_base.specs.State.{IsTask, IsMutex, owner_of, wait_of, relocks};
 ghost use Rattle.pim_base.specs.Checks.{unknown_task, unknown_mutex, above_ceiling};
 ghost use Rattle.pim_base.specs.Steps.{is_kept};
-ghost use Rattle.pim_queue.specs.Waiters.{has_ticket};
 
 use crate::tables::Tables;
-use pim_base::{MutexNo, Protocol, TaskNo, Waiter};
+use pim_base::{MutexNo, Protocol, TaskNo};
 
 impl Tables {
     /// Returns whether no task has this number.
@@ -60,7 +58,7 @@ impl Tables {
         // The contract of this call gives the proof the invariant of the tables.
         let _tasks = self.tasks();
         match self.queue(mutex) {
-            Some(queue) => is_taken(queue, ticket),
+            Some(queue) => queue.has_ticket(ticket),
             None => false,
         }
     }
@@ -76,11 +74,4 @@ impl Tables {
             Protocol::None | Protocol::Inherit | Protocol::InheritRecursive => false,
         }
     }
-}
-
-// Returns whether a waiter in the queue has the ticket.
-fn is_taken(queue: &[Waiter], ticket: u64) -> bool
-    ensures { result ≡ list_any (has_ticket ticket) queue.now }
-{
-    queue.iter().any(|waiter| waiter.ticket == ticket)
 }

@@ -1,7 +1,7 @@
 //! What is owned and waited for, with the stored priorities and the queues.
 
 ghost use Rattle.std.specs.Prelude.{◌≡◌, ◌≢◌, ◌≤◌, ◌<◌, ◌+◌, ◌-◌, ◌↔◌, IsTrue, length, IfOk, None, Some, true, false, ℕ};
-ghost use Rattle.std.specs.Option.{option_copied, option_map};
+ghost use Rattle.std.specs.Option.{option_copied};
 ghost use Rattle.pim_base.specs.declared.limits.TheConstants.{MAX_TASKS, MAX_MUTEXES, MAX_COUNT};
 ghost use Rattle.pim_base.specs.Lists.{nth, first_item, put};
 ghost use Rattle.pim_base.specs.State.{IsTask, IsMutex, base_of, protocol_of, owner_of, count_of, first_count, owned, wait_of, is_recursive, with_owner, with_count, with_base, with_protocol, with_ceiling};
@@ -10,15 +10,15 @@ ghost use Rattle.pim_base.specs.Checks.{not_protect};
 ghost use Rattle.pim_base.specs.Laws.{IsSound};
 ghost use Rattle.pim_base.specs.Priorities.{ceiling};
 ghost use Rattle.pim_base.specs.declared.steps.Wait.{Wait};
-ghost use Rattle.pim_queue.specs.QueueView.{QueueView};
 ghost use Rattle.pim_chain.specs.Views.{Ready, fresh, with_state, queue_at, stored_at, waiter_at};
 ghost use Rattle.pim_sets.specs.Numbers.{members};
 ghost use Rattle.pim_chain.specs.Adopted.{IsUnawaited, is_protect};
 ghost use Rattle.pim_chain.specs.Settled.{Calm, Unsettles, joined, left};
 
+use crate::queues::Queues;
 use crate::visits::Visits;
 use pim_base::{MutexNo, Prio, Protocol, TaskNo, Wait, Waiter, nth};
-use pim_queue::Queues;
+use pim_queue::Queue;
 use pim_sets::{NumberSet, Owned, OwnedSets, filled, put};
 use std::alloc::{AllocError, Global};
 use std::marker::Model;
@@ -74,7 +74,7 @@ impl Tables {
             wait: filled(alloc, bases.len(), None)?,
             owned: OwnedSets::new(alloc, bases.len())?,
             stored: Vec::from_slice(alloc, bases)?,
-            queues: Queues::new(alloc, protocols.len() as u16, bases.len() as u16)?,
+            queues: Queues::new(alloc, protocols.len(), bases.len() as u16)?,
             next: 1,
         })
     }
@@ -240,9 +240,9 @@ impl Tables {
         nth(&self.stored, task.get())
     }
 
-    /// Returns the waiters for the mutex, in order, `None` for an unknown one.
-    pub fn queue(&self, mutex: MutexNo) -> Option<&[Waiter]>
-        ensures { option_copied result ≡ option_map (λ (q : QueueView). q.waiters) (nth self.now.queues mutex) }
+    /// Returns the queue of the mutex, `None` for an unknown one.
+    pub fn queue(&self, mutex: MutexNo) -> Option<&Queue>
+        ensures { option_copied result ≡ nth self.now.queues mutex }
     {
         self.queues.get(mutex)
     }

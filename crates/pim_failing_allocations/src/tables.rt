@@ -11,7 +11,7 @@ use std::test::Fail;
 
 /// Returns whether there are three tasks of base 10 and two mutexes, for which nobody waits.
 fn are_fresh(tables: &Tables) -> bool {
-    let waiting = tables.queue(MutexNo(2)).map(|queue| queue.len());
+    let waiting = tables.queue(MutexNo(2)).map(|queue| queue.as_slice().len());
     tables.stored(TaskNo(3)) == Prio::new(10)
         && tables.stored(TaskNo(4)).is_none()
         && waiting == Some(0)

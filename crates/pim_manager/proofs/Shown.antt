@@ -1,5 +1,5 @@
 -- What the tables show of known tasks and mutexes.
-use Rattle.std.proofs.Common.{◌≡◌, ℕ, zero, suc, false, cond, ◌||◌, eqb, ltb, length, List, [], Option, Some, None, IfSome, refl, ◌∙◌}
+use Rattle.std.proofs.Common.{◌≡◌, ℕ, zero, suc, false, cond, ◌||◌, eqb, ltb, length, List, [], Some, None, refl, ◌∙◌}
 use Rattle.std.proofs.Common.{ap, arith, unwrap_or, AllPairs}
 use Rattle.std.specs.Option.{option_map}
 use Rattle.std.proofs.lemmas.Bool.Decides.{nat_tests}
@@ -54,13 +54,12 @@ queue_shown v m calm =
 
 -- the queue that is shown is in order
 pub queue_in_order :
-    (v : View) (S : State) (m : ℕ) (o : Option (List Waiter))
+    (v : View) (S : State) (m : ℕ) (ws : List Waiter)
     → IsSettled v
     → v.state ≡ S
-    → o ≡ of_mutex S m (queue_of S m)
-    → IfSome o (AllPairs Precedes)
-queue_in_order v S m None settled shown is = tt
-queue_in_order v S m (Some ws) settled shown is =
+    → Some ws ≡ of_mutex S m (queue_of S m)
+    → AllPairs Precedes ws
+queue_in_order v S m ws settled shown is =
     let law = queue_law S m (steady_shown settled shown).tickets in grind (arith, nat_tests)
 
 pub ruleset shown = (stored_shown, queue_shown)

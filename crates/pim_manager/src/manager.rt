@@ -219,16 +219,19 @@ impl Manager {
         ensures queue { option_copied result ≡ of_mutex self.now mutex (queue_of self.now mutex) }
         ensures in_order { IfSome (option_copied result) (AllPairs Precedes) }
     {
-        self.tables.queue(mutex)
+        match self.tables.queue(mutex) {
+            Some(queue) => Some(queue.as_slice()),
+            None => None,
+        }
     }
 
     /// Makes one step, and always returns a reply. A refused step changes nothing, and steps never allocate.
     ///
     /// The visits count the priorities that were computed. There are at least as many as tasks whose effective
     /// priority differs then, and at most one more and two for each mutex whose owner differs. The other work is
-    /// bounded, too: a visit reads each mutex of its task once, a task whose priority is stored shifts at most the
-    /// waiters of its queue, one that joins or leaves a queue shifts at most all waiters and moves the ends of the queues,
-    /// and the deadlock test of a lock makes at most as many hops as there are tasks.
+    /// bounded, too: a visit reads each mutex of its task once, a task whose priority is stored or that joins or
+    /// leaves a queue shifts at most the waiters of that queue, and the deadlock test of a lock makes at most as many
+    /// hops as there are tasks.
     pub fn step(&mut self, step: Step) -> Done
         ensures reply { result.reply ≡ reply_of self.old step }
         ensures state { self.new ≡ after self.old step }

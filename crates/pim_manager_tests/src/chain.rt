@@ -70,9 +70,9 @@ fn expect_mutexes(rt: &impl Abort, tables: &Tables) {
 /// Tests that task 2 waits, first and alone, for mutex 1.
 fn expect_queue(rt: &impl Abort, tables: &Tables) {
     let queue = tables.queue(FIRST).expect(rt, "a known mutex");
-    assert!(rt; queue.len() == 1);
+    assert!(rt; queue.as_slice().len() == 1);
     assert!(rt; !tables.is_unknown_mutex(FIRST));
-    assert!(rt; tables.known_first(FIRST) == queue.first().copied());
+    assert!(rt; tables.known_first(FIRST) == queue.front());
 }
 
 /// Tests the calls for a known task.

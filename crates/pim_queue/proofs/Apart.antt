@@ -28,17 +28,6 @@ length-without_less :
 length-without_less task w [] was = absurd (none-some w was)
 length-without_less task w (v ∷ vs) was = grind (arith, length-without_less task w vs)
 
--- and as many once it is put in again
-pub length-repositioned :
-    (task prio : ℕ) (w : Waiter) (ws : List Waiter)
-    → find (is_of task) ws ≡ Some w
-    → length (repositioned task prio ws) ≡ length ws
-length-repositioned task prio w ws was = length-insert_by _ (without task ws) ∙ one_less task w ws was
-  where
-    one_less : (task : ℕ) (w : Waiter) (ws : List Waiter) → find (is_of task) ws ≡ Some w → suc (length (without task ws)) ≡ length ws
-    one_less task w [] was = absurd (none-some w was)
-    one_less task w (v ∷ vs) was = grind (arith, one_less task w vs)
-
 -- ---- one that is new
 pub none_passes :
     {X : Type 0} (p : X → Bool)
