@@ -183,7 +183,7 @@ extern "C" {
 /* The most bytes that a manager takes from heap/static.c or heap/given.c, where the memory is
  * aligned to 16. */
 #define PIM_MEMORY(tasks, mutexes) \
-    (1168u + 88u * (tasks) + 64u * (mutexes) + 16u * (tasks) * (mutexes))
+    (1152u + 88u * (tasks) + 64u * (mutexes) + 16u * (tasks) * (mutexes))
 
 /* ---- the handle ------------------------------------------------------------------------------ */
 

@@ -9,7 +9,7 @@
 _Static_assert(PIM_MEMORY(1 + 2, 4 + 1) == PIM_MEMORY(3, 5), "sums as arguments");
 _Static_assert(PIM_MEMORY(1 ? 3 : 4, 1 ? 5 : 6) == PIM_MEMORY(3, 5), "conditions as arguments");
 _Static_assert(2 * PIM_MEMORY(3, 5) == PIM_MEMORY(3, 5) + PIM_MEMORY(3, 5), "a part of a product");
-_Static_assert(PIM_MEMORY(3, 5) == 1168 + 88 * 3 + 64 * 5 + 16 * 15, "the sum by hand");
+_Static_assert(PIM_MEMORY(3, 5) == 1152 + 88 * 3 + 64 * 5 + 16 * 15, "the sum by hand");
 
 static _Alignas(16) unsigned char memory[PIM_MEMORY(256, 256)];
 
