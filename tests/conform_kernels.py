@@ -401,7 +401,9 @@ WRONG = {"": TOGETHER, "a --from f": TOGETHER, "--from f --keep k": TOGETHER,
          "a --random -1": RANGES, "a --smp 0": RANGES, "a --smp 9": RANGES, "a --seconds 0": TIMES,
          "a --storm 0": TIMES, "--build s --jobs 0": TIMES, "a --rt": OF_BUILD, "a --debug": OF_BUILD,
          "a --mended 1": OF_BUILD, "a --config c": OF_BUILD, "a --objects o": OF_BUILD,
-         "--build s --mended 1,4": "argument --mended: '1,4' isn't a list of 1, 2 and 3"}
+         **{f"--build s --mended {words}":
+            f"argument --mended: '{words}' isn't a list of 1, 2 and 3, as 1,2"
+            for words in ("1,4", "12", "1,")}}
 
 
 def options():

@@ -80,9 +80,10 @@ def mends(folder):
     for name, (path, wanted) in cases.items():
         status, out, err = answer([script_file, path])
         same(f"no change: {name}", (status, out, wanted in err.decode()), 2, b"", True)
-    for words in ("4", "", "1-3"):
+    for words in ("4", "", "1-3", "12", "1,", "1,,2", "1, 2"):
         status, _, err = answer([script_file, "--ways", words, file])
-        same(f"no ways: '{words}'", (status, f"'{words}' isn't a list" in err.decode()), 2, True)
+        said = f"argument --ways: '{words}' isn't a list of 1, 2 and 3, as 1,2\n"
+        same(f"no ways: '{words}'", (status, err.decode().endswith(said)), 2, True)
 
 
 def installed_sources(folder):
