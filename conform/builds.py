@@ -12,7 +12,9 @@ from compare import HERE, Fault
 TOOLS = {"ld": "binutils", "flex": "flex", "bison": "bison", "bc": "bc"}
 # A C program that needs a package's header and library, by the package.
 LIBRARIES = {"libelf-dev": ("#include <gelf.h>", "-lelf")}
-CHANGED = "kernel/locking/rtmutex.c"
+# What a tree has of its own, in each of its folders. The rest are links to the source.
+FOLDER, CHANGED = "kernel/locking", ("rtmutex.c", "rtmutex_api.c")
+OWN = {"": ("kernel",), "kernel": ("locking",), FOLDER: CHANGED}
 # Which kernel is wanted: the ways of mended/mend or None, whether it is PREEMPT_RT, whether it
 # checks itself, and a file of more lines for its configuration or None.
 Kind = namedtuple("Kind", "ways is_rt is_debug more")
@@ -46,20 +48,19 @@ def mended(file, ways):
 
 
 def make_tree(source, tree, ways):
-    """Makes a tree of links to the source, in which the changed file is one of its own."""
-    file = source / CHANGED
-    if not (source / "Kconfig").is_file() or not file.is_file():
+    """Makes a tree of links to the source, in which the changed files are its own."""
+    files = [source / FOLDER / name for name in CHANGED]
+    if not (source / "Kconfig").is_file() or not all(file.is_file() for file in files):
         raise Fault("it isn't the folder of a Linux source: it has no Kconfig and kernel/locking")
-    contents = mended(file, ways) if ways else file.read_bytes()
+    contents = [mended(file, ways) if ways else file.read_bytes() for file in files]
     shutil.rmtree(tree, ignore_errors=True)
-    at, place = source.resolve(), tree
-    for name in CHANGED.split("/"):
-        place.mkdir(parents=True)
-        for path in at.iterdir():
-            if path.name != name:
-                (place / path.name).symlink_to(path)
-        at, place = at / name, place / name
-    place.write_bytes(contents)
+    for folder, own in OWN.items():
+        (tree / folder).mkdir(parents=True)
+        for path in (source.resolve() / folder).iterdir():
+            if path.name not in own:
+                (tree / folder / path.name).symlink_to(path)
+    for name, text in zip(CHANGED, contents):
+        (tree / FOLDER / name).write_bytes(text)
 
 
 # ---- the configuration

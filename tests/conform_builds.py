@@ -11,7 +11,7 @@ import sys
 
 from checks import ROOT, answer, check, ended, is_gone, skip, until
 from conform_kernels import first_on_path, guest_output, number_in, with_tools
-from conform_mended import RTMUTEX, TAKEN
+from conform_mended import API, RTMUTEX, TAKEN
 from conform_parts import changed, fault_of, same, script
 
 import builds
@@ -47,6 +47,7 @@ def source_in(folder):
     (source / "kernel/fork.c").write_text("fork")
     (source / "kernel/locking/mutex.c").write_text("mutex")
     (source / "kernel/locking/rtmutex.c").write_text(RTMUTEX)
+    (source / "kernel/locking/rtmutex_api.c").write_text(API)
     return source
 
 
@@ -58,9 +59,10 @@ def contents(folder):
 # ---- builds.py
 
 def trees(folder):
-    """A tree of links has the source's files, and the changed one of its own."""
+    """A tree of links has the source's files, and the changed ones of its own."""
     source, tree = source_in(folder), folder / "tree"
     plain = contents(source)
+    walk, other = (f"kernel/locking/{name}" for name in ("rtmutex.c", "rtmutex_api.c"))
     for ways in (None, "2", "123", None):
         builds.make_tree(source, tree, ways)
         links = [path for path in tree.rglob("*") if path.is_symlink()]
@@ -68,11 +70,11 @@ def trees(folder):
         wanted = {"Kconfig", "kernel/fork.c", "kernel/locking/mutex.c"}
         same(f"the links of a tree, ways {ways}", names, wanted)
         got = contents(tree)
-        is_mended = "rt_mutex_adjust_prio(lock, task);" in got[builds.CHANGED]
-        same(f"the changed file, ways {ways}", is_mended, bool(ways))
+        is_mended = "rt_mutex_adjust_prio(lock, task);" in got[walk], "if (!waiter) {" in got[other]
+        same(f"the changed files, ways {ways}", is_mended, bool(ways), ways == "123")
         if ways == "123":
-            check("all changes are made", None if TAKEN in got[builds.CHANGED] else "no")
-        same(f"the rest, ways {ways}", {**got, builds.CHANGED: RTMUTEX}, plain)
+            check("all changes are made", None if TAKEN in got[walk] else "no")
+        same(f"the rest, ways {ways}", {**got, walk: RTMUTEX, other: API}, plain)
     same("the source isn't changed", contents(source), plain)
     what = "it isn't the folder of a Linux source: it has no Kconfig and kernel/locking"
     same("another folder", fault_of(builds.make_tree, folder, tree, "1"), what, 2)

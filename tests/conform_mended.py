@@ -1,6 +1,7 @@
 """What tests/conform does with conform/mended: in a text of its places, in kernels' sources."""
 import difflib
 import pathlib
+import re
 
 from checks import ROOT, answer, check, skip
 from conform_parts import same
@@ -9,15 +10,54 @@ from conform_parts import same
 RTMUTEX = """static int rt_mutex_adjust_prio_chain(int a,
 				      int b)
 {
-	if (a) {
+	struct rt_mutex_waiter *prerequeue_top_waiter;
+	/*
+	 * Check.
+	 */
+	if (orig_waiter && !rt_mutex_owner(orig_lock))
+		goto out_unlock_pi;
+	if (top_waiter) {
+		if (!task_has_pi_waiters(task))
+			goto out_unlock_pi;
 		/* why */
 		if (top_waiter != task_top_pi_waiter(task)) {
 			one();
 			if (b)
 				two();
 		}
+	}
+
+	/* why */
+	if (rt_waiter_node_equal(&waiter->tree, task_to_waiter_node(task))) {
 		three();
 	}
+	if (lock == orig_lock) {
+		raw_spin_unlock(&lock->wait_lock);
+		goto out_unlock_pi;
+	}
+
+	/* [7] Requeue. */
+	rt_mutex_dequeue(lock, waiter);
+
+	/*
+	 * Update.
+	 */
+	rt_mutex_enqueue(lock, waiter);
+
+	/* [11] requeue */
+	if (a) {
+		four();
+	} else {
+		/*
+		 * Nothing changed. No need.
+		 */
+	}
+	/*
+	 * If the current waiter is not the top waiter on the lock,
+	 * stop.
+	 */
+	if (!detect_deadlock && waiter != top_waiter)
+		five();
 }
 
 static int
@@ -34,11 +74,46 @@ static void remove_waiter(int a)
 		rt_mutex_enqueue_pi(owner, rt_mutex_top_waiter(lock));
 }
 """
-# What each change takes away, and what it adds.
+API = """void rt_mutex_adjust_pi(int a)
+{
+	if (!waiter || rt_waiter_node_equal(&waiter->tree, task_to_waiter_node(task))) {
+		one();
+	}
+}
+"""
+# The first change, without its comments.
+WALK = """	struct rt_mutex_waiter *prerequeue_top_waiter;
+	struct rt_waiter_node before;
+	if (orig_waiter && !rt_mutex_owner(orig_lock))
+		detect_deadlock = false;
+	if (top_waiter && !task_has_pi_waiters(task))
+		goto out_unlock_pi;
+	if (ret && waiter == orig_waiter)
+		goto out_unlock_pi;
+	if (!requeue && !detect_deadlock)
+		goto out_unlock_pi;
+	if (lock == orig_lock) {
+		if (!requeue) {
+			raw_spin_unlock(&lock->wait_lock);
+			goto out_unlock_pi;
+		}
+		detect_deadlock = false;
+	}
+	if (!rt_waiter_node_equal(&waiter->tree, task_to_waiter_node(task))) {
+		rt_mutex_dequeue(lock, waiter);
+		rt_mutex_enqueue(lock, waiter);
+	}
+	before = *task_to_waiter_node(task);
+	if (a) {
+		four();
+	} else {
+	}
+	requeue = !rt_waiter_node_equal(&before, task_to_waiter_node(task));
+	if (!detect_deadlock && !requeue)
+		five();
+"""
+# What the others take away, and what they add.
 MENDED = {
-    "1": (["		/* why */", "		if (top_waiter != task_top_pi_waiter(task)) {",
-           "			one();", "			if (b)", "				two();", "		}"],
-          ["		if (!requeue && !detect_deadlock)", "			goto out_unlock_pi;"]),
     "2": (["	if (rt_mutex_has_waiters(lock))"],
           ["	if (rt_mutex_has_waiters(lock)) {", "		rt_mutex_set_owner(lock, task);",
            "		rt_mutex_adjust_prio(lock, task);", "	}"]),
@@ -56,6 +131,29 @@ TAKEN = """	if (rt_mutex_has_waiters(lock)) {
 	}
 	raw_spin_unlock(&task->pi_lock);
 """
+
+
+def code_of(text):
+    """Returns the lines that aren't empty or comments."""
+    return re.sub(r"(?m)^\s*$\n", "", re.sub(r"(?s)/\*.*?\*/", "", text))
+
+
+def walks(folder):
+    """The first change is made in the walk, and where sched_setscheduler begins one."""
+    file, api = folder / "rtmutex.c", folder / "rtmutex_api.c"
+    script_file = ROOT / "conform/mended/mend"
+    file.write_text(RTMUTEX)
+    api.write_text(API)
+    status, out, _ = answer([script_file, "--ways", "1", file])
+    walk, _, rest = out.decode().partition("\n}")
+    same("the first change", (status, code_of(walk.partition("{\n")[2] + "\n")), 0, WALK)
+    same("it has no other place", rest, RTMUTEX.partition("\n}")[2])
+    same("it says why", walk.count("/*"), RTMUTEX.count("/*") + 2)
+    status, out, _ = answer([script_file, "--ways", "1", api])
+    same("the first change of the other file", (status, out.decode()), 0,
+         re.sub(r"if \(.*\) {", "if (!waiter) {", API))
+    status, out, _ = answer([script_file, "--ways", "2,3", api])
+    same("the others have no place there", (status, out.decode()), 0, API)
 
 
 def mends(folder):
@@ -92,14 +190,17 @@ def installed_sources(folder):
     if not archives:
         return skip("the changes in a kernel's source", "no linux-source is installed")
     for archive in archives:
-        member = f"{archive.name.partition('.tar')[0]}/kernel/locking/rtmutex.c"
-        command = ["tar", "-xOf", archive, "--occurrence=1", member]  # It reads no further.
-        file = folder / "rtmutex.c"
-        file.write_bytes(answer(command)[1])
-        for ways in ("1", "2", "3", "1,2,3"):
-            status, _, err = answer([ROOT / "conform/mended/mend", "--ways", ways, file])
-            same(f"the change {ways} in {archive.name}", (status, err), 0, b"")
+        place = f"{archive.name.partition('.tar')[0]}/kernel/locking"
+        names = [f"{place}/{name}" for name in ("rtmutex.c", "rtmutex_api.c")]
+        # It reads no further.
+        command = ["tar", "-xf", archive, "-C", folder, "--occurrence=1", *names]
+        answer(command)
+        for name, ways in ((names[0], "1"), (names[0], "2"), (names[0], "3"), (names[0], "1,2,3"),
+                           (names[1], "1")):
+            status, out, err = answer([ROOT / "conform/mended/mend", "--ways", ways, folder / name])
+            is_changed = out != (folder / name).read_bytes()
+            same(f"the change {ways} in {name}", (status, err, is_changed), 0, b"", True)
     return None
 
 
-PARTS = (mends, installed_sources)
+PARTS = (walks, mends, installed_sources)
