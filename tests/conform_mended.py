@@ -1,10 +1,16 @@
 """What tests/conform does with conform/mended: in a text of its places, in kernels' sources."""
 import difflib
 import pathlib
+import random
 import re
 
 from checks import ROOT, answer, check, skip
 from conform_parts import same
+
+import compare
+import fuzz
+import races
+import walker
 
 # What the changes look for, without the rest.
 RTMUTEX = """static int rt_mutex_adjust_prio_chain(int a,
@@ -184,14 +190,38 @@ def mends(folder):
         same(f"no ways: '{words}'", (status, err.decode().endswith(said)), 2, True)
 
 
-def installed_sources(folder):
-    """The changes can be made in each source that Debian's packages have put here."""
+def own_code(source, pim):
+    """What the code of a source does in user space, as it is and mended."""
+    programs = {}
+    for ways in ("", "123"):
+        programs[ways] = walker.build(source, ways, source / f"ways{ways}")
+        for name, schedule in races.SCHEDULES.items():
+            text = races.text_of(schedule)
+            wrong, count = walker.orders(programs[ways], text, schedule.calls, 3)
+            is_in_kernel = not ways and name != "released"
+            same(f"{source.name}, ways '{ways}': the schedule {name}", (wrong > 0, count > 0),
+                 is_in_kernel, True)
+    rng, apart = random.Random(6), dict.fromkeys(programs, 0)
+    for _ in range(200):
+        text, wanted = compare.Text(fuzz.random_source(rng, "inherit")), []
+        for done in compare.reported(pim, text):
+            now = {**(wanted[-1] if wanted else text.bases), **done.changes}
+            wanted.append(now)
+        wanted = [[it[t] for t in sorted(it)] for it in wanted]
+        for ways, program in programs.items():
+            apart[ways] += walker.performed(program, text) != wanted
+    same(f"{source.name}: mended, it agrees with pim on 200 random texts, and as it is not",
+         (apart["123"], apart[""] > 0), 0, True)
+
+
+def installed_sources(pim, folder):
+    """The changes can be made in each source that Debian's packages have put here, and mend it."""
     archives = sorted(pathlib.Path("/usr/src").glob("linux-source-*.tar.xz"))
     if not archives:
         return skip("the changes in a kernel's source", "no linux-source is installed")
     for archive in archives:
         place = f"{archive.name.partition('.tar')[0]}/kernel/locking"
-        names = [f"{place}/{name}" for name in ("rtmutex.c", "rtmutex_api.c")]
+        names = [f"{place}/{name}" for name in ("rtmutex.c", "rtmutex_api.c", "rtmutex_common.h")]
         # It reads no further.
         command = ["tar", "-xf", archive, "-C", folder, "--occurrence=1", *names]
         answer(command)
@@ -200,6 +230,7 @@ def installed_sources(folder):
             status, out, err = answer([ROOT / "conform/mended/mend", "--ways", ways, folder / name])
             is_changed = out != (folder / name).read_bytes()
             same(f"the change {ways} in {name}", (status, err, is_changed), 0, b"", True)
+        own_code(folder / archive.name.partition(".tar")[0], pim)
     return None
 
 

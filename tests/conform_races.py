@@ -7,6 +7,7 @@ from conform_parts import same
 import compare
 import fuzz
 import races
+import walker
 
 # By hand: the task that executes at a wrong priority if a part of the first change is left out, at
 # what it does, and at what it should.
@@ -108,4 +109,23 @@ def command():
         same(f"race: {' '.join(words)}", answer([ROOT / "conform/race", *words])[0], 2)
 
 
-PARTS = (schedules, orders, one_call, random_orders, command)
+def walkers(folder):
+    """What the walker of a source is given; and a folder that isn't one of a source.
+
+    conform_mended.py builds it, where a source is installed.
+    """
+    text = compare.Text("pim 1\ntask 1 10\ntask 2 20\nmutex 1 inherit\n"
+                        "1 lock 1\n2 lock 1\n2 base 1 5\n1 release\n")
+    steps = walker.steps_of(text)
+    same("the calls of steps", steps, [["0 1 1"], ["0 2 1"], [], ["2 1 1"]])
+    wanted = "2 10 20\n1\n3\n0 1 1\n0 2 1\n2 1 1\n"
+    same("a walker's input", walker.given(text, steps), f"{wanted}0\n")
+    got = walker.given(text, steps, ["1 base 2 30; 1 base 2 20", "2 cancel 2"])
+    same("its input with calls", got, f"{wanted}2\n2\n4 2 30\n4 2 20\n1\n3 2 0\n")
+    status, out, err = answer([ROOT / "conform/race", "--source", folder])
+    said = "rtmutex.c isn't there: it isn't the folder of a Linux source\n"
+    same("another folder", (status, out, err.decode()), 2, b"",
+         f"race: {folder}/kernel/locking/{said}")
+
+
+PARTS = (schedules, orders, one_call, random_orders, command, walkers)
