@@ -9,6 +9,7 @@ use pim_import::Imported;
 use pim_kernel_events::{Recording, TextFault, Tracks};
 use pim_log::Log;
 use pim_report::Kernel;
+use pim_waits::{Awaited, ran_meanwhile};
 use std::alloc::{AllocError, Global};
 
 /// The kernel's events.
@@ -84,12 +85,44 @@ pub fn kernel_of(
         return Ok(None);
     };
     let compared = compare(alloc, log, imported, &tracks, arguments.tolerance)?;
+    let waits = awaited_in(alloc, imported)?;
+    let meanwhile = ran_meanwhile(alloc, &recording, &tracks, &waits)?;
+    let Recording {
+        tasks,
+        lost,
+        is_whole,
+        ..
+    } = recording;
     Ok(Some(Kernel {
         bytes,
         compared,
-        lost: recording.lost,
-        is_whole: recording.is_whole,
+        lost,
+        is_whole,
+        tasks,
+        meanwhile,
     }))
+}
+
+/// Returns the longest waits, as far as the kernel's events are asked about them.
+fn awaited_in(alloc: Global, imported: &Imported) -> Result<Vec<Awaited>, AllocError> {
+    let threads = imported.sources.ids.threads.as_slice();
+    let mut waits = Vec::new(alloc);
+    for wait in &imported.built.findings.waits.longest {
+        let owner = wait
+            .owner
+            .and_then(|owner| threads.get(owner.thread as usize));
+        let awaited = Awaited {
+            level: wait.level,
+            owner: owner.map(|thread| thread.task),
+            began: wait.began,
+            ended: wait.began.saturating_add(wait.lasted),
+        };
+        match waits.push(awaited) {
+            Ok(()) => {}
+            Err(_) => return Err(AllocError),
+        }
+    }
+    Ok(waits)
 }
 
 /// Returns the path of the kernel's events: the one that is named, or LOG.kernel.

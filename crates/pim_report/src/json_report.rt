@@ -2,6 +2,7 @@
 
 use crate::kernel::{Kernel, put_reason};
 use crate::labels::Labels;
+use crate::meanwhile::put_meanwhile_json;
 use crate::words::{Told, family_of, found_of, mutexes, put_place, waits_of};
 use pim_comparison::{Found, Lengthened};
 use pim_facts::LeftOut;
@@ -45,8 +46,13 @@ fn put_all(alloc: Global, out: &mut JsonOut, told: &Told, log: &Log, kernel: Opt
     out.number("waits", waits.count);
     out.key("longest_waits");
     out.begin_array();
-    for wait in &waits.longest {
+    for (place, wait) in waits.longest.iter().enumerate() {
+        out.begin_object();
         put_wait(alloc, out, told, wait);
+        if let Some(kernel) = kernel {
+            put_meanwhile_json(out, kernel, place);
+        }
+        out.end_object();
     }
     out.end_array();
     out.key("mutexes");
@@ -129,8 +135,8 @@ fn put_number(out: &mut JsonOut, told: &Told, key: &str, mutex: u32) {
     out.number(key, u64::from(number));
 }
 
+/// Writes the fields of a wait.
 fn put_wait(alloc: Global, out: &mut JsonOut, told: &Told, wait: &FoundWait) {
-    out.begin_object();
     put_thread(alloc, out, told, "thread", wait.thread);
     out.number("priority", u64::from(wait.level));
     out.number("began", wait.began);
@@ -143,7 +149,6 @@ fn put_wait(alloc: Global, out: &mut JsonOut, told: &Told, wait: &FoundWait) {
         out.number("owner_priority", u64::from(owner.level));
     }
     out.boolean("bounded", !wait.is_unbounded);
-    out.end_object();
 }
 
 fn put_mutex(

@@ -3,8 +3,9 @@
 use crate::words::{Told, put_count, put_duration, put_level, put_moment, put_thread};
 use pim_base::Reason;
 use pim_comparison::{Compared, Found, Lengthened};
-use pim_kernel_events::line_at;
+use pim_kernel_events::{Tasks, line_at};
 use pim_out::Out;
+use pim_waits::RanMeanwhile;
 
 /// How many differences the text lists.
 const LONGEST: usize = 10;
@@ -19,6 +20,20 @@ pub struct Kernel {
     pub lost: u64,
     /// Whether the file has its last line.
     pub is_whole: bool,
+    /// The names of the tasks.
+    pub tasks: Tasks,
+    /// Of each of the longest waits who ran in the place of the owner.
+    pub meanwhile: Vec<Vec<RanMeanwhile>>,
+}
+
+impl Kernel {
+    /// Returns who ran in the place of the owner during one of the longest waits, the one that ran longest first.
+    pub fn ran_meanwhile(&self, wait: usize) -> &[RanMeanwhile] {
+        match self.meanwhile.get(wait) {
+            Some(ran) => ran.as_slice(),
+            None => &[],
+        }
+    }
 }
 
 /// Writes the longest differences, the longest first, each with the lines that show it.

@@ -18,6 +18,7 @@ mod alone_json;
 mod json_report;
 mod kernel;
 mod labels;
+mod meanwhile;
 mod report;
 mod words;
 

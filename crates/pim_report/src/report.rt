@@ -2,6 +2,7 @@
 
 use crate::kernel::{Kernel, put_compared, put_differences};
 use crate::labels::Labels;
+use crate::meanwhile::put_meanwhile;
 use crate::words::{
     Told, family_of, found_of, mutexes, put_count, put_duration, put_level, put_moment, put_mutex,
     put_place, put_thread, waits_of,
@@ -46,7 +47,7 @@ pub fn report_of(
     if let Some(kernel) = kernel {
         put_differences(&mut out, &told, kernel);
     }
-    put_waits(&mut out, &told);
+    put_waits(&mut out, &told, kernel);
     put_conversions(&mut out, &told);
     put_hand_overs(&mut out, &told);
     put_ownerships(&mut out, &told);
@@ -60,11 +61,14 @@ pub fn report_of(
     out.finish()
 }
 
-/// Writes the longest waits, the longest first.
-fn put_waits(out: &mut Out, told: &Told) {
+/// Writes the longest waits, the longest first, each with who ran meanwhile in the place of the owner.
+fn put_waits(out: &mut Out, told: &Told, kernel: Option<&Kernel>) {
     let waits = &told.imported.built.findings.waits;
-    for wait in &waits.longest {
+    for (place, wait) in waits.longest.iter().enumerate() {
         put_wait(out, told, wait);
+        if let Some(kernel) = kernel {
+            put_meanwhile(out, told, kernel, place);
+        }
     }
     let listed = waits.longest.len() as u64;
     if waits.count == 0 {

@@ -3,7 +3,7 @@ ghost use Rattle.std.specs.Prelude.{IfOk};
 ghost use Rattle.pim_waits.specs.Orders.{RanLongestFirst};
 
 use crate::boosted::Boosted;
-use crate::lists::push;
+use crate::lists::{first_behind, push};
 use pim_kernel_events::{Boost, Recording, Stretch, Tracks, What};
 use std::alloc::{AllocError, Global};
 use std::collections::HashMap;
@@ -98,23 +98,6 @@ fn ran_within(stretches: &[Stretch], span: &Span) -> u64 {
         }
     }
     ran
-}
-
-/// Returns the place of the first stretch that ends behind this time.
-fn first_behind(stretches: &[Stretch], time: u64) -> usize {
-    let mut low = 0usize;
-    let mut high = stretches.len();
-    for _half in 0..64 {
-        if low >= high {
-            break;
-        }
-        let middle = low + (high - low) / 2;
-        match stretches.get(middle) {
-            Some(stretch) if stretch.end <= time => low = middle + 1,
-            _ => high = middle,
-        }
-    }
-    low
 }
 
 fn spans_of(alloc: Global, recording: &Recording) -> Result<Vec<Span>, AllocError> {

@@ -144,7 +144,7 @@ fn waits_in(
         if let Some(track) = tracks.of_task(*task) {
             for call in &track.calls {
                 if let Some(wait) = wait_of(recording, *task, call) {
-                    if meets(&lost, &wait) {
+                    if meets(&lost, wait.began, wait.began.saturating_add(wait.lasted)) {
                         left_out = left_out.saturating_add(1);
                     } else {
                         push(&mut waits, wait)?;
@@ -165,7 +165,7 @@ fn sort(waits: &mut Vec<Wait>)
 }
 
 /// Returns from when to when events were lost.
-fn losses_in(alloc: Global, events: &[Event]) -> Result<Vec<(u64, u64)>, AllocError> {
+pub(crate) fn losses_in(alloc: Global, events: &[Event]) -> Result<Vec<(u64, u64)>, AllocError> {
     let mut lost = Vec::new(alloc);
     for event in events {
         if let What::Lost(loss) = event.what {
@@ -175,11 +175,10 @@ fn losses_in(alloc: Global, events: &[Event]) -> Result<Vec<(u64, u64)>, AllocEr
     Ok(lost)
 }
 
-/// Returns whether events were lost during a wait.
-fn meets(lost: &[(u64, u64)], wait: &Wait) -> bool {
-    let end = wait.began.saturating_add(wait.lasted);
+/// Returns whether events were lost between two times.
+pub(crate) fn meets(lost: &[(u64, u64)], begin: u64, end: u64) -> bool {
     for (from, to) in lost {
-        if *from <= end && wait.began <= *to {
+        if *from <= end && begin <= *to {
             return true;
         }
     }

@@ -9,16 +9,20 @@
 //! findings.waits.first(); // Some: the longest wait
 //! ```
 //!
-//! It is proved that the longest come first and that the times of a boosted thread add up. That each wait and each boost is
-//! one of the program's is tested.
+//! Of waits that a log has, [`ran_meanwhile`] finds who ran in the place of the owners.
+//!
+//! It is proved that the longest come first and that the times of a boosted thread add up. That each wait, each boost and
+//! each time is one of the program's is tested.
 #![tactic(auto)]
 
 mod boosted;
 mod boosts;
 mod findings;
 mod lists;
+mod meanwhile;
 mod waits;
 
 pub use boosted::Boosted;
 pub use findings::{Findings, boosts_by};
+pub use meanwhile::{Awaited, RanMeanwhile, ran_meanwhile};
 pub use waits::Wait;
