@@ -50,7 +50,6 @@ EXPORTED int pthread_cond_broadcast(pthread_cond_t *condition) {
 /* Registers the caller at the condition variable, and unlocks its mutex. */
 static int sleep_at(const pthread_cond_t *condition, struct mutex *mutex) {
     if (!is_owner(mutex, me)) return EPERM;
-    if (!register_owned(me)) return EAGAIN;
     me->relocks = mutex->relocks;
     mutex->relocks = 0;
     mutex->sleepers++;
@@ -59,7 +58,7 @@ static int sleep_at(const pthread_cond_t *condition, struct mutex *mutex) {
     me->ticket = ++tickets;
     me->condition = condition;
     atomic_fetch_add(&sleepers, 1);
-    release(mutex, me);
+    if (!disown_fast(mutex)) release(mutex, me);
     return 0;
 }
 

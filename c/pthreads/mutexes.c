@@ -3,10 +3,9 @@
  * An uncontended mutex of protocol NONE or INHERIT is locked and unlocked by one instruction on its
  * owner, without the guard and without libpim. Why that is sound: to own a mutex for which nobody
  * waits changes no priority, and closes no cycle of waits. So libpim has to know the owner only
- * before somebody waits for the mutex. It learns it by a lock in the owner's name, in the step of
- * the guard in which the first waiter asks, and answers from then on as if it had known it all the
- * time. That lock is always granted, as the mutex is free for libpim and its owner doesn't wait:
- * a thread registers all that it owns before it waits itself, for a mutex or a signal.
+ * before somebody waits for the mutex. It learns it by pim_adopt, in the step of the guard in which
+ * the first waiter asks, and answers from then on as if it had known it all the time. That is always
+ * granted, whether the owner waits or not, as the mutex is free for libpim.
  *
  * The flag KNOWN in the owner orders the two: the owner's unlock without libpim fails if the flag is
  * set, and the flag is set only if the mutex was not unlocked before. */
@@ -55,20 +54,28 @@ static void forget(struct mutex *mutex, struct thread *thread) {
     if (i >= 0) thread->fast[i] = thread->fast[--thread->fast_count];
 }
 
+/* Unlocks a mutex that the caller owns, unless libpim knows it. Returns whether it did. */
+bool disown_fast(struct mutex *mutex) {
+    uint32_t own = me->number;
+    forget(mutex, me);
+    return atomic_compare_exchange_strong(&mutex->owner, &own, 0);
+}
+
 /* ---- with libpim, within the guard ---- */
 
-/* Makes libpim know who owns the mutex. Afterwards nobody locks or unlocks it without libpim. The
- * thread doesn't wait. Returns whether a number was left. */
+/* Makes libpim know who owns the mutex. Afterwards nobody locks or unlocks it without libpim. Returns
+ * whether a number was left. */
 static bool make_known(struct mutex *mutex) {
     uint32_t owner = atomic_load(&mutex->owner);
     if (owner & KNOWN) return true;
     if (!lend_number(mutex)) return false;
     while (!atomic_compare_exchange_weak(&mutex->owner, &owner, owner | KNOWN)) continue;
-    if (owner != 0) pim_lock(&locks, (uint16_t)owner, mutex->number);
+    if (owner != 0) pim_adopt(&locks, (uint16_t)owner, mutex->number);
     return true;
 }
 
-bool register_owned(struct thread *thread) {
+/* Makes libpim know of all that the thread owns. Returns whether there were numbers for it. */
+static bool register_owned(struct thread *thread) {
     for (; thread->fast_count > 0; thread->fast_count--)
         if (!make_known(thread->fast[thread->fast_count - 1])) return false;
     return true;
@@ -84,7 +91,6 @@ int request(struct mutex *mutex, struct thread *thread, bool may_wait) {
     if (owner == GONE || owner == thread->number) return EINPROGRESS; /* for ever */
     if (!make_known(mutex)) return EAGAIN;
     bool is_free = pim_owner(&locks, mutex->number) == 0;
-    if (!is_free && may_wait && !register_owned(thread)) return EAGAIN;
     struct pim_answer answer = (may_wait ? pim_lock : pim_try)(&locks, thread->number, mutex->number);
     if (answer.kind == PIM_GRANTED) atomic_store(&mutex->owner, thread->number | KNOWN);
     else if (is_free) take_back(mutex, 0);
@@ -92,7 +98,7 @@ int request(struct mutex *mutex, struct thread *thread, bool may_wait) {
     return answer.kind == PIM_QUEUED ? EINPROGRESS : pim_errno(answer.refusal);
 }
 
-/* Unlocks a mutex that the thread owns. */
+/* Unlocks a mutex that the thread owns, as libpim knows. */
 void release(struct mutex *mutex, struct thread *thread) {
     struct pim_answer answer = pim_unlock(&locks, thread->number, mutex->number);
     bool is_handed = answer.kind == PIM_HANDED;
@@ -172,15 +178,13 @@ EXPORTED int pthread_mutex_clocklock(pthread_mutex_t *mutex, clockid_t clock, co
 
 EXPORTED int pthread_mutex_unlock(pthread_mutex_t *mutex) {
     struct mutex *m = (struct mutex *)mutex;
-    uint32_t own = me != NULL ? me->number : 0;
     if (is_glibc(mutex)) return GLIBC(pthread_mutex_unlock)(mutex);
     if (!is_owner(m, me)) return EPERM;
     if (m->relocks > 0) {
         m->relocks--;
         return 0;
     }
-    forget(m, me);
-    if (atomic_compare_exchange_strong(&m->owner, &own, 0)) return 0;
+    if (disown_fast(m)) return 0;
     enter();
     release(m, me);
     leave();

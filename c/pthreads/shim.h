@@ -76,9 +76,11 @@ int block(clockid_t clock, const struct timespec *until);
 struct thread *caller(void); /* NULL if no number is left */
 void apply_changes(void);
 
+/* mutexes.c */
+bool disown_fast(struct mutex *mutex);
+
 /* mutexes.c, within the guard */
 int request(struct mutex *mutex, struct thread *thread, bool may_wait);
-bool register_owned(struct thread *thread);
 void release(struct mutex *mutex, struct thread *thread);
 bool release_gone(struct thread *thread);
 
