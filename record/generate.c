@@ -7,6 +7,7 @@
 #define _GNU_SOURCE
 #include "library/inner.h"
 #include "library/log.h"
+#include "library/places.h"
 
 #include <errno.h>
 #include <fcntl.h>
@@ -71,6 +72,11 @@ static uint64_t object_of(int mutex) {
     return 0x555500000000u + 64u * (unsigned)mutex;
 }
 
+/* Returns the number of the place at which all calls of an event and a mutex are made. */
+static uint64_t place_of(enum event event, int mutex) {
+    return 1 + (8 * (unsigned)mutex + event) % PLACE_SLOTS;
+}
+
 static void open_chunk(int thread) {
     struct thread *self = &threads[thread];
     uint64_t chunk = header->next_chunk++;
@@ -103,8 +109,9 @@ static struct record *put(int thread, struct record filled) {
 }
 
 static struct record *put_of(int thread, enum event event, int mutex) {
+    uint64_t place = event == EVENT_INIT ? 0 : place_of(event, mutex);
     return put(thread, (struct record){ .event = (uint8_t)event,
-                                        .object = object_of(mutex),
+                                        .object = object_of(mutex) | place << PLACE_SHIFT,
                                         .detail = mutexes[mutex].detail });
 }
 
@@ -238,6 +245,8 @@ static void map_log(const char *path) {
     header->record_bytes = sizeof(struct record);
     header->chunk_records = CHUNK_RECORDS;
     header->known = KNOWN_KIND | KNOWN_CEILING | KNOWN_OWNER;
+    header->contents = HAS_PLACES;
+    for (uint64_t i = 0; i < PLACE_SLOTS; i++) header->places[i] = 0x400000 + 16 * i;
     header->chunks = chunks;
     header->process = 1000;
     header->parent = 999;

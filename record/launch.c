@@ -237,7 +237,8 @@ int main(int count, char **arguments) {
     if (what && !wanted.kernel) refuse_unlogged(path, what);
     if (what) wanted.log = NULL;
     wanted.program = path;
-    if (wanted.log && wanted.amount.room.bytes < HEADER_BYTES + CHUNK_BYTES)
+    uint64_t least = CHUNK_BYTES + (wanted.amount.room.is_last ? 0 : HEADER_BYTES);
+    if (wanted.log && wanted.amount.room.bytes < least)
         refuse(FAULT, "PIM_RECORD_BYTES", "not a size");
     if (wanted.log) refuse_library(arguments[1]);
     const char *collector = run_recorded(&wanted);

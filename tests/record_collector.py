@@ -10,8 +10,8 @@ from checks import ROOT, SECONDS, check, children_of, difference, ended, is_gone
 
 RECORD = ROOT / "record"
 PROGRAMS = RECORD / "out/programs"
-CHUNK_RECORDS, CHUNK_BYTES, MEGABYTE = 511, 16384, 1 << 20
-SLOTS_BYTES = 256 * CHUNK_BYTES + 9 * 4096  # MANY_SLOTS of record/library/shared.h, and what isn't a slot
+CHUNK_RECORDS, CHUNK_BYTES, MEGABYTE, HEADER_BYTES = 511, 16384, 1 << 20, 69632
+SLOTS_BYTES = 256 * CHUNK_BYTES + HEADER_BYTES + 8 * 4096  # MANY_SLOTS of record/library/shared.h, and what isn't a slot
 OTHER_USER = 65534
 
 
@@ -157,12 +157,12 @@ def short_threads(reader, broken, folder):
     status = running.end()[0]
     log, data = read(reader, running.path), running.path.stat()
     taken = number_in(running.path, 192)
-    check("600 short threads in a log that has room for 255 chunks", broken(log) or difference(
+    check("600 short threads in a log that has room for 251 chunks", broken(log) or difference(
         (status, counted(reader, log, reader.EXIT), log.head.lost, taken >= 601), (0, 600, 0, True)))
-    wanted = 4096 + taken * 4096 + MEGABYTE // 4
+    wanted = HEADER_BYTES + taken * 4096 + MEGABYTE // 4
     check("each takes a block of the disk", None if data.st_blocks * 512 <= wanted else f"{data.st_blocks} blocks")
     check("the file is as long as the chunks that were taken",
-          difference((data.st_size, log.head.chunks > 255), (4096 + taken * CHUNK_BYTES, True)))
+          difference((data.st_size, log.head.chunks > 251), (HEADER_BYTES + taken * CHUNK_BYTES, True)))
 
 
 LOCKS_MEMORY = """\

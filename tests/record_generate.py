@@ -214,7 +214,7 @@ def row_of(folder, fine):
     with open(path, "rb") as file:
         head = file.read(256)
     (numbers,), (chunks,) = struct.unpack_from("<Q", head, 128), struct.unpack_from("<Q", head, 192)
-    size = (4096 + 16384 * chunks) / MEGABYTE
+    size = (69632 + 16384 * chunks) / MEGABYTE
     row = bench("--records", 30000, "--only", "one mutex", fine)[1][1].split()
     wanted = ["one", "mutex", str(numbers - 1), f"{size:.1f}"]
     check("the log's size in bench-import", difference((row[:4], len(row)), (wanted, 7)))

@@ -15,6 +15,7 @@ from picture_cpus import cut, plainly
 from picture_tracks import Tracks
 from record_collector import CHUNK_BYTES, number_in
 from record_last import does, is_permitted, started
+from record_logs import reader
 
 PROGRAMS, SECONDS, SKIPPED = ROOT / "record/out/programs", 600, 77
 IMPORTER, PIM = ROOT / "crates/pim_importer/out/pim_importer", ROOT / "crates/pim/out/pim"
@@ -656,10 +657,7 @@ def full_disk(folder):
 
 def used(log):
     """Returns the bytes of a log up to its last chunk."""
-    with open(log, "rb") as file:
-        head = file.read(4096)
-        chunks = min(*struct.unpack_from("<Q", head, 192), *struct.unpack_from("<Q", head, 32))
-        return head + file.read(16384 * chunks)
+    return reader.used_bytes(log)
 
 
 def answers(path, data):
@@ -679,7 +677,8 @@ def answers(path, data):
 def damaged(folder):
     log, _ended = record_own(folder, "inversion none 20")
     whole, path, generator = used(log), pathlib.Path(folder, "bad"), random.Random(7)
-    cuts = [0, 1, 4095, 4096, 4097, *(generator.randrange(len(whole)) for _ in range(40)), len(whole) - 1]
+    end = reader.read_head(whole).header_bytes
+    cuts = [0, 1, 4095, 4096, 4097, end - 1, end, end + 1, *(generator.randrange(len(whole)) for _ in range(40)), len(whole) - 1]
     faults = [(cut, answers(path, whole[:cut])) for cut in cuts]
     check("each prefix has an answer", next((f"{cut}: {why}" for cut, why in faults if why), None))
     places = [at for at in range(len(whole)) if whole[at]]
@@ -690,7 +689,7 @@ def damaged(folder):
         faults.append((at, answers(path, bytes(data))))
     check("each changed byte has an answer", next((f"{at}: {why}" for at, why in faults if why), None))
     faults = [answers(path, generator.randbytes(generator.randrange(40_000))) for _ in range(40)]
-    faults += [answers(path, whole[:4096] + generator.randbytes(len(whole) - 4096)) for _ in range(40)]
+    faults += [answers(path, whole[:end] + generator.randbytes(len(whole) - end)) for _ in range(40)]
     check("random bytes have an answer", next(filter(None, faults), None))
 
 

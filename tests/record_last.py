@@ -5,7 +5,7 @@ import signal
 import time
 
 from checks import SECONDS, check, difference, ended, is_gone, proc_text, skip, stat_of, threads_of, until
-from record_collector import CHUNK_BYTES, MEGABYTE, PROGRAMS, RECORD, Running, counted, read, run
+from record_collector import CHUNK_BYTES, HEADER_BYTES, MEGABYTE, PROGRAMS, RECORD, Running, counted, read, run
 from record_logs import change, log_of, reader
 
 PAIRS, SHORT = 5110, 50  # of record/programs/last.c
@@ -51,7 +51,7 @@ def rings(reader, broken, folder):
     check("a log of the latest records", broken(log) or difference((status, said, did), (0, "", [True] * 4)))
     check("it has each call, or says that it was dropped", difference((calls(reader, log),), (5 + 20 * PAIRS,)))
     threads = len({record.chunk.thread for record in log.records})
-    check("its file is bounded", None if size <= 4096 + (ROOM + threads) * CHUNK_BYTES else f"{size} bytes")
+    check("its file is bounded", None if size <= HEADER_BYTES + (ROOM + threads) * CHUNK_BYTES else f"{size} bytes")
     few = all(MEGABYTE <= bytes_held <= MEGABYTE + MEGABYTE // 2 for bytes_held in held)
     check("its memory is bounded", None if few else f"{held} bytes")
     owners = {r.chunk.thread for r in log.records if r.event == reader.INIT}

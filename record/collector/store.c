@@ -56,19 +56,19 @@ static bool limit_slots(struct store *of) {
 
 /* A file longer than the limit couldn't take all records, nor can each file system have one as
  * long. It grows as it is written. The magic comes first: so what is left by a recorder that is
- * killed meanwhile is a log, too, which the next recording replaces. */
+ * killed meanwhile is a log, too, which the next recording replaces. The disk has room for the
+ * places then, whatever else it takes. */
 const char *store_make_file(struct store *made, const char *name, uint32_t process,
                             const struct room *room) {
-    static const unsigned char first[HEADER_BYTES] = LOG_MAGIC;
     const char *why = NULL;
-    *made = (struct store){ .memory = -1, .bytes = room->bytes };
+    *made = (struct store){ .memory = -1, .bytes = room->bytes, .header = LOG_MAGIC };
     made->chunks = room->is_last ? NO_END : (room->bytes - HEADER_BYTES) / CHUNK_BYTES;
     bool is_allowed = limit_slots(made);
     made->file = open_new(made, name, process);
     if (made->file < 0) return strerror(errno);
     if (!is_allowed)
         why = "the log is longer than the limit of a file (ulimit -f)";
-    else if (pwrite(made->file, first, sizeof first, 0) != sizeof first ||
+    else if (!write_all(made->file, made->header, HEADER_BYTES, 0) ||
              ftruncate(made->file, (off_t)room->bytes) != 0 ||
              ftruncate(made->file, HEADER_BYTES) != 0)
         why = strerror(errno);
@@ -142,6 +142,17 @@ static void lose(struct store *of, const struct record *chunk, unsigned from, un
     of->lost += to - from;
 }
 
+/* Writes what is new of the table of places, before a chunk with the numbers of those. */
+static void write_places(struct store *of) {
+    const unsigned char *table = (const unsigned char *)&of->view->header;
+    unsigned char page[BLOCK];
+    for (size_t at = FIELDS_BYTES; at < HEADER_BYTES; at += BLOCK) {
+        memcpy(page, table + at, BLOCK);
+        if (memcmp(page, of->header + at, BLOCK) == 0) continue;
+        if (write_all(of->file, page, BLOCK, at)) memcpy(of->header + at, page, BLOCK);
+    }
+}
+
 /* Writes what is new of a chunk, up to `to` records with the head. */
 static void write_chunk(struct store *of, uint64_t slot, uint64_t place, unsigned to) {
     const struct record *chunk = of->view->slots[slot];
@@ -149,6 +160,7 @@ static void write_chunk(struct store *of, uint64_t slot, uint64_t place, unsigne
     uint64_t offset = HEADER_BYTES + (place - 1) * CHUNK_BYTES + from * sizeof(struct record);
     unsigned char bytes[CHUNK_BYTES];
     if (from >= to || place == 0 || place > of->chunks) return;
+    write_places(of);
     memcpy(bytes, chunk + from, (to - from) * sizeof(struct record));
     if (from == 0) ((struct chunk_head *)bytes)->place = 0;
     bool is_written = of->lost == 0 &&
@@ -168,19 +180,19 @@ static bool cover(struct store *of, const struct header *header) {
     return true;
 }
 
+/* Writes the header's fields, if they are new. */
 static void write_header(struct store *of) {
-    unsigned char bytes[HEADER_BYTES];
-    struct header *header = (struct header *)bytes;
+    struct header header;
     if (atomic_load(&of->view->header.next_number) == 0) return; /* the program hasn't filled it */
-    memcpy(bytes, &of->view->header, HEADER_BYTES);
-    header->chunks = of->chunks;
-    if (!cover(of, header)) return;
-    header->lost += of->lost;
-    uint64_t first_lost = header->first_lost;
+    memcpy(&header, &of->view->header, FIELDS_BYTES);
+    header.chunks = of->chunks;
+    if (!cover(of, &header)) return;
+    header.lost += of->lost;
+    uint64_t first_lost = header.first_lost;
     if (of->first_lost && (first_lost == 0 || of->first_lost < first_lost))
-        header->first_lost = of->first_lost;
-    if (memcmp(bytes, of->header, HEADER_BYTES) == 0) return;
-    if (write_all(of->file, bytes, HEADER_BYTES, 0)) memcpy(of->header, bytes, HEADER_BYTES);
+        header.first_lost = of->first_lost;
+    if (memcmp(&header, of->header, FIELDS_BYTES) == 0) return;
+    if (write_all(of->file, &header, FIELDS_BYTES, 0)) memcpy(of->header, &header, FIELDS_BYTES);
 }
 
 /* ---- collecting ---- */

@@ -17,6 +17,7 @@ enum { MOST_HELD = 8, /* the grants of further mutexes are put */
 
 struct held {
     const pthread_mutex_t *mutex;
+    uint64_t place;        /* in the code, of the call */
     uint64_t time, number; /* of the grant */
     uint32_t took;         /* nanoseconds of the call */
     uint32_t requests;     /* of the mutex, as the call began */
@@ -83,7 +84,7 @@ static inline void held_leave_out(void) {
 }
 
 /* Keeps a grant of now that nobody waited for, or waits for. Returns false if it is to be put. */
-static inline bool held_keep(const pthread_mutex_t *mutex, enum call call,
+static inline bool held_keep(const pthread_mutex_t *mutex, enum call call, uint64_t place,
                              const struct asked *asked) {
     uint16_t detail = inner_detail(mutex);
     bool is_first = !(detail & DETAIL_PROTECT) && !inner_has_waiters(mutex) &&
@@ -92,6 +93,7 @@ static inline bool held_keep(const pthread_mutex_t *mutex, enum call call,
     log_cursor.is_writing = true;
     struct held *kept = &held[log_cursor.held++];
     kept->mutex = mutex;
+    kept->place = place;
     kept->time = log_time();
     kept->took = log_saturated(kept->time - asked->began);
     kept->number = atomic_load_explicit(&log_header->next_number, memory_order_relaxed) - 1;

@@ -216,6 +216,7 @@ void log_make(void) {
     header->record_bytes = sizeof(struct record);
     header->chunk_records = CHUNK_RECORDS;
     header->known = inner_known;
+    header->contents = HAS_PLACES;
     header->process = (uint32_t)getpid();
     header->parent = (uint32_t)getppid();
     header->began_monotonic = log_time();

@@ -13,9 +13,11 @@
 #include <time.h>
 
 enum {
-    LOG_VERSION = 1,
+    LOG_VERSION = 2,
     LOG_BYTE_ORDER = 0x01020304,
-    HEADER_BYTES = 4096,
+    FIELDS_BYTES = 4096, /* of the header, without the table of places */
+    PLACE_SLOTS = 8192,
+    HEADER_BYTES = FIELDS_BYTES + PLACE_SLOTS * 8,
     CHUNK_BYTES = 16384,
     COMMAND_BYTES = 2048,
     CHUNK_RECORDS = 512,
@@ -58,6 +60,8 @@ enum call {
     CALL_CONDITION = 4,
     OWNER_DIED = 0x80,
 };
+
+enum { HAS_PLACES = 1 }; /* of the header's `contents`: records of calls have places */
 
 enum { POLICY_KEPT = 15 }; /* the policy is as it was before, or as that of the creator */
 
@@ -107,7 +111,7 @@ struct header {
     uint64_t began_monotonic;
     uint64_t began_realtime;
     uint32_t command_bytes;
-    uint32_t zero;
+    uint32_t contents;
     _Alignas(64) _Atomic uint64_t next_number;
     _Alignas(64) _Atomic uint64_t next_chunk;
     _Atomic uint64_t next_thread;
@@ -116,7 +120,9 @@ struct header {
     _Atomic uint64_t left_out;   /* calls of which something couldn't be known */
     uint64_t dropped;            /* records that were dropped for later ones */
     uint64_t dropped_until;      /* the latest time of those */
+    _Atomic uint64_t unplaced;   /* records for whose place there was no room */
     _Alignas(256) char command[COMMAND_BYTES]; /* the arguments, each with a zero byte behind it */
+    _Alignas(FIELDS_BYTES) _Atomic uint64_t places[PLACE_SLOTS]; /* places.h */
 };
 
 _Static_assert(sizeof(struct record) == 32, "FORMAT.md: a record has 32 bytes");
@@ -127,8 +133,10 @@ _Static_assert(offsetof(struct header, chunks) == 32, "FORMAT.md: the header");
 _Static_assert(offsetof(struct header, next_number) == 128, "FORMAT.md: the header");
 _Static_assert(offsetof(struct header, next_chunk) == 192, "FORMAT.md: the header");
 _Static_assert(offsetof(struct header, dropped) == 232, "FORMAT.md: the header");
+_Static_assert(offsetof(struct header, unplaced) == 248, "FORMAT.md: the header");
 _Static_assert(offsetof(struct header, command) == 256, "FORMAT.md: the header");
-_Static_assert(sizeof(struct header) <= HEADER_BYTES, "FORMAT.md: the header");
+_Static_assert(offsetof(struct header, places) == FIELDS_BYTES, "FORMAT.md: the places");
+_Static_assert(sizeof(struct header) == HEADER_BYTES, "FORMAT.md: the header");
 
 /* What a thread keeps between its calls. */
 struct cursor {

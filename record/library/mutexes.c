@@ -1,8 +1,12 @@
 #define _GNU_SOURCE
 #include "held.h"
+#include "places.h"
 #include "recorder.h"
 
 #include <errno.h>
+
+/* The place in the code at which a function of the recorder is called: where it returns to. */
+#define PLACE ((uintptr_t)__builtin_return_address(0))
 
 /* Returns a record of a mutex whose detail can be read. */
 static struct record of_mutex(enum event event, unsigned how, const pthread_mutex_t *mutex) {
@@ -18,6 +22,20 @@ static struct record of_address(enum event event, unsigned how, const pthread_mu
         .event = (uint8_t)event, .how = (uint8_t)how, .object = (uintptr_t)mutex };
 }
 
+/* Returns a record with the place at which its call was made. */
+static struct record at(uint64_t place, struct record record) {
+    record.object = places_object(record.object, place);
+    return record;
+}
+
+/* Puts such a record of now. */
+static inline void put_at(uint64_t place, struct record record) {
+    if (!log_begin()) return;
+    record.time = log_time();
+    log_write(at(place, record));
+    log_end();
+}
+
 /* ---- lock ---- */
 
 static bool locks_again(const pthread_mutex_t *mutex, uint32_t owner) {
@@ -25,38 +43,47 @@ static bool locks_again(const pthread_mutex_t *mutex, uint32_t owner) {
 }
 
 /* Puts a REQUEST, and when the call began. Returns whether it did. */
-static bool put_request(const pthread_mutex_t *mutex, enum call call, uint64_t *time) {
+static bool put_request(const pthread_mutex_t *mutex, enum call call, uint64_t place,
+                        uint64_t *time) {
     struct record record = of_mutex(EVENT_REQUEST, call, mutex);
     record.value = inner_owner(mutex);
     if (!log_begin()) return false;
     record.time = *time = log_time();
-    log_write(record);
+    log_write(at(place, record));
     log_end();
     return true;
 }
 
 /* The same with --contended, unless the mutex was released meanwhile. */
-static bool announce_request(const pthread_mutex_t *mutex, enum call call, uint64_t *time) {
+static bool announce_request(const pthread_mutex_t *mutex, enum call call, uint64_t place,
+                             uint64_t *time) {
     if (!held_announce(mutex)) return false;
-    bool is_put = put_request(mutex, call, time);
+    bool is_put = put_request(mutex, call, place, time);
     if (!is_put) held_withdraw(mutex);
     return is_put;
 }
 
-/* Puts a REQUEST where the mutex is owned, but by the thread itself if it may lock again. Returns
- * when the call began. */
-static struct asked request(const pthread_mutex_t *mutex, enum call call) {
+/* Asks for an owned mutex, unless it is the thread's own, which may lock it again. */
+static __attribute__((noinline)) bool request_owned(const pthread_mutex_t *mutex, enum call call,
+                                                    uint64_t place, uint64_t *time) {
+    if (locks_again(mutex, inner_owner(mutex))) return false;
+    return held_is_on() ? announce_request(mutex, call, place, time)
+                        : put_request(mutex, call, place, time);
+}
+
+/* Puts a REQUEST where the mutex is owned. Returns when the call began. */
+static inline struct asked request(const pthread_mutex_t *mutex, enum call call, uint64_t place) {
     struct asked asked = { .began = log_time() };
     if (!(inner_known & KNOWN_OWNER))
         log_leave_out();
-    else if (inner_is_owned(mutex) && !locks_again(mutex, inner_owner(mutex)))
-        asked.is_put = held_is_on() ? announce_request(mutex, call, &asked.began)
-                                    : put_request(mutex, call, &asked.began);
+    else if (inner_is_owned(mutex))
+        asked.is_put = request_owned(mutex, call, place, &asked.began);
     if (held_is_on()) asked.requests = held_requests(mutex);
     return asked;
 }
 
-static void put_answer(const pthread_mutex_t *mutex, enum call call, uint64_t began, int error) {
+static void put_answer(const pthread_mutex_t *mutex, enum call call, uint64_t place,
+                       uint64_t began, int error) {
     bool is_granted = error == 0 || error == EOWNERDEAD;
     struct record record = is_granted ? of_mutex(EVENT_GRANTED, call, mutex)
                                       : of_address(EVENT_FAILED, (unsigned)error, mutex);
@@ -64,15 +91,15 @@ static void put_answer(const pthread_mutex_t *mutex, enum call call, uint64_t be
     if (!log_begin()) return;
     record.time = log_time();
     record.value = log_saturated(record.time - began);
-    log_write(record);
+    log_write(at(place, record));
     log_end();
 }
 
 /* Returns whether an answer isn't to be put, or not yet: nobody has waited. */
-static bool is_left_out(const pthread_mutex_t *mutex, enum call call, const struct asked *asked,
-                        int error) {
+static bool is_left_out(const pthread_mutex_t *mutex, enum call call, uint64_t place,
+                        const struct asked *asked, int error) {
     if (!held_is_on() || asked->is_put) return false;
-    if (error == 0) return held_keep(mutex, call, asked);
+    if (error == 0) return held_keep(mutex, call, place, asked);
     if (error != EBUSY) return false;
     held_leave_out();
     return true;
@@ -80,37 +107,38 @@ static bool is_left_out(const pthread_mutex_t *mutex, enum call call, const stru
 
 /* Puts what the call was answered, and how long it took. Returns the answer. A mutex that wasn't
  * granted may be gone. */
-static int answer(const pthread_mutex_t *mutex, enum call call, struct asked asked, int error) {
-    if (is_left_out(mutex, call, &asked, error)) return error;
-    put_answer(mutex, call, asked.began, error);
+static int answer(const pthread_mutex_t *mutex, enum call call, uint64_t place, struct asked asked,
+                  int error) {
+    if (is_left_out(mutex, call, place, &asked, error)) return error;
+    put_answer(mutex, call, place, asked.began, error);
     if (held_is_on() && asked.is_put) held_withdraw(mutex);
     return error;
 }
 
 EXPORT int pthread_mutex_lock(pthread_mutex_t *mutex) {
     if (!is_recorded()) return real.mutex_lock(mutex);
-    struct asked asked = request(mutex, CALL_LOCK);
-    return answer(mutex, CALL_LOCK, asked, real.mutex_lock(mutex));
+    struct asked asked = request(mutex, CALL_LOCK, PLACE);
+    return answer(mutex, CALL_LOCK, PLACE, asked, real.mutex_lock(mutex));
 }
 
 EXPORT int pthread_mutex_timedlock(pthread_mutex_t *mutex, const struct timespec *until) {
     if (!is_recorded()) return real.mutex_timedlock(mutex, until);
-    struct asked asked = request(mutex, CALL_TIMEDLOCK);
-    return answer(mutex, CALL_TIMEDLOCK, asked, real.mutex_timedlock(mutex, until));
+    struct asked asked = request(mutex, CALL_TIMEDLOCK, PLACE);
+    return answer(mutex, CALL_TIMEDLOCK, PLACE, asked, real.mutex_timedlock(mutex, until));
 }
 
 EXPORT int pthread_mutex_clocklock(pthread_mutex_t *mutex, clockid_t clock,
                                    const struct timespec *until) {
     if (!is_recorded()) return real.mutex_clocklock(mutex, clock, until);
-    struct asked asked = request(mutex, CALL_CLOCKLOCK);
-    return answer(mutex, CALL_CLOCKLOCK, asked, real.mutex_clocklock(mutex, clock, until));
+    struct asked asked = request(mutex, CALL_CLOCKLOCK, PLACE);
+    return answer(mutex, CALL_CLOCKLOCK, PLACE, asked, real.mutex_clocklock(mutex, clock, until));
 }
 
 EXPORT int pthread_mutex_trylock(pthread_mutex_t *mutex) {
     if (!is_recorded()) return real.mutex_trylock(mutex);
     struct asked asked = { .began = log_time() };
     if (held_is_on()) asked.requests = held_requests(mutex);
-    return answer(mutex, CALL_TRYLOCK, asked, real.mutex_trylock(mutex));
+    return answer(mutex, CALL_TRYLOCK, PLACE, asked, real.mutex_trylock(mutex));
 }
 
 /* ---- unlock ---- */
@@ -134,68 +162,80 @@ EXPORT int pthread_mutex_unlock(pthread_mutex_t *mutex) {
     if (!is_recorded()) return real.mutex_unlock(mutex);
     struct held *own = held_is_on() && !log_cursor.is_writing ? held_find(mutex) : NULL;
     if (own) return release_held(mutex, own);
-    log_put(of_mutex(EVENT_RELEASE, CALL_LOCK, mutex));
+    put_at(PLACE, of_mutex(EVENT_RELEASE, CALL_LOCK, mutex));
     int error = real.mutex_unlock(mutex);
-    if (error) log_put(of_address(EVENT_RELEASE_FAILED, (unsigned)error, mutex));
+    if (error) put_at(PLACE, of_address(EVENT_RELEASE_FAILED, (unsigned)error, mutex));
     return error;
 }
 
 /* ---- condition variables ---- */
 
-static void release_to_wait(const pthread_cond_t *condition, const pthread_mutex_t *mutex) {
+/* A wait at a condition variable. All of its records have its place. */
+struct wait {
+    const pthread_mutex_t *mutex;
+    uint64_t place;
+};
+
+static void release_to_wait(const pthread_cond_t *condition, const struct wait *of) {
     struct record wait = { .event = EVENT_CONDITION, .object = (uintptr_t)condition };
-    log_put_both(wait, of_mutex(EVENT_RELEASE, CALL_CONDITION, mutex));
+    struct record release = of_mutex(EVENT_RELEASE, CALL_CONDITION, of->mutex);
+    log_put_both(at(of->place, wait), at(of->place, release));
 }
 
 /* The mutex is relocked but after an error that comes before the wait, when it wasn't released, or
  * where its state can't be recovered. */
-static int relocked(const pthread_mutex_t *mutex, int error) {
+static int relocked(const struct wait *of, int error) {
+    struct record record;
     if (error == 0 || error == ETIMEDOUT)
-        log_put(of_mutex(EVENT_GRANTED, CALL_CONDITION, mutex));
+        record = of_mutex(EVENT_GRANTED, CALL_CONDITION, of->mutex);
     else if (error == EOWNERDEAD)
-        log_put(of_mutex(EVENT_GRANTED, CALL_CONDITION | OWNER_DIED, mutex));
+        record = of_mutex(EVENT_GRANTED, CALL_CONDITION | OWNER_DIED, of->mutex);
     else if (error == ENOTRECOVERABLE)
-        log_put(of_address(EVENT_FAILED, (unsigned)error, mutex));
+        record = of_address(EVENT_FAILED, (unsigned)error, of->mutex);
     else
-        log_put(of_address(EVENT_RELEASE_FAILED, (unsigned)error, mutex));
+        record = of_address(EVENT_RELEASE_FAILED, (unsigned)error, of->mutex);
+    put_at(of->place, record);
     return error;
 }
 
 /* A thread that is cancelled in a wait relocks the mutex before its cleanup handlers run. */
-static void cancelled(void *mutex) {
-    relocked(mutex, 0);
+static void cancelled(void *wait) {
+    relocked(wait, 0);
 }
 
 EXPORT int pthread_cond_wait(pthread_cond_t *condition, pthread_mutex_t *mutex) {
+    struct wait wait = { mutex, PLACE };
     int error;
     if (!is_recorded()) return real.cond_wait(condition, mutex);
-    release_to_wait(condition, mutex);
-    pthread_cleanup_push(cancelled, mutex);
+    release_to_wait(condition, &wait);
+    pthread_cleanup_push(cancelled, &wait);
     error = real.cond_wait(condition, mutex);
     pthread_cleanup_pop(0);
-    return relocked(mutex, error);
+    return relocked(&wait, error);
 }
 
 EXPORT int pthread_cond_timedwait(pthread_cond_t *condition, pthread_mutex_t *mutex,
                                   const struct timespec *until) {
+    struct wait wait = { mutex, PLACE };
     int error;
     if (!is_recorded()) return real.cond_timedwait(condition, mutex, until);
-    release_to_wait(condition, mutex);
-    pthread_cleanup_push(cancelled, mutex);
+    release_to_wait(condition, &wait);
+    pthread_cleanup_push(cancelled, &wait);
     error = real.cond_timedwait(condition, mutex, until);
     pthread_cleanup_pop(0);
-    return relocked(mutex, error);
+    return relocked(&wait, error);
 }
 
 EXPORT int pthread_cond_clockwait(pthread_cond_t *condition, pthread_mutex_t *mutex,
                                   clockid_t clock, const struct timespec *until) {
+    struct wait wait = { mutex, PLACE };
     int error;
     if (!is_recorded()) return real.cond_clockwait(condition, mutex, clock, until);
-    release_to_wait(condition, mutex);
-    pthread_cleanup_push(cancelled, mutex);
+    release_to_wait(condition, &wait);
+    pthread_cleanup_push(cancelled, &wait);
     error = real.cond_clockwait(condition, mutex, clock, until);
     pthread_cleanup_pop(0);
-    return relocked(mutex, error);
+    return relocked(&wait, error);
 }
 
 /* ---- init, destroy, ceiling ---- */
@@ -206,8 +246,7 @@ EXPORT int pthread_mutex_init(pthread_mutex_t *mutex, const pthread_mutexattr_t 
     if (error || !is_told) return error;
     struct record init = of_address(EVENT_INIT, 0, mutex);
     init.detail = inner_detail_of_attributes(attributes);
-    uintptr_t caller = (uintptr_t)__builtin_return_address(0);
-    log_put_both(init, (struct record){ .event = EVENT_PLACE, .object = caller });
+    log_put_both(init, (struct record){ .event = EVENT_PLACE, .object = PLACE });
     return 0;
 }
 

@@ -10,7 +10,7 @@
 #include <assert.h>
 
 enum {
-    SHARED_VERSION = 2,
+    SHARED_VERSION = 3,
     MOST_SLOTS = 65536, /* 1 GB of chunks that aren't written yet */
     FEW_SLOTS = 32,     /* 0.5 MB, which are touched as a program begins */
     MANY_SLOTS = 256,   /* 4 MB, once it has threads or a real-time priority */
@@ -24,7 +24,7 @@ enum {
 #define LOG_MAGIC { 'p', 'i', 'm', 'l', 'o', 'g', '\r', '\n' }
 
 struct shared {
-    _Alignas(PAGE) struct header header;
+    _Alignas(PAGE) struct header header; /* with the table of places */
     _Alignas(PAGE) _Atomic uint64_t next_slot; /* this one and those behind it had no chunk yet */
     _Atomic uint32_t is_unused;                /* 1: the log is to be removed */
     _Alignas(PAGE) _Atomic uint64_t free[MOST_SLOTS / 64]; /* a bit for each slot */

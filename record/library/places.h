@@ -1,0 +1,36 @@
+/* The places in the code at which the program calls what is recorded: where each call returns to.
+ * The log's header has a table of them, so that the number of a place has room in a record. It is
+ * read and filled without a lock, by all threads and processes of the log. */
+#ifndef PIM_PLACES_H
+#define PIM_PLACES_H
+
+#include "log.h"
+
+enum {
+    PLACE_SHIFT = 48,  /* bits of an object that are an address */
+    PLACE_PROBES = 16, /* slots in which a place may be */
+    PLACE_HASH_SHIFT = 19,
+};
+
+_Static_assert(PLACE_SLOTS == 1 << (32 - PLACE_HASH_SHIFT), "the upper bits of a hash are a slot");
+
+/* Does what places_object does, also where the place isn't in the first slot of its hash. */
+uint64_t places_search(uint64_t address, uint64_t place);
+
+/* Returns the first slot in which a place may be, by its hash. */
+static inline uint64_t places_slot(uint64_t place) {
+    return ((uint32_t)place * UINT32_C(0x9e3779b1)) >> PLACE_HASH_SHIFT;
+}
+
+/* Returns the object of a record: an address, with the number of a place in the bits above. Where
+ * the table has no room for the place, the record has none, and is counted. Bits of the address
+ * that have no room are cut, and the call is counted. */
+static inline uint64_t places_object(uint64_t address, uint64_t place) {
+    uint64_t slot = places_slot(place);
+    uint64_t there = atomic_load_explicit(&log_header->places[slot], memory_order_relaxed);
+    bool is_found = ((there ^ place) | address >> PLACE_SHIFT) == 0;
+    if (__builtin_expect(!is_found, 0)) return places_search(address, place);
+    return address | (slot + 1) << PLACE_SHIFT;
+}
+
+#endif
