@@ -13,6 +13,7 @@ PAGE, CRATES = ROOT / "web/dist/index.html", ROOT / "launcher/crates"
 COPIED = """
 README.md CHANGELOG.md SECURITY.md VERSION docs examples web/README.md web/inversion.svg
 record/pim-record record/pim-log record/from-lttng record/kernel_text.py record/log_facts.py record/facts_text.py
+record/places_text.py
 record/FORMAT.md record/KERNEL.md record/LAST.md record/PLACES.md
 record/recorded/inversion_inherit.log
 conform/pim-conform conform/compare.py conform/fuzz.py conform/walk.py

@@ -2,10 +2,10 @@
  * in one line why it can't be recorded, and runs nothing. pim-record calls it. It stays until
  * the program ends. PIM_RECORD is the log's file, of PIM_RECORD_BYTES, or of the last records of
  * PIM_RECORD_LAST bytes, with snapshots by PIM_RECORD_TRIGGER nanoseconds; with
- * PIM_RECORD_CONTENDED only of what is waited for. With PIM_KERNEL, the
- * name of a file, it records the kernel's events there: without the library where the program
- * can't have it, or where PIM_RECORD names no log. The library finds the name of the
- * collector's socket in PIM_RECORD. */
+ * PIM_RECORD_CONTENDED only of what is waited for. PIM_RECORD_READER, the path of pim-log, names
+ * the places at the end. With PIM_KERNEL, the name of a file, it records the kernel's events there:
+ * without the library where the program can't have it, or where PIM_RECORD names no log. The
+ * library finds the name of the collector's socket in PIM_RECORD. */
 #define _GNU_SOURCE
 #include <dlfcn.h>
 #include <elf.h>
@@ -227,6 +227,7 @@ int main(int count, char **arguments) {
     wanted.amount = take_amount();
     wanted.kernel = take_variable("PIM_KERNEL");
     wanted.kilobytes = take_variable("PIM_KERNEL_KB");
+    wanted.reader = take_variable("PIM_RECORD_READER");
     if (!wanted.kilobytes) wanted.kernel = NULL;
     if (count < 3 || !(wanted.log || wanted.kernel)) {
         fprintf(stderr, "pim-launch: pim-record calls it\n");

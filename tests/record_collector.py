@@ -7,6 +7,7 @@ import signal
 import subprocess
 
 from checks import ROOT, SECONDS, check, children_of, difference, ended, is_gone, orphan_of, proc_text, skip, until
+from record_logs import without_places
 
 RECORD = ROOT / "record"
 PROGRAMS = RECORD / "out/programs"
@@ -409,7 +410,7 @@ def no_file(folder):
 
 def calls_of_others(reader, folder):
     """Returns how many grants each log has but that of the recording's first program."""
-    return [counted(reader, read(reader, path), reader.GRANTED) for path in pathlib.Path(folder).glob("run.*")]
+    return [counted(reader, read(reader, path), reader.GRANTED) for path in without_places(pathlib.Path(folder).glob("run.*"))]
 
 
 def namespace(name, *flags):

@@ -6,7 +6,7 @@ import time
 
 from checks import SECONDS, check, difference, ended, is_gone, proc_text, skip, stat_of, threads_of, until
 from record_collector import CHUNK_BYTES, HEADER_BYTES, MEGABYTE, PROGRAMS, RECORD, Running, counted, read, run
-from record_logs import change, log_of, reader
+from record_logs import change, log_of, reader, without_places
 
 PAIRS, SHORT = 5110, 50  # of record/programs/last.c
 ROOM = MEGABYTE // CHUNK_BYTES  # chunks of --last 1M
@@ -190,7 +190,7 @@ def snapshots(reader, broken, folder):
     again.child.send_signal(signal.SIGUSR2)
     status = ended(again.child)
     again.end()
-    got = status, sorted(path.name for path in pathlib.Path(folder).iterdir())
+    got = status, [path.name for path in without_places(pathlib.Path(folder).iterdir())]
     check("without --last the signal is the program's, and an earlier recording's snapshots are gone",
           difference(got, (-signal.SIGUSR2, ["run"])))
 
@@ -229,7 +229,8 @@ def full_disk(reader, broken, folder):
         status, _, said = running.end()
         log = read(reader, running.path)
         line = "pim-record: 1 of the snapshots couldn't be written\n"
-        got = says, status, said.endswith(line), sorted(path.name for path in disk.iterdir()), log.head.lost > 0
+        names = [path.name for path in without_places(disk.iterdir())]
+        got = says, status, said.endswith(line), names, log.head.lost > 0
         return check("a snapshot on a full disk", broken(log) or difference(got, ("done", 0, True, ["run"], True)))
     finally:
         run("umount", disk)
@@ -251,7 +252,7 @@ def triggers(reader, broken, folder):
                 until(pathlib.Path(f"{running.path}.snapshot.{number}").exists)
         snapshot(running, count + 1)  # before it the collector looks at each wait
         said = running.end()[2].splitlines()
-        found = sorted(pathlib.Path(folder).glob("run.snapshot.*"))
+        found = without_places(pathlib.Path(folder).glob("run.snapshot.*"))
         faults = [broken(read(reader, path)) for path in found]
         faults += [longest(reader, read(reader, path)) for path in found[:count]]
         waits = [line for line in said if ", at 80, waited " in line]
@@ -280,7 +281,7 @@ def stuck(reader, broken, folder):
     does(running, "quiet")  # its wait has ended
     snapshot(running, 2)  # before it the collector looks at the end of the wait
     running.end()
-    found = len([*pathlib.Path(folder).glob("run.snapshot.*")])
+    found = len(without_places(pathlib.Path(folder).glob("run.snapshot.*")))
     check("a wait that goes on", broken(log) or difference((last, found), ([reader.REQUEST], 2)))
 
 
@@ -322,7 +323,7 @@ def listed(folder):
     before = time.time()
     done = run(RECORD / "pim-record", "-o", f"{folder}/run", "sh", "-c", text)
     pathlib.Path(folder, "run.pim").write_text("pim 1\n")
-    files = sorted(map(str, pathlib.Path(folder).glob("run*")))
+    files = [*map(str, without_places(pathlib.Path(folder).glob("run*")))]
     listing = run(RECORD / "pim-record", "--list", *files)
     lines = [line.split(" ", 1) for line in map(str.strip, listing.stdout.splitlines())]
     logs = {int(path.rpartition(".")[2]): path for path in files if path[-1].isdigit()}

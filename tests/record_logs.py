@@ -3,12 +3,13 @@ says what such a text has."""
 import importlib
 import importlib.machinery
 import importlib.util
+import pathlib
 import struct
 import sys
 
 from checks import ROOT
 
-CHUNK_BYTES, TEXT_BYTES = 16384, 22
+CHUNK_BYTES, TEXT_BYTES, VERSION_1 = 16384, 22, 4096
 
 
 def module(path):
@@ -25,24 +26,33 @@ reader = module(ROOT / "record/pim-log")
 log_facts = importlib.import_module("log_facts")  # of record/, as pim-log
 
 
-def log_of(rows, chunks=2, times=None, tasks=None, processes=None, **fields):
+def without_places(paths):
+    """Returns the paths but for those of files that name places, sorted: they aren't there without addr2line."""
+    return sorted(path for path in map(pathlib.Path, paths) if path.suffix != ".places")
+
+
+def log_of(rows, chunks=2, times=None, tasks=None, processes=None, places=None, **fields):
     """Returns a log of rows: thread, event, object, value, detail and how; or thread, event and a part of a text; or
     None, for a number that no record has.
 
     Each thread has a chunk. Unless it is said, record n is of the time 1000 + 10 n, and thread t is task 99 + t of
-    process 100. The fields are those of the header.
+    process 100. The fields are those of the header. With places, the addresses of the first slots of the table, the log
+    is of version 2, and objects of calls have the number of a place in their bits from 48 on.
     """
     head = {"known": 7, "chunks": chunks, "process": 100, "parent": 50, "began": 1000, "numbers": len(rows) + 1,
-            "taken": chunks, "threads": chunks + 1, "lost": 0, "first": 0, "left_out": 0, **fields}
-    data = bytearray(4096 + chunks * CHUNK_BYTES)
-    struct.pack_into("<8sIIIIIIQIIQQII", data, 0, b"pimlog\r\n", 1, 0x01020304, 4096, 32, 512, head["known"],
-                     head["chunks"], head["process"], head["parent"], head["began"], 0, 4, 0)
+            "taken": chunks, "threads": chunks + 1, "lost": 0, "first": 0, "left_out": 0, "contents": 0, **fields}
+    version = 1 if places is None else 2
+    begin = reader.HEADER_BYTES[version]
+    data = bytearray(begin + chunks * CHUNK_BYTES)
+    struct.pack_into("<8sIIIIIIQIIQQII", data, 0, b"pimlog\r\n", version, 0x01020304, begin, 32, 512, head["known"],
+                     head["chunks"], head["process"], head["parent"], head["began"], 0, 4, head["contents"])
+    struct.pack_into(f"<{len(places or ())}Q", data, VERSION_1, *(places or ()))
     struct.pack_into("<Q", data, 128, head["numbers"])
     struct.pack_into("<QQQQQ", data, 192, *(head[name] for name in ("taken", "threads", "lost", "first", "left_out")))
     data[256:260] = b"./p\0"
     at = {}
     for thread in {row[0] for row in rows if row}:
-        at[thread] = 4096 + CHUNK_BYTES * (thread - 1)
+        at[thread] = begin + CHUNK_BYTES * (thread - 1)
         process = (processes or {}).get(thread, head["process"])
         task = (tasks or {}).get(thread, head["process"] + thread - 1)
         struct.pack_into("<8sIIIIQ", data, at[thread], b"pimChunk", process, task, thread, 0, 0)

@@ -7,6 +7,7 @@
 #include "ordinary.h"
 
 #include <errno.h>
+#include <fcntl.h>
 #include <signal.h>
 #include <stdbool.h>
 #include <stdio.h>
@@ -138,6 +139,29 @@ static void say_snapshots(const struct report *report) {
                 report->unwritten);
 }
 
+/* Becomes pim-log, which says nothing: what it needs may be missing. A key of the terminal ends it,
+ * and doesn't stop it. */
+static _Noreturn void be_reader(const char *reader, const char *log) {
+    static const int stops[] = { SIGTSTP, SIGTTIN, SIGTTOU };
+    sigset_t none;
+    int nowhere = open("/dev/null", O_RDWR);
+    prctl(PR_SET_PDEATHSIG, SIGKILL);
+    for (int stream = 0; stream < 3; stream++) dup2(nowhere, stream);
+    for (size_t i = 0; i < sizeof stops / sizeof *stops; i++) signal(stops[i], SIG_IGN);
+    sigemptyset(&none);
+    sigprocmask(SIG_SETMASK, &none, NULL);
+    execl(reader, reader, "--places", log, NULL);
+    _exit(FAULT);
+}
+
+/* Has the places of the logs named, while the files of the program are as it ran. */
+static void name_places(void) {
+    const char *reader = parent.wanted->reader;
+    pid_t child = reader ? fork() : -1;
+    if (child == 0) be_reader(reader, parent.wanted->log);
+    if (child > 0) waitpid(child, NULL, 0);
+}
+
 /* Has the collector write what is there. Returns whether there is a log. */
 static bool end_logs(void) {
     struct report report = { .logs = 0 };
@@ -149,6 +173,7 @@ static bool end_logs(void) {
     say_snapshots(&report);
     say_unrecorded(&report);
     if (report.logs) say_unseen();
+    if (report.logs) name_places();
     return report.logs > 0;
 }
 

@@ -10,6 +10,7 @@ struct wanted {
     struct amount amount;  /* of the log */
     const char *kernel;    /* the file of the kernel's events, or NULL where none are recorded */
     const char *kilobytes; /* for events of each CPU */
+    const char *reader;    /* the path of pim-log, which names places, or NULL */
     const char *program;   /* the path of its binary */
 };
 
