@@ -1,0 +1,497 @@
+"""The part of tests/record about where in the code calls are made: the places in the records, and their lines.
+
+`python3 tests/record_places.py` plays it alone, once the recorder is built. record/PLACES.md says what is tested.
+"""
+import os
+import pathlib
+import re
+import shutil
+import sys
+import tempfile
+
+from checks import check, difference, end, skip
+from record_collector import RECORD, read, run
+from record_last import does, snapshot, started
+from record_logs import log_of, reader
+
+sys.path.insert(0, str(RECORD))
+import places_text
+
+# A comment names a line. A thread waits for the mutex of another, and then at a condition variable.
+PLAN = """#define _GNU_SOURCE
+#include <pthread.h>
+#include <stdlib.h>
+#include <unistd.h>
+static pthread_mutex_t map_lock = PTHREAD_MUTEX_INITIALIZER;
+static pthread_cond_t moved = PTHREAD_COND_INITIALIZER;
+static volatile int is_waiting, has_moved;
+static pthread_t planner;
+static void *plan(void *unused) {
+    pthread_mutex_lock(&map_lock); // PLAN
+    is_waiting = 1;
+    while (!has_moved)
+        pthread_cond_wait(&moved, &map_lock); // WAIT
+    pthread_mutex_unlock(&map_lock); // PLANNED
+    return unused;
+}
+static void update_map(void) {
+    pthread_mutex_lock(&map_lock); // TAKE
+    pthread_create(&planner, NULL, plan, NULL);
+    while (*(volatile int *)&map_lock != 2) usleep(1000); /* until it waits: glibc's word says so */
+    pthread_mutex_unlock(&map_lock); // GIVE
+}
+int main(int count, char **arguments) {
+    (void)arguments;
+    update_map();
+    while (!is_waiting) usleep(1000);
+    pthread_mutex_lock(&map_lock); // MOVE
+    has_moved = 1;
+    pthread_cond_broadcast(&moved);
+    pthread_mutex_unlock(&map_lock); // MOVED
+    pthread_join(planner, NULL);
+    if (count > 1) abort();
+    return 0;
+}
+"""
+PLANNED = {1: ["granted TAKE update_map", "release GIVE update_map", "granted MOVE main", "release MOVED main"],
+           2: ["request PLAN plan", "granted PLAN plan", "condition WAIT plan", "release WAIT plan",
+               "granted WAIT plan", "release PLANNED plan"]}
+CALLS = """#define _GNU_SOURCE
+#include <pthread.h>
+#include <time.h>
+static pthread_mutex_t lock = PTHREAD_MUTEX_INITIALIZER, checked;
+static pthread_cond_t never = PTHREAD_COND_INITIALIZER;
+static volatile int has_left;
+static void leave(void *unused) {
+    (void)unused;
+    pthread_mutex_unlock(&lock); // LEFT
+    has_left = 1; /* else the call may be a jump, which returns to the caller */
+}
+static void *wait(void *unused) {
+    pthread_mutex_lock(&lock); // ENTER
+    pthread_cleanup_push(leave, NULL);
+    for (;;) pthread_cond_wait(&never, &lock); // CANCELLED
+    pthread_cleanup_pop(0);
+    return unused;
+}
+int main(void) {
+    const struct timespec past = { 0, 0 };
+    pthread_mutexattr_t kind;
+    pthread_t waiter;
+    pthread_mutexattr_init(&kind);
+    pthread_mutexattr_settype(&kind, PTHREAD_MUTEX_ERRORCHECK);
+    pthread_mutex_init(&checked, &kind);
+    pthread_mutex_lock(&lock); // LOCK
+    pthread_mutex_trylock(&lock); // TRY
+    pthread_mutex_timedlock(&lock, &past); // TIMED
+    pthread_mutex_clocklock(&lock, CLOCK_MONOTONIC, &past); // CLOCK
+    pthread_cond_timedwait(&never, &lock, &past); // TIMED_WAIT
+    pthread_cond_clockwait(&never, &lock, CLOCK_MONOTONIC, &past); // CLOCK_WAIT
+    pthread_mutex_unlock(&lock); // UNLOCK
+    pthread_mutex_unlock(&checked); // REFUSED
+    pthread_cond_wait(&never, &checked); // REFUSED_WAIT
+    pthread_create(&waiter, NULL, wait, NULL);
+    pthread_cancel(waiter);
+    pthread_join(waiter, NULL);
+    return 0;
+}
+"""
+CALLED = {1: ["granted LOCK", "failed TRY", "request TIMED", "failed TIMED", "request CLOCK", "failed CLOCK",
+              "condition TIMED_WAIT", "release TIMED_WAIT", "granted TIMED_WAIT", "condition CLOCK_WAIT",
+              "release CLOCK_WAIT", "granted CLOCK_WAIT", "release UNLOCK", "release REFUSED", "release-failed REFUSED",
+              "condition REFUSED_WAIT", "release REFUSED_WAIT", "release-failed REFUSED_WAIT"],
+          2: ["granted ENTER", "condition CANCELLED", "release CANCELLED", "granted CANCELLED", "release LEFT"]}
+FLEET = """#include <mutex>
+namespace fleet {
+std::mutex map_lock;
+int value;
+template <class Value> struct Map {
+    [[gnu::flatten]] void add(Value by) const { /* what it calls is inlined */
+        std::lock_guard<std::mutex> guard(map_lock); // ADD
+        value += by;
+    } // ADDED
+};
+}
+[[gnu::flatten]] int main(int count, char **) {
+    fleet::Map<int>().add(count);
+    std::lock_guard<std::mutex> guard(fleet::map_lock); // OWN
+    return 0;
+} // LEFT
+"""
+FLED = {1: ["granted ADD", "release ADDED", "granted OWN", "release LEFT"]}
+FORKS = """#include <dlfcn.h>
+#include <pthread.h>
+#include <sys/wait.h>
+#include <unistd.h>
+pthread_mutex_t lock = PTHREAD_MUTEX_INITIALIZER;
+static void both(void) {
+    pthread_mutex_lock(&lock); // BOTH
+    pthread_mutex_unlock(&lock); // LEFT
+}
+int main(int count, char **arguments) {
+    void (*later)(pthread_mutex_t *);
+    (void)count;
+    both();
+    pid_t child = fork();
+    both();
+    if (child == 0) {
+        pthread_mutex_lock(&lock); // CHILD
+        pthread_mutex_unlock(&lock); // DONE
+        return 0;
+    }
+    wait(NULL);
+    later = (void (*)(pthread_mutex_t *))dlsym(dlopen(arguments[1], RTLD_NOW), "later");
+    later(&lock);
+    return 0;
+}
+"""
+LATER = """#include <pthread.h>
+void later(pthread_mutex_t *lock) {
+    pthread_mutex_lock(lock); // LATER
+    pthread_mutex_unlock(lock); // LAST
+}
+"""
+FORKED = {1: ["granted BOTH", "release LEFT", "granted BOTH", "release LEFT", "granted LATER", "release LAST"],
+          2: ["granted BOTH", "release LEFT", "granted CHILD", "release DONE"]}
+MANY_SITES = """#include <pthread.h>
+#define PAIR pthread_mutex_lock(&lock); pthread_mutex_unlock(&lock);
+#define TEN(what) what what what what what what what what what what
+int main(void) {
+    static pthread_mutex_t lock = PTHREAD_MUTEX_INITIALIZER;
+    for (int i = 0; i < 2; i++) { TEN(TEN(TEN(PAIR PAIR PAIR PAIR PAIR))) }
+    return 0;
+}
+"""
+SITES, SLOTS, PROBES = 10000, 8192, 16
+# Prints the numbers of 18 places of one slot, the second last, and of the first of them again; of one of the next slot;
+# what is counted; and objects of an address above 2^48.
+PROBED = """#include "places.h"
+#include <inttypes.h>
+#include <stdio.h>
+struct header *log_header;
+static struct header header;
+static uint64_t next_of(uint64_t slot, uint64_t place) {
+    while (places_slot(++place) != slot) continue;
+    return place;
+}
+static unsigned number_of(uint64_t place) { return (unsigned)(places_object(0x5000, place) >> 48); }
+int main(void) {
+    uint64_t first = next_of(8190, 0x1000), place = first;
+    log_header = &header;
+    for (int i = 0; i < 18; i++, place = next_of(8190, place)) printf("%u ", number_of(place));
+    printf("%u %u %" PRIu64, number_of(first), number_of(next_of(8191, 0x1000)), (uint64_t)header.unplaced);
+    for (int i = 0; i < 2; i++) printf(" %" PRIx64, places_object(0xab00000000005000, first));
+    printf(" %" PRIx64 " %" PRIu64, places_object(0x5000, first), (uint64_t)header.left_out);
+    return 0;
+}
+"""
+
+
+# ---- programs with known lines
+
+def compiled(folder, name, text, *options, compiler="cc"):
+    """Returns the path of a program, or None where there is no such compiler."""
+    source, program = pathlib.Path(folder, name), pathlib.Path(folder, name.partition(".")[0])
+    source.write_text(text)
+    words = [compiler, "-g", *options, "-pthread", str(source), "-o", str(program), "-ldl"]
+    return program if shutil.which(compiler) and not run(*words).returncode else None
+
+
+def recorded(folder, *command, options=(), **how):
+    """Returns a finished recording, and its log's path."""
+    path = pathlib.Path(folder, "run")
+    return run(RECORD / "pim-record", "-o", path, *options, *command, **how), path
+
+
+def texts_of(path):
+    """Returns the text of each number of a file of places, with its address."""
+    places = pathlib.Path(f"{path}.places")
+    rows = [line.split(" ", 2) for line in places.read_text().splitlines()] if places.exists() else []
+    return {int(number): (int(address, 16), text) for number, address, text in rows}
+
+
+def told(path, *sources):
+    """Returns by thread the event of each call, the name of its line, and its function if it isn't the file's only one.
+
+    `sources` are files and their texts.
+    """
+    names = {f"{file}:{number}": line.rpartition("// ")[2]
+             for file, text in sources for number, line in enumerate(text.splitlines(), 1) if "// " in line}
+    log, texts, said = read(reader, path), texts_of(path), {}
+    for record in log.records:
+        if record.event not in reader.WITH_PLACE:
+            continue
+        address, text = texts.get(record.place, (None, "nowhere"))
+        line, _, function = text.partition(" ")
+        if address != log.place_of(record):
+            line = f"{address} in place of {log.place_of(record)}"
+        words = [reader.NAMES[record.event], names.get(line, line), function[1:-1]]
+        said.setdefault(record.chunk.thread, []).append(" ".join(words))
+    return said
+
+
+def same(got, wanted, has_functions=True):
+    """Returns how what is told of each thread differs, or None."""
+    if not has_functions:
+        got = {thread: [" ".join(words.split()[:2]) for words in lines] for thread, lines in got.items()}
+    return difference([*sorted(got)], [*wanted]) or next(
+        filter(None, (difference(got[thread], wanted[thread]) for thread in wanted)), None)
+
+
+def without_race(got):
+    """The first thread may find the mutex owned for an instant, or not."""
+    return {**got, 1: [words for words in got.get(1, ()) if not words.startswith("request")]}
+
+
+def lines(broken, folder):
+    """Each record of a call has its line."""
+    for level in ("-O0", "-O2"):
+        program = compiled(folder, "plan.c", PLAN, level)
+        done, path = recorded(folder, program)
+        fault = broken(read(reader, path)) or difference((done.returncode, done.stdout, done.stderr), (0, "", ""))
+        check(f"the places of two threads, {level}",
+              fault or same(without_race(told(path, ("plan.c", PLAN))), PLANNED))
+        program = compiled(folder, "calls.c", CALLS, level)
+        done, path = recorded(folder, program)
+        check(f"the places of each kind of call, {level}",
+              broken(read(reader, path)) or same(told(path, ("calls.c", CALLS)), CALLED, False))
+
+
+def inlined(broken, folder):
+    """The place of a std::mutex is in the function that locks it, not in a header of C++."""
+    program = compiled(folder, "fleet.cpp", FLEET, "-O2", compiler="g++")
+    if not program:
+        return skip("the places of a program in C++", "there is no g++")
+    _, path = recorded(folder, program)
+    got = told(path, ("fleet.cpp", FLEET))
+    check("the places of a program in C++", broken(read(reader, path)) or same(got, FLED, False))
+    function = got[1][0].partition(" ADD ")[2]
+    return check("the function of one", difference((function,), ("fleet::Map<int>::add",)))
+
+
+def forked(broken, folder):
+    """Processes share the table; a library that is loaded later is told at the end."""
+    library = compiled(folder, "later.c", LATER, "-shared", "-fPIC")
+    program = compiled(folder, "forks.c", FORKS)
+    _, path = recorded(folder, program, library)
+    got = told(path, ("forks.c", FORKS), ("later.c", LATER))
+    check("the places of a forked process, and of a library",
+          broken(read(reader, path)) or same(got, FORKED, False))
+    log = read(reader, path)
+    places = {(r.chunk.thread, r.event): r.place for r in reversed(log.records) if r.event in reader.WITH_PLACE}
+    check("a number is of one place in all processes",
+          difference((places[1, reader.GRANTED],), (places[2, reader.GRANTED],)))
+
+
+def killed(folder):
+    """The places of a program that is killed are named, too, and pim-record ends as it ended."""
+    program = compiled(folder, "plan.c", PLAN)
+    done, path = recorded(folder, program, "abort")
+    check("a program that aborts", difference((done.returncode, done.stderr), (-6, "")) or
+          same(without_race(told(path, ("plan.c", PLAN))), PLANNED))
+
+
+# ---- the table
+
+def full(broken, folder):
+    """A table that is full: each place that has room is right, and the other records are counted."""
+    program = compiled(folder, "sites.c", MANY_SITES, "-O0")
+    _, path = recorded(folder, program)
+    log = read(reader, path)
+    calls = [record for record in log.records if record.event in reader.WITH_PLACE]
+    first, second = ([log.place_of(record) for record in half] for half in (calls[:SITES], calls[SITES:]))
+    there = [place for place in first if place]
+    check("a table that is full", broken(log) or difference(
+        (len(calls), log.head.unplaced, first == second), (2 * SITES, 2 * first.count(None), True)))
+    check("each place is another one, in the order of the code",
+          None if there == sorted(set(there)) and SLOTS // 2 < len(there) <= SLOTS else f"{len(there)} places")
+    shown = run(RECORD / "pim-log", path).stdout.splitlines()
+    lines_with = [line for line in shown if " at=0x" in line]
+    wanted = f"# the places are missing: {log.head.unplaced} records have none"
+    check("pim-log says how many records have no place",
+          difference((len(lines_with), shown[2]), (2 * len(there), wanted)))
+
+
+def probes(folder):
+    """A place is in one of 16 slots, of which the first follows the last of the table."""
+    source, program = pathlib.Path(folder, "probed.c"), pathlib.Path(folder, "probed")
+    source.write_text(PROBED)
+    built = run("cc", "-I", RECORD / "library", source, RECORD / "library/places.c", "-o", program)
+    numbers = [8191, 8192, *range(1, PROBES - 1), 0, 0, 8191, 15, 2]
+    objects = ["1fff000000005000"] * 3
+    wanted = [*map(str, numbers), *objects, "2"]
+    got = built.stderr.split() if built.returncode else run(program).stdout.split()
+    check("the slots of a place", difference(got, wanted))
+
+
+def latest(broken, folder):
+    """With --last a snapshot, and the log, have the places of all calls; with --contended those of the owner's lock."""
+    running = started(folder)
+    does(running, "quiet main busy main busy " + "busy " * 20)
+    taken = snapshot(running, 1)
+    does(running, "quiet short")
+    running.end()
+    logs = [read(reader, path) for path in (taken, running.path)]
+    for name, log in zip(("a snapshot", "the latest records"), logs):
+        calls = [record for record in log.records if record.event in reader.WITH_PLACE]
+        missing = [record.number for record in calls if not log.place_of(record)]
+        check(f"the places of {name}", broken(log) or difference(
+            (len(missing), log.head.unplaced, log.head.dropped > 0), (0, 0, True)))
+    early, late = logs
+    check("a place stays in its slot",
+          difference([place for place in early.places if place], [b for a, b in zip(early.places, late.places) if a]))
+    named = [sorted(texts_of(path)) for path in (taken, running.path)]
+    check("the places of a snapshot and of the log are named",
+          difference(named, [[n for n, place in enumerate(log.places, 1) if place] for log in logs]))
+    program = compiled(folder, "plan.c", PLAN)
+    _, path = recorded(folder, program, options=["--last", "1M", "--contended"])
+    got = told(path, ("plan.c", PLAN))
+    got[1] = got[1][:2]  # whether the planner waits for the second lock is a race
+    check("the places of what was waited for", same(got, {1: PLANNED[1][:2], 2: PLANNED[2]}))
+
+
+# ---- logs by hand
+
+GRANTED = (1, 21, 0x2_0000_0000_5000, 9, 4, 0)
+
+
+def by_hand(_):
+    """What pim-log says of places, in both versions."""
+    begun = (1, 1, 0x77, 0, 0, 0)
+    rows = [begun, GRANTED, (1, 25, 0x1_0000_0000_6000, 0, 0, 0), (1, 23, 0x5000, 0, 4, 4),
+            (1, 17, 0x3_0000_0000_5000, 0, 0, 0)]
+    log = reader.Log(log_of(rows, places=[0x401136, 0x401200], contents=1))
+    got = [(record.object, record.place, log.place_of(record)) for record in log.records[1:]]
+    wanted = [(0x5000, 2, 0x401200), (0x6000, 1, 0x401136), (0x5000, None, None), (0x3_0000_0000_5000, None, None)]
+    check("the objects and places of a log by hand", difference(got, wanted))
+    line = reader.line_of(log.records[1], 1000, log.place_of(log.records[1]))
+    check("a line with a place", difference((line,), (
+        "2 0.000000020 t1 granted mutex=0x5000 protocol=none type=normal call=lock took=9 at=0x401200",)))
+    for name, data in (("of version 1", log_of([begun, GRANTED])),
+                       ("without places", log_of([begun, GRANTED], places=[0x401136, 0x401200]))):
+        record = reader.Log(data).records[1]
+        check(f"the object of a log {name}", difference((record.object, record.place), (GRANTED[2], None)))
+    for place, number in ((0, 2), (8193, 8193)):
+        rows = [begun, (1, 21, number << 48 | 0x5000, 9, 4, 0)]
+        faults = reader.Checker(reader.Log(log_of(rows, places=[0x401136, place], contents=1))).run()
+        check(f"a number without a place: {number}", difference(faults, [f"record 2: there is no place {number}"]))
+
+
+TEXTS = {
+    "plan.c:88 (plan)": [("plan", "/src/plan.c:88")],
+    "plan.c:8 (plan)": [("plan inlined at /src/main.c:5:3 in main", "/src/plan.c:8:12"), ("main", "/src/main.c:5:3")],
+    "plan.c:9": [("??", "plan.c:9 (discriminator 3)")],
+    "map.cpp:6 (Map::add)": [("main", "/usr/include/x86_64-linux-gnu/c++/12/bits/gthr-default.h:749"),
+                             ("std::mutex::lock()", "/opt/std_mutex.h:100"), ("Map::add(int)", "/src/map.cpp:6"),
+                             ("main", "/src/map.cpp:11")],
+    "std_mutex.h:100 (std::mutex::lock)": [("std::mutex::lock()", "/usr/include/c++/12/bits/std_mutex.h:100")],
+    None: [("??", "??:0")], "a.c:3 (f)": [("g", "a.c:?"), ("f", "a.c:3")],
+}
+SHORT = {"main": "main", "plan(int)": "plan", "void Map::add<int>(int) const": "Map::add<int>",
+         "operator()": "operator()", "main::{lambda()#1}::operator()() const": "main::{lambda()#1}::operator()",
+         "(anonymous namespace)::f(std::function<void (int)>)": "(anonymous namespace)::f",
+         "Map::operator bool() const": "Map::operator bool", "x" * 81: "x" * 77 + "..."}
+
+
+def words(_):
+    """The text of a place, by what addr2line prints, and the name of a function."""
+    for wanted, frames in TEXTS.items():
+        check(f"the text {wanted}", difference((places_text.text_of(frames),), (wanted,)))
+    for name, wanted in SHORT.items():
+        check(f"the function {name[:60]}", difference((places_text.short(name),), (wanted,)))
+
+
+# ---- the file
+
+def path_without(folder, *left_out):
+    """Returns a PATH with the programs of this one but for some."""
+    own = pathlib.Path(folder, "bin")
+    own.mkdir()
+    for place in os.environ["PATH"].split(":"):
+        for name in os.listdir(place) if os.path.isdir(place) else ():
+            if name not in left_out and not (own / name).is_symlink():
+                (own / name).symlink_to(pathlib.Path(place, name))
+    return {**os.environ, "PATH": str(own)}
+
+
+def symbolizers(folder):
+    """Each program that names addresses says the same. Without one there is no file, and no word."""
+    program, wanted = compiled(folder, "plan.c", PLAN), None
+    for name in places_text.SYMBOLIZERS:
+        if not shutil.which(name):
+            skip(f"places by {name}", "it isn't installed")
+            continue
+        own = pathlib.Path(folder, f"with-{name}")
+        own.mkdir()
+        environment = path_without(own, *(set(places_text.SYMBOLIZERS) - {name}))
+        _, path = recorded(own, program, env=environment)
+        check(f"places by {name}", same(without_race(told(path, ("plan.c", PLAN))), PLANNED))
+    environment = path_without(folder, *places_text.SYMBOLIZERS)
+    done, path = recorded(folder, program, env=environment)
+    check("a recording without addr2line",
+          difference((done.returncode, done.stderr, texts_of(path)), (0, "", {})))
+    done = run(RECORD / "pim-log", "--places", path, env=environment)
+    wanted = f"pim-log: there is neither {' nor '.join(places_text.SYMBOLIZERS)}\n"
+    check("pim-log --places without it", difference((done.returncode, done.stderr), (2, wanted)))
+
+
+def stripped(folder):
+    """A place without a line is a file and an offset, of the last byte of the call."""
+    program = compiled(folder, "plan.c", PLAN)
+    run("strip", program)
+    _, path = recorded(folder, program)
+    log = read(reader, path)
+    begin, = [r.object for r in log.records if r.event == reader.MODULE and r.text.endswith(b"/plan")]
+    wanted = {n: (place, f"plan+{place - 1 - begin:#x}") for n, place in enumerate(log.places, 1) if place}
+    check("the places of a program without debug information", difference([texts_of(path)], [wanted]))
+
+
+def files(folder):
+    """A file of places is replaced with its log, and no other file is."""
+    program, places = compiled(folder, "plan.c", PLAN), pathlib.Path(folder, "run.places")
+    _, path = recorded(folder, "sh", "-c", f"{program}; {program}")
+    its = sorted(re.sub(r"\d+", "PID", it.name) for it in pathlib.Path(folder).glob("run*"))
+    check("each program has its places", difference(its, ["run", *["run.PID"] * 2, *["run.PID.places"] * 2]))
+    recorded(folder, program)
+    had = places.exists(), [*pathlib.Path(folder).glob("run.[0-9]*")]
+    recorded(folder, "true")
+    check("those of an earlier recording are removed", difference((*had, places.exists()), (True, [], False)))
+    places.write_text("a letter\n")
+    done, _ = recorded(folder, program)
+    check("a file of that name that has no places is kept",
+          difference((done.returncode, done.stderr, places.read_text()), (0, "", "a letter\n")))
+    done = run(RECORD / "pim-log", "--places", path)
+    said = f"pim-log: {places} is there, and has no places\n"
+    check("pim-log --places says so", difference((done.returncode, done.stderr), (2, said)))
+    places.unlink()
+    data = path.read_bytes()
+    path.write_bytes(data[:100_000])
+    done = run(RECORD / "pim-log", "--places", path, f"{folder}/nothing")
+    check("a log that is cut has those of its modules that are there",
+          difference((done.returncode, "Traceback" in done.stderr), (0, False)))
+
+
+def places(attempt, broken, folder):
+    """Each part in a folder of its own."""
+    of_logs = (lines, inlined, forked, full, latest)
+    if not any(map(shutil.which, places_text.SYMBOLIZERS)):
+        skip("the lines of places", "there is no addr2line")
+        of_logs = (full,)
+    others = (probes, by_hand, words)
+    if len(of_logs) > 1:
+        others = (*others, killed, symbolizers, stripped, files)
+    for part in (*of_logs, *others):
+        own = pathlib.Path(folder, part.__name__)
+        own.mkdir()
+        attempt(part, *((broken,) if part in of_logs else ()), str(own))
+
+
+def first_fault(log):
+    """Returns the first law that a log breaks, or None."""
+    return next(iter(reader.Checker(log).run()), None)
+
+
+if __name__ == "__main__":
+    with tempfile.TemporaryDirectory() as whole:
+        places(lambda part, *arguments: part(*arguments), first_fault, whole)
+    end()
