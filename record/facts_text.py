@@ -11,6 +11,9 @@ reader = log_facts.reader
 MODULE_BYTES = 1 << 24     # an address further than this from the begin of a file isn't in it
 MOST_NAME, MOST_TEXT = 64, 22
 MAX_THREAD = 2**32 - 2
+# The event of the record that says a fact of its own thread.
+SAID_BY = {log_facts.WAITS: reader.REQUEST, log_facts.GRANTED: reader.GRANTED,
+           log_facts.GAVE_UP: reader.FAILED, log_facts.RELEASED: reader.RELEASE}
 
 
 def shown(text):
@@ -55,19 +58,40 @@ class Labels:
         """Returns where a mutex was initialised, or where it is: a file and the offset there."""
         after = self.next_of.get(mutex.init)
         is_placed = after is not None and after.event == reader.PLACE and after.object
-        address = after.object - 1 if is_placed else mutex.address
-        module = self.module_of(mutex.process, address)
+        return self.named(mutex.process, after.object - 1 if is_placed else mutex.address)
+
+    def named(self, process, address):
+        """Returns a file and the offset there of an address of a process, or the address."""
+        module = self.module_of(process, address)
         if module is None:
             return f"{address:#x}"
         begin, path = module
         return f"{shown(path.rsplit(b'/', 1)[-1])}+{address - begin:#x}"[-MOST_NAME:]
 
 
+class Code:
+    """Where in the code the calls of a log were made. `texts` has its file of places by number."""
+
+    def __init__(self, log, labels, texts):
+        self.log, self.labels, self.texts = log, labels, texts
+        self.records = {record.number: record for record in log.records if record.place}
+
+    def word(self, fact):
+        """Returns the place of a fact: a line of the source, a file and an offset, or None."""
+        record = self.records.get(fact.record)
+        address = record and self.log.place_of(record)
+        if not address or (record.event, record.chunk.thread) != (SAID_BY.get(fact.what), fact.thread):
+            return None
+        if record.place in self.texts:
+            return shown(self.texts[record.place].split(b" ")[0])[-MOST_NAME:]
+        return self.labels.named(record.chunk.process, address - 1)
+
+
 class Writer:
     """Writes the lines of facts, and keeps who owns and awaits what after them."""
 
-    def __init__(self, began, threads, mutexes):
-        self.began, self.threads, self.mutexes = began, threads, mutexes
+    def __init__(self, began, threads, mutexes, code):
+        self.began, self.threads, self.mutexes, self.code = began, threads, mutexes, code
         self.owner, self.level = {}, {}
         self.awaits = {}  # by thread the mutex, and the end of the line that began the wait
         self.last = began
@@ -76,6 +100,11 @@ class Writer:
         self.last = max(self.last, fact.time)
         time = max(0, fact.time - self.began)
         return " ".join(map(str, (time, self.threads[fact.thread], *words)))
+
+    def placed(self, fact, *words):
+        """Returns the line of a fact with its place, if that is known."""
+        place = self.code.word(fact)
+        return self.line(fact, *words, *([place] if place else []))
 
     def lines_of(self, fact):
         """Returns the lines of a fact."""
@@ -100,21 +129,22 @@ class Writer:
         if fact.owner != fact.thread:
             words += ["of", self.threads.get(fact.owner, MAX_THREAD)]
         self.awaits[fact.thread] = fact.mutex, words
-        return [*lines, self.line(fact, *words)]
+        return [*lines, self.placed(fact, *words)]
 
     def gave_up(self, fact):
         mutex, _ = self.awaits.pop(fact.thread)
-        return [self.line(fact, "gave-up", self.mutexes[mutex])]
+        line = self.placed if fact.what == log_facts.GAVE_UP else self.line
+        return [line(fact, "gave-up", self.mutexes[mutex])]
 
     def granted(self, fact):
         self.awaits.pop(fact.thread, None)
         self.owner[fact.mutex] = fact.thread
-        return [self.line(fact, "granted", self.mutexes[fact.mutex])]
+        return [self.placed(fact, "granted", self.mutexes[fact.mutex])]
 
     def released(self, fact):
         """A thread that loses a mutex while it waits for another gives up, and waits again."""
         del self.owner[fact.mutex]
-        released = self.line(fact, "released", self.mutexes[fact.mutex])
+        released = self.placed(fact, "released", self.mutexes[fact.mutex])
         if fact.thread not in self.awaits:
             return [released]
         wait = self.awaits[fact.thread]
@@ -148,15 +178,15 @@ def declared(log, labels, threads, mutexes):
     return lines
 
 
-def lines_of(log):
-    """Yields the lines of the facts of a log."""
-    head, log = log.head, log_facts.Log(log.records)
+def lines_of(whole, texts):
+    """Yields the lines of the facts of a log. `texts` has what is known of its places, by number."""
+    head, log = whole.head, log_facts.Log(whole.records)
     labels = Labels(log.records, log.next_of)
     threads = numbers_of(log)
     mutexes = {mutex: number for number, mutex in enumerate(dict.fromkeys(log.mutexes.of.values()), 1)}
     yield "facts 1"
     yield from declared(log, labels, threads, mutexes)
-    writer = Writer(head.began, threads, mutexes)
+    writer = Writer(head.began, threads, mutexes, Code(whole, labels, texts))
     writer.level = {thread: log.first_level.get(thread, log_facts.OTHER_LEVEL) for thread in threads}
     facts, _, _ = log_facts.facts_of(log)
     for fact in facts:

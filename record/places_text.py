@@ -59,6 +59,16 @@ class Places:
         os.replace(part, result)
 
 
+def texts_of(log, path):
+    """Returns what the file of places of a log says, by number."""
+    result, texts = pathlib.Path(f"{path}.places"), {}
+    if log.places and result.exists() and is_own(result):
+        for line in filter(OWN.match, result.read_bytes().splitlines()):
+            number, _, text = line.split(b" ", 2)
+            texts[int(number)] = text
+    return texts
+
+
 def is_own(path):
     """Returns whether a file is one of places."""
     with open(path, "rb") as file:

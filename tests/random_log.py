@@ -1,10 +1,11 @@
 """Logs of random programs, some of them damaged, and how one is written as a text of
-suite/recordings. The same seed gives the same log."""
+suite/recordings. The same seed gives the same log. Those of odd seeds have places, in version 2."""
 from random_program import BEGAN, FIRST_TASK, PROCESS, Program
 from record_logs import log_of, reader
 
 ALL_KNOWN, KINDS, OWNERS = 7, 1, 4  # what the recorder may know of mutexes
 VALUE, DETAIL = 3, 4        # the fields of a row that damages change
+PLACES = [0x401000 + 16 * number for number in range(40)]
 
 
 # ---- damages: they change a list of rows, each with its time
@@ -59,11 +60,19 @@ def full(choose, records, header):
 VARIANTS = (without_kinds, full)
 
 
+def placed(row, number):
+    """Returns a row whose call has the number of a place, or none if that is 0."""
+    if row is None or row[1] not in reader.WITH_PLACE:
+        return row
+    thread, event, target, *rest = row
+    return (thread, event, target | number << reader.PLACE_SHIFT, *rest)
+
+
 class RandomLog:
     """The log of the random program with a seed."""
 
     def __init__(self, seed):
-        program = Program(seed)
+        program, self.seed = Program(seed), seed
         program.run()
         choose, self.records, self.threads = program.choose, program.records, program.threads
         self.header = {"known": ALL_KNOWN if program.names_owners else ALL_KNOWN & ~OWNERS}
@@ -81,6 +90,9 @@ class RandomLog:
         else:
             header.update(lost=0, first=0)
         rows, times = [row for row, _ in records], [time for _, time in records]
+        if self.seed % 2:
+            rows = [placed(row, (at + self.seed) % (len(PLACES) + 1)) for at, row in enumerate(rows)]
+            header.update(places=PLACES, contents=reader.HAS_PLACES)
         tasks = {thread.number: thread.task for thread in self.threads}
         processes = {thread.number: thread.process for thread in self.threads}
         return bytes(log_of(rows, len(self.threads), times, tasks, processes, process=PROCESS,

@@ -350,6 +350,26 @@ def latest(broken, folder):
     check("the places of what was waited for", same(got, {1: PLANNED[1][:2], 2: PLANNED[2]}))
 
 
+def facts(_, folder):
+    """pim-log --facts has the place of each call: its line, or the file and the offset where there is no such text."""
+    program = compiled(folder, "plan.c", PLAN)
+    _, path = recorded(folder, program)
+    names = {words.split()[1] for words in (*PLANNED[1], *PLANNED[2])}
+    numbers = [number for number, line in enumerate(PLAN.splitlines(), 1) if line.rpartition("// ")[2] in names]
+    got = places_of_facts(path)
+    check("the lines of facts", difference([set(got)], [{f"plan.c:{number}" for number in numbers}]))
+    pathlib.Path(f"{path}.places").unlink()
+    offsets = places_of_facts(path)
+    found = [place for place in offsets if re.fullmatch(r"plan\+0x[0-9a-f]+", place)]
+    check("the offsets of facts", difference((len(found), len(set(found))), (len(got), len(numbers))))
+
+
+def places_of_facts(path):
+    """Returns the last word of each fact of a mutex."""
+    said = run(RECORD / "pim-log", "--facts", path).stdout.splitlines()
+    return [line.split()[-1] for line in said if re.match(r"\d+ \d+ (granted|waits|gave-up|released) ", line)]
+
+
 # ---- logs by hand
 
 GRANTED = (1, 21, 0x2_0000_0000_5000, 9, 4, 0)
@@ -473,7 +493,7 @@ def files(folder):
 
 def places(attempt, broken, folder):
     """Each part in a folder of its own."""
-    of_logs = (lines, inlined, forked, full, latest)
+    of_logs = (lines, inlined, forked, full, latest, facts)
     if not any(map(shutil.which, places_text.SYMBOLIZERS)):
         skip("the lines of places", "there is no addr2line")
         of_logs = (full,)
