@@ -147,8 +147,8 @@ static void write_places(struct store *of) {
     const unsigned char *table = (const unsigned char *)&of->view->header;
     unsigned char page[BLOCK];
     for (size_t at = FIELDS_BYTES; at < HEADER_BYTES; at += BLOCK) {
+        if (memcmp(table + at, of->header + at, BLOCK) == 0) continue;
         memcpy(page, table + at, BLOCK);
-        if (memcmp(page, of->header + at, BLOCK) == 0) continue;
         if (write_all(of->file, page, BLOCK, at)) memcpy(of->header + at, page, BLOCK);
     }
 }
