@@ -89,3 +89,38 @@ pub fn log_bytes(alloc: Global) -> Result<Vec<u8>, AllocError> {
     }
     Ok(bytes)
 }
+
+/// Returns the bytes of the log in version 2: the chunks are behind the table of places. Place 1 is at 0x7001, place 3 at
+/// 0x7003, and place 8192 at 0xffff_ffff_ffff. Thread 1 has the mutex from a call at place 1 on, and thread 2 asks for it
+/// and is granted it in one at place 3.
+pub fn placed_bytes(alloc: Global) -> Result<Vec<u8>, AllocError> {
+    let first = log_bytes(alloc)?;
+    let mut bytes = vec![in alloc; 0; 102_400]?;
+    for place in 0..first.len() {
+        let to = if place < 4096 {
+            place
+        } else {
+            place.saturating_add(65536)
+        };
+        if to < bytes.len() {
+            bytes[to] = first[place];
+        }
+    }
+    write(&mut bytes, 8, 4, 2);
+    write(&mut bytes, 16, 4, 69632);
+    write(&mut bytes, 248, 8, 5);
+    write(&mut bytes, 4096, 8, 0x7001);
+    write(&mut bytes, 4112, 8, 0x7003);
+    write(&mut bytes, 69624, 8, 0xffff_ffff_ffff);
+    write(&mut bytes, THIRD_PLACED + 16, 8, 0x1_0000_0000_0500);
+    write(&mut bytes, FOURTH_PLACED + 16, 8, 0x3_0000_0000_0500);
+    write(&mut bytes, SIXTH_PLACED + 16, 8, 0x3_0000_0000_0500);
+    Ok(bytes)
+}
+
+/// Where records 3, 4 and 6 are in the log of version 2.
+pub const THIRD_PLACED: usize = 69696;
+
+pub const FOURTH_PLACED: usize = 86080;
+
+pub const SIXTH_PLACED: usize = 86112;

@@ -1,6 +1,6 @@
 //! pim_log: a log in memory.
 
-use crate::inversion::{log_bytes, write};
+use crate::inversion::{SIXTH_PLACED, log_bytes, placed_bytes, write};
 use pim_log::*;
 use std::alloc::Global;
 use std::test::*;
@@ -18,6 +18,7 @@ fn log_has_its_header_and_its_records(rt: HostRuntime) -> Result<(), Fail> {
         process: 700,
         task: 702,
         thread: 2,
+        place: None,
         event: Event::Granted {
             mutex: INHERIT,
             took: Some(630_000),
@@ -280,5 +281,104 @@ fn text_is_in_the_place_of_other_fields(rt: HostRuntime) -> Result<(), Fail> {
         };
         assert!(rt; text.as_bytes() == wanted.as_bytes(), "{how}");
     }
+    Ok(())
+}
+
+#[test]
+fn log_of_version_2_has_its_places(rt: HostRuntime) -> Result<(), Fail> {
+    let mut bytes = placed_bytes(rt.alloc())?;
+    write(&mut bytes, SIXTH_PLACED + 16, 8, PLACED_OBJECT);
+    assert!(rt; used_bytes(&bytes) == Ok(102_400));
+    let log = Log::read(rt.alloc(), &bytes)?;
+    let header = *log.header();
+    assert!(rt; (header.version, header.length, header.unplaced) == (2, 69632, 5));
+    for (number, address) in PLACES_OF_LOG {
+        assert!(rt; log.place(number) == address, "{number}");
+    }
+    let granted = log.record(6).ok_or("there is a record 6")?;
+    let mutex = granted.event.mutex().ok_or("it is of a mutex")?;
+    assert!(rt; granted.place == Some(3) && mutex.address == 0x7fff_1234_0500);
+    let release = log.record(5).ok_or("there is a record 5")?;
+    assert!(rt; release.place.is_none() && release.number == 5);
+    Ok(())
+}
+
+/// Place 3, and a mutex at 0x7fff_1234_0500.
+const PLACED_OBJECT: u64 = 0x0003_7fff_1234_0500;
+
+/// Numbers, and the addresses of their places.
+const PLACES_OF_LOG: [(u16, Option<u64>); 7] = [
+    (0, None),
+    (1, Some(0x7001)),
+    (2, None),
+    (3, Some(0x7003)),
+    (8192, Some(0xffff_ffff_ffff)),
+    (8193, None),
+    (65535, None),
+];
+
+/// Events, whether they have places, and the address of their mutex if they have one: 0x7fff_1234_0500 is without the place.
+const PLACED_EVENTS: [(u64, bool, Option<u64>); 12] = [
+    (1, false, None),
+    (12, false, None),
+    (16, false, Some(PLACED_OBJECT)),
+    (17, false, Some(PLACED_OBJECT)),
+    (18, false, Some(PLACED_OBJECT)),
+    (19, false, Some(PLACED_OBJECT)),
+    (20, true, Some(0x7fff_1234_0500)),
+    (21, true, Some(0x7fff_1234_0500)),
+    (22, true, Some(0x7fff_1234_0500)),
+    (23, true, Some(0x7fff_1234_0500)),
+    (24, true, Some(0x7fff_1234_0500)),
+    (25, true, None),
+];
+
+#[test]
+fn calls_have_places_and_other_objects_are_whole(rt: HostRuntime) -> Result<(), Fail> {
+    let mut bytes = placed_bytes(rt.alloc())?;
+    write(&mut bytes, SIXTH_PLACED + 16, 8, PLACED_OBJECT);
+    for (code, is_placed, address) in PLACED_EVENTS {
+        write(&mut bytes, SIXTH_PLACED + 24, 8, code << 48);
+        let record = sixth(rt.alloc(), &bytes)?.ok_or("there is a record 6")?;
+        assert!(rt;
+            record.place == (if is_placed { Some(3) } else { None }),
+            "{code}"
+        );
+        let found = record.event.mutex().map(|mutex| mutex.address);
+        assert!(rt; found == address, "{code}");
+    }
+    Ok(())
+}
+
+#[test]
+fn log_of_version_1_has_no_places(rt: HostRuntime) -> Result<(), Fail> {
+    let mut bytes = log_bytes(rt.alloc())?;
+    write(&mut bytes, SIXTH + 16, 8, PLACED_OBJECT);
+    let record = sixth(rt.alloc(), &bytes)?.ok_or("there is a record 6")?;
+    let mutex = record.event.mutex().ok_or("it is of a mutex")?;
+    assert!(rt; record.place.is_none() && mutex.address == PLACED_OBJECT);
+    let log = Log::read(rt.alloc(), &bytes)?;
+    assert!(rt; log.place(1).is_none());
+    Ok(())
+}
+
+#[test]
+fn header_has_the_length_of_its_version(rt: HostRuntime) -> Result<(), Fail> {
+    let cut_short = Err(LogFault::Header(HeaderFault::CutShort));
+    let other_sizes = Err(LogFault::Header(HeaderFault::OtherSizes));
+    let mut bytes = placed_bytes(rt.alloc())?;
+    bytes.truncate(102_399);
+    assert!(rt; sixth(rt.alloc(), &bytes) == cut_short);
+    // No chunk was taken, and the file ends in the table of places.
+    write(&mut bytes, 192, 8, 0);
+    bytes.truncate(69631);
+    assert!(rt; sixth(rt.alloc(), &bytes) == cut_short);
+    write(&mut bytes, 8, 4, 1);
+    assert!(rt; sixth(rt.alloc(), &bytes) == other_sizes);
+    write(&mut bytes, 8, 4, 2);
+    write(&mut bytes, 16, 4, 4096);
+    assert!(rt; sixth(rt.alloc(), &bytes) == other_sizes);
+    write(&mut bytes, 8, 4, 3);
+    assert!(rt; sixth(rt.alloc(), &bytes) == Err(LogFault::Header(HeaderFault::OtherVersion)));
     Ok(())
 }

@@ -1,14 +1,20 @@
 -- The used part of a log is the log.
-use Rattle.std.proofs.Common.{◌≡◌, ℕ, zero, suc, ◌+◌, ◌-◌, ◌*◌, ◌/◌, ◌<◌, ◌≤◌, min, false, nat_lt, List, length, slice_index, get_or, take, drop, refl, sym, ◌∙◌, ap, subst, inl, inr, arith}
-use Rattle.std.proofs.lemmas.Bool.{cases_lt}
+use Rattle.std.proofs.Common.{◌≡◌, ℕ, zero, suc, ◌+◌, ◌-◌, ◌*◌, ◌==◌, ◌<◌, ◌≤◌, min, Bool, true, false, not, ◌&&◌, ◌||◌, cond, nat_lt, List, length, slice_index, get_or, take, drop, Option, Some, None, refl, sym, ◌∙◌, ap, subst, inl, inr, arith}
+use Rattle.std.specs.Option.{option_or}
+use Rattle.std.proofs.lemmas.Bool.{cases_lt, eqb-true}
 use Rattle.std.proofs.lemmas.Bool.Decides.{nat_tests}
 use Rattle.std.proofs.lemmas.List.{get_or-drop, get_or-take, length-take}
 use Rattle.byteorder.specs.Endian.{little_from}
 use Rattle.pim_log.specs.Numbers.{number_at}
-use Rattle.pim_log.specs.Headers.{header_of, form_fault_of, counter_fault, header_fault, chunks_of, end_of, used_of}
+use Rattle.pim_log.specs.Headers.{header_of, header_bytes_of, has_sizes, form_fault_of, counter_fault, fault_within, header_fault, end_of, used_of}
 use Rattle.pim_log.specs.Events.{time_of, Says}
-use Rattle.pim_log.specs.Logs.{slot_at, fields_in, head_of, slots_of, number_in, mark_in, thread_in, slot_fault, IsNumbered, IsRepeated, AreSlots, IsLog, FailsAt, IsFault, IsRecord, ReadsAs}
+use Rattle.pim_log.specs.Logs.{address_of, code_in, slot_at, fields_in, head_of, slots_of, number_in, mark_in, thread_in, slot_fault, IsNumbered, IsRepeated, AreSlots, IsLog, FailsAt, IsFault, IsRecord, ReadsAs}
 use Rattle.pim_log.specs.declared.header.Header.{Header}
+use Rattle.pim_log.specs.declared.header.TheConstants.{MAGIC, BYTE_ORDER, FIRST_VERSION, VERSION}
+use Rattle.pim_log.specs.declared.fields.Fields.{Fields}
+use Rattle.pim_log.specs.declared.fault.HeaderFault.{HeaderFault}
+use Rattle.pim_log.specs.declared.fault.HeaderFault.TheVariants.{NotALog, OtherByteOrder, OtherVersion, OtherSizes}
+use Rattle.pim_log.proofs.FoundLemmas.{last_line}
 use Rattle.pim_log.specs.declared.record.Record.{Record}
 use Rattle.pim_log.specs.declared.fault.LogFault.{LogFault}
 use Rattle.pim_log.specs.declared.fault.LogFault.TheVariants as faults
@@ -49,11 +55,25 @@ same-back a b same = record {
   used = subst (λ h. Agree (used_of h) b a) same.header (agree-back _ a b same.used);
 }
 
+-- the numbers and the bytes of a slot are the same
+slot-number : (a b : List ℕ) → Same a b → (n s o : ℕ) → slot_at (header_of a) s + o + n ≤ used_of (header_of a) →
+    number_at n (slot_at (header_of a) s + o) a ≡ number_at n (slot_at (header_of b) s + o) b
+slot-number a b same n s o h =
+    same.used.number n (slot_at (header_of a) s + o) h ∙ ap (λ (x : Header). number_at n (slot_at x s + o) b) same.header
+
+slot-first : (a b : List ℕ) → Same a b → (s : ℕ) → slot_at (header_of a) s + 8 ≤ used_of (header_of a) → number_in a s ≡ number_in b s
+slot-first a b same s h = same.used.number 8 (slot_at (header_of a) s) h ∙ ap (λ (x : Header). number_at 8 (slot_at x s) b) same.header
+
+slot-byte : (a b : List ℕ) → Same a b → (s o : ℕ) → slot_at (header_of a) s + o < used_of (header_of a) →
+    slice_index a (slot_at (header_of a) s + o) ≡ slice_index b (slot_at (header_of b) s + o)
+slot-byte a b same s o h =
+    same.used.byte (slot_at (header_of a) s + o) h ∙ ap (λ (x : Header). slice_index b (slot_at x s + o)) same.header
+
 numbered : (a b : List ℕ) → Same a b → (s n : ℕ) → IsNumbered a s n → IsNumbered b s n
 numbered a b same s n is = record {
   slot = subst (λ h. s < slots_of h) same.header is.slot;
   no_head = is.no_head;
-  stored = sym (same.used.number 8 (slot_at s) (omega (arith, is.slot))) ∙ is.stored;
+  stored = sym (slot-first a b same s (omega (arith, is.slot))) ∙ is.stored;
   above = is.above;
   below = subst (λ h. n < end_of h) same.header is.below;
 }
@@ -70,11 +90,11 @@ repeated a b same s is = record {
 slot-same : (a b : List ℕ) → Same a b → (s : ℕ) → s < slots_of (header_of a) → slot_fault a s ≡ slot_fault b s
 unfolding slot_fault
 slot-same a b same s h =
-    let number : number_in a s ≡ number_in b s = same.used.number 8 (slot_at s) (omega (arith, h)) in
-    let before : number_in a (s - 1) ≡ number_in b (s - 1) = same.used.number 8 (slot_at (s - 1)) (omega (arith, h)) in
-    let mark : mark_in a s ≡ mark_in b s = same.used.number 8 (slot_at (head_of s)) (omega (arith, h)) in
-    let thread : thread_in a s ≡ thread_in b s = same.used.number 4 (slot_at (head_of s) + 16) (omega (arith, h)) in
-    let event : slice_index a (slot_at s + 30) ≡ slice_index b (slot_at s + 30) = same.used.byte (slot_at s + 30) (omega (arith, h)) in
+    let number : number_in a s ≡ number_in b s = slot-first a b same s (omega (arith, h)) in
+    let before : number_in a (s - 1) ≡ number_in b (s - 1) = slot-first a b same (s - 1) (omega (arith, h)) in
+    let mark : mark_in a s ≡ mark_in b s = slot-first a b same (head_of s) (omega (arith, h)) in
+    let thread : thread_in a s ≡ thread_in b s = slot-number a b same 4 (head_of s) 16 (omega (arith, h)) in
+    let event : code_in a s ≡ code_in b s = slot-byte a b same s 30 (omega (arith, h)) in
     let numbers : (header_of a).next_number ≡ (header_of b).next_number = ap (λ (x : Header). x.next_number) same.header in
     let threads : (header_of a).next_thread ≡ (header_of b).next_thread = ap (λ (x : Header). x.next_thread) same.header in
     cc
@@ -95,7 +115,7 @@ fails : (a b : List ℕ) → Same a b → header_fault a ≡ header_fault b → 
 fails a b same head at s is = record {
   header = sym head ∙ is.header;
   slot = subst (λ h. s < slots_of h) same.header is.slot;
-  place = is.place;
+  place = is.place ∙ ap (λ (x : Header). slot_at x s) same.header;
   before = slots a b same s (omega (arith, is.slot)) is.before;
 }
 
@@ -109,25 +129,54 @@ fault-same a b same head faults.Memory is = is
 
 fields-same : (a b : List ℕ) → Same a b → (s : ℕ) → s < slots_of (header_of a) → fields_in a s ≡ fields_in b s
 fields-same a b same s h =
-    let time = same.used.number 8 (slot_at s + 8) (omega (arith, h)) in
-    let object = same.used.number 8 (slot_at s + 16) (omega (arith, h)) in
-    let value = same.used.number 4 (slot_at s + 24) (omega (arith, h)) in
-    let detail = same.used.number 2 (slot_at s + 28) (omega (arith, h)) in
-    let code = same.used.byte (slot_at s + 30) (omega (arith, h)) in
-    let how = same.used.byte (slot_at s + 31) (omega (arith, h)) in
+    let time = slot-number a b same 8 s 8 (omega (arith, h)) in
+    let object = slot-number a b same 8 s 16 (omega (arith, h)) in
+    let value = slot-number a b same 4 s 24 (omega (arith, h)) in
+    let detail = slot-number a b same 2 s 28 (omega (arith, h)) in
+    let code = slot-byte a b same s 30 (omega (arith, h)) in
+    let how = slot-byte a b same s 31 (omega (arith, h)) in
+    let version : (header_of a).version ≡ (header_of b).version = ap (λ (x : Header). x.version) same.header in
     cc
 
 fields : (a b : List ℕ) → Same a b → (s : ℕ) (r : Record) → s < slots_of (header_of a) → IsRecord a s r → IsRecord b s r
 fields a b same s r h is = record {
-  number = is.number ∙ same.used.number 8 (slot_at s) (omega (arith, h));
+  number = is.number ∙ slot-first a b same s (omega (arith, h));
   time = is.time ∙ ap time_of (fields-same a b same s h);
   event = subst (λ f. Says f r.event) (fields-same a b same s h) is.event;
-  process = is.process ∙ same.used.number 4 (slot_at (head_of s) + 8) (omega (arith, h));
-  task = is.task ∙ same.used.number 4 (slot_at (head_of s) + 12) (omega (arith, h));
-  thread = is.thread ∙ same.used.number 4 (slot_at (head_of s) + 16) (omega (arith, h));
+  process = is.process ∙ slot-number a b same 4 (head_of s) 8 (omega (arith, h));
+  task = is.task ∙ slot-number a b same 4 (head_of s) 12 (omega (arith, h));
+  thread = is.thread ∙ slot-number a b same 4 (head_of s) 16 (omega (arith, h));
+  place = is.place ∙ ap (λ (f : Fields). f.place) (fields-same a b same s h);
 }
 
 -- ---- the header ----
+
+first-of-three : (a b c : Bool) → ((a && b) && c) ≡ true → a ≡ true
+first-of-three true b c both = refl
+first-of-three false b c both = cc
+
+-- a header whose form has no fault is as long as its version says
+form-length : (bytes : List ℕ) → form_fault_of bytes ≡ None → (header_of bytes).length ≡ header_bytes_of (header_of bytes).version
+form-length bytes none =
+    let sizes : has_sizes bytes ≡ true = last_line NotALog OtherByteOrder OtherVersion OtherSizes
+    (nat_lt (length bytes) 4096 || not (number_at 8 0 bytes == MAGIC)) (not (number_at 4 12 bytes == BYTE_ORDER))
+    (not (number_at 4 8 bytes == FIRST_VERSION) && not (number_at 4 8 bytes == VERSION)) (has_sizes bytes) none in
+    eqb-true _ _ (first-of-three (number_at 4 16 bytes == header_bytes_of (number_at 4 8 bytes)) (number_at 4 20 bytes == 32) (number_at 4 24 bytes == 512) sizes)
+
+form-none : (form counters : Option HeaderFault) → option_or form counters ≡ None → form ≡ None
+form-none None counters none = refl
+form-none (Some fault) counters none = cc
+
+pub start-length : (n : ℕ) (start : List ℕ) → fault_within n start ≡ None → (header_of start).length ≡ header_bytes_of (header_of start).version
+start-length n start none = form-length start (form-none (form_fault_of start) (counter_fault (header_of start) n) none)
+
+-- a header is as long as the first version's, or longer
+at-least : (version : ℕ) → 4096 ≤ header_bytes_of version
+at-least version = go (version == 2)
+  where
+    go : (b : Bool) → 4096 ≤ cond b 69632 4096
+    go true = omega arith
+    go false = omega arith
 
 header-same : (a b : List ℕ) → Agree 4096 a b → header_of a ≡ header_of b
 header-same a b g =
@@ -144,6 +193,9 @@ header-same a b g =
     let lost = g.number 8 208 (omega arith) in
     let first_lost = g.number 8 216 (omega arith) in
     let left_out = g.number 8 224 (omega arith) in
+    let unplaced = g.number 8 248 (omega arith) in
+    let version = g.number 4 8 (omega arith) in
+    let length = g.number 4 16 (omega arith) in
     cc
 
 form-same : (a b : List ℕ) → Agree 4096 a b → nat_lt (length a) 4096 ≡ nat_lt (length b) 4096 → form_fault_of a ≡ form_fault_of b
@@ -166,33 +218,54 @@ short-same n l h = elim (cases_lt l n) [
   | inr ge ↦ no-less l 4096 (omega arith) ∙ sym (no-less (min n l) 4096 (omega arith))
 ]
 
--- and room for c chunks, if it is cut behind them
-room-same : (c l : ℕ) → nat_lt ((l - 4096) / 16384) c ≡ nat_lt ((min (4096 + 32 * (512 * c)) l - 4096) / 16384) c
-room-same c l = elim (cases_lt l (4096 + 32 * (512 * c))) [
-  | inl lt ↦ let e : min (4096 + 32 * (512 * c)) l ≡ l = omega arith in rw e refl
-  | inr ge ↦ no-less ((l - 4096) / 16384) c (omega arith) ∙ sym (no-less ((min (4096 + 32 * (512 * c)) l - 4096) / 16384) c (omega arith))
+-- and what is used of it, if it is cut behind that
+room-same : (u l : ℕ) → nat_lt l u ≡ nat_lt (min u l) u
+room-same u l = elim (cases_lt l u) [
+  | inl lt ↦ let e : min u l ≡ l = omega arith in rw e refl
+  | inr ge ↦ no-less l u (omega arith) ∙ sym (no-less (min u l) u (omega arith))
 ]
 
-counters-same : (h : Header) (m n : ℕ) → nat_lt ((m - 4096) / 16384) (chunks_of h) ≡ nat_lt ((n - 4096) / 16384) (chunks_of h) → counter_fault h m ≡ counter_fault h n
+-- a log has the whole of its header
+log-length : (a : List ℕ) → header_fault a ≡ None → (header_of a).length ≡ header_bytes_of (header_of a).version
+log-length a none = start-length (length a) a none
+
+places : (a b : List ℕ) → Same a b → header_fault a ≡ None → (n : ℕ) → address_of a n ≡ address_of b n
+places a b same none n = elim (cases_lt 8192 n) [
+  | inl lt ↦ let many : nat_lt 8192 n ≡ true = grind (arith, nat_tests) in grind (arith, nat_tests)
+  | inr ge ↦ go ((header_of a).version == 2) (omega arith) refl
+]
+  where
+    version : (header_of a).version ≡ (header_of b).version
+    version = ap (λ (x : Header). x.version) same.header
+
+    go : (is : Bool) → n ≤ 8192 → ((header_of a).version == 2) ≡ is → address_of a n ≡ address_of b n
+    go true few is =
+        let long : (header_of a).length ≡ 69632 = log-length a none ∙ ap (λ x. cond x 69632 4096) is in
+        let address = same.used.number 8 (4096 + 8 * (n - 1)) (omega (arith, long, few)) in
+        cc
+    go false few is = cc
+
+counters-same : (h : Header) (m n : ℕ) → nat_lt m (used_of h) ≡ nat_lt n (used_of h) → counter_fault h m ≡ counter_fault h n
 counters-same h m n room = cc
 
-part-same : (a : List ℕ) (h : Header) → header_of a ≡ h → Same a (take (used_of h) a) × (header_fault a ≡ header_fault (take (used_of h) a))
-part-same a h is =
+part-same : (a : List ℕ) (h : Header) → 4096 ≤ used_of h → header_of a ≡ h → Same a (take (used_of h) a) × (header_fault a ≡ header_fault (take (used_of h) a))
+part-same a h long is =
     let part : Agree (used_of h) a (take (used_of h) a) = agree (used_of h) a (take (used_of h) a) (λ k lt. sym (get_or-take (used_of h) a k 0 lt)) in
-    let near : Agree 4096 a (take (used_of h) a) = record { byte = λ k lt. part.byte k (omega arith); number = λ n at lt. part.number n at (omega arith) } in
+    let near : Agree 4096 a (take (used_of h) a) = record { byte = λ k lt. part.byte k (omega (arith, long)); number = λ n at lt. part.number n at (omega (arith, long)) } in
     let head : header_of a ≡ header_of (take (used_of h) a) = header-same a (take (used_of h) a) near in
     let count : length (take (used_of h) a) ≡ min (used_of h) (length a) = length-take (used_of h) a in
     let form : form_fault_of a ≡ form_fault_of (take (used_of h) a) =
-    form-same a (take (used_of h) a) near (short-same (used_of h) (length a) (omega arith) ∙ ap (λ n. nat_lt n 4096) (sym count)) in
+    form-same a (take (used_of h) a) near (short-same (used_of h) (length a) long ∙ ap (λ n. nat_lt n 4096) (sym count)) in
     let counters : counter_fault h (length a) ≡ counter_fault h (length (take (used_of h) a)) =
-    counters-same h (length a) (length (take (used_of h) a)) (room-same (chunks_of h) (length a) ∙ ap (λ n. nat_lt ((n - 4096) / 16384) (chunks_of h)) (sym count)) in
+    counters-same h (length a) (length (take (used_of h) a)) (room-same (used_of h) (length a) ∙ ap (λ n. nat_lt n (used_of h)) (sym count)) in
     (record { header = head; used = subst (λ x. Agree (used_of x) a (take (used_of h) a)) (sym is) part }, cc)
 
-pub used-part : (file start : List ℕ) → take 4096 file ≡ take 4096 start → ReadsAs file (take (used_of (header_of start)) file)
-used-part file start same =
+pub used-part : (n : ℕ) (file start : List ℕ) → fault_within n start ≡ None → take 4096 file ≡ take 4096 start → ReadsAs file (take (used_of (header_of start)) file)
+used-part n file start none same =
+    let long : 4096 ≤ used_of (header_of start) = omega (arith, start-length n start none, at-least (header_of start).version) in
     let near : Agree 4096 file start = agree 4096 file start
     (λ k h. sym (get_or-take 4096 file k 0 h) ∙ ap (λ xs. get_or xs k 0) same ∙ get_or-take 4096 start k 0 h) in
-    let both = part-same file (header_of start) (header-same file start near) in
+    let both = part-same file (header_of start) long (header-same file start near) in
     let part : List ℕ = take (used_of (header_of start)) file in
     record {
       header = both.0.header;
@@ -200,4 +273,5 @@ used-part file start same =
       fault = fault-same file part both.0 both.1;
       numbered = numbered file part both.0;
       fields = λ s n r is. fields file part both.0 s r is.slot;
+      places = λ is. places file part both.0 is.header;
     }

@@ -1,7 +1,8 @@
 -- What the fields of a record say: the table of record/FORMAT.md.
-use Rattle.std.specs.Prelude.{◌≡◌, ℕ, ◌/◌, ◌^◌, ◌-◌, ◌==◌, bit_and, min, nat_le, ◌++◌, Bool, not, ◌&&◌, ◌||◌, if◌then◌else◌, Option, Some, None}
+use Rattle.std.specs.Prelude.{◌≡◌, ℕ, ◌/◌, ◌%◌, ◌^◌, ◌-◌, ◌==◌, bit_and, min, nat_le, ◌++◌, Bool, not, ◌&&◌, ◌||◌, if◌then◌else◌, Option, Some, None}
 use Rattle.std.specs.Int.{w16, w32, w64, to_le_bytes}
 use Rattle.pim_log.specs.declared.fields.Fields.{Fields}
+use Rattle.pim_log.specs.declared.header.TheConstants.{VERSION}
 use Rattle.pim_log.specs.declared.event.Call.{Call}
 use Rattle.pim_log.specs.declared.event.Call.TheVariants as calls
 use Rattle.pim_log.specs.declared.event.ThreadKey.{ThreadKey}
@@ -19,6 +20,18 @@ use Rattle.pim_log.specs.declared.priority.Priority.TheVariants as priorities
 -- the events of threads, processes and texts have the numbers 1 to 13, those of mutexes 16 to 25
 abbrev pub is_event : ℕ → Bool
 is_event code = (nat_le 1 code && nat_le code 13) || (nat_le 16 code && nat_le code 25)
+
+-- whether the object of an event is an address and a place: in version 2 that of a call that locks, unlocks or waits
+abbrev pub has_place : ℕ → ℕ → Bool
+has_place version code = version == VERSION && (nat_le 20 code && nat_le code 25)
+
+-- the object of an event without its place: bits 0 to 47 are the address
+abbrev pub object_in : ℕ → ℕ → ℕ → ℕ
+object_in version code object = if has_place version code then object % 2 ^ 48 else object
+
+-- the number of the place: bits 48 to 63, of which 0 stands for none
+abbrev pub place_in : ℕ → ℕ → ℕ → Option ℕ
+place_in version code object = if not (has_place version code) || object / 2 ^ 48 == 0 then None else Some (object / 2 ^ 48)
 
 -- a priority: bits 0 to 3 are the policy, bits 8 to 15 the number
 abbrev pub priority_of : ℕ → Priority

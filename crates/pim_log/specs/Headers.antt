@@ -1,15 +1,17 @@
 -- The header of a log.
-use Rattle.std.specs.Prelude.{ℕ, ◌+◌, ◌*◌, ◌-◌, ◌/◌, ◌^◌, ◌==◌, min, nat_lt, nat_le, List, length, Bool, not, ◌&&◌, ◌||◌, if◌then◌else◌, Option, Some, None}
+use Rattle.std.specs.Prelude.{ℕ, ◌+◌, ◌*◌, ◌-◌, ◌^◌, ◌==◌, min, nat_lt, nat_le, List, length, Bool, not, ◌&&◌, ◌||◌, if◌then◌else◌, Option, Some, None}
 use Rattle.std.specs.Option.{option_or}
 use Rattle.pim_log.specs.Numbers.{number_at}
 use Rattle.pim_log.specs.declared.header.Header.{Header}
-use Rattle.pim_log.specs.declared.header.TheConstants.{HEADER_BYTES, SLOT_BYTES, CHUNK_SLOTS, RECORDS_OF_CHUNK, MAGIC, BYTE_ORDER, VERSION, COMMAND_BYTES}
+use Rattle.pim_log.specs.declared.header.TheConstants.{HEADER_BYTES, SLOT_BYTES, CHUNK_SLOTS, RECORDS_OF_CHUNK, MAGIC, BYTE_ORDER, FIRST_VERSION, VERSION, PLACES, COMMAND_BYTES}
 use Rattle.pim_log.specs.declared.fault.HeaderFault.{HeaderFault}
 use Rattle.pim_log.specs.declared.fault.HeaderFault.TheVariants.{NotALog, OtherByteOrder, OtherVersion, OtherSizes, Contradiction, CutShort, TooManyNumbers}
 
 -- the fields of a header, each by its offset
 abbrev pub header_of : List ℕ → Header
 header_of bytes = record {
+  version = number_at 4 8 bytes;
+  length = number_at 4 16 bytes;
   known = number_at 4 28 bytes;
   chunks = number_at 8 32 bytes;
   process = number_at 4 40 bytes;
@@ -23,24 +25,34 @@ header_of bytes = record {
   lost = number_at 8 208 bytes;
   first_lost = number_at 8 216 bytes;
   left_out = number_at 8 224 bytes;
+  unplaced = number_at 8 248 bytes;
 }
 
--- the sizes are those of version 1: of the header, a record, and a chunk
+-- how many bytes the header of this version has: behind those of version 1 that of version 2 has eight for each place
+abbrev pub header_bytes_of : ℕ → ℕ
+header_bytes_of version = if version == VERSION then HEADER_BYTES + 8 * PLACES else HEADER_BYTES
+
+-- the sizes are those of the version: of the header, a record, and a chunk
 abbrev pub has_sizes : List ℕ → Bool
-has_sizes bytes = (number_at 4 16 bytes == HEADER_BYTES && number_at 4 20 bytes == SLOT_BYTES) && number_at 4 24 bytes == CHUNK_SLOTS
+has_sizes bytes =
+    (number_at 4 16 bytes == header_bytes_of (number_at 4 8 bytes) && number_at 4 20 bytes == SLOT_BYTES) && number_at 4 24 bytes == CHUNK_SLOTS
 
 -- what is wrong with the parts that each log has: the first line that applies
 abbrev pub form_fault_of : List ℕ → Option HeaderFault
 form_fault_of bytes =
     if nat_lt (length bytes) HEADER_BYTES || not (number_at 8 0 bytes == MAGIC) then Some NotALog
     else if not (number_at 4 12 bytes == BYTE_ORDER) then Some OtherByteOrder
-    else if not (number_at 4 8 bytes == VERSION) then Some OtherVersion
+    else if not (number_at 4 8 bytes == FIRST_VERSION) && not (number_at 4 8 bytes == VERSION) then Some OtherVersion
     else if not (has_sizes bytes) then Some OtherSizes
     else None
 
 -- the chunks that a reader reads: those that were taken, and for which there was room
 abbrev pub chunks_of : Header → ℕ
 chunks_of h = min h.next_chunk h.chunks
+
+-- how many bytes of a log are used: its header, and the chunks that a reader reads
+abbrev pub used_of : Header → ℕ
+used_of h = h.length + SLOT_BYTES * (CHUNK_SLOTS * chunks_of h)
 
 -- the number from which on the log isn't whole
 abbrev pub end_of : Header → ℕ
@@ -57,7 +69,7 @@ is_contradictory h =
 abbrev pub counter_fault : Header → ℕ → Option HeaderFault
 counter_fault h bytes =
     if is_contradictory h then Some Contradiction
-    else if nat_lt ((bytes - HEADER_BYTES) / (SLOT_BYTES * CHUNK_SLOTS)) (chunks_of h) then Some CutShort
+    else if nat_lt bytes (used_of h) then Some CutShort
     else if nat_lt (RECORDS_OF_CHUNK * chunks_of h + 1) (end_of h) then Some TooManyNumbers
     else None
 
@@ -72,7 +84,3 @@ header_fault bytes = fault_within (length bytes) bytes
 -- what is wrong with a header that begins a log as long as a file can be
 abbrev pub start_fault : List ℕ → Option HeaderFault
 start_fault start = fault_within (2 ^ 64 - 1) start
-
--- how many bytes of a log are used: its header, and the chunks that a reader reads
-abbrev pub used_of : Header → ℕ
-used_of h = HEADER_BYTES + SLOT_BYTES * (CHUNK_SLOTS * chunks_of h)

@@ -4,10 +4,10 @@
 -- a record of that chunk's thread.
 use Rattle.std.specs.Prelude.{◌≡◌, ◌≢◌, ℕ, ◌+◌, ◌-◌, ◌*◌, ◌%◌, ◌<◌, ◌==◌, nat_lt, List, length, slice_index, Bool, not, ◌&&◌, ◌||◌, if◌then◌else◌, Option, Some, None}
 use Rattle.pim_log.specs.Numbers.{number_at}
-use Rattle.pim_log.specs.Events.{is_event, time_of, Says}
+use Rattle.pim_log.specs.Events.{is_event, object_in, place_in, time_of, Says}
 use Rattle.pim_log.specs.Headers.{header_of, header_fault, end_of, chunks_of}
 use Rattle.pim_log.specs.declared.header.Header.{Header}
-use Rattle.pim_log.specs.declared.header.TheConstants.{HEADER_BYTES, SLOT_BYTES, CHUNK_SLOTS}
+use Rattle.pim_log.specs.declared.header.TheConstants.{HEADER_BYTES, SLOT_BYTES, CHUNK_SLOTS, PLACES, VERSION}
 use Rattle.pim_log.specs.declared.slots.TheConstants.{CHUNK_MARK}
 use Rattle.pim_log.specs.declared.event.Event.{Event}
 use Rattle.pim_log.specs.declared.event.Event.TheVariants as events
@@ -19,8 +19,8 @@ use Rattle.pim_log.specs.declared.fault.LogFault.{LogFault}
 use Rattle.pim_log.specs.declared.fault.LogFault.TheVariants as faults
 
 -- the offset of a slot
-abbrev pub slot_at : ℕ → ℕ
-slot_at s = HEADER_BYTES + SLOT_BYTES * s
+abbrev pub slot_at : Header → ℕ → ℕ
+slot_at h s = h.length + SLOT_BYTES * s
 
 -- the slot of the head of the chunk that a slot is in
 abbrev pub head_of : ℕ → ℕ
@@ -32,15 +32,19 @@ slots_of h = CHUNK_SLOTS * chunks_of h
 
 -- the number of the record in a slot; 0 where there is none
 abbrev pub number_in : List ℕ → ℕ → ℕ
-number_in bytes s = number_at 8 (slot_at s) bytes
+number_in bytes s = number_at 8 (slot_at (header_of bytes) s) bytes
+
+-- the number of the event of the record in a slot
+abbrev pub code_in : List ℕ → ℕ → ℕ
+code_in bytes s = slice_index bytes (slot_at (header_of bytes) s + 30)
 
 -- the mark of a slot's chunk; 0 where no thread began it
 abbrev pub mark_in : List ℕ → ℕ → ℕ
-mark_in bytes s = number_at 8 (slot_at (head_of s)) bytes
+mark_in bytes s = number_at 8 (slot_at (header_of bytes) (head_of s)) bytes
 
 -- the thread of a slot's chunk
 abbrev pub thread_in : List ℕ → ℕ → ℕ
-thread_in bytes s = number_at 4 (slot_at (head_of s) + 16) bytes
+thread_in bytes s = number_at 4 (slot_at (header_of bytes) (head_of s) + 16) bytes
 
 -- what is wrong with the head of a chunk
 abbrev pub head_fault : List ℕ → ℕ → Option SlotFault
@@ -61,7 +65,7 @@ record_fault bytes s =
     else if mark_in bytes s == 0 then Some OutsideChunk
     else if not (is_in_order bytes s) then Some OutOfOrder
     else if not (nat_lt (number_in bytes s) (header_of bytes).next_number) then Some NumberTooHigh
-    else if not (is_event (slice_index bytes (slot_at s + 30))) then Some UnknownEvent
+    else if not (is_event (code_in bytes s)) then Some UnknownEvent
     else None
 
 -- what is wrong with a slot
@@ -102,7 +106,7 @@ pub record IsLog (bytes : List ℕ) : Type 0 where
 pub record FailsAt (bytes : List ℕ) (at s : ℕ) : Type 0 where
   pub header : header_fault bytes ≡ None
   pub slot : s < slots_of (header_of bytes)
-  pub place : at ≡ slot_at s
+  pub place : at ≡ slot_at (header_of bytes) s
   pub before : AreSlots bytes s
 
 -- why bytes are not read as a log
@@ -114,23 +118,34 @@ IsFault bytes faults.Memory = Unit {0}
 
 -- the fields of the record in a slot, each by its offset
 abbrev pub fields_in : List ℕ → ℕ → Fields
-fields_in bytes s = record {
-  time = number_at 8 (slot_at s + 8) bytes;
-  object = number_at 8 (slot_at s + 16) bytes;
-  value = number_at 4 (slot_at s + 24) bytes;
-  detail = number_at 2 (slot_at s + 28) bytes;
-  code = slice_index bytes (slot_at s + 30);
-  how = slice_index bytes (slot_at s + 31);
-}
+fields_in bytes s =
+    let h = header_of bytes in
+    let at = slot_at h s in
+    record {
+      time = number_at 8 (at + 8) bytes;
+      object = object_in h.version (code_in bytes s) (number_at 8 (at + 16) bytes);
+      place = place_in h.version (code_in bytes s) (number_at 8 (at + 16) bytes);
+      value = number_at 4 (at + 24) bytes;
+      detail = number_at 2 (at + 28) bytes;
+      code = code_in bytes s;
+      how = slice_index bytes (at + 31);
+    }
 
 -- the record in a slot: what its fields say, and the numbers of its chunk's head
 pub record IsRecord (bytes : List ℕ) (s : ℕ) (r : Record) : Type 0 where
   pub number : r.number ≡ number_in bytes s
   pub time : r.time ≡ time_of (fields_in bytes s)
   pub event : Says (fields_in bytes s) r.event
-  pub process : r.process ≡ number_at 4 (slot_at (head_of s) + 8) bytes
-  pub task : r.task ≡ number_at 4 (slot_at (head_of s) + 12) bytes
+  pub process : r.process ≡ number_at 4 (slot_at (header_of bytes) (head_of s) + 8) bytes
+  pub task : r.task ≡ number_at 4 (slot_at (header_of bytes) (head_of s) + 12) bytes
   pub thread : r.thread ≡ thread_in bytes s
+  pub place : r.place ≡ (fields_in bytes s).place
+
+-- the address in the code of the place with this number, if the log has one
+abbrev pub address_of : List ℕ → ℕ → Option ℕ
+address_of bytes number =
+    let address = number_at 8 (HEADER_BYTES + 8 * (number - 1)) bytes in
+    if not ((header_of bytes).version == VERSION) || number == 0 || nat_lt PLACES number || address == 0 then None else Some address
 
 -- the slots of an index are those of the records of the first slots, by their numbers; 0 where there is none
 pub record IsIndex (bytes : List ℕ) (end : ℕ) (index : List ℕ) : Type 0 where
@@ -139,12 +154,14 @@ pub record IsIndex (bytes : List ℕ) (end : ℕ) (index : List ℕ) : Type 0 wh
   pub lacks : (s number : ℕ) → s < end → IsNumbered bytes s number → slice_index index number ≢ 0
 
 -- what a reader finds in one list of bytes it finds in another: a log or the same fault, the same header, the same records
+-- and places
 pub record ReadsAs (bytes others : List ℕ) : Type 0 where
   pub header : header_of bytes ≡ header_of others
   pub log : IsLog bytes → IsLog others
   pub fault : (fault : LogFault) → IsFault bytes fault → IsFault others fault
   pub numbered : (s number : ℕ) → IsNumbered bytes s number → IsNumbered others s number
   pub fields : (s number : ℕ) (r : Record) → IsNumbered bytes s number → IsRecord bytes s r → IsRecord others s r
+  pub places : IsLog bytes → (number : ℕ) → address_of bytes number ≡ address_of others number
 
 -- a duration before a time, where both are known
 abbrev pub before : Option ℕ → Option ℕ → Option ℕ

@@ -14,11 +14,11 @@ pub enum HeaderFault {
     /// The machine that wrote it has another byte order.
     #[error("it is of a machine with another byte order")]
     OtherByteOrder,
-    /// Another version than 1.
+    /// Another version than 1 and 2.
     #[error("it is of a version that isn't known")]
     OtherVersion,
-    /// Sizes that version 1 doesn't have.
-    #[error("its header has sizes that version 1 doesn't have")]
+    /// Sizes that its version doesn't have.
+    #[error("its header has sizes that its version doesn't have")]
     OtherSizes,
     /// Counters that no recorder writes.
     #[error("its header contradicts itself")]
@@ -46,7 +46,7 @@ pub enum SlotFault {
     /// A number that was not taken.
     #[error("the record's number is too high")]
     NumberTooHigh,
-    /// An event that version 1 doesn't have.
+    /// An event that no version has.
     #[error("the record has an unknown event")]
     UnknownEvent,
 }

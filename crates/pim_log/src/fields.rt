@@ -1,8 +1,9 @@
 //! The fields of a record, and what they mean.
 ghost use Rattle.std.specs.Prelude.{◌≡◌, ◌≤◌, MatchOption, true, false};
-ghost use Rattle.pim_log.specs.Events.{is_event, bare_mutex_in, call_of, granted_after, key_of, mutex_in, owner_of, text_of, time_of, took_of, Says};
+ghost use Rattle.pim_log.specs.Events.{has_place, is_event, object_in, place_in, bare_mutex_in, call_of, granted_after, key_of, mutex_in, owner_of, text_of, time_of, took_of, Says};
 
 use crate::event::{Call, Event, ThreadKey};
+use crate::header::VERSION;
 use crate::mutex::{Mutex, MutexKind};
 use crate::priority::Priority;
 use crate::text::{TEXT_BYTES, Text};
@@ -11,7 +12,10 @@ use crate::text::{TEXT_BYTES, Text};
 #[derive(Clone, Copy)]
 pub struct Fields {
     pub time: u64,
+    /// The object, without the place.
     pub object: u64,
+    /// The number of the place in the code of the call, if the record has one.
+    pub place: Option<u16>,
     pub value: u32,
     pub detail: u16,
     /// The number of the event.
@@ -34,6 +38,37 @@ pub fn is_event(code: u8) -> bool
     ensures { result ≡ is_event code }
 {
     1 <= code && code <= 13 || 16 <= code && code <= 25
+}
+
+/// Returns whether the object of this event is an address and a place, in a log of this version.
+#[inline(always)]
+fn has_place(version: u32, code: u8) -> bool
+    ensures { result ≡ has_place version code }
+{
+    version == VERSION && 20 <= code && code <= 25
+}
+
+/// Returns the object of a record without its place.
+#[inline(always)]
+pub fn object_in(version: u32, code: u8, object: u64) -> u64
+    ensures { result ≡ object_in version code object }
+{
+    if has_place(version, code) {
+        object % (1 << 48)
+    } else {
+        object
+    }
+}
+
+/// Returns the place in the object of a record.
+#[inline(always)]
+pub fn place_in(version: u32, code: u8, object: u64) -> Option<u16>
+    ensures { result ≡ place_in version code object }
+{
+    if !has_place(version, code) || object >> 48 == 0 {
+        return None;
+    }
+    Some((object >> 48) as u16)
 }
 
 impl Fields {

@@ -1,13 +1,15 @@
 //! The header of a log.
-ghost use Rattle.std.specs.Prelude.{◌≡◌, ◌≤◌, ℕ, List, length, take, None, Some, IfOk, MatchResult};
-ghost use Rattle.pim_log.specs.Headers.{header_of, has_sizes, form_fault_of, counter_fault, fault_within, start_fault, is_contradictory, end_of, chunks_of, used_of};
+ghost use Rattle.std.specs.Prelude.{◌≡◌, ◌≤◌, ℕ, List, length, take, nat_le, None, Some, IfOk, MatchResult};
+ghost use Rattle.pim_log.specs.Headers.{header_of, header_bytes_of, has_sizes, form_fault_of, counter_fault, fault_within, start_fault, is_contradictory, end_of, chunks_of, used_of};
 ghost use Rattle.pim_log.specs.Logs.{ReadsAs};
 
 use crate::fault::HeaderFault;
 use crate::numbers::{u32_at, u64_at};
 
-/// The bytes of a header.
+/// The bytes of a header of version 1. One of version 2 has the table of places behind them.
 pub const HEADER_BYTES: usize = 4096;
+/// How many places the table has.
+pub const PLACES: usize = 8192;
 /// The bytes of a slot: of a record, or of a chunk's head.
 pub const SLOT_BYTES: usize = 32;
 /// The slots of a chunk, of which the first is its head.
@@ -20,7 +22,10 @@ const MAGIC: u64 = 0x0a0d_676f_6c6d_6970;
 
 const BYTE_ORDER: u32 = 0x0102_0304;
 
-const VERSION: u32 = 1;
+/// The version before there were places.
+const FIRST_VERSION: u32 = 1;
+/// The version whose records have places.
+pub const VERSION: u32 = 2;
 
 const COMMAND_BYTES: u32 = 2048;
 
@@ -32,7 +37,7 @@ fn form_fault(bytes: &[u8]) -> Option<HeaderFault>
         Some(HeaderFault::NotALog)
     } else if u32_at(bytes, 12) != BYTE_ORDER {
         Some(HeaderFault::OtherByteOrder)
-    } else if u32_at(bytes, 8) != VERSION {
+    } else if u32_at(bytes, 8) != FIRST_VERSION && u32_at(bytes, 8) != VERSION {
         Some(HeaderFault::OtherVersion)
     } else if !has_sizes(bytes) {
         Some(HeaderFault::OtherSizes)
@@ -41,19 +46,30 @@ fn form_fault(bytes: &[u8]) -> Option<HeaderFault>
     }
 }
 
-/// Returns whether the sizes are those of version 1.
+/// Returns how many bytes the header of a log of this version has.
+fn header_bytes_of(version: u32) -> usize
+    ensures { result ≡ header_bytes_of version }
+{
+    if version == VERSION {
+        HEADER_BYTES + 8 * PLACES
+    } else {
+        HEADER_BYTES
+    }
+}
+
+/// Returns whether the sizes are those of the version.
 fn has_sizes(bytes: &[u8]) -> bool
     requires { HEADER_BYTES ≤ length bytes.now }
     ensures { result ≡ has_sizes bytes.now }
 {
-    u32_at(bytes, 16) as usize == HEADER_BYTES
+    u32_at(bytes, 16) as usize == header_bytes_of(u32_at(bytes, 8))
         && u32_at(bytes, 20) as usize == SLOT_BYTES
         && u32_at(bytes, 24) as usize == CHUNK_SLOTS
 }
 
 /// Returns how many bytes of a log are used, by its first [`HEADER_BYTES`] or more: the header, and the chunks that a
 /// reader reads. The file is longer, with holes. [`Log::read`](crate::Log::read) finds in the used bytes what it finds in
-/// the whole file: the same records, or the same fault.
+/// the whole file: the same records and places, or the same fault.
 ///
 /// # Errors
 ///
@@ -67,12 +83,16 @@ pub fn used_bytes(start: &[u8]) -> Result<usize, HeaderFault>
 {
     let header = Header::read(start, usize::MAX)?;
     let chunks = header.chunks_taken() as usize;
-    Ok(HEADER_BYTES + SLOT_BYTES * (CHUNK_SLOTS * chunks))
+    Ok(header.length as usize + SLOT_BYTES * (CHUNK_SLOTS * chunks))
 }
 
 /// What the header of a log says.
 #[derive(Clone, Copy, PartialEq, Eq)]
 pub struct Header {
+    /// The version of the form: 1, or 2, whose records have places.
+    pub version: u32,
+    /// The bytes of the header: where the first chunk begins.
+    pub length: u32,
     /// What is known of mutexes: bit 0 their kinds, bit 1 their ceilings, bit 2 their owners.
     pub known: u32,
     /// For how many chunks the file has room.
@@ -99,6 +119,8 @@ pub struct Header {
     pub first_lost: u64,
     /// The calls of which something couldn't be known.
     pub left_out: u64,
+    /// The records without a place because the table of places had no room for another.
+    pub unplaced: u64,
 }
 
 impl Header {
@@ -129,6 +151,8 @@ impl Header {
         ensures { result ≡ header_of bytes.now }
     {
         Header {
+            version: u32_at(bytes, 8),
+            length: u32_at(bytes, 16),
             known: u32_at(bytes, 28),
             chunks: u64_at(bytes, 32),
             process: u32_at(bytes, 40),
@@ -142,24 +166,35 @@ impl Header {
             lost: u64_at(bytes, 208),
             first_lost: u64_at(bytes, 216),
             left_out: u64_at(bytes, 224),
+            unplaced: u64_at(bytes, 248),
         }
     }
 
     /// Returns what is wrong with the counters, in a log of that many bytes.
     fn fault(&self, length: usize) -> Option<HeaderFault>
-        requires { HEADER_BYTES ≤ length }
         ensures { result ≡ counter_fault self.now length }
     {
-        let whole_chunks = (length - HEADER_BYTES) / (SLOT_BYTES * CHUNK_SLOTS);
         if self.is_contradictory() {
             Some(HeaderFault::Contradiction)
-        } else if (whole_chunks as u64) < self.chunks_taken() {
+        } else if !self.is_within(length) {
             Some(HeaderFault::CutShort)
         } else if RECORDS_OF_CHUNK * self.chunks_taken() + 1 < self.end() {
             Some(HeaderFault::TooManyNumbers)
         } else {
             None
         }
+    }
+
+    /// Returns whether a file of that many bytes has what is used of the log.
+    fn is_within(&self, length: usize) -> bool
+        ensures { result ≡ nat_le (used_of self.now) length }
+    {
+        let header = self.length as usize;
+        if length < header {
+            return false;
+        }
+        let whole_chunks = (length - header) / (SLOT_BYTES * CHUNK_SLOTS);
+        whole_chunks as u64 >= self.chunks_taken()
     }
 
     /// Returns whether no recorder writes such counters.

@@ -30,10 +30,10 @@ pub fn index_of(alloc: Global, header: &Header, bytes: &[u8]) -> Result<Vec<u32>
     let mut index = vec![in alloc; 0; header.end() as usize]?;
     for slot in 0..CHUNK_SLOTS * header.chunks_taken() as usize {
         if let Some(fault) = fault_of(header, bytes, slot) {
-            return Err(LogFault::Slot(offset_of(slot), fault));
+            return Err(LogFault::Slot(offset_of(header, slot), fault));
         }
         if !put(header, bytes, slot, &mut index) {
-            return Err(LogFault::Repeated(offset_of(slot)));
+            return Err(LogFault::Repeated(offset_of(header, slot)));
         }
     }
     Ok(index)
@@ -44,7 +44,7 @@ pub fn index_of(alloc: Global, header: &Header, bytes: &[u8]) -> Result<Vec<u32>
 fn put(header: &Header, bytes: &[u8], slot: usize, index: &mut [u32]) -> bool
     requires header { header.now ≡ header_of bytes.now }
     requires slot { slot < slots_of (header_of bytes.now) }
-    requires fits { slot_at slot + 32 ≤ length bytes.now }
+    requires fits { slot_at header.now slot + 32 ≤ length bytes.now }
     requires few { slots_of (header_of bytes.now) ≤ 2 ^ 32 }
     requires index { IsIndex bytes.now slot index.old }
     ensures { MatchBool result
@@ -67,10 +67,10 @@ fn put(header: &Header, bytes: &[u8], slot: usize, index: &mut [u32]) -> bool
 fn number_that_counts(header: &Header, bytes: &[u8], slot: usize) -> Option<usize>
     requires header { header.now ≡ header_of bytes.now }
     requires slot { slot < slots_of (header_of bytes.now) }
-    requires fits { slot_at slot + 32 ≤ length bytes.now }
+    requires fits { slot_at header.now slot + 32 ≤ length bytes.now }
     ensures { MatchOption result ((n : ℕ) → IsNumbered bytes.now slot n → ⊥) (IsNumbered bytes.now slot) }
 {
-    let number = number_of(bytes, slot);
+    let number = number_of(header, bytes, slot);
     if slot % CHUNK_SLOTS == 0 || number == 0 || number >= header.end() {
         None
     } else {

@@ -1,11 +1,12 @@
 //! A log.
 ghost use Rattle.std.specs.Prelude.{◌≡◌, ℕ, MatchOption, MatchResult};
 ghost use Rattle.pim_log.specs.Headers.{header_of, end_of};
-ghost use Rattle.pim_log.specs.Logs.{IsLog, IsFault, IsNumbered, IsRecord};
+ghost use Rattle.pim_log.specs.Logs.{address_of, IsLog, IsFault, IsNumbered, IsRecord};
 
 use crate::fault::LogFault;
-use crate::header::Header;
+use crate::header::{HEADER_BYTES, Header, PLACES, VERSION};
 use crate::index::index_of;
+use crate::numbers::u64_at;
 use crate::record::Record;
 use crate::slots::record_of;
 use std::alloc::Global;
@@ -75,6 +76,19 @@ impl<'a> Log<'a> {
         if slot == 0 {
             return None;
         }
-        record_of(self.bytes, slot as usize)
+        record_of(&self.header, self.bytes, slot as usize)
+    }
+
+    /// Returns the address in the code of the place with this number: where a call returns to. `None` where the log has no
+    /// such place.
+    pub fn place(&self, number: u16) -> Option<u64>
+        ensures { result ≡ address_of self.now number }
+    {
+        let number = number as usize;
+        if self.header.version != VERSION || number == 0 || number > PLACES {
+            return None;
+        }
+        let address = u64_at(self.bytes, HEADER_BYTES + 8 * (number - 1));
+        if address == 0 { None } else { Some(address) }
     }
 }

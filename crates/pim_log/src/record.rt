@@ -17,6 +17,9 @@ pub struct Record {
     pub task: u32,
     /// The log's number of the thread, which no other thread has.
     pub thread: u32,
+    /// The place in the code of the call that the record is of, if it is known: a number for
+    /// [`Log::place`](crate::Log::place).
+    pub place: Option<u16>,
     /// What happened.
     pub event: Event,
 }
