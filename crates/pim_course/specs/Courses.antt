@@ -1,5 +1,5 @@
 -- What is known of a mutex in the course of a program.
-use Rattle.std.specs.Prelude.{ℕ, slice_index_or, false}
+use Rattle.std.specs.Prelude.{ℕ, slice_index_or, false, None}
 use Rattle.pim_facts.specs.declared.family.Family.{Family}
 use Rattle.pim_course.specs.declared.course.Course.{Course}
 use Rattle.pim_course.specs.declared.course.CourseMutex.{CourseMutex}
@@ -9,7 +9,7 @@ use Rattle.pim_course.specs.declared.course.Sources.{Sources}
 abbrev pub mutex_in : Course → ℕ → CourseMutex
 mutex_in course m =
     slice_index_or course.mutexes.items m
-    (record { owner = 0; last_owner = 0; next_owner = 0; depth = 0; waiting = 0; section = 0; ceiling = 0 })
+    (record { owner = 0; last_owner = 0; next_owner = 0; taken_at = None; depth = 0; waiting = 0; section = 0; ceiling = 0 })
 
 -- the protocol of a mutex
 abbrev pub family_in : Sources → ℕ → Family

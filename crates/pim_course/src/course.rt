@@ -3,7 +3,7 @@ ghost use Rattle.std.specs.Prelude.{◌≡◌, ◌≢◌, ◌⊎◌};
 ghost use Rattle.pim_course.specs.Courses.{family_in, mutex_in};
 
 use crate::next_owners::NextOwners;
-use crate::requests::Requests;
+use crate::requests::{Request, Requests};
 use pim_facts::{Fact, Facts, Family, Ids, LeftOut, What, ceiling_in, level_of};
 use pim_log::{Event, Mutex, Priority, Record};
 use std::alloc::{AllocError, Global};
@@ -29,6 +29,9 @@ pub struct CourseMutex {
     /// From a release on until the next grant the thread that is granted it then, if that waits for
     /// it since before the release. Else 0.
     pub next_owner: u32,
+    /// The place in the code at which its owner took it, or its last owner if it is free. A number for
+    /// [`Log::place`](pim_log::Log::place).
+    pub taken_at: Option<u16>,
     /// How often its owner has locked it. 0 if it has none.
     pub depth: u32,
     /// How many threads wait for it.
@@ -47,6 +50,10 @@ pub struct CourseThread {
     pub awaits: u32,
     /// Another thread: the owner of that mutex when it began to wait, or else the last one. 0 if no record says it.
     pub awaited_owner: u32,
+    /// The place in the code at which that owner took the mutex, if a record says it.
+    pub owner_at: Option<u16>,
+    /// The place in the code at which it asked for the mutex that it waits for, or for its own.
+    pub asked_at: Option<u16>,
     /// The critical section in which its wait began.
     pub section: u32,
     /// Whether its level was above the ceiling of that mutex when it began to wait.
@@ -77,6 +84,7 @@ const FREE: CourseMutex = CourseMutex {
     owner: 0,
     last_owner: 0,
     next_owner: 0,
+    taken_at: None,
     depth: 0,
     waiting: 0,
     section: 0,
@@ -87,6 +95,8 @@ const FREE: CourseMutex = CourseMutex {
 const IDLE: CourseThread = CourseThread {
     awaits: 0,
     awaited_owner: 0,
+    owner_at: None,
+    asked_at: None,
     section: 0,
     was_above: false,
     awaits_own: 0,
@@ -155,7 +165,7 @@ impl Course {
             Event::Priority { priority, .. } => self.set_level(id, priority),
             Event::Ceiling(mutex) => self.set_ceiling(record.thread, &mutex, id),
             Event::Request { mutex, owner } => self.request(sources, record, &mutex, owner, id),
-            Event::Granted { mutex, .. } => self.grant(sources, record.thread, &mutex, id),
+            Event::Granted { mutex, .. } => self.grant(sources, record, &mutex, id),
             Event::Failed { .. } => self.fail(record.thread, id),
             Event::Release { .. } => self.release(sources, record, id),
             _ => LeftOut::Remark,
@@ -163,12 +173,21 @@ impl Course {
     }
 
     /// Goes on by a request that the log lacks: the thread waits for the mutex.
-    pub fn add_request(&mut self, sources: &Sources, thread: u32, mutex: u32) {
+    pub fn add_request(&mut self, sources: &Sources, request: &Request) {
+        let (thread, mutex) = (request.thread, request.mutex);
         let is = self.mutex(mutex);
         if self.thread(thread).awaits == 0 && is.owner != thread {
             let owner = first_other(thread, [is.owner, is.last_owner, 0, 0]);
+            self.ask_at(thread, request.place);
             self.wait(sources, thread, mutex, owner);
         }
+    }
+
+    /// A thread asks for a mutex at a place in the code.
+    fn ask_at(&mut self, thread: u32, place: Option<u16>) {
+        let mut is = self.thread(thread);
+        is.asked_at = place;
+        self.put_thread(thread, is);
     }
 
     /// A thread has its first record, which tells its level.
@@ -247,13 +266,7 @@ impl Course {
         let thread = record.thread;
         let is = self.mutex(mutex);
         if is.owner == thread {
-            let mut own = self.thread(thread);
-            own.awaits_own = if is_recursive(&sources.ids, mutex) {
-                0
-            } else {
-                mutex
-            };
-            self.put_thread(thread, own);
+            self.request_own(sources, record, mutex);
             return LeftOut::Again;
         }
         if mutex == 0 || self.thread(thread).awaits == mutex {
@@ -262,8 +275,20 @@ impl Course {
         self.correct_ceiling(thread, said, mutex);
         self.correct_wait(thread, mutex);
         let owner = owner_asked(sources, record, task.is_some(), &is);
+        self.ask_at(thread, record.place);
         self.wait(sources, thread, mutex, owner);
         LeftOut::Uncontended
+    }
+
+    /// A thread asks for the mutex that it owns: unless that is recursive, it waits for itself.
+    fn request_own(&mut self, sources: &Sources, record: &Record, mutex: u32) {
+        let mut own = self.thread(record.thread);
+        own.awaits_own = 0;
+        if !is_recursive(&sources.ids, mutex) {
+            own.awaits_own = mutex;
+            own.asked_at = record.place;
+        }
+        self.put_thread(record.thread, own);
     }
 
     /// A thread waits for a mutex of this owner. If the mutex is free in the log and has no next
@@ -271,9 +296,11 @@ impl Course {
     fn wait(&mut self, sources: &Sources, thread: u32, mutex: u32, owner: u32) {
         let section = self.section_of(mutex);
         let was_above = self.is_above(sources, thread, mutex);
+        let owner_at = self.owner_at(owner, mutex);
         let mut is = self.thread(thread);
         is.awaits = mutex;
         is.awaited_owner = owner;
+        is.owner_at = owner_at;
         is.section = section;
         is.was_above = was_above;
         self.put_thread(thread, is);
@@ -281,6 +308,22 @@ impl Course {
         awaited.waiting = awaited.waiting.saturating_add(1);
         self.put_mutex(mutex, awaited);
         self.shown.add(fact(What::Waits, thread, mutex, section));
+    }
+
+    /// Returns the place at which this owner took a mutex: that of the call in which it waits for it, if its grant comes
+    /// late, or else of its last grant.
+    fn owner_at(&self, owner: u32, mutex: u32) -> Option<u16> {
+        let thread = self.thread(owner);
+        if thread.awaits == mutex {
+            return thread.asked_at;
+        }
+        let is = self.mutex(mutex);
+        let last = if is.owner == 0 {
+            is.last_owner
+        } else {
+            is.owner
+        };
+        if owner == last { is.taken_at } else { None }
     }
 
     /// Returns whether the level of a thread is above the ceiling of a PROTECT mutex.
@@ -301,7 +344,8 @@ impl Course {
     }
 
     /// A thread has a mutex. Its level isn't above the ceiling, unless it rose, or the ceiling fell, while it waited.
-    fn grant(&mut self, sources: &Sources, thread: u32, said: &Mutex, mutex: u32) -> LeftOut {
+    fn grant(&mut self, sources: &Sources, record: &Record, said: &Mutex, mutex: u32) -> LeftOut {
+        let thread = record.thread;
         let owner = self.mutex(mutex).owner;
         self.forget_own(thread);
         if mutex == 0 || owner == thread {
@@ -315,7 +359,7 @@ impl Course {
         if owner != 0 {
             self.hand_over(owner, mutex, thread);
         }
-        self.take(thread, mutex);
+        self.take(thread, mutex, record.place);
         LeftOut::Uncontended
     }
 
@@ -335,8 +379,8 @@ impl Course {
         LeftOut::Again
     }
 
-    /// A thread owns a mutex that is free.
-    fn take(&mut self, thread: u32, mutex: u32) {
+    /// A thread owns a mutex that is free, from a call at this place in the code on.
+    fn take(&mut self, thread: u32, mutex: u32, place: Option<u16>) {
         let section = self.section_of(mutex);
         let mut owner = self.thread(thread);
         let mut is = self.mutex(mutex);
@@ -348,6 +392,7 @@ impl Course {
         }
         is.owner = thread;
         is.next_owner = 0;
+        is.taken_at = place;
         is.depth = 1;
         self.put_thread(thread, owner);
         self.put_mutex(mutex, is);

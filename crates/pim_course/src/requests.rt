@@ -24,6 +24,8 @@ pub struct Request {
     pub time: Option<u64>,
     pub thread: u32,
     pub mutex: u32,
+    /// The place in the code of its call: that of the record at which the call ends.
+    pub place: Option<u16>,
 }
 
 /// The requests that a log lacks.
@@ -127,6 +129,7 @@ fn add_silent(
                     time: None,
                     thread,
                     mutex,
+                    place: record.place,
                 };
                 push(&mut to.list, request)?;
             }

@@ -66,8 +66,8 @@ struct Search {
     /// By mutex the number of its last RELEASE, or 0.
     released: Vec<u64>,
     pending: Vec<Pending>,
-    /// By thread whether a request was found since its last record.
-    has_asked: Vec<bool>,
+    /// By thread where in the list the request is that was found since its last record.
+    asked: Vec<Option<usize>>,
     found: Asked,
 }
 
@@ -129,7 +129,7 @@ impl Search {
             last: vec![in alloc; 0; threads]?,
             released: vec![in alloc; 0; sources.ids.mutexes.len()]?,
             pending: Vec::new(alloc),
-            has_asked: vec![in alloc; false; threads]?,
+            asked: vec![in alloc; None; threads]?,
             found: Asked::none(alloc),
         })
     }
@@ -175,9 +175,10 @@ impl Search {
             time: Some(wait.from),
             thread,
             mutex,
+            place: None,
         };
         if owner != 0 {
-            course.add_request(sources, thread, mutex);
+            course.add_request(sources, &request);
             return self.add(request);
         }
         let release = get(&self.released, mutex);
@@ -214,9 +215,8 @@ impl Search {
     }
 
     fn add(&mut self, request: Request) -> Result<(), AllocError> {
-        if (request.thread as usize) < self.has_asked.len() {
-            self.has_asked[request.thread as usize] = true;
-        }
+        let place = self.found.list.len();
+        set(&mut self.asked, request.thread, Some(place));
         push(&mut self.found.list, request)
     }
 
@@ -230,16 +230,24 @@ impl Search {
         let id = sources.ids.of_record(record.number);
         self.learn(sources, record, id)?;
         self.settle(sources, &mut walk.course, record, id)?;
-        let thread = record.thread as usize;
-        if thread < self.has_asked.len() && self.has_asked[thread] {
-            self.has_asked[thread] = false;
-            push(&mut self.found.ends, record.number)?;
-        }
+        self.end_wait(record)?;
         set(&mut self.last, record.thread, record.number);
         if matches!(record.event, Event::Release { .. }) {
             set(&mut self.released, id, record.number);
         }
         Ok(())
+    }
+
+    /// A record ends the wait of its thread, if one was found since the thread's last record: both are of one call.
+    fn end_wait(&mut self, record: &Record) -> Result<(), AllocError> {
+        let Some(place) = get(&self.asked, record.thread) else {
+            return Ok(());
+        };
+        set(&mut self.asked, record.thread, None);
+        if place < self.found.list.len() {
+            self.found.list[place].place = record.place;
+        }
+        push(&mut self.found.ends, record.number)
     }
 
     /// Learns who has the number of a thread, and which mutex is at an address.
@@ -278,7 +286,7 @@ impl Search {
                 Some(0) => {}
                 Some(after) => {
                     if request.thread != record.thread {
-                        course.add_request(sources, request.thread, request.mutex);
+                        course.add_request(sources, &request);
                     }
                     self.add(Request { after, ..request })?;
                 }

@@ -76,8 +76,7 @@ impl Walk {
         self.course.shown.clear();
         let request = sources.requests.list.get(self.added)?;
         self.added = self.added.saturating_add(1);
-        self.course
-            .add_request(sources, request.thread, request.mutex);
+        self.course.add_request(sources, request);
         request.time
     }
 }

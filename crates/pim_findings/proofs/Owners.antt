@@ -7,14 +7,14 @@ use Rattle.pim_facts.specs.declared.fact.What.{What}
 use Rattle.pim_facts.specs.declared.fact.What.TheVariants.{Granted, Waits, GaveUp, Released, Level, Ceiling}
 use Rattle.pim_findings.specs.declared.found_wait.FoundOwner.{FoundOwner}
 use Rattle.pim_findings.specs.declared.found_wait.FoundWait.{FoundWait}
-use Rattle.pim_findings.specs.Waits.{Moment, after_own, all_waits, and_until, awaited_by, ended_waits, ends_wait, level_in, owner_for, wait_of}
+use Rattle.pim_findings.specs.Waits.{Moment, after_own, all_waits, and_until, awaited_by, ended_waits, ends_wait, level_in, owner_for, place_of_owner, wait_of}
 use Rattle.pim_findings.specs.Laws.{HasOther}
 
 owner_for-other : (course : Course) (t : ℕ) → IfSome (owner_for course t) (λ owner. owner.thread ≢ t)
 owner_for-other course t = go (awaited_by course t == 0) (awaited_by course t == t) refl
   where
     go : (a b : Bool) → (awaited_by course t == t) ≡ b →
-        IfSome {T = FoundOwner} (cond (a || b) None (Some (record { thread = awaited_by course t; level = level_in course (awaited_by course t) }))) (λ owner. owner.thread ≢ t)
+        IfSome {T = FoundOwner} (cond (a || b) None (Some (record { thread = awaited_by course t; level = level_in course (awaited_by course t); at = place_of_owner course t }))) (λ owner. owner.thread ≢ t)
     go true b e = tt
     go false true e = tt
     go false false e = eqb-false (awaited_by course t) t e

@@ -40,7 +40,7 @@ take-placed (suc n) wait (x ∷ xs) = go (nat_lt x.lasted wait.lasted) (take-pla
     go false behind = ap (λ l. x ∷ l) behind
 
 abbrev no_wait : FoundWait
-no_wait = record { thread = 0; level = 0; mutex = 0; owner = None; began = 0; lasted = 0; is_open = false; is_unbounded = false }
+no_wait = record { thread = 0; level = 0; at = None; mutex = 0; owner = None; began = 0; lasted = 0; is_open = false; is_unbounded = false }
 
 -- the first shorter wait
 pub first-shorter : (xs : List FoundWait) (lasted i : ℕ) (d : FoundWait) → i < length xs →

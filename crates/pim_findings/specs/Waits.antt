@@ -27,11 +27,20 @@ level_in course t = option_map_or (λ thread. thread.level) (slice_get course.th
 abbrev pub awaited_by : Course → ℕ → ℕ
 awaited_by course t = option_map_or (λ thread. thread.awaited_owner) (slice_get course.threads.items t) 0
 
--- that owner, if it is known and another thread, and its level
+-- the place in the code at which a thread asked for what it waits for
+abbrev pub place_in : Course → ℕ → Option ℕ
+place_in course t = option_map_or (λ thread. thread.asked_at) (slice_get course.threads.items t) None
+
+-- the place at which that owner took the mutex
+abbrev pub place_of_owner : Course → ℕ → Option ℕ
+place_of_owner course t = option_map_or (λ thread. thread.owner_at) (slice_get course.threads.items t) None
+
+-- that owner, if it is known and another thread, its level, and the place at which it took the mutex
 abbrev pub owner_for : Course → ℕ → Option FoundOwner
 owner_for course t =
     let owner = awaited_by course t in
-    if (owner == 0) || (owner == t) then None else Some (record { thread = owner; level = level_in course owner })
+    if (owner == 0) || (owner == t) then None
+    else Some (record { thread = owner; level = level_in course owner; at = place_of_owner course t })
 
 -- the level of an owner; 0, the lowest, if it isn't known
 abbrev pub level_of_owner : Option FoundOwner → ℕ
@@ -51,6 +60,7 @@ begun_wait m =
     record {
       thread = m.fact.thread;
       level = level;
+      at = place_in m.course m.fact.thread;
       mutex = m.fact.mutex;
       owner = owner;
       began = m.time;

@@ -1,6 +1,6 @@
 //! A wait for a mutex.
 ghost use Rattle.std.specs.Prelude.{◌≡◌};
-ghost use Rattle.pim_findings.specs.Waits.{begun_wait, lasting_until, level_in, level_of_owner, owner_for};
+ghost use Rattle.pim_findings.specs.Waits.{begun_wait, lasting_until, level_in, level_of_owner, owner_for, place_in};
 
 use pim_course::{Course, Sources, family_of};
 use pim_facts::{Fact, Family};
@@ -11,6 +11,8 @@ pub struct FoundOwner {
     pub thread: u32,
     /// Its level then.
     pub level: u8,
+    /// The place in the code at which it took the mutex, if a record says it.
+    pub at: Option<u16>,
 }
 
 /// A wait for a mutex.
@@ -20,6 +22,9 @@ pub struct FoundWait {
     pub thread: u32,
     /// Its level as it began to wait.
     pub level: u8,
+    /// The place in the code at which it asked for the mutex, if a record says it: a number for
+    /// [`Log::place`](pim_log::Log::place).
+    pub at: Option<u16>,
     pub mutex: u32,
     /// Another thread: who owned the mutex as the wait began. `None` if no record says it.
     pub owner: Option<FoundOwner>,
@@ -49,6 +54,7 @@ impl FoundWait {
         FoundWait {
             thread: fact.thread,
             level,
+            at: place_of(course, fact.thread),
             mutex: fact.mutex,
             owner,
             began: time,
@@ -96,13 +102,20 @@ fn level_of(course: &Course, thread: u32) -> u8
     }
 }
 
+/// Returns the place in the code at which a thread asked for the mutex that it waits for.
+fn place_of(course: &Course, thread: u32) -> Option<u16>
+    ensures { result ≡ place_in course.now thread }
+{
+    course.threads.get(thread as usize)?.asked_at
+}
+
 /// Returns the owner of the mutex for which a thread begins to wait, if it is known.
 fn awaited_owner(course: &Course, thread: u32) -> Option<FoundOwner>
     ensures { result ≡ owner_for course.now thread }
 {
-    let owner = match course.threads.get(thread as usize) {
-        Some(is) => is.awaited_owner,
-        None => 0,
+    let (owner, at) = match course.threads.get(thread as usize) {
+        Some(is) => (is.awaited_owner, is.owner_at),
+        None => (0, None),
     };
     if owner == 0 || owner == thread {
         return None;
@@ -110,5 +123,6 @@ fn awaited_owner(course: &Course, thread: u32) -> Option<FoundOwner>
     Some(FoundOwner {
         thread: owner,
         level: level_of(course, owner),
+        at,
     })
 }

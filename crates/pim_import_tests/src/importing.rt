@@ -1,6 +1,6 @@
 //! pim_import: a log and its trace.
 
-use crate::inversion::log_bytes;
+use crate::inversion::{FOURTH_PLACED, THIRD_PLACED, log_bytes, placed_bytes, write};
 use pim_base::{Entry, MutexNo, Op, Protocol, Reply, Step, TaskNo};
 use pim_course::family_of;
 use pim_facts::{Family, LeftOut};
@@ -19,8 +19,11 @@ fn entry(actor: u16, op: Op, reply: Reply) -> Entry {
 
 /// Imports the log of the inversion.
 fn imported(alloc: Global) -> Result<Imported, Fail> {
-    let bytes = log_bytes(alloc)?;
-    let Ok(log) = Log::read(alloc, &bytes) else {
+    imported_of(alloc, &log_bytes(alloc)?)
+}
+
+fn imported_of(alloc: Global, bytes: &[u8]) -> Result<Imported, Fail> {
+    let Ok(log) = Log::read(alloc, bytes) else {
         return Err(Fail::from("it isn't a log"));
     };
     match import_log(alloc, &log, false, &[]) {
@@ -66,5 +69,32 @@ fn log_has_findings(rt: HostRuntime) -> Result<(), Fail> {
     assert!(rt; (tally.used, tally.left_out(LeftOut::Remark)) == (5, 3));
     let numbers = &imported.numbering.threads;
     assert!(rt; (numbers.of(1), numbers.of(2), numbers.count()) == (1, 2, 2));
+    Ok(())
+}
+
+#[test]
+fn wait_has_the_places_of_its_request_and_of_the_owners_grant(rt: HostRuntime) -> Result<(), Fail> {
+    let imported = imported_of(rt.alloc(), &placed_bytes(rt.alloc())?)?;
+    let waits = &imported.built.findings.waits.longest;
+    let wait = waits.first().ok_or("a wait")?;
+    let owner = wait.owner.ok_or("an owner")?;
+    assert!(rt; (wait.thread, wait.at, owner.thread, owner.at) == (2, Some(3), 1, Some(1)));
+    // Thread 2 has released the mutex since.
+    assert!(rt; imported.built.course.mutex(1).taken_at == Some(3));
+    Ok(())
+}
+
+/// Record 4 is a CREATE in place of the REQUEST, and thread 1 is granted the mutex at 350,000, after the other call began.
+#[test]
+fn request_that_the_log_lacks_has_the_place_of_the_grant(rt: HostRuntime) -> Result<(), Fail> {
+    let mut bytes = placed_bytes(rt.alloc())?;
+    write(&mut bytes, THIRD_PLACED + 8, 8, 350_000);
+    write(&mut bytes, FOURTH_PLACED + 24, 8, 0x3_0000_0000_0000);
+    let imported = imported_of(rt.alloc(), &bytes)?;
+    assert!(rt; imported.sources.requests.list.len() == 1);
+    let waits = &imported.built.findings.waits.longest;
+    let wait = waits.first().ok_or("a wait")?;
+    let owner = wait.owner.ok_or("an owner")?;
+    assert!(rt; (wait.thread, wait.at, owner.thread, owner.at) == (2, Some(3), 1, Some(1)));
     Ok(())
 }
