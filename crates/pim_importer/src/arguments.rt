@@ -54,7 +54,8 @@ The findings go to standard output, a line each:
   with LOG.kernel, which pim-record --kernel writes: threads that ran at another priority than POSIX gives, for longer
   than the tolerance, each with the lines of LOG.kernel that show it. TIME is in microseconds, or has a unit: 200us, 1ms
   the longest waits: who waited for which mutex, who owned it, at which priorities; and what bounds the wait. A wait of
-  a thread for a lower one at a NONE mutex is not bounded: any thread between them can make it longer
+  a thread for a lower one at a NONE mutex is not bounded: any thread between them can make it longer. Where in the code
+  the wait was, and the owner took the mutex, is the line in LOG.places, which pim-record writes, or an offset in the file
   the NONE mutexes at which that happened, with the place where each was initialised: these should inherit
   hand-overs that passed over the first waiter, by mutex
   the longest ownership of each mutex that was waited for

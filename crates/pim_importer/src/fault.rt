@@ -25,6 +25,9 @@ pub enum Fault {
     /// The kernel's events can't be read.
     #[error("{0}: {1}")]
     Kernel(String, TextFault),
+    /// This line of the file names no place in the code of the log.
+    #[error("{0}: line {1}: it names no place in the code of the log")]
+    Place(String, u64),
     /// The facts can't be read.
     #[error("{0}: {1}")]
     Facts(String, FactsFault),

@@ -14,6 +14,7 @@ mod fault;
 mod files;
 mod kernel;
 mod names;
+mod places;
 mod results;
 
 use crate::alone::{alone_of, path_alone};
@@ -22,6 +23,7 @@ use crate::facts::{Facts, read_facts};
 use crate::fault::Fault;
 use crate::files::{read_log, write_names, write_traces};
 use crate::kernel::{events_of, kernel_of, waits_in};
+use crate::places::place_texts;
 use crate::results::Results;
 use pim_import::{ImportFault, Imported, import_log};
 use pim_log::Log;
@@ -75,8 +77,9 @@ fn import(rt: &HostRuntime, alloc: Global, arguments: &Arguments) -> Result<u8, 
     let waits = waits_in(alloc, events.as_ref())?;
     let imported = import_log(alloc, &log, arguments.is_all, &waits)?;
     let kernel = kernel_of(alloc, arguments, &log, &imported, events)?;
-    let labels = Labels::of(alloc, &log, &imported.sources.ids)?;
     let path = arguments.log.as_str();
+    let mut labels = Labels::of(alloc, &log, &imported.sources.ids)?;
+    labels.name_places(place_texts(rt, alloc, path, &log)?);
     tell(
         rt,
         alloc,

@@ -3,7 +3,7 @@
 use crate::kernel::{Kernel, put_reason};
 use crate::labels::Labels;
 use crate::meanwhile::put_meanwhile_json;
-use crate::words::{Told, family_of, found_of, mutexes, put_place, waits_of};
+use crate::words::{Told, family_of, found_of, mutexes, put_code, put_place, waits_of};
 use pim_comparison::{Found, Lengthened};
 use pim_facts::LeftOut;
 use pim_findings::{FoundMutex, FoundWait, MutexWaits};
@@ -26,6 +26,7 @@ pub fn json_of(
     kernel: Option<&Kernel>,
 ) -> Result<Vec<u8>, AllocError> {
     let told = Told {
+        log,
         imported,
         labels,
         began: log.header().began,
@@ -129,6 +130,22 @@ fn put_thread(alloc: Global, out: &mut JsonOut, told: &Told, key: &str, thread: 
     out.end_object();
 }
 
+/// Writes the place in the code at which a thread called, if it is known.
+fn put_at(
+    alloc: Global,
+    out: &mut JsonOut,
+    told: &Told,
+    key: &str,
+    thread: u32,
+    place: Option<u16>,
+) {
+    let mut text = Out::new(alloc);
+    put_code(&mut text, told, "", thread, place);
+    if text.len() > 0 {
+        out.text(key, &text);
+    }
+}
+
 /// Writes the number that a mutex has in the trace.
 fn put_number(out: &mut JsonOut, told: &Told, key: &str, mutex: u32) {
     let number = told.imported.numbering.mutexes.of(mutex);
@@ -142,11 +159,13 @@ fn put_wait(alloc: Global, out: &mut JsonOut, told: &Told, wait: &FoundWait) {
     out.number("began", wait.began);
     out.number("lasted", wait.lasted);
     out.boolean("at_the_end", wait.is_open);
+    put_at(alloc, out, told, "at", wait.thread, wait.at);
     put_number(out, told, "mutex", wait.mutex);
     out.string("protocol", family_of(told, wait.mutex).name());
     if let Some(owner) = wait.owner {
         put_thread(alloc, out, told, "owner", owner.thread);
         out.number("owner_priority", u64::from(owner.level));
+        put_at(alloc, out, told, "owner_at", owner.thread, owner.at);
     }
     out.boolean("bounded", !wait.is_unbounded);
 }
@@ -188,14 +207,23 @@ fn put_deadlocks(alloc: Global, out: &mut JsonOut, told: &Told) {
         out.begin_array();
         for thread in &deadlock.threads {
             out.begin_object();
+            let (mutex, owner) = blocker_of(told.imported, *thread);
+            let (asked_at, taken_at) = places_of(told, *thread, mutex);
             put_thread(alloc, out, told, "thread", *thread);
-            let (mutex, _owner) = blocker_of(told.imported, *thread);
+            put_at(alloc, out, told, "at", *thread, asked_at);
             put_number(out, told, "mutex", mutex);
+            put_at(alloc, out, told, "owner_at", owner, taken_at);
             out.end_object();
         }
         out.end_array();
     }
     out.end_array();
+}
+
+/// Returns where in the code a thread asked for a mutex at the end, and where the owner took it.
+fn places_of(told: &Told, thread: u32, mutex: u32) -> (Option<u16>, Option<u16>) {
+    let course = &told.imported.built.course;
+    (course.thread(thread).asked_at, course.mutex(mutex).taken_at)
 }
 
 fn put_left_out(out: &mut JsonOut, told: &Told, log: &Log) {

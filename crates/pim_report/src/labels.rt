@@ -49,6 +49,8 @@ pub struct Labels {
     pending: Vec<Pending>,
     /// The names of a text of facts.
     given: Option<GivenNames>,
+    /// By its number what is known of a place in the code, such as its line in the source.
+    code: Vec<Vec<u8>>,
 }
 
 /// The names that a text of facts gives. A name `-` is no name.
@@ -79,6 +81,7 @@ impl Labels {
             children: Vec::new(alloc),
             pending: vec![in alloc; Pending::Nothing; ids.threads.len()]?,
             given: None,
+            code: Vec::new(alloc),
         };
         for number in 1..log.header().end() {
             if let Some(record) = log.record(number) {
@@ -91,6 +94,11 @@ impl Labels {
     /// Takes the names of the text of facts that the log was made of.
     pub fn give(&mut self, names: GivenNames) {
         self.given = Some(names);
+    }
+
+    /// Takes by the number of each place in the code a text that names it. An empty one is none.
+    pub fn name_places(&mut self, texts: Vec<Vec<u8>>) {
+        self.code = texts;
     }
 
     /// Returns whether the log was made of a text of facts.
@@ -226,7 +234,21 @@ impl Labels {
         }
         let place = self.places.get(number as usize).copied().unwrap_or(0);
         let address = if place == 0 { mutex.address } else { place - 1 };
-        match self.module_of(mutex.process, address) {
+        self.put_address(out, mutex.process, address);
+    }
+
+    /// Writes a place in the code, to which a call of this process returns: the text that names it, or else the file and
+    /// the offset of the last byte of the call, or an address.
+    pub fn put_code(&self, out: &mut Out, number: u16, process: u32, returns_to: u64) {
+        match self.code.get(usize::from(number)) {
+            Some(text) if !text.is_empty() => put_words(out, text),
+            _ => self.put_address(out, process, returns_to.saturating_sub(1)),
+        }
+    }
+
+    /// Writes the file that is loaded at an address of a process and the offset there, or else the address.
+    fn put_address(&self, out: &mut Out, process: u32, address: u64) {
+        match self.module_of(process, address) {
             Some(module) => {
                 let file = module.path.as_str().rsplit('/').next().unwrap_or("?");
                 out.put(file);
@@ -310,6 +332,13 @@ fn push_text(path: &mut String, bytes: &[u8]) -> Result<(), AllocError> {
 fn put_text(out: &mut Out, bytes: &[u8]) {
     for byte in bytes {
         out.put_char(shown(*byte));
+    }
+}
+
+/// Adds bytes to a text, with their spaces.
+fn put_words(out: &mut Out, bytes: &[u8]) {
+    for byte in bytes {
+        out.put_char(if *byte == b' ' { ' ' } else { shown(*byte) });
     }
 }
 

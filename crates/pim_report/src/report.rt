@@ -4,8 +4,8 @@ use crate::kernel::{Kernel, put_compared, put_differences};
 use crate::labels::Labels;
 use crate::meanwhile::put_meanwhile;
 use crate::words::{
-    Told, family_of, found_of, mutexes, put_count, put_duration, put_level, put_moment, put_mutex,
-    put_place, put_thread, waits_of,
+    Told, family_of, found_of, mutexes, put_code, put_count, put_duration, put_level, put_moment,
+    put_mutex, put_place, put_thread, waits_of,
 };
 use pim_facts::{Family, LeftOut};
 use pim_findings::{FoundMutex, FoundWait, MutexWaits};
@@ -19,6 +19,9 @@ use std::alloc::{AllocError, Global};
 const UNKNOWN: &str = "\
 not known: locks other than POSIX mutexes, waits at the end of a condition wait, and what the kernel did
 ";
+
+/// Is written before the place in the code at which the owner of a mutex took it.
+const TOOK_AT: &str = ", which took it at ";
 
 /// What it can't know that the kernel's events don't show either.
 const STILL_UNKNOWN: &str = "\
@@ -39,6 +42,7 @@ pub fn report_of(
     kernel: Option<&Kernel>,
 ) -> Result<String, AllocError> {
     let told = Told {
+        log,
         imported,
         labels,
         began: log.header().began,
@@ -92,11 +96,9 @@ fn put_wait(out: &mut Out, told: &Told, wait: &FoundWait) {
     put_duration(out, wait.lasted);
     out.put(" from ");
     put_moment(out, told, wait.began);
-    out.put(if wait.is_open {
-        " to the end for "
-    } else {
-        " on for "
-    });
+    out.put(if wait.is_open { " to the end" } else { " on" });
+    put_code(out, told, " at ", wait.thread, wait.at);
+    out.put(" for ");
     put_mutex(out, told, wait.mutex);
     out.put(" of ");
     match wait.owner {
@@ -104,6 +106,7 @@ fn put_wait(out: &mut Out, told: &Told, wait: &FoundWait) {
             put_thread(out, told, owner.thread);
             out.put(", at ");
             put_level(out, owner.level);
+            put_code(out, told, TOOK_AT, owner.thread, owner.at);
         }
         None => out.put("an unknown thread"),
     }
@@ -208,15 +211,24 @@ fn put_deadlocks(out: &mut Out, told: &Told) {
         for thread in &deadlock.threads {
             out.put(before);
             before = ", ";
-            put_thread(out, told, *thread);
-            let (mutex, owner) = blocker_of(told.imported, *thread);
-            out.put(" waits for ");
-            put_mutex(out, told, mutex);
-            out.put(" of ");
-            put_thread(out, told, owner);
+            put_blocked(out, told, *thread);
         }
         out.put("\n");
     }
+}
+
+/// Writes what a thread waits for at the end.
+fn put_blocked(out: &mut Out, told: &Told, thread: u32) {
+    let course = &told.imported.built.course;
+    let (mutex, owner) = blocker_of(told.imported, thread);
+    put_thread(out, told, thread);
+    out.put(" waits");
+    put_code(out, told, " at ", thread, course.thread(thread).asked_at);
+    out.put(" for ");
+    put_mutex(out, told, mutex);
+    out.put(" of ");
+    put_thread(out, told, owner);
+    put_code(out, told, TOOK_AT, owner, course.mutex(mutex).taken_at);
 }
 
 /// Writes what was left out, and why.
@@ -241,6 +253,11 @@ fn put_left_out(out: &mut Out, told: &Told, log: &Log) {
         out.put("unseen: ");
         put_count(out, header.left_out, "call");
         out.put(" that the recorder couldn't see whole\n");
+    }
+    if header.unplaced > 0 {
+        out.put("unplaced: ");
+        put_count(out, header.unplaced, "record");
+        out.put(" for whose place in the code the log had no room\n");
     }
 }
 

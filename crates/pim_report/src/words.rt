@@ -4,11 +4,13 @@ use crate::labels::Labels;
 use pim_facts::Family;
 use pim_findings::{FoundMutex, MutexWaits};
 use pim_import::Imported;
+use pim_log::Log;
 use pim_out::Out;
 
 /// What the texts are made from.
 #[derive(Clone, Copy)]
 pub struct Told<'a> {
+    pub log: &'a Log<'a>,
     pub imported: &'a Imported,
     pub labels: &'a Labels,
     /// CLOCK_MONOTONIC at the log's begin, in nanoseconds.
@@ -77,6 +79,22 @@ pub fn put_place(out: &mut Out, told: &Told, mutex: u32) {
         Some(is) => told.labels.put_place(out, mutex, is),
         None => out.put("?"),
     }
+}
+
+/// Writes a place in the code at which a thread called, behind these words. Writes nothing if the place isn't known.
+pub fn put_code(out: &mut Out, told: &Told, words: &str, thread: u32, place: Option<u16>) {
+    let Some(number) = place else {
+        return;
+    };
+    let Some(address) = told.log.place(number) else {
+        return;
+    };
+    let process = match told.imported.sources.ids.threads.get(thread as usize) {
+        Some(is) => is.process,
+        None => 0,
+    };
+    out.put(words);
+    told.labels.put_code(out, number, process, address);
 }
 
 /// Writes a priority of SCHED_FIFO and SCHED_RR, or the policy of a thread that has none.
