@@ -92,6 +92,8 @@ def row_of(words):
             value = int(next(rest))
         elif word == "error":
             how = int(next(rest))
+        elif word == "at":
+            target |= int(next(rest)) << 48
         elif word == "text":
             text = next(rest).encode()
             value = len(text)
@@ -108,7 +110,7 @@ def row_of(words):
 
 def read_text(text):
     """Returns the log of a text."""
-    rows, times, fields, tasks, changes, behind = [], [], {}, {}, [], 0
+    rows, times, fields, tasks, places, changes, behind = [], [], {}, {}, {}, [], 0
     for line in text.splitlines():
         words = line.split("#")[0].split()
         if not words:
@@ -117,6 +119,8 @@ def read_text(text):
             fields[words[1]] = int(words[2])
         elif words[0] == "task":
             tasks[int(words[1])] = int(words[2])
+        elif words[0] == "place":
+            places[int(words[1])] = int(words[2], 16)
         elif words[0] == "change":
             changes.append(words[1:])
         elif words[0] == "behind":
@@ -129,6 +133,8 @@ def read_text(text):
             times += [time] * (1 + len(parts))
     threads = max(row[0] for row in rows)
     tasks = {thread: 700 + thread for thread in range(1, threads + 1)} | tasks
+    if places:
+        fields["places"] = [places.get(number, 0) for number in range(1, max(places) + 1)]
     data = log_of(rows, threads, times, tasks, **{"process": 700, "began": 0, **fields})
     for words in changes:
         change(data, *words)

@@ -13,21 +13,24 @@ MILLISECOND = 1_000_000
 class Case:
     """A recording, the options of its import, and what must come of it, by the ends of the files' names."""
 
-    def __init__(self, name, log=None, kernel=None, options=(), **wanted):
+    def __init__(self, name, log=None, kernel=None, options=(), places=None, **wanted):
         self.name, self.log, self.kernel, self.options, self.wanted = name, log, kernel, options, wanted
+        self.places = None if places is None else places.encode()
 
     def prepare(self, folder):
         """Writes the recording into the folder. Returns the arguments of pim-import."""
         self.path = pathlib.Path(folder, self.name)
-        for path, data in ((self.path, self.log), (pathlib.Path(f"{self.path}.kernel"), self.kernel)):
+        for end, data in (("", self.log), (".kernel", self.kernel), (".places", self.places)):
             if data is not None:
-                path.write_bytes(data)
+                pathlib.Path(f"{self.path}{end}").write_bytes(data)
         return [*self.options, str(self.path)]
 
     def why(self, status, out, err):
         """Returns what is wrong with what pim-import said and wrote, or None."""
         if "error" in self.wanted:
-            said = err.replace(f"{self.path}.kernel: ", "").replace("pim-import: ", "", 1)
+            said = err.replace("pim-import: ", "", 1)
+            for end in ("kernel", "places"):
+                said = said.replace(f"{self.path}.{end}: ", "")
             written = [end for end in ("pim", "names") if self.lines(end)]
             return difference((status, out, said, written), (2, "", self.wanted["error"], []))
         if err or status not in (0, 1):
