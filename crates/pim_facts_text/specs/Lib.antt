@@ -1,1 +1,4 @@
 pub mod Texts
+pub mod Words
+pub mod Lines
+pub mod Reading

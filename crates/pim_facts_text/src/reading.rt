@@ -1,16 +1,23 @@
 //! One line of a text, below the first.
+ghost use Rattle.std.specs.Prelude.{◌≡◌};
+ghost use Rattle.std.specs.Option.{option_map};
+ghost use Rattle.pim_facts_text.specs.Words.{words_behind};
+ghost use Rattle.pim_facts_text.specs.Lines.{line_of, thread_in, mutex_in, protocol_in, protocol_first, fact_in};
+ghost use Rattle.pim_facts_text.specs.Reading.{first_of, said_of};
 
 use crate::fact::read_what;
 use crate::line::{Line, MAX_LEVEL, MAX_MUTEX, MAX_THREAD, Protocol};
-use crate::name::read_name;
-use crate::word::{cut, cut_number, cut_within, is};
+use crate::name::{read_name, read_place};
+use crate::word::{cut, cut_within, is, number_of};
 
 /// Returns the line below the first that the bytes spell, and its name or its place; or `None` if they spell none.
-pub(crate) fn read_line(bytes: &[u8]) -> Option<(Line, Option<&[u8]>)> {
-    if let Some((time, rest)) = cut_number(bytes) {
+pub(crate) fn read_line(bytes: &[u8]) -> Option<(Line, Option<&[u8]>)>
+    ensures { said_of result ≡ line_of bytes.now }
+{
+    let (first, rest) = cut(bytes);
+    if let Some(time) = number_of(first) {
         return read_fact(time, rest);
     }
-    let (first, rest) = cut(bytes, b' ');
     if is(first, "thread") {
         return read_thread(rest);
     }
@@ -21,7 +28,9 @@ pub(crate) fn read_line(bytes: &[u8]) -> Option<(Line, Option<&[u8]>)> {
 }
 
 /// Reads `NUMBER LEVEL NAME` behind `thread`, or returns `None`.
-fn read_thread(tail: Option<&[u8]>) -> Option<(Line, Option<&[u8]>)> {
+fn read_thread(tail: Option<&[u8]>) -> Option<(Line, Option<&[u8]>)>
+    ensures { said_of result ≡ thread_in (words_behind tail.entry) }
+{
     let (number, rest) = cut_within(tail, 1, MAX_THREAD)?;
     let (level, rest) = cut_within(rest, 0, MAX_LEVEL)?;
     let name = read_name(rest)?;
@@ -33,52 +42,61 @@ fn read_thread(tail: Option<&[u8]>) -> Option<(Line, Option<&[u8]>)> {
 }
 
 /// Reads `NUMBER [recursive] PROTOCOL NAME` behind `mutex`, or returns `None`.
-fn read_mutex(tail: Option<&[u8]>) -> Option<(Line, Option<&[u8]>)> {
-    let (number, rest) = cut_within(tail, 1, MAX_MUTEX)?;
-    let (word, rest) = cut(rest?, b' ');
+fn read_mutex(tail: Option<&[u8]>) -> Option<(Line, Option<&[u8]>)>
+    ensures { said_of result ≡ mutex_in (words_behind tail.entry) }
+{
+    let (number, tail) = cut_within(tail, 1, MAX_MUTEX)?;
+    let (word, rest) = cut(tail?);
     if is(word, "recursive") {
-        let (word, rest) = cut(rest?, b' ');
-        let (protocol, name) = read_protocol(word, rest)?;
-        let line = Line::Mutex {
-            number,
-            is_recursive: true,
-            protocol,
-        };
-        return Some((line, Some(name)));
+        read_protocol(number, true, rest)
+    } else {
+        read_protocol(number, false, tail)
     }
-    let (protocol, name) = read_protocol(word, rest)?;
+}
+
+/// Reads `PROTOCOL NAME` of the mutex with a number, or returns `None`.
+fn read_protocol(
+    number: u64,
+    is_recursive: bool,
+    tail: Option<&[u8]>,
+) -> Option<(Line, Option<&[u8]>)>
+    ensures { said_of result ≡ protocol_in number is_recursive (words_behind tail.entry) }
+{
+    let (protocol, rest) = cut_protocol(tail)?;
+    let name = read_name(rest)?;
     let line = Line::Mutex {
         number,
-        is_recursive: false,
+        is_recursive,
         protocol,
     };
     Some((line, Some(name)))
 }
 
-/// Returns the protocol that the words spell, and the name behind it; or `None` if they spell none. The first word was
-/// cut off.
-fn read_protocol<'a>(word: &[u8], tail: Option<&'a [u8]>) -> Option<(Protocol, &'a [u8])> {
+/// Returns the protocol that the words begin with, and the bytes behind it; or `None` if they begin with none.
+fn cut_protocol(tail: Option<&[u8]>) -> Option<(Protocol, Option<&[u8]>)>
+    ensures { first_of result ≡ protocol_first (words_behind tail.entry) }
+{
+    let (word, rest) = cut(tail?);
     if is(word, "none") {
-        let name = read_name(tail)?;
-        return Some((Protocol::None, name));
+        return Some((Protocol::None, rest));
     }
     if is(word, "inherit") {
-        let name = read_name(tail)?;
-        return Some((Protocol::Inherit, name));
+        return Some((Protocol::Inherit, rest));
     }
     if is(word, "protect") {
-        let (ceiling, rest) = cut_within(tail, 0, MAX_LEVEL)?;
-        let name = read_name(rest)?;
-        return Some((Protocol::Protect(ceiling as u8), name));
+        let (ceiling, rest) = cut_within(rest, 0, MAX_LEVEL)?;
+        return Some((Protocol::Protect(ceiling as u8), rest));
     }
     None
 }
 
 /// Reads `THREAD WHAT [PLACE]` behind a time, or returns `None`.
-fn read_fact(time: u64, tail: Option<&[u8]>) -> Option<(Line, Option<&[u8]>)> {
+fn read_fact(time: u64, tail: Option<&[u8]>) -> Option<(Line, Option<&[u8]>)>
+    ensures { said_of result ≡ fact_in time (words_behind tail.entry) }
+{
     let (thread, rest) = cut_within(tail, 1, MAX_THREAD)?;
-    let (word, rest) = cut(rest?, b' ');
-    let (what, place) = read_what(word, rest)?;
+    let (what, rest) = read_what(rest)?;
+    let place = read_place(rest)?;
     let line = Line::Fact {
         time,
         thread: thread as u32,
