@@ -2,3 +2,5 @@ pub mod Texts
 pub mod Words
 pub mod Lines
 pub mod Reading
+pub mod Worlds
+pub mod Held

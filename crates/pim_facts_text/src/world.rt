@@ -1,5 +1,12 @@
 //! Who owns and awaits what after the lines so far.
 
+ghost use Rattle.std.specs.Prelude.{◌≡◌, ℕ, IfOk, is_none, true};
+ghost use Rattle.pim_facts_text.specs.Worlds.{no_world, may_happen, what_may_happen, after, after_what, locked_by, unlocked};
+ghost use Rattle.pim_facts_text.specs.Worlds.{may_be_granted, may_wait, may_give_up, may_release, may_have_ceiling};
+ghost use Rattle.pim_facts_text.specs.Held.{world_of, with_thread, with_mutex};
+ghost use Rattle.pim_facts_text.specs.declared.line.Line.TheVariants as lines;
+ghost use Rattle.pim_facts_text.specs.declared.line.What.TheVariants as whats;
+
 use crate::fault::Why;
 use crate::line::{Line, Protocol, What};
 use std::alloc::{AllocError, Global};
@@ -32,7 +39,9 @@ pub struct World {
 
 impl World {
     /// Returns that nothing is declared.
-    pub(crate) fn new(alloc: Global) -> World {
+    pub(crate) fn new(alloc: Global) -> World
+        ensures { world_of result ≡ no_world }
+    {
         World {
             threads: HashMap::new(alloc),
             mutexes: HashMap::new(alloc),
@@ -40,7 +49,9 @@ impl World {
     }
 
     /// Returns why a line can't follow those so far, or `None` if it can.
-    pub(crate) fn refusal(&self, line: &Line) -> Option<Why> {
+    pub(crate) fn refusal(&self, line: &Line) -> Option<Why>
+        ensures { is_none result ≡ may_happen (world_of self.now) line.now }
+    {
         match line {
             Line::Thread { number, .. } => self.refusal_of_thread(*number),
             Line::Mutex { number, .. } => {
@@ -55,7 +66,9 @@ impl World {
     }
 
     /// Returns why a thread can't be declared.
-    fn refusal_of_thread(&self, thread: u32) -> Option<Why> {
+    fn refusal_of_thread(&self, thread: u32) -> Option<Why>
+        ensures { (level : ℕ) → is_none result ≡ may_happen (world_of self.now) (lines.Thread thread level) }
+    {
         if self.threads.contains_key(&thread) {
             Some(Why::ThreadAgain)
         } else if self.threads.len() >= MAX_THREADS {
@@ -66,7 +79,9 @@ impl World {
     }
 
     /// Returns why something can't happen to a thread.
-    fn refusal_of_fact(&self, thread: u32, what: &What) -> Option<Why> {
+    fn refusal_of_fact(&self, thread: u32, what: &What) -> Option<Why>
+        ensures { is_none result ≡ what_may_happen (world_of self.now) thread what.now }
+    {
         let awaits = self.thread(thread);
         match what {
             What::Granted(mutex) => refusal_of_grant(thread, *mutex, awaits, self.mutex(*mutex)),
@@ -84,12 +99,16 @@ impl World {
     }
 
     /// Returns the mutex that a thread waits for, or `None` if it isn't declared.
-    fn thread(&self, thread: u32) -> Option<Option<u64>> {
+    fn thread(&self, thread: u32) -> Option<Option<u64>>
+        ensures { result ≡ (world_of self.now).awaits thread }
+    {
         self.threads.get(&thread).copied()
     }
 
     /// Returns a mutex, or `None` if it isn't declared.
-    fn mutex(&self, mutex: u64) -> Option<MutexState> {
+    fn mutex(&self, mutex: u64) -> Option<MutexState>
+        ensures { result ≡ (world_of self.now).mutexes mutex }
+    {
         self.mutexes.get(&mutex).copied()
     }
 
@@ -98,7 +117,10 @@ impl World {
     /// # Errors
     ///
     /// Returns `AllocError` if out of memory.
-    pub(crate) fn go(&mut self, line: &Line) -> Result<(), AllocError> {
+    pub(crate) fn go(&mut self, line: &Line) -> Result<(), AllocError>
+        requires { may_happen (world_of self.old) line.now ≡ true }
+        ensures { IfOk result (λ _. world_of self.new ≡ after (world_of self.old) line.now) }
+    {
         match line {
             Line::Thread { number, .. } => self.put_thread(*number, None),
             Line::Mutex {
@@ -106,42 +128,51 @@ impl World {
                 is_recursive,
                 protocol,
             } => {
-                let is = MutexState {
+                let state = MutexState {
                     owner: None,
                     depth: 0,
                     is_recursive: *is_recursive,
                     has_ceiling: matches!(protocol, Protocol::Protect(_)),
                 };
-                self.put_mutex(*number, is)
+                self.put_mutex(*number, state)
             }
             Line::Fact { thread, what, .. } => self.go_by_fact(*thread, what),
         }
     }
 
-    fn go_by_fact(&mut self, thread: u32, what: &What) -> Result<(), AllocError> {
+    fn go_by_fact(&mut self, thread: u32, what: &What) -> Result<(), AllocError>
+        requires { what_may_happen (world_of self.old) thread what.now ≡ true }
+        ensures { IfOk result (λ _. world_of self.new ≡ after_what (world_of self.old) thread what.now) }
+    {
         match what {
             What::Waits(mutex) | What::WaitsOf(mutex, _) => self.put_thread(thread, Some(*mutex)),
             What::GaveUp(_) => self.put_thread(thread, None),
-            What::Granted(mutex) => {
-                self.put_thread(thread, None)?;
-                match self.mutex(*mutex) {
-                    Some(is) => {
-                        let more = is.granted(thread)?;
-                        self.put_mutex(*mutex, more)
-                    }
-                    None => Ok(()),
-                }
-            }
+            What::Granted(mutex) => self.go_by_grant(thread, *mutex),
             What::Released(mutex) => match self.mutex(*mutex) {
-                Some(is) => self.put_mutex(*mutex, is.released()),
+                Some(state) => self.put_mutex(*mutex, state.released()),
                 None => Ok(()),
             },
             What::Priority(_) | What::Ceiling(_, _) => Ok(()),
         }
     }
 
+    /// Goes on by a mutex that can be granted to a thread.
+    fn go_by_grant(&mut self, thread: u32, mutex: u64) -> Result<(), AllocError>
+        requires { what_may_happen (world_of self.old) thread (whats.Granted mutex) ≡ true }
+        ensures { IfOk result (λ _. world_of self.new ≡ after_what (world_of self.old) thread (whats.Granted mutex)) }
+    {
+        let Some(state) = self.mutex(mutex) else {
+            return Ok(());
+        };
+        let more = state.granted(thread)?;
+        self.put_thread(thread, None)?;
+        self.put_mutex(mutex, more)
+    }
+
     /// Puts the mutex that a thread waits for.
-    fn put_thread(&mut self, thread: u32, awaits: Option<u64>) -> Result<(), AllocError> {
+    fn put_thread(&mut self, thread: u32, awaits: Option<u64>) -> Result<(), AllocError>
+        ensures { IfOk result (λ _. world_of self.new ≡ with_thread thread awaits (world_of self.old)) }
+    {
         match self.threads.insert(thread, awaits) {
             Ok(_) => Ok(()),
             Err(_) => Err(AllocError),
@@ -149,8 +180,10 @@ impl World {
     }
 
     /// Puts the state of a mutex.
-    fn put_mutex(&mut self, mutex: u64, is: MutexState) -> Result<(), AllocError> {
-        match self.mutexes.insert(mutex, is) {
+    fn put_mutex(&mut self, mutex: u64, state: MutexState) -> Result<(), AllocError>
+        ensures { IfOk result (λ _. world_of self.new ≡ with_mutex mutex state (world_of self.old)) }
+    {
+        match self.mutexes.insert(mutex, state) {
             Ok(_) => Ok(()),
             Err(_) => Err(AllocError),
         }
@@ -163,7 +196,9 @@ impl MutexState {
     /// # Errors
     ///
     /// Returns `AllocError` if it was locked 2^64 - 1 times.
-    fn granted(self, thread: u32) -> Result<MutexState, AllocError> {
+    fn granted(self, thread: u32) -> Result<MutexState, AllocError>
+        ensures { IfOk result (λ mutex. mutex ≡ locked_by thread self) }
+    {
         if self.depth == u64::MAX {
             return Err(AllocError);
         }
@@ -176,7 +211,9 @@ impl MutexState {
     }
 
     /// Returns the mutex after its owner unlocked it once.
-    fn released(self) -> MutexState {
+    fn released(self) -> MutexState
+        ensures { result ≡ unlocked self }
+    {
         if self.depth > 1 {
             MutexState {
                 owner: self.owner,
@@ -200,12 +237,14 @@ fn refusal_of_grant(
     thread: u32,
     mutex: u64,
     awaits: Option<Option<u64>>,
-    is: Option<MutexState>,
-) -> Option<Why> {
+    state: Option<MutexState>,
+) -> Option<Why>
+    ensures { is_none result ≡ may_be_granted thread mutex awaits state }
+{
     let Some(awaits) = awaits else {
         return Some(Why::NoThread);
     };
-    let Some(is) = is else {
+    let Some(state) = state else {
         return Some(Why::NoMutex);
     };
     if let Some(other) = awaits {
@@ -213,13 +252,13 @@ fn refusal_of_grant(
             return Some(Why::Waiting);
         }
     }
-    let Some(owner) = is.owner else {
+    let Some(owner) = state.owner else {
         return None;
     };
     if owner != thread {
         return Some(Why::Owned);
     }
-    if is.is_recursive {
+    if state.is_recursive {
         None
     } else {
         Some(Why::NotRecursive)
@@ -230,21 +269,23 @@ fn refusal_of_grant(
 fn refusal_of_wait(
     thread: u32,
     awaits: Option<Option<u64>>,
-    is: Option<MutexState>,
-) -> Option<Why> {
+    state: Option<MutexState>,
+) -> Option<Why>
+    ensures { is_none result ≡ may_wait thread awaits state }
+{
     let Some(awaits) = awaits else {
         return Some(Why::NoThread);
     };
-    let Some(is) = is else {
+    let Some(state) = state else {
         return Some(Why::NoMutex);
     };
     if awaits.is_some() {
         return Some(Why::Waiting);
     }
-    let Some(owner) = is.owner else {
+    let Some(owner) = state.owner else {
         return None;
     };
-    if owner == thread && is.is_recursive {
+    if owner == thread && state.is_recursive {
         Some(Why::Recursive)
     } else {
         None
@@ -252,7 +293,9 @@ fn refusal_of_wait(
 }
 
 /// Returns why a thread can't give up a mutex.
-fn refusal_to_give_up(mutex: u64, awaits: Option<Option<u64>>) -> Option<Why> {
+fn refusal_to_give_up(mutex: u64, awaits: Option<Option<u64>>) -> Option<Why>
+    ensures { is_none result ≡ may_give_up mutex awaits }
+{
     let Some(awaits) = awaits else {
         return Some(Why::NoThread);
     };
@@ -266,32 +309,36 @@ fn refusal_to_give_up(mutex: u64, awaits: Option<Option<u64>>) -> Option<Why> {
 fn refusal_of_release(
     thread: u32,
     awaits: Option<Option<u64>>,
-    is: Option<MutexState>,
-) -> Option<Why> {
+    state: Option<MutexState>,
+) -> Option<Why>
+    ensures { is_none result ≡ may_release thread awaits state }
+{
     let Some(awaits) = awaits else {
         return Some(Why::NoThread);
     };
-    let Some(is) = is else {
+    let Some(state) = state else {
         return Some(Why::NoMutex);
     };
     if awaits.is_some() {
         return Some(Why::Waiting);
     }
-    match is.owner {
+    match state.owner {
         Some(owner) if owner == thread => None,
         _ => Some(Why::NotOwner),
     }
 }
 
 /// Returns why a mutex can't have another ceiling.
-fn refusal_of_ceiling(awaits: Option<Option<u64>>, is: Option<MutexState>) -> Option<Why> {
+fn refusal_of_ceiling(awaits: Option<Option<u64>>, state: Option<MutexState>) -> Option<Why>
+    ensures { is_none result ≡ may_have_ceiling awaits state }
+{
     if awaits.is_none() {
         return Some(Why::NoThread);
     }
-    let Some(is) = is else {
+    let Some(state) = state else {
         return Some(Why::NoMutex);
     };
-    if is.has_ceiling {
+    if state.has_ceiling {
         None
     } else {
         Some(Why::NoCeiling)
