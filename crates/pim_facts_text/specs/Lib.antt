@@ -1,6 +1,6 @@
-pub mod Texts
 pub mod Words
 pub mod Lines
-pub mod Reading
 pub mod Worlds
+pub mod Texts
+pub mod Reading
 pub mod Held

@@ -1,12 +1,14 @@
 //! A whole text.
-ghost use Rattle.std.specs.Prelude.{IfErr};
-ghost use Rattle.pim_facts_text.specs.Texts.{IsFault};
+ghost use Rattle.std.specs.Prelude.{◌≡◌, ◌<◌, ◌∷◌, ◌++◌, [], map, length, IfOk, MatchOption, MatchResult, Some, None};
+ghost use Rattle.std.specs.Option.{option_copied};
+ghost use Rattle.pim_facts_text.specs.Texts.{lines_of, Says, IsFault, beginning, with_line, go_on};
+ghost use Rattle.pim_facts_text.specs.Reading.{content_of, course_so_far};
 
 use crate::fault::{FactsFault, Why};
 use crate::line::Line;
 use crate::reading::read_line;
 use crate::why::why_not;
-use crate::word::is;
+use crate::word::{is, place_of};
 use crate::world::World;
 use std::alloc::{AllocError, Global};
 
@@ -26,46 +28,46 @@ pub struct Text {
 struct Reader {
     text: Text,
     world: World,
-    /// Whether the first line was read.
-    has_begun: bool,
 }
 
 impl Text {
     /// Returns the text that bytes spell.
     ///
+    /// Each byte is looked at a bounded number of times, and each line takes a constant time on average.
+    ///
     /// # Errors
     ///
     /// Returns `Line` with the number of the first invalid line, and why it is invalid; `Memory` if out of memory. Without
     /// a byte it is line 1.
-    #[tactic(auto, using(crate::proofs::Counting::newline_more, crate::proofs::Counting::other_same))]
     pub fn read(alloc: Global, bytes: &[u8]) -> Result<Text, FactsFault>
-        ensures { IfErr result (IsFault bytes.now) }
+        ensures { MatchResult result
+            (λ text. Says (lines_of bytes.now) (content_of text))
+            (IsFault (lines_of bytes.now)) }
     {
         if bytes.is_empty() {
             return Err(FactsFault::Line(1, Why::Header));
         }
-        let mut reader = Reader::new(alloc);
-        let mut begin = 0;
-        let mut number = 0;
-        for place in 0..bytes.len() {
-            if bytes[place] == b'\n' {
-                number += 1;
-                if let Some(why) = reader.take(alloc, &bytes[begin..place])? {
-                    return Err(FactsFault::Line(number, why));
-                }
-                begin = place + 1;
-            }
+        let (first, mut rest) = next_line(bytes);
+        if !is(first, "facts 1") {
+            return Err(FactsFault::Line(1, Why::Header));
         }
-        if begin < bytes.len() {
-            if let Some(why) = reader.take(alloc, &bytes[begin..])? {
-                return Err(FactsFault::Line(number + 1, why));
+        let mut reader = Reader::new(alloc);
+        let mut number = 1;
+        while !rest.is_empty() {
+            let (line, after) = next_line(rest);
+            number += 1;
+            if let Some(why) = reader.take(alloc, line)? {
+                return Err(FactsFault::Line(number, why));
             }
+            rest = after;
         }
         Ok(reader.text)
     }
 
     /// Adds a line with what is behind it.
-    fn add(&mut self, alloc: Global, line: Line, name: Option<&[u8]>) -> Result<(), AllocError> {
+    fn add(&mut self, alloc: Global, line: Line, name: Option<&[u8]>) -> Result<(), AllocError>
+        ensures { IfOk result (λ _. content_of self.new ≡ with_line (content_of self.old) line (option_copied name.entry)) }
+    {
         let name = name.unwrap_or(&[]);
         match line {
             Line::Thread { .. } => add_name(alloc, &mut self.thread_names, name)?,
@@ -80,7 +82,9 @@ impl Text {
 }
 
 impl Reader {
-    fn new(alloc: Global) -> Reader {
+    fn new(alloc: Global) -> Reader
+        ensures { course_so_far result ≡ beginning }
+    {
         Reader {
             text: Text {
                 lines: Vec::new(alloc),
@@ -88,20 +92,15 @@ impl Reader {
                 mutex_names: Vec::new(alloc),
             },
             world: World::new(alloc),
-            has_begun: false,
         }
     }
 
-    /// Takes the next line. Returns why it is invalid, or `None` if it is valid.
-    fn take(&mut self, alloc: Global, bytes: &[u8]) -> Result<Option<Why>, AllocError> {
-        if !self.has_begun {
-            self.has_begun = true;
-            return Ok(if is(bytes, "facts 1") {
-                None
-            } else {
-                Some(Why::Header)
-            });
-        }
+    /// Takes the next line below the first. Returns why it is invalid, or `None` if it is valid.
+    fn take(&mut self, alloc: Global, bytes: &[u8]) -> Result<Option<Why>, AllocError>
+        ensures { IfOk result (λ why. MatchOption why
+            (go_on (course_so_far self.old) bytes.now ≡ Some (course_so_far self.new))
+            (λ _. go_on (course_so_far self.old) bytes.now ≡ None)) }
+    {
         let Some((line, name)) = read_line(bytes) else {
             return Ok(Some(why_not(bytes)));
         };
@@ -114,8 +113,22 @@ impl Reader {
     }
 }
 
+/// Returns the first line, and the bytes below it.
+fn next_line(bytes: &[u8]) -> (&[u8], &[u8])
+    requires { 0 < length bytes.now }
+    ensures lines { lines_of bytes.now ≡ result.0.now ∷ lines_of result.1.now }
+    ensures shorter { length result.1.now < length bytes.now }
+{
+    match place_of(bytes, b'\n') {
+        Some(place) => (&bytes[..place], &bytes[place + 1..]),
+        None => (bytes, &[]),
+    }
+}
+
 /// Adds a name to a list.
-fn add_name(alloc: Global, names: &mut Vec<Vec<u8>>, name: &[u8]) -> Result<(), AllocError> {
+fn add_name(alloc: Global, names: &mut Vec<Vec<u8>>, name: &[u8]) -> Result<(), AllocError>
+    ensures { IfOk result (λ _. map (λ name. name.items) names.new.items ≡ map (λ name. name.items) names.old.items ++ name.now ∷ []) }
+{
     let name = Vec::from_slice(alloc, name)?;
     match names.push(name) {
         Ok(()) => Ok(()),

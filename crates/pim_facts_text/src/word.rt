@@ -4,7 +4,7 @@ ghost use Rattle.std.specs.Bool.{MatchBool};
 ghost use Rattle.std.specs.Char.{digit_value};
 ghost use Rattle.std.specs.Int.{IsInRange};
 ghost use Rattle.std.specs.List.{slice_split};
-ghost use Rattle.pim_facts_text.specs.Words.{SPACE, words, words_behind, is_word, number_in};
+ghost use Rattle.pim_facts_text.specs.Words.{words, words_behind, is_word, number_in};
 ghost use Rattle.pim_facts_text.specs.Lines.{number_first};
 ghost use Rattle.pim_facts_text.specs.Reading.{first_of};
 
@@ -12,18 +12,18 @@ ghost use Rattle.pim_facts_text.specs.Reading.{first_of};
 pub(crate) fn cut(bytes: &[u8]) -> (&[u8], Option<&[u8]>)
     ensures { words bytes.now ≡ result.0.now ∷ words_behind result.1 }
 {
-    match place_of(bytes) {
+    match place_of(bytes, b' ') {
         Some(place) => (&bytes[..place], Some(&bytes[place + 1..])),
         None => (bytes, None),
     }
 }
 
-/// Returns the place of the first space, or `None` if there is none.
-fn place_of(bytes: &[u8]) -> Option<usize>
-    ensures { result ≡ position (λ b. b == SPACE) bytes.now }
+/// Returns the place of the first separator, or `None` if there is none.
+pub(crate) fn place_of(bytes: &[u8], separator: u8) -> Option<usize>
+    ensures { result ≡ position (λ b. b == separator) bytes.now }
 {
     for place in 0..bytes.len() {
-        if bytes[place] == b' ' {
+        if bytes[place] == separator {
             return Some(place);
         }
     }
