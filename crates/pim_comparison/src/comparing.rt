@@ -4,7 +4,6 @@ ghost use Rattle.pim_comparison.specs.Orders.{IsLongestFirst};
 
 use crate::courses::{Course, Waiter, courses_of};
 use crate::difference::{Difference, differences};
-use crate::lists::push;
 use crate::mark::{Mark, widen};
 use crate::timing::{Timing, first_from};
 use pim_base::Reason;
@@ -170,7 +169,7 @@ impl Compared {
                         None
                     },
                 };
-                push(&mut self.found, found)?;
+                self.found.push(found)?;
             }
         }
         Ok(())
@@ -237,7 +236,7 @@ fn differences_of(
 fn marks_of(alloc: Global, course: &Course, ended: u64) -> Result<Vec<Mark>, AllocError> {
     let mut marks = Vec::new(alloc);
     for turn in &course.turns {
-        push(&mut marks, turn.mark)?;
+        marks.push(turn.mark)?;
     }
     let last = Mark {
         earliest: ended,
@@ -245,7 +244,7 @@ fn marks_of(alloc: Global, course: &Course, ended: u64) -> Result<Vec<Mark>, All
         level: None,
         is_set: false,
     };
-    push(&mut marks, last)?;
+    marks.push(last)?;
     widen(&mut marks);
     Ok(marks)
 }

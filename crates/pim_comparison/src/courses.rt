@@ -1,6 +1,5 @@
 //! The priority of each thread after each step of a trace.
 
-use crate::lists::push;
 use crate::mark::Mark;
 use crate::timing::Timing;
 use pim_base::{Op, Prio, Protocol, Reason, Step, TaskNo};
@@ -73,11 +72,8 @@ impl Walk {
         let mut courses = Vec::new(alloc);
         for _thread in &imported.sources.ids.threads {
             let mut turns = Vec::new(alloc);
-            push(
-                &mut turns,
-                make_turn(None, Reason::Base, None, (0, 0), false),
-            )?;
-            push(&mut courses, Course { turns })?;
+            turns.push(make_turn(None, Reason::Base, None, (0, 0), false))?;
+            courses.push(Course { turns })?;
         }
         Ok(Walk {
             courses,
@@ -182,7 +178,7 @@ impl Walk {
         };
         let waiter = self.waiter_in(&reason);
         let next = make_turn(level, reason, waiter, bounds, is_set);
-        push(&mut self.courses[thread].turns, next)
+        Ok(self.courses[thread].turns.push(next)?)
     }
 
     /// Returns whose wait is the reason for a priority now.

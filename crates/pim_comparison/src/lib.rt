@@ -22,7 +22,6 @@
 mod comparing;
 mod courses;
 mod difference;
-mod lists;
 mod mark;
 mod timing;
 mod waits;

@@ -1,6 +1,5 @@
 //! When the steps of a trace were done.
 
-use crate::lists::push;
 use pim_import::Imported;
 use pim_kernel_events::{Call, Track, Tracks};
 use pim_log::{Event, Log, Record};
@@ -194,7 +193,7 @@ impl Timing {
                 for call in &track.calls {
                     let is_wait = !call.is_unlock && call.slept != 0;
                     if is_wait && self.known.get(&(track.task, call.begin)).is_none() {
-                        push(&mut self.unknown, (call.begin, call.end))?;
+                        self.unknown.push((call.begin, call.end))?;
                     }
                 }
             }

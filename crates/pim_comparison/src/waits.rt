@@ -1,6 +1,5 @@
 //! The waits that the kernel's events show.
 
-use crate::lists::push;
 use pim_course::Wait;
 use pim_kernel_events::{Recording, Track, Tracks, What};
 use std::alloc::{AllocError, Global};
@@ -39,14 +38,11 @@ pub fn waits_of(
 fn take(waits: &mut Vec<Wait>, track: &Track) -> Result<(), AllocError> {
     for call in &track.calls {
         if !call.is_unlock && call.slept != 0 {
-            push(
-                waits,
-                Wait {
-                    from: call.slept,
-                    task: track.task,
-                    address: call.address,
-                },
-            )?;
+            waits.push(Wait {
+                from: call.slept,
+                task: track.task,
+                address: call.address,
+            })?;
         }
     }
     Ok(())

@@ -6,7 +6,6 @@ ghost use Rattle.pim_facts.specs.Faults.{NamesOneOf, NamesOnly};
 use crate::family::{Family, ceiling_in, family_in};
 use crate::fault::IdsFault;
 use crate::level::{MAX_LEVEL, level_of};
-use crate::lists::push;
 use pim_log::{Event, Log, Mutex, Priority, Record, ThreadKey};
 use std::alloc::{AllocError, Global};
 use std::collections::HashMap;
@@ -96,18 +95,15 @@ impl Ids {
     /// Returns that nothing is known yet.
     fn new(alloc: Global, log: &Log) -> Result<Ids, AllocError> {
         let mut threads = Vec::new(alloc);
-        push(&mut threads, NO_THREAD)?;
+        threads.push(NO_THREAD)?;
         let mut mutexes = Vec::new(alloc);
-        push(
-            &mut mutexes,
-            LoggedMutex {
-                process: 0,
-                address: 0,
-                family: Family::None,
-                ceiling: 0,
-                is_recursive: false,
-            },
-        )?;
+        mutexes.push(LoggedMutex {
+            process: 0,
+            address: 0,
+            family: Family::None,
+            ceiling: 0,
+            is_recursive: false,
+        })?;
         let of_record = vec![in alloc; 0; log.header().end() as usize]?;
         Ok(Ids {
             threads,
@@ -170,7 +166,9 @@ impl Ids {
         }
         let missing = (record.thread as usize + 1).saturating_sub(self.threads.len());
         for _thread in 0..missing {
-            push(&mut self.threads, NO_THREAD)?;
+            if self.threads.push(NO_THREAD).is_err() {
+                return Err(IdsFault::Memory);
+            }
         }
         let thread = record.thread as usize;
         if thread < self.threads.len() {
@@ -252,16 +250,13 @@ impl Ids {
         let process = owner_of_place(record, mutex);
         let ceiling = ceiling_in(mutex);
         self.keep_ceiling(ceiling);
-        push(
-            &mut self.mutexes,
-            LoggedMutex {
-                process,
-                address: mutex.address,
-                family: family_in(mutex).unwrap_or(Family::None),
-                ceiling: ceiling.unwrap_or(0),
-                is_recursive: is_recursive(mutex),
-            },
-        )?;
+        self.mutexes.push(LoggedMutex {
+            process,
+            address: mutex.address,
+            family: family_in(mutex).unwrap_or(Family::None),
+            ceiling: ceiling.unwrap_or(0),
+            is_recursive: is_recursive(mutex),
+        })?;
         places.begin_mutex(process, record, mutex.address, number)?;
         Ok(number)
     }

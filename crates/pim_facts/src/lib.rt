@@ -18,7 +18,6 @@ mod family;
 mod fault;
 mod ids;
 mod level;
-mod lists;
 
 pub use fact::{Fact, LeftOut, What};
 pub use facts::Facts;

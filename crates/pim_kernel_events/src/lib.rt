@@ -18,7 +18,6 @@
 mod event;
 mod fault;
 mod line;
-mod lists;
 mod losses;
 mod ran;
 mod recording;

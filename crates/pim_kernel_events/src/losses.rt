@@ -1,7 +1,6 @@
 //! The stretches in which events were lost.
 
 use crate::event::{Event, What};
-use crate::lists::push;
 use std::alloc::{AllocError, Global};
 
 /// The stretches in which events were lost, of which nothing is certain.
@@ -36,7 +35,7 @@ impl Losses {
         let mut spans = Vec::new(alloc);
         for event in events {
             if let What::Lost(loss) = event.what {
-                push(&mut spans, (loss.from, event.time))?;
+                spans.push((loss.from, event.time))?;
             }
         }
         spans.sort_unstable();

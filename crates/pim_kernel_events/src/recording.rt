@@ -5,7 +5,6 @@ ghost use Rattle.pim_kernel_events.specs.Lines.{IsFault};
 use crate::event::{Event, What};
 use crate::fault::{LineFault, TextFault};
 use crate::line::{End, Line, Name, read_line};
-use crate::lists::push;
 use crate::tasks::Tasks;
 use crate::words::Words;
 use std::alloc::{AllocError, Global};
@@ -136,7 +135,7 @@ impl Recording {
                 self.tasks.end(event.task, event.time)?;
             }
         }
-        push(&mut self.events, event)?;
+        self.events.push(event)?;
         Ok(None)
     }
 

@@ -1,6 +1,5 @@
 //! What a task did.
 
-use crate::lists::push;
 use crate::stretch::Stretch;
 use crate::stretches::Stretches;
 use std::alloc::{AllocError, Global};
@@ -106,7 +105,7 @@ impl Track {
             self.sleep(sign.time);
             Ok(())
         } else {
-            push(&mut self.preempted, sign.time)
+            Ok(self.preempted.push(sign.time)?)
         }
     }
 
@@ -149,15 +148,14 @@ impl Track {
         address: u64,
     ) -> Result<(), AllocError> {
         self.end_call(sign.time);
-        push(
-            &mut self.calls,
-            Call {
+        Ok(
+            self.calls.push(Call {
                 is_unlock,
                 address,
                 begin: sign.time,
                 slept: 0,
                 end: u64::MAX,
-            },
+            })?,
         )
     }
 

@@ -2,7 +2,6 @@
 ghost use Rattle.std.specs.Prelude.{◌<◌, vec_len, IfOk};
 
 use crate::event::{Event, What};
-use crate::lists::push;
 use crate::losses::{Losses, Place};
 use crate::recording::Recording;
 use crate::track::{Sign, Track};
@@ -136,7 +135,7 @@ impl Tracks {
         }
         let place = self.list.len();
         let track = Track::new(self.alloc, task, self.began, self.ended);
-        push(&mut self.list, track)?;
+        self.list.push(track)?;
         if self.places.insert(task, place).is_err() {
             return Err(AllocError);
         }

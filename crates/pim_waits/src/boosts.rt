@@ -3,7 +3,7 @@ ghost use Rattle.std.specs.Prelude.{IfOk};
 ghost use Rattle.pim_waits.specs.Orders.{RanLongestFirst};
 
 use crate::boosted::Boosted;
-use crate::lists::{first_behind, push};
+use crate::search::first_behind;
 use pim_kernel_events::{Boost, Recording, Stretch, Tracks, What};
 use std::alloc::{AllocError, Global};
 use std::collections::HashMap;
@@ -77,7 +77,7 @@ fn place_of(
         return Ok(*place);
     }
     let place = found.len();
-    push(found, Boosted::new(alloc, span.task, span.level, span.own))?;
+    found.push(Boosted::new(alloc, span.task, span.level, span.own))?;
     match places.insert(key, place) {
         Ok(_) => Ok(place),
         Err(_) => Err(AllocError),
@@ -139,7 +139,7 @@ impl Spans {
             begin: time,
             end: self.ended,
         };
-        push(&mut self.list, span)?;
+        self.list.push(span)?;
         match self.open.insert(boost.task, place) {
             Ok(_) => Ok(()),
             Err(_) => Err(AllocError),

@@ -4,7 +4,7 @@ ghost use Rattle.pim_waits.specs.Orders.{AreLongestFirst, RanLongestFirst};
 
 use crate::boosted::Boosted;
 use crate::boosts::boosted_in;
-use crate::lists::{first_from, push};
+use crate::search::first_from;
 use crate::waits::{Wait, wait_of};
 use pim_kernel_events::{Boost, Event, Recording, Tracks, What};
 use std::alloc::{AllocError, Global};
@@ -77,7 +77,7 @@ pub fn boosts_by(
         }
         if let What::Boost(boost) = event.what {
             if event.task == wait.task && boost.after > boost.before {
-                push(&mut found, boost)?;
+                found.push(boost)?;
             }
         }
     }
@@ -90,7 +90,7 @@ fn callers_in(alloc: Global, events: &[Event]) -> Result<Vec<u32>, AllocError> {
     let mut known = HashMap::new(alloc);
     for event in events {
         if is_call(event) && known.get(&event.task).is_none() {
-            push(&mut callers, event.task)?;
+            callers.push(event.task)?;
             if known.insert(event.task, true).is_err() {
                 return Err(AllocError);
             }
@@ -147,7 +147,7 @@ fn waits_in(
                     if meets(&lost, wait.began, wait.began.saturating_add(wait.lasted)) {
                         left_out = left_out.saturating_add(1);
                     } else {
-                        push(&mut waits, wait)?;
+                        waits.push(wait)?;
                     }
                 }
             }
@@ -169,7 +169,7 @@ pub(crate) fn losses_in(alloc: Global, events: &[Event]) -> Result<Vec<(u64, u64
     let mut lost = Vec::new(alloc);
     for event in events {
         if let What::Lost(loss) = event.what {
-            push(&mut lost, (loss.from, event.time))?;
+            lost.push((loss.from, event.time))?;
         }
     }
     Ok(lost)

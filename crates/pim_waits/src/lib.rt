@@ -18,8 +18,8 @@
 mod boosted;
 mod boosts;
 mod findings;
-mod lists;
 mod meanwhile;
+mod search;
 mod waits;
 
 pub use boosted::Boosted;

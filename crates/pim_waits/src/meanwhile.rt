@@ -3,7 +3,7 @@ ghost use Rattle.std.specs.Prelude.{All, IfOk};
 ghost use Rattle.pim_waits.specs.Orders.{RanMostFirst};
 
 use crate::findings::{losses_in, meets};
-use crate::lists::{first_behind, push};
+use crate::search::first_behind;
 use pim_kernel_events::{Recording, Stretch, Track, Tracks};
 use std::alloc::{AllocError, Global};
 
@@ -59,7 +59,7 @@ pub fn ran_meanwhile(
     let lost = losses_in(alloc, recording.events.as_slice())?;
     let mut found = Vec::new(alloc);
     for wait in waits {
-        push(&mut found, ran_in(alloc, tracks, &lost, wait)?)?;
+        found.push(ran_in(alloc, tracks, &lost, wait)?)?;
     }
     Ok(found)
 }
@@ -97,7 +97,7 @@ fn find(
         if track.task != 0 && track.task != owner {
             let one = ran_by(track, ready, wait);
             if one.ran > 0 {
-                push(found, one)?;
+                found.push(one)?;
             }
         }
     }
@@ -110,7 +110,7 @@ fn ready_in(alloc: Global, owner: &Track, wait: &Awaited) -> Result<Vec<Ready>, 
     let mut ready = Vec::new(alloc);
     for time in &owner.preempted {
         if let Some(one) = ready_from(stretches, *time, wait) {
-            push(&mut ready, one)?;
+            ready.push(one)?;
         }
     }
     Ok(ready)

@@ -1,6 +1,6 @@
 //! Waits for INHERIT mutexes.
 
-use crate::lists::first_from;
+use crate::search::first_from;
 use pim_kernel_events::{Call, Event, Recording, What};
 
 /// A thread waited for an INHERIT mutex.
