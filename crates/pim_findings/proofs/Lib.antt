@@ -5,3 +5,5 @@ pub mod Following
 pub mod Ordering
 pub mod Owners
 pub mod Lasting
+pub mod Bounding
+pub mod Closing

@@ -4,6 +4,7 @@ ghost use Rattle.pim_findings.specs.Waits.{Moment, all_waits, and_fact, and_unti
 ghost use Rattle.pim_findings.specs.Longest.{AreReported};
 ghost use Rattle.pim_findings.specs.Found.{Finds, KeepsWaits, wait_at};
 
+use crate::bounds::{Blocking, Bound};
 use crate::deadlocks::{Deadlock, deadlocks_of};
 use crate::found_mutex::{FoundMutex, Left};
 use crate::found_wait::FoundWait;
@@ -21,6 +22,9 @@ pub struct Findings {
     pub mutexes: Vec<FoundMutex>,
     /// The threads that wait for each other at the end of the log.
     pub deadlocks: Vec<Deadlock>,
+    /// What threads can be blocked for. Known at the end of the log.
+    pub bounds: Vec<Bound>,
+    blocking: Blocking,
     waiting: Waiting,
 }
 
@@ -38,6 +42,8 @@ impl Findings {
             waits: FoundWaits::new(alloc, mutexes)?,
             mutexes: vec![in alloc; FoundMutex::UNSEEN; mutexes]?,
             deadlocks: Vec::new(alloc),
+            bounds: Vec::new(alloc),
+            blocking: Blocking::new(alloc, sources)?,
             waiting: Waiting::new(alloc, sources.ids.threads.len())?,
         })
     }
@@ -56,6 +62,24 @@ impl Findings {
             (Any (λ found. 0 < found.unbounded) self.now.waits.by_mutex.items ⊎ (0 < vec_len self.now.deadlocks)) }
     {
         self.waits.has_unbounded() || !self.deadlocks.is_empty()
+    }
+
+    /// Learns from a fact of this time who uses which mutex, and for how long: also from one that
+    /// isn't in the trace. The course has already gone past its record.
+    ///
+    /// # Errors
+    ///
+    /// Returns `AllocError` if out of memory.
+    pub fn observe(
+        &mut self,
+        sources: &Sources,
+        course: &Course,
+        fact: &Fact,
+        time: u64,
+    ) -> Result<(), AllocError>
+        ensures { KeepsWaits self.old self.new }
+    {
+        self.blocking.look(sources, course, fact, time)
     }
 
     /// Learns from a fact of this time. The course has already gone past its record.
@@ -145,7 +169,8 @@ impl Findings {
         self.waiting.leave(fact.mutex);
     }
 
-    /// Ends the waits that last at the end of the log, which has this time, and finds the deadlocks.
+    /// Ends the waits that last at the end of the log, which has this time, and finds the deadlocks
+    /// and what threads can be blocked for.
     ///
     /// # Errors
     ///
@@ -158,6 +183,7 @@ impl Findings {
             self.end_wait(thread, time, true)?;
         }
         self.deadlocks = deadlocks_of(alloc, course)?;
+        self.bounds = self.blocking.end(alloc, time)?;
         Ok(())
     }
 }

@@ -1,4 +1,5 @@
-//! What is found in a recorded program: waits, hand-overs, ownerships, deadlocks.
+//! What is found in a recorded program: waits, hand-overs, ownerships, deadlocks, and what threads
+//! can be blocked for.
 //!
 //! [`Findings`] learns from each [`Fact`](pim_facts::Fact) of a log, in order, beside the
 //! [`Course`](pim_course::Course) of the program. It is proved that the waits it reports are those
@@ -14,6 +15,8 @@
 //! ```
 #![tactic(auto)]
 
+mod blocked;
+mod bounds;
 mod deadlocks;
 mod findings;
 mod found_mutex;
@@ -21,11 +24,15 @@ mod found_wait;
 mod found_waits;
 mod laws;
 mod lists;
+mod section;
+mod sections;
 mod waiting;
 
+pub use bounds::{BOUNDS, Bound};
 pub use deadlocks::Deadlock;
 pub use findings::Findings;
 pub use found_mutex::{FoundMutex, FoundOwnership, HandOvers};
 pub use found_wait::{FoundOwner, FoundWait};
 pub use found_waits::{FoundWaits, LONGEST, MutexWaits};
 pub use laws::{longest_law, others_law, waits_law};
+pub use section::{Section, User};

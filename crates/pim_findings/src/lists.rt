@@ -1,4 +1,5 @@
 //! A push that gives nothing back where it fails.
+ghost use Rattle.std.specs.Prelude.{◌≡◌, ◌++◌, ◌∷◌, [], OnOk};
 
 use std::alloc::AllocError;
 
@@ -7,7 +8,9 @@ use std::alloc::AllocError;
 /// # Errors
 ///
 /// Returns `AllocError` if out of memory. The list is as it was.
-pub fn push<T: Drop>(list: &mut Vec<T>, item: T) -> Result<(), AllocError> {
+pub fn push<T: Drop>(list: &mut Vec<T>, item: T) -> Result<(), AllocError>
+    ensures { OnOk result (list.new.items ≡ list.old.items ++ item ∷ []) }
+{
     match list.push(item) {
         Ok(()) => Ok(()),
         Err(_) => Err(AllocError),

@@ -1,0 +1,8 @@
+use Rattle.std.proofs.Common.{◌≡◌, take}
+use Rattle.std.specs.List.{filter}
+use Rattle.pim_findings.specs.Bounds.{blocks}
+use Rattle.pim_findings.proofs.bounds.blocking_of.Given as goal
+
+-- the sections so far that can block
+abbrev pub invariant-loop-section : goal.invariant-loop-section
+invariant-loop-section l = l.blocking.items ≡ filter (blocks l.mutexes l.seen l.thread l.level) (take l.section-index l.seen)

@@ -1,0 +1,300 @@
+//! What threads of real-time priority can be blocked for, from what was observed.
+ghost use Rattle.std.specs.Prelude.{◌≡◌, ℕ, ◌<◌, ◌==◌, ◌&&◌, nat_lt, not, length, false, IfOk, slice_index_or};
+ghost use Rattle.pim_findings.specs.Bounds.{IsBound, blocking, can_block, longest_in, longest_of_number, number_of, sum_below};
+ghost use Rattle.pim_findings.specs.Longest.{capped};
+
+use crate::blocked::{Blocked, blocked_by_thread};
+use crate::lists::push;
+use crate::section::Section;
+use crate::sections::Sections;
+use pim_course::{Course, Sources};
+use pim_facts::Fact;
+use std::alloc::{AllocError, Global};
+use std::cmp::Reverse;
+
+/// How many bounds are kept.
+pub const BOUNDS: usize = 10;
+
+/// The levels of SCHED_FIFO and SCHED_RR.
+const LOWEST: u8 = 1;
+
+const HIGHEST: u8 = 99;
+
+/// What a thread can be blocked for by threads of lower levels, from what was observed.
+#[derive(Drop)]
+pub struct Bound {
+    pub thread: u32,
+    /// The highest level that it had: 1 to 99.
+    pub level: u8,
+    /// How long at most if all mutexes are INHERIT ones, in nanoseconds.
+    pub under_inherit: u64,
+    /// How long at most if all mutexes are PROTECT ones, in nanoseconds.
+    pub under_protect: u64,
+    /// The sections that make the bound under INHERIT, the longest first.
+    pub sections: Vec<Section>,
+    /// How long it waited at most for a mutex whose owner had a lower level, in nanoseconds.
+    pub waited: u64,
+}
+
+/// Of what there is one section.
+#[derive(Clone, Copy, PartialEq, Eq)]
+enum Per {
+    Thread,
+    Mutex,
+}
+
+/// What is known of sections and threads on the way through a log.
+#[derive(Drop)]
+pub(crate) struct Blocking {
+    sections: Sections,
+    /// By thread.
+    threads: Vec<Blocked>,
+}
+
+impl Blocking {
+    /// Returns that nothing was observed yet.
+    ///
+    /// # Errors
+    ///
+    /// Returns `AllocError` if out of memory.
+    pub fn new(alloc: Global, sources: &Sources) -> Result<Blocking, AllocError> {
+        Ok(Blocking {
+            sections: Sections::new(alloc, sources.ids.mutexes.len())?,
+            threads: blocked_by_thread(alloc, sources)?,
+        })
+    }
+
+    /// Learns from a fact of this time, also of one that isn't in the trace.
+    ///
+    /// # Errors
+    ///
+    /// Returns `AllocError` if out of memory.
+    pub fn look(
+        &mut self,
+        sources: &Sources,
+        course: &Course,
+        fact: &Fact,
+        time: u64,
+    ) -> Result<(), AllocError> {
+        let thread = fact.thread as usize;
+        if thread < self.threads.len() {
+            self.threads[thread].look(sources, course, fact, time);
+        }
+        self.sections.look(course, fact, time)
+    }
+
+    /// Returns the bounds of the threads of real-time priority that others can block, at the end of
+    /// the log, which has this time: the [`BOUNDS`] greatest under INHERIT, the greatest first.
+    /// Each thread costs time in proportion to the users, the threads and the mutexes.
+    ///
+    /// # Errors
+    ///
+    /// Returns `AllocError` if out of memory.
+    pub fn end(&mut self, alloc: Global, time: u64) -> Result<Vec<Bound>, AllocError> {
+        self.sections.end(time)?;
+        let seen = self.sections.seen(alloc)?;
+        let mut bounds = Vec::new(alloc);
+        for place in 0..self.threads.len() {
+            let mut blocked = self.threads[place];
+            blocked.end(time);
+            if blocked.level >= LOWEST && blocked.level <= HIGHEST {
+                let thread = place.min(u32::MAX as usize) as u32;
+                let bound = self.bound_of(alloc, &seen, thread, &blocked)?;
+                keep(&mut bounds, bound)?;
+            }
+        }
+        Ok(bounds)
+    }
+
+    /// Returns a number above that of each thread.
+    fn thread_count(&self) -> usize
+        ensures { result ≡ length self.now.threads.items }
+    {
+        self.threads.len()
+    }
+
+    /// Returns what a thread can be blocked for, by the longest section of each user.
+    fn bound_of(
+        &self,
+        alloc: Global,
+        seen: &[Section],
+        thread: u32,
+        blocked: &Blocked,
+    ) -> Result<Bound, AllocError>
+        ensures { IfOk result (IsBound (length self.now.threads.items) (length self.now.sections.open.items) seen.now) }
+    {
+        let level = blocked.level;
+        let threads = self.thread_count();
+        let mutexes = self.sections.mutexes();
+        let blocking = blocking_of(alloc, seen, mutexes, thread, level)?;
+        let of_threads = longest_per(alloc, &blocking, Per::Thread, threads)?;
+        let of_mutexes = longest_per(alloc, &blocking, Per::Mutex, mutexes)?;
+        let (by_thread, by_mutex) = (sum_of(&of_threads), sum_of(&of_mutexes));
+        let sections = if by_thread <= by_mutex {
+            summed(alloc, &blocking, Per::Thread, of_threads)?
+        } else {
+            summed(alloc, &blocking, Per::Mutex, of_mutexes)?
+        };
+        Ok(Bound {
+            thread,
+            level,
+            under_inherit: by_thread.min(by_mutex),
+            under_protect: longest_of(&blocking),
+            sections,
+            waited: blocked.waited,
+        })
+    }
+}
+
+impl Per {
+    /// Returns the number of the thread or mutex of a section.
+    fn number(self, section: &Section) -> usize
+        ensures { result ≡ number_of self section.now }
+    {
+        match self {
+            Per::Thread => section.user.thread as usize,
+            Per::Mutex => section.user.mutex as usize,
+        }
+    }
+}
+
+/// Puts a bound in front of the first smaller one, and keeps the first [`BOUNDS`].
+fn keep(bounds: &mut Vec<Bound>, bound: Bound) -> Result<(), AllocError> {
+    let place = place_of(bounds, bound.under_inherit).min(bounds.len());
+    if bound.under_inherit == 0 || place >= BOUNDS {
+        return Ok(());
+    }
+    if bounds.insert(place, bound).is_err() {
+        return Err(AllocError);
+    }
+    bounds.truncate(BOUNDS);
+    Ok(())
+}
+
+/// Returns the place of the first bound that is smaller, or how many there are.
+fn place_of(bounds: &[Bound], under_inherit: u64) -> usize {
+    for (place, other) in bounds.iter().enumerate() {
+        if other.under_inherit < under_inherit {
+            return place;
+        }
+    }
+    bounds.len()
+}
+
+/// Returns by mutex whether it can block a thread of this level: the thread uses it, or one does at
+/// this level or above.
+fn blockers(
+    alloc: Global,
+    seen: &[Section],
+    mutexes: usize,
+    thread: u32,
+    level: u8,
+) -> Result<Vec<bool>, AllocError>
+    ensures len { IfOk result (λ blocks. length blocks.items ≡ mutexes) }
+    ensures each { IfOk result (λ blocks. (m : ℕ) → m < mutexes →
+        slice_index_or blocks.items m false ≡ can_block seen.now thread level m) }
+{
+    let mut can_block = vec![in alloc; false; mutexes]?;
+    for section in seen {
+        let mutex = section.user.mutex as usize;
+        let is_used = section.user.thread == thread || section.user.level >= level;
+        if is_used && mutex < can_block.len() {
+            can_block[mutex] = true;
+        }
+    }
+    Ok(can_block)
+}
+
+/// Returns the sections that can block a thread of this level.
+fn blocking_of(
+    alloc: Global,
+    seen: &[Section],
+    mutexes: usize,
+    thread: u32,
+    level: u8,
+) -> Result<Vec<Section>, AllocError>
+    ensures { IfOk result (λ sections. sections.items ≡ blocking mutexes seen.now thread level) }
+{
+    let can_block = blockers(alloc, seen, mutexes, thread, level)?;
+    let mut blocking = Vec::new(alloc);
+    for section in seen {
+        if blocks(&can_block, section, thread, level) {
+            push(&mut blocking, *section)?;
+        }
+    }
+    Ok(blocking)
+}
+
+/// Returns whether a section can block a thread of this level, where these mutexes can.
+fn blocks(can_block: &[bool], section: &Section, thread: u32, level: u8) -> bool
+    ensures { result ≡ ((not (section.now.user.thread == thread) && nat_lt section.now.user.level level)
+        && slice_index_or can_block.now section.now.user.mutex false) }
+{
+    let is_lower = section.user.thread != thread && section.user.level < level;
+    let mutex = section.user.mutex as usize;
+    is_lower && can_block.get(mutex).copied().unwrap_or(false)
+}
+
+/// Returns how long the longest of some sections lasted. 0 if there is none.
+fn longest_of(sections: &[Section]) -> u64
+    ensures { result ≡ longest_in sections.now }
+{
+    let mut longest = 0;
+    for section in sections {
+        longest = section.lasted.max(longest);
+    }
+    longest
+}
+
+/// Returns by number how long the longest section of each thread, or at each mutex, lasted.
+fn longest_per(
+    alloc: Global,
+    sections: &[Section],
+    per: Per,
+    count: usize,
+) -> Result<Vec<u64>, AllocError>
+    ensures len { IfOk result (λ longest. length longest.items ≡ count) }
+    ensures each { IfOk result (λ longest. (n : ℕ) → n < count →
+        slice_index_or longest.items n 0 ≡ longest_of_number per sections.now n) }
+{
+    let mut longest = vec![in alloc; 0; count]?;
+    for section in sections {
+        let number = per.number(section);
+        if number < longest.len() {
+            longest[number] = section.lasted.max(longest[number]);
+        }
+    }
+    Ok(longest)
+}
+
+/// Returns the sum of some durations, or the highest number if it is greater.
+fn sum_of(durations: &[u64]) -> u64
+    ensures { result ≡ capped (sum_below (length durations.now) (λ n. slice_index_or durations.now n 0)) }
+{
+    let mut sum = 0u64;
+    for duration in durations {
+        sum = sum.saturating_add(*duration);
+    }
+    sum
+}
+
+/// Returns the first section of each thread, or at each mutex, that lasted so long as the longest:
+/// the longest first.
+fn summed(
+    alloc: Global,
+    sections: &[Section],
+    per: Per,
+    longest: Vec<u64>,
+) -> Result<Vec<Section>, AllocError> {
+    let mut longest = longest;
+    let mut summed = Vec::new(alloc);
+    for section in sections {
+        let number = per.number(section);
+        if number < longest.len() && section.lasted > 0 && longest[number] == section.lasted {
+            longest[number] = 0;
+            push(&mut summed, *section)?;
+        }
+    }
+    summed.sort_by_key(|section: &Section| Reverse(section.lasted))?;
+    Ok(summed)
+}
