@@ -139,11 +139,15 @@ def example(folder):
     check("examples/hooks.c is built without a warning", None if built == (0, b"", b"") else f"{built}")
     status, text, _ = answer([str(hooks)])
     got = answer([str(IMPORTER), "--facts", "-"], text, cwd=folder)
-    lines = got[1].decode().splitlines()[:3]
+    lines = got[1].decode().splitlines()[:6]
+    bound = "4.000 ms under INHERIT (as observed: log[1] at mutex 1 (inherit) 4.000 ms), 4.000 ms under PROTECT"
     wanted = ["plan[2], at 30, waited 3.000 ms from 0.001000 s on for mutex 1 (inherit) of log[1], at 10:"
               " bounded by inheritance",
               "spare[3], at 20, waited 1.000 ms from 0.002000 s on for mutex 1 (inherit) of log[1], at 10:"
               " bounded by inheritance",
+              "blocking by lower threads, from what was observed, on one CPU; without a protocol not bounded:",
+              f"  plan[2], at 30: at most {bound}; waited 3.000 ms",
+              f"  spare[3], at 20: at most {bound}; waited 1.000 ms",
               "owned: mutex 1 (inherit), from map_lock, 4.000 ms at most, by log[1]; 2 waits"]
     check("the findings of the example", difference((status, got[0], *lines), (0, 0, *wanted)))
 

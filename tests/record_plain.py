@@ -1,8 +1,8 @@
 """What tests/record does with random logs: pim-import finds in each what the plain second
 implementation finds.
 
-random_log.py makes the logs; record/log_facts.py and plain_findings.py are the second implementation.
-tests/findings compares more of them. docs/FINDINGS.md says what is compared.
+random_log.py makes the logs; record/log_facts.py, plain_findings.py and plain_bounds.py are the
+second implementation. tests/findings compares more of them. docs/FINDINGS.md says what is compared.
 """
 import json
 import pathlib
@@ -10,6 +10,7 @@ import re
 import subprocess
 from collections import Counter
 
+import plain_bounds
 import plain_findings
 from checks import ROOT, check
 from random_log import RandomLog
@@ -17,7 +18,7 @@ from record_import import IMPORTER
 from record_logs import log_facts, read_text, reader
 
 LOGS, FIRST_SEED = 300, 301
-COMPARED = ("faults", "waits", "deadlocks", "added requests", "hand-overs", "ownerships")
+COMPARED = ("faults", "waits", "deadlocks", "added requests", "hand-overs", "ownerships", "bounds")
 FAULT = re.compile(r"pim-import: record (\d+): it contradicts the records before it\n")
 TALLIED = ("again", "refused", "not_owner", "revoked")
 HAND_OVERS = {"to_the_first_waiter": plain_findings.FIRST,
@@ -45,7 +46,7 @@ class Said:
     """What pim-import says of a log, and writes of it."""
 
     def __init__(self, path, said, has_modules):
-        self.said, self.path = said, path
+        self.said, self.path, self.has_modules = said, path, has_modules
         self.tasks, self.mutexes = {}, {}  # by number in the trace
         for line in pathlib.Path(f"{path}.names").read_text().splitlines():
             kind, number, *words = line.split()
@@ -64,13 +65,23 @@ class Said:
                 "mutexes": sorted(self.mutex(mutex) for mutex in said["mutexes"]),
                 "hand-overs": sorted(self.hand_overs(mutex) for mutex in said["mutexes"]),
                 "deadlocks": sorted(map(rotated, cycles)), "added": said["requests_added"],
-                "left out": {why: left_out[why] for why in TALLIED}, "owners": self.owners()}
+                "left out": {why: left_out[why] for why in TALLIED}, "owners": self.owners(),
+                "bounds": [self.bound(bound) for bound in said["bounds"]]}
 
     def wait(self, wait):
         owner, owner_level = thread_of(wait.get("owner")), wait.get("owner_priority")
         return (thread_of(wait["thread"]), wait["priority"], wait["began"], wait["lasted"],
                 wait["at_the_end"], self.mutexes[wait["mutex"]], owner, owner_level,
                 wait["bounded"])
+
+    def bound(self, bound):
+        return (thread_of(bound["thread"]), bound["priority"], bound["under_inherit"],
+                bound["under_protect"], bound["waited"], list(map(self.section, bound["sections"])))
+
+    def section(self, section):
+        place = None if self.has_modules else section["place"]
+        return (thread_of(section["thread"]), section["priority"], section["protocol"], place,
+                section["lasted"])
 
     def mutex(self, mutex):
         return (self.mutexes[mutex["number"]], mutex["waits"], mutex["waits_not_bounded"],
@@ -126,7 +137,8 @@ class Plain:
                 "hand-overs": sorted(self.hand_overs(findings, mutex) for mutex in mutexes),
                 "deadlocks": sorted(map(rotated, cycles)), "added": self.added,
                 "left out": {why: self.tally[why] for why in TALLIED},
-                "owners": self.owners(findings)}
+                "owners": self.owners(findings),
+                "bounds": list(map(self.bound, plain_bounds.bounds_of(self.facts, self.log)))}
 
     def thread(self, thread):
         return self.log.identity.get(thread)
@@ -147,6 +159,15 @@ class Plain:
         return (self.thread(wait.thread), wait.level, wait.began, wait.lasted, wait.is_open,
                 self.mutex(wait.mutex), self.thread(wait.owner), owner_level,
                 not self.is_unbounded(wait))
+
+    def bound(self, bound):
+        return (self.thread(bound.thread), *bound[1:5],
+                [self.section(*section) for section in bound.sections])
+
+    def section(self, user, lasted):
+        _, protocol, place = self.mutex(user.mutex)
+        place = None if self.has_modules else place
+        return self.thread(user.thread), user.level, protocol, place, lasted
 
     def of_mutex(self, findings, mutex):
         own = [wait for wait in findings.waits if wait.mutex == mutex]
@@ -215,6 +236,7 @@ def count(total, found):
         total["deadlocks"] += len(found["deadlocks"])
         total["added requests"] += found["added"]
         total["hand-overs"] += sum(sum(counts) for _, *counts in found["hand-overs"])
+        total["bounds"] += len(found["bounds"])
         total["ownerships"] += sum(len(turns) for _, turns in found["owners"])
 
 

@@ -1,5 +1,6 @@
 //! The findings as JSON.
 
+use crate::bounds_json::put_bounds;
 use crate::kernel::{Kernel, put_reason};
 use crate::labels::Labels;
 use crate::meanwhile::put_meanwhile_json;
@@ -56,6 +57,7 @@ fn put_all(alloc: Global, out: &mut JsonOut, told: &Told, log: &Log, kernel: Opt
         out.end_object();
     }
     out.end_array();
+    put_bounds(alloc, out, told);
     out.key("mutexes");
     out.begin_array();
     for mutex in 0..mutexes(told) {
@@ -115,7 +117,7 @@ fn put_lengthened(alloc: Global, out: &mut JsonOut, told: &Told, wait: &Lengthen
     out.end_object();
 }
 
-fn put_thread(alloc: Global, out: &mut JsonOut, told: &Told, key: &str, thread: u32) {
+pub fn put_thread(alloc: Global, out: &mut JsonOut, told: &Told, key: &str, thread: u32) {
     let mut name = Out::new(alloc);
     told.labels.put_name(&mut name, thread);
     out.key(key);

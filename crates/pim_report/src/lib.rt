@@ -15,6 +15,8 @@
 
 mod alone;
 mod alone_json;
+mod bounds;
+mod bounds_json;
 mod json_report;
 mod kernel;
 mod labels;

@@ -1,5 +1,6 @@
 //! The findings as lines of text.
 
+use crate::bounds::put_bounds;
 use crate::kernel::{Kernel, put_compared, put_differences};
 use crate::labels::Labels;
 use crate::meanwhile::put_meanwhile;
@@ -28,8 +29,9 @@ const STILL_UNKNOWN: &str = "\
 not known: locks other than POSIX mutexes, and waits for NONE and PROTECT mutexes at the end of a condition wait
 ";
 
-/// Returns the findings, a line each: where the kernel's events differ, the longest waits, the mutexes to convert,
-/// hand-overs out of order, the longest ownerships, deadlocks, what was left out, and what the trace has.
+/// Returns the findings, a line each: where the kernel's events differ, the longest waits, what threads can be blocked
+/// for, the mutexes to convert, hand-overs out of order, the longest ownerships, deadlocks, what was left out, and what
+/// the trace has.
 ///
 /// # Errors
 ///
@@ -52,6 +54,7 @@ pub fn report_of(
         put_differences(&mut out, &told, kernel);
     }
     put_waits(&mut out, &told, kernel);
+    put_bounds(&mut out, &told);
     put_conversions(&mut out, &told);
     put_hand_overs(&mut out, &told);
     put_ownerships(&mut out, &told);

@@ -1,5 +1,4 @@
-use Rattle.std.proofs.Common.{◌≡◌, ◌∙◌, ap, List, length, min}
-use Rattle.pim_findings.specs.declared.section.Section.{Section}
+use Rattle.std.proofs.Common.{◌≡◌, ◌∙◌, ap, length, min}
 use Rattle.pim_findings.specs.declared.bounds.Per.TheVariants as per
 use Rattle.pim_findings.specs.Bounds.{blocking, longest_in, longest_of_number, sum_below}
 use Rattle.pim_findings.specs.Longest.{capped}

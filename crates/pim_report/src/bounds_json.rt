@@ -1,0 +1,51 @@
+//! What threads can be blocked for, as JSON.
+
+use crate::json_report::put_thread;
+use crate::words::{Told, family_of, put_place};
+use pim_findings::{Bound, Section};
+use pim_out::{JsonOut, Out};
+use std::alloc::Global;
+
+/// Writes what threads can be blocked for, the longest first.
+pub fn put_bounds(alloc: Global, out: &mut JsonOut, told: &Told) {
+    out.key("bounds");
+    out.begin_array();
+    for bound in &told.imported.built.findings.bounds {
+        put_bound(alloc, out, told, bound);
+    }
+    out.end_array();
+}
+
+fn put_bound(alloc: Global, out: &mut JsonOut, told: &Told, bound: &Bound) {
+    out.begin_object();
+    put_thread(alloc, out, told, "thread", bound.thread);
+    out.number("priority", u64::from(bound.level));
+    out.number("under_inherit", bound.under_inherit);
+    out.number("under_protect", bound.under_protect);
+    out.number("waited", bound.waited);
+    out.key("sections");
+    out.begin_array();
+    for section in &bound.sections {
+        put_section(alloc, out, told, section);
+    }
+    out.end_array();
+    out.end_object();
+}
+
+/// Writes a critical section, with the mutex's number if it is in the trace.
+fn put_section(alloc: Global, out: &mut JsonOut, told: &Told, section: &Section) {
+    let mutex = section.user.mutex;
+    let mut place = Out::new(alloc);
+    put_place(&mut place, told, mutex);
+    out.begin_object();
+    put_thread(alloc, out, told, "thread", section.user.thread);
+    out.number("priority", u64::from(section.user.level));
+    let number = told.imported.numbering.mutexes.of(mutex);
+    if number > 0 {
+        out.number("mutex", u64::from(number));
+    }
+    out.string("protocol", family_of(told, mutex).name());
+    out.text("place", &place);
+    out.number("lasted", section.lasted);
+    out.end_object();
+}
