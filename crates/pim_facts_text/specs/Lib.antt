@@ -4,3 +4,4 @@ pub mod Worlds
 pub mod Texts
 pub mod Reading
 pub mod Held
+pub mod Laws

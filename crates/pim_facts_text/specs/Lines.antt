@@ -78,8 +78,8 @@ mutex_in ws = given (number_first 1 MAX_MUTEX ws) (λ m. kind_in m.0 m.1)
 -- ---- facts
 
 -- `<m>` behind what happened with it
-abbrev pub with_mutex : (ℕ → What) → List (List ℕ) → First What
-with_mutex what ws = option_map (λ m. (what m.0, m.1)) (number_first 1 MAX_MUTEX ws)
+abbrev pub mutex_first : (ℕ → What) → List (List ℕ) → First What
+mutex_first what ws = option_map (λ m. (what m.0, m.1)) (number_first 1 MAX_MUTEX ws)
 
 -- behind `waits <m>`: `of <o>`, or nothing of this kind
 abbrev pub owner_first : ℕ → List (List ℕ) → First What
@@ -106,10 +106,10 @@ ceiling_first ws =
 abbrev pub what_first : List (List ℕ) → First What
 what_first [] = None
 what_first (w ∷ ws) =
-    if is_word w (codes "granted") then with_mutex whats.Granted ws
+    if is_word w (codes "granted") then mutex_first whats.Granted ws
     else if is_word w (codes "waits") then wait_first ws
-    else if is_word w (codes "gave-up") then with_mutex whats.GaveUp ws
-    else if is_word w (codes "released") then with_mutex whats.Released ws
+    else if is_word w (codes "gave-up") then mutex_first whats.GaveUp ws
+    else if is_word w (codes "released") then mutex_first whats.Released ws
     else if is_word w (codes "priority") then level_first ws
     else if is_word w (codes "ceiling") then ceiling_first ws
     else None

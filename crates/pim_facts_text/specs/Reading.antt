@@ -1,5 +1,6 @@
 -- What the functions that read a text return, as words and as what they say.
-use Rattle.std.specs.Prelude.{ℕ, List, map, Option}
+use Rattle.std.specs.Prelude.{ℕ, List, map, Option, Vec}
+use Rattle.std.specs.Global.{Global}
 use Rattle.std.specs.Option.{option_map, option_copied}
 use Rattle.std.specs.Borrow.{Bor}
 use Rattle.pim_facts_text.specs.declared.line.Line.{Line}
@@ -18,12 +19,16 @@ first_of result = option_map (λ read. (read.0, words_behind read.1)) result
 abbrev pub said_of : Option (Line × Option (Bor (List ℕ))) → Said
 said_of result = option_map (λ read. (read.0, option_copied read.1)) result
 
--- what a text that was read says, wherever it is in memory
+-- the bytes of names, wherever they are in memory
+abbrev pub names_of : Vec (Vec ℕ Global) Global → List (List ℕ)
+names_of names = map (λ (name : Vec ℕ Global). name.items) names.items
+
+-- what a text that was read says
 abbrev pub content_of : Text → Content
 content_of text = record {
   lines = text.lines.items;
-  thread_names = map (λ name. name.items) text.thread_names.items;
-  mutex_names = map (λ name. name.items) text.mutex_names.items;
+  thread_names = names_of text.thread_names;
+  mutex_names = names_of text.mutex_names;
 }
 
 -- what happened by the lines that were read so far

@@ -1,8 +1,8 @@
 //! A whole text.
-ghost use Rattle.std.specs.Prelude.{◌≡◌, ◌<◌, ◌∷◌, ◌++◌, [], map, length, IfOk, MatchOption, MatchResult, Some, None};
+ghost use Rattle.std.specs.Prelude.{◌≡◌, ◌<◌, ◌∷◌, ◌++◌, [], length, IfOk, MatchOption, MatchResult, Some, None};
 ghost use Rattle.std.specs.Option.{option_copied};
 ghost use Rattle.pim_facts_text.specs.Texts.{lines_of, Says, IsFault, beginning, with_line, go_on};
-ghost use Rattle.pim_facts_text.specs.Reading.{content_of, course_so_far};
+ghost use Rattle.pim_facts_text.specs.Reading.{content_of, course_so_far, names_of};
 
 use crate::fault::{FactsFault, Why};
 use crate::line::Line;
@@ -127,7 +127,7 @@ fn next_line(bytes: &[u8]) -> (&[u8], &[u8])
 
 /// Adds a name to a list.
 fn add_name(alloc: Global, names: &mut Vec<Vec<u8>>, name: &[u8]) -> Result<(), AllocError>
-    ensures { IfOk result (λ _. map (λ name. name.items) names.new.items ≡ map (λ name. name.items) names.old.items ++ name.now ∷ []) }
+    ensures { IfOk result (λ _. names_of names.new ≡ names_of names.old ++ name.now ∷ []) }
 {
     let name = Vec::from_slice(alloc, name)?;
     match names.push(name) {
