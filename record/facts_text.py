@@ -80,7 +80,8 @@ class Code:
         """Returns the place of a fact: a line of the source, a file and an offset, or None."""
         record = self.records.get(fact.record)
         address = record and self.log.place_of(record)
-        if not address or (record.event, record.chunk.thread) != (SAID_BY.get(fact.what), fact.thread):
+        is_its = record and record.chunk.thread == fact.thread
+        if not address or not is_its or record.event != SAID_BY.get(fact.what):
             return None
         if record.place in self.texts:
             return shown(self.texts[record.place].split(b" ")[0])[-MOST_NAME:]

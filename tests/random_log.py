@@ -92,7 +92,7 @@ class RandomLog:
         rows, times = [row for row, _ in records], [time for _, time in records]
         if self.seed % 2:
             rows = [placed(row, (at + self.seed) % (len(PLACES) + 1)) for at, row in enumerate(rows)]
-            header.update(places=PLACES, contents=reader.HAS_PLACES)
+            header.update(places=PLACES)
         tasks = {thread.number: thread.task for thread in self.threads}
         processes = {thread.number: thread.process for thread in self.threads}
         return bytes(log_of(rows, len(self.threads), times, tasks, processes, process=PROCESS,

@@ -40,12 +40,12 @@ def log_of(rows, chunks=2, times=None, tasks=None, processes=None, places=None, 
     is of version 2, and objects of calls have the number of a place in their bits from 48 on.
     """
     head = {"known": 7, "chunks": chunks, "process": 100, "parent": 50, "began": 1000, "numbers": len(rows) + 1,
-            "taken": chunks, "threads": chunks + 1, "lost": 0, "first": 0, "left_out": 0, "contents": 0, **fields}
-    version = 1 if places is None else 2
+            "taken": chunks, "threads": chunks + 1, "lost": 0, "first": 0, "left_out": 0, **fields}
+    version, contents = (1, 0) if places is None else (2, reader.HAS_PLACES)
     begin = reader.HEADER_BYTES[version]
     data = bytearray(begin + chunks * CHUNK_BYTES)
     struct.pack_into("<8sIIIIIIQIIQQII", data, 0, b"pimlog\r\n", version, 0x01020304, begin, 32, 512, head["known"],
-                     head["chunks"], head["process"], head["parent"], head["began"], 0, 4, head["contents"])
+                     head["chunks"], head["process"], head["parent"], head["began"], 0, 4, contents)
     struct.pack_into(f"<{len(places or ())}Q", data, VERSION_1, *(places or ()))
     struct.pack_into("<Q", data, 128, head["numbers"])
     struct.pack_into("<QQQQQ", data, 192, *(head[name] for name in ("taken", "threads", "lost", "first", "left_out")))

@@ -357,6 +357,9 @@ def facts(_, folder):
     names = {words.split()[1] for words in (*PLANNED[1], *PLANNED[2])}
     numbers = [number for number, line in enumerate(PLAN.splitlines(), 1) if line.rpartition("// ")[2] in names]
     got = places_of_facts(path)
+    ends = {line.partition(" at=")[2].partition(" ")[2] for line in run(RECORD / "pim-log", path).stdout.splitlines()}
+    wanted = {"", *(text for _, text in texts_of(path).values())}
+    check("the lines of a listing", difference([ends], [wanted]))
     check("the lines of facts", difference([set(got)], [{f"plan.c:{number}" for number in numbers}]))
     pathlib.Path(f"{path}.places").unlink()
     offsets = places_of_facts(path)
@@ -380,20 +383,20 @@ def by_hand(_):
     begun = (1, 1, 0x77, 0, 0, 0)
     rows = [begun, GRANTED, (1, 25, 0x1_0000_0000_6000, 0, 0, 0), (1, 23, 0x5000, 0, 4, 4),
             (1, 17, 0x3_0000_0000_5000, 0, 0, 0)]
-    log = reader.Log(log_of(rows, places=[0x401136, 0x401200], contents=1))
+    log = reader.Log(log_of(rows, places=[0x401136, 0x401200]))
     got = [(record.object, record.place, log.place_of(record)) for record in log.records[1:]]
     wanted = [(0x5000, 2, 0x401200), (0x6000, 1, 0x401136), (0x5000, None, None), (0x3_0000_0000_5000, None, None)]
     check("the objects and places of a log by hand", difference(got, wanted))
     line = reader.line_of(log.records[1], 1000, log.place_of(log.records[1]))
     check("a line with a place", difference((line,), (
         "2 0.000000020 t1 granted mutex=0x5000 protocol=none type=normal call=lock took=9 at=0x401200",)))
-    for name, data in (("of version 1", log_of([begun, GRANTED])),
-                       ("without places", log_of([begun, GRANTED], places=[0x401136, 0x401200]))):
-        record = reader.Log(data).records[1]
-        check(f"the object of a log {name}", difference((record.object, record.place), (GRANTED[2], None)))
+    record = reader.Log(log_of([begun, GRANTED])).records[1]
+    check("an object of version 1", difference((record.object, record.place), (GRANTED[2], None)))
+    line = reader.line_of(log.records[1], 1000, log.place_of(log.records[1]), b"plan.c:88 (plan)")
+    check("a line with the text of its place", None if line.endswith(" at=0x401200 plan.c:88 (plan)") else line)
     for place, number in ((0, 2), (8193, 8193)):
         rows = [begun, (1, 21, number << 48 | 0x5000, 9, 4, 0)]
-        faults = reader.Checker(reader.Log(log_of(rows, places=[0x401136, place], contents=1))).run()
+        faults = reader.Checker(reader.Log(log_of(rows, places=[0x401136, place]))).run()
         check(f"a number without a place: {number}", difference(faults, [f"record 2: there is no place {number}"]))
 
 
