@@ -16,8 +16,8 @@ LIBRARIES = {"libelf-dev": ("#include <gelf.h>", "-lelf")}
 FOLDER, CHANGED = "kernel/locking", ("rtmutex.c", "rtmutex_api.c")
 OWN = {"": ("kernel",), "kernel": ("locking",), FOLDER: CHANGED}
 # Which kernel is wanted: the ways of mended/mend or None, whether it is PREEMPT_RT, whether it
-# checks itself, and a file of more lines for its configuration or None.
-Kind = namedtuple("Kind", "ways is_rt is_debug more")
+# checks itself, whether it can trace, and a file of more lines for its configuration or None.
+Kind = namedtuple("Kind", "ways is_rt is_debug is_traced more")
 
 
 # ---- what is needed
@@ -77,6 +77,7 @@ def configuration(kind):
     files = [HERE / "config/small.config"]
     files += [HERE / "config/rt.config"] if kind.is_rt else []
     files += [HERE / "config/debug.config"] if kind.is_debug else []
+    files += [HERE / "config/trace.config"] if kind.is_traced else []
     files += [kind.more] if kind.more else []
     values = {}
     for file in files:

@@ -138,6 +138,7 @@ def print_table(results):
     print("\n".join(rows))
     for result in results:
         said = [f"the command says: {line}" for line in result.found.get("run", [])]
+        said += [f"the trace says: {line}" for line in result.found.get("trace", [])]
         said += [f"the kernel says: {line}" for line in result.found.get("messages", [])]
         for line in result.lines + said:
             print(f"{result.release}: {line}")

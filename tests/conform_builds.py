@@ -18,7 +18,7 @@ import builds
 import compare
 import guests
 
-PLAIN = builds.Kind(None, False, False, None)
+PLAIN = builds.Kind(None, False, False, False, None)
 KERNELS = ROOT / "conform/kernels"
 # What stands for make, where the guest's programs aren't made: O= is its third argument.
 MAKE = f"""case "$*" in *O=*) ;; *) exec {shutil.which("make")} "$@" ;; esac
@@ -88,12 +88,13 @@ def configurations(folder):
     plain = builds.configuration(PLAIN)
     rt = builds.configuration(PLAIN._replace(is_rt=True))
     debug = builds.configuration(PLAIN._replace(is_debug=True, ways="13"))
-    names = ("CONFIG_PREEMPT", "CONFIG_PREEMPT_RT", "CONFIG_PROVE_LOCKING", "CONFIG_SMP",
-             "CONFIG_LOCALVERSION")
-    kinds = (plain, rt, debug)
+    traced = builds.configuration(PLAIN._replace(is_traced=True))
+    names = ("CONFIG_PREEMPT", "CONFIG_PREEMPT_RT", "CONFIG_PROVE_LOCKING", "CONFIG_FTRACE",
+             "CONFIG_SMP", "CONFIG_LOCALVERSION")
+    kinds = (plain, rt, debug, traced)
     same("the values of each kind", [[kind.get(name) for name in names] for kind in kinds],
-         [["y", None, None, "y", '""'], ["n", "y", None, "y", '"-rt"'],
-          ["y", None, "y", "y", '"-mended13-debug"']])
+         [["y", None, None, None, "y", '""'], ["n", "y", None, None, "y", '"-rt"'],
+          ["y", None, "y", None, "y", '"-mended13-debug"'], ["y", None, None, "y", "y", '""']])
     more = folder / "more"
     more.write_text("# why\n\nCONFIG_SMP=n\nCONFIG_NEW_ONE=3\n")
     got = builds.configuration(PLAIN._replace(more=more))
@@ -168,6 +169,10 @@ def whole_builds(pim, folder):
     same("the objects are kept", (objects / "objects/.config").exists(), True)
     status, out, err = answer(command, env=environment)
     same("a build that isn't kept", (status, (folder / "booted").read_text()), 1, RTMUTEX)
+    for more, wanted in (([], False), (["--trace", "kernel_stop"], True)):
+        answer([*command, *more, "--objects", objects], env=environment)
+        got = "CONFIG_FTRACE=y" in (objects / "objects/.config").read_text()
+        same(f"a build that can trace: {wanted}", got, wanted)
     stand_in(tools, asked, "n")
     status, other, err = answer([*command, folder / "image"], env=environment)
     lacks = f"kernels: {source}: this source doesn't take CONFIG_EPOLL=y\n".encode()

@@ -302,6 +302,10 @@ def unexplained(pim):
         same(f"a command with status {status}", (statuses, rows["the command's status"], lines),
              [min(status, 1)], [str(status)],
              [f"9.1.2: the command says: {line}" for line in said.splitlines()])
+    part = "=== trace\nstep 1 '1 lock 1'\n => rt_mutex_setprio\n=== messages"
+    out = guest_output("9.1.2", (), texts, [("=== messages", part)])
+    said = [f"9.1.2: the trace says: {line}" for line in part.splitlines()[1:-1]]
+    same("a trace", table_of([out], texts, wanted, pim)[2], said)
     part = "=== storm\nit ended with status 2\n=== messages"
     out = guest_output("9.1.2", (), texts, [("=== messages", part)])
     same("a storm that didn't end", table_of([out], texts, wanted, pim)[0], [2])
@@ -335,6 +339,14 @@ def whole_runs(pim, folder):
     asked = (folder / "asked").read_text()
     words = "pim_do=texts,programs,run,storm pim_seconds=7 some words"
     check("what the guest is asked for", None if words in asked else asked)
+    status, _, err = answer([*command, "--trace", "kernel_gone", image], env=environment)
+    said = b"kernels: there is no text kernel_gone in the set or of the random ones\n"
+    same("a trace of a text that isn't there", (status, err), 2, said)
+    for text in ("kernel_stop", "random0001"):
+        answer([*command, "--trace", text, image], env=environment)
+        asked = (folder / "asked").read_text().splitlines()[-1]
+        words = f"pim_do=texts,programs,trace pim_text={text} "
+        check(f"a trace of {text} is asked for", None if words in asked else asked)
     same("a stored run", answer([*command, "--from", keep]), 0, out, b"")
     (folder / "asked").unlink()
     same("a run that counts", answer([*command, "--count", image], env=environment)[0], 0)
@@ -390,13 +402,14 @@ def with_tools(folder):
 # ---- the command line
 
 # What can't be given together, or isn't in range.
-TOGETHER = "give kernels, --build or --from, and --from without --keep, --run, --storm"
+TOGETHER = "give kernels, --build or --from, and --from without --keep, --run, --storm, --trace"
 RANGES = "--random is at least 0, --smp from 1 to 8"
 TIMES = "--seconds, --storm and --jobs are at least 1"
 COUNT = "--count goes with neither --kvm nor --storm"
 OF_BUILD = "--mended, --rt, --debug, --config and --objects go with --build"
 WRONG = {"": TOGETHER, "a --from f": TOGETHER, "--from f --keep k": TOGETHER,
          "--from f --storm 1": TOGETHER, "--from f --run true": TOGETHER,
+         "--from f --trace t": TOGETHER,
          "--build s --from f": TOGETHER, "a --count --kvm": COUNT, "a --count --storm 1": COUNT,
          "a --random -1": RANGES, "a --smp 0": RANGES, "a --smp 9": RANGES, "a --seconds 0": TIMES,
          "a --storm 0": TIMES, "--build s --jobs 0": TIMES, "a --rt": OF_BUILD, "a --debug": OF_BUILD,
@@ -412,7 +425,7 @@ def options():
     usual = {"kernels": ["a", "b"], "random": 300, "seed": 1, "smp": 2, "append": "", "storm": 5,
              "keep": None, "stored": None, "kvm": False, "seconds": 1800, "pim": None, "run": None,
              "count": False, "build": None, "mended": None, "rt": False, "debug": False,
-             "config": None, "jobs": len(os.sched_getaffinity(0)), "objects": None}
+             "config": None, "jobs": len(os.sched_getaffinity(0)), "objects": None, "trace": None}
     same("kernels: what isn't given", parsed_as(kernels, "a", "b", "--storm", "5"), usual)
     got = parsed_as(kernels, "--build", "s", "--mended", "3,1,3", "--rt", "--debug")
     same("kernels: a build", [got[name] for name in ("kernels", "build", "mended", "rt", "debug")],

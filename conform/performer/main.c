@@ -1,6 +1,6 @@
-/* perform [--cpu N] [--seconds N] < TEXT: makes the steps of a trace on this machine's threads and
- * POSIX mutexes, one after the other, and prints each answer and each changed priority. pim-conform
- * calls it.
+/* perform [--cpu N] [--seconds N] [--marks FILE] < TEXT: makes the steps of a trace on this
+ * machine's threads and POSIX mutexes, one after the other, and prints each answer and each changed
+ * priority. pim-conform calls it.
  *
  * Each task is a thread under SCHED_FIFO at its base priority. The controller is one at 99. All are
  * bound to one CPU: while the controller runs, no task does. So what it reads of them in /proc is
@@ -23,7 +23,7 @@
 enum { CONTROLLER_PRIORITY = 99, SHORT_NAPS = 20, SHORT_NAP = 20000, LONG_NAP = 200000 }; /* ns */
 enum { REPLY_BYTES = 64, OUTPUT_BYTES = 1 << 16 };
 
-static int notes = STDERR_FILENO;
+static int notes = STDERR_FILENO, marks = -1;
 static struct text text;
 
 _Noreturn void stop(int status, const char *form, ...) {
@@ -186,12 +186,20 @@ static void give(int at) {
         task_give(&tasks[step->actor], step, text.last_cancel[step->actor] > at);
 }
 
+/* Writes the step to the file of --marks, in one call, before it is made: the kernel's trace_marker
+ * puts it between the events of its trace. */
+static void mark(int at) {
+    if (marks >= 0 && dprintf(marks, "step %d '%s'\n", at + 1, text.step[at].words) < 0)
+        stop(FAULT, "the file of --marks: %s", strerror(errno));
+}
+
 static void make_step(int at) {
     static char rest[OUTPUT_BYTES];
     int priority[MAX_TASKS + 1];
     char room[REPLY_BYTES];
     const char *reply = answer_without_call(&text.step[at]);
     *rest = '\0';
+    mark(at);
     if (!reply) {
         give(at);
         settle(priority);
@@ -220,6 +228,12 @@ static int number_of(const char *argument, int least, int most) {
     if (*argument == '\0' || *end != '\0' || number < least || number > most)
         stop(FAULT, "'%s' isn't a number from %d to %d", argument, least, most);
     return (int)number;
+}
+
+static int opened_to_mark(const char *path) {
+    int file = open(path, O_WRONLY | O_CREAT | O_APPEND | O_CLOEXEC, 0644);
+    if (file < 0) stop(FAULT, "%s: %s", path, strerror(errno));
+    return file;
 }
 
 /* The messages of glibc's assertions are of no use here. */
@@ -266,13 +280,15 @@ static void start(int seconds, const cpu_set_t *cpus) {
 
 int main(int count, char **arguments) {
     static const struct option options[] = { { "cpu", required_argument, NULL, 'c' },
-                                             { "seconds", required_argument, NULL, 's' }, { 0 } };
+                                             { "seconds", required_argument, NULL, 's' },
+                                             { "marks", required_argument, NULL, 'm' }, { 0 } };
     int cpu = (int)sysconf(_SC_NPROCESSORS_ONLN) - 1, seconds = 20, option;
     cpu_set_t cpus;
-    while ((option = getopt_long(count, arguments, "c:s:", options, NULL)) != -1) {
+    while ((option = getopt_long(count, arguments, "c:s:m:", options, NULL)) != -1) {
         if (option == '?') return FAULT;
         if (option == 'c') cpu = number_of(optarg, 0, CPU_SETSIZE - 1);
         if (option == 's') seconds = number_of(optarg, 1, 3600);
+        if (option == 'm') marks = opened_to_mark(optarg);
     }
     const char *why = text_read(&text, stdin);
     if (why) stop(FAULT, "%s", why);

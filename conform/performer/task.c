@@ -6,6 +6,7 @@
 #include <linux/futex.h>
 #include <stdlib.h>
 #include <string.h>
+#include <sys/prctl.h>
 #include <sys/syscall.h>
 #include <unistd.h>
 
@@ -104,6 +105,9 @@ static int perform(struct task *me, const struct step *step) {
 
 static void *thread_main(void *argument) {
     struct task *me = self = argument;
+    char name[16];
+    snprintf(name, sizeof name, "task %d", me->number);
+    prctl(PR_SET_NAME, name);
     atomic_store(&me->tid, (int)syscall(SYS_gettid));
     for (unsigned done = 0;;) {
         while (atomic_load(&me->turn) == done)
