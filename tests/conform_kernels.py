@@ -340,12 +340,12 @@ def whole_runs(pim, folder):
     words = "pim_do=texts,programs,run,storm pim_seconds=7 some words"
     check("what the guest is asked for", None if words in asked else asked)
     status, _, err = answer([*command, "--trace", "kernel_gone", image], env=environment)
-    said = b"kernels: there is no text kernel_gone in the set or of the random ones\n"
+    said = b"kernels: --trace: there is no text or program kernel_gone\n"
     same("a trace of a text that isn't there", (status, err), 2, said)
-    for text in ("kernel_stop", "random0001"):
+    for text in ("kernel_stop", "random0001", "regained_boost"):
         answer([*command, "--trace", text, image], env=environment)
         asked = (folder / "asked").read_text().splitlines()[-1]
-        words = f"pim_do=texts,programs,trace pim_text={text} "
+        words = f"pim_do=texts,programs,trace pim_trace={text} "
         check(f"a trace of {text} is asked for", None if words in asked else asked)
     same("a stored run", answer([*command, "--from", keep]), 0, out, b"")
     (folder / "asked").unlink()
