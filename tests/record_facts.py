@@ -7,16 +7,17 @@ import re
 import tempfile
 
 from checks import ROOT, answer, check, difference, end, files_of
-from record_import import IMPORTER, PIM
+from record_import import IMPORTER, PIM, unplaced
 from record_logs import read_text
 from record_suite import Case, lines_differ
 
 SUITE, PIM_LOG = ROOT / "suite/facts", ROOT / "record/pim-log"
 # What a text can't have: docs/FACTS.md says it.
-APART = ("left out: ", "lost: ", "unseen: ", "added: ", "not known: ")
-# Recordings whose text has other findings: a damaged one, and those in which a mutex is granted while another owns it.
+APART = ("left out: ", "lost: ", "unseen: ", "unplaced: ", "added: ", "not known: ")
+# Recordings whose text has other findings: a damaged one, those in which a mutex is granted while another owns it, and
+# one in which two threads had the same task.
 OTHER = {"chunks_without_room_are_cut_short", "owner_keeps_its_place_where_it_waits", "owner_that_waits_loses_its_mutex",
-         "release_before_the_grant_is_not_by_the_owner"}
+         "release_before_the_grant_is_not_by_the_owner", "wait_is_of_the_thread_that_has_the_number_then"}
 
 
 class Text(Case):
@@ -97,7 +98,7 @@ def streams(folder):
 def findings_of(folder, arguments, text=b"", name="facts"):
     """Returns the status, the findings that a text can have, and the trace."""
     status, out, err = answer([str(IMPORTER), *arguments], text, cwd=folder)
-    lines = [re.sub(r" of \d+ records? make ", " make ", line) for line in out.decode().splitlines()
+    lines = [re.sub(r" of \d+ records? make ", " make ", unplaced(line)) for line in out.decode().splitlines()
              if not line.startswith(APART)]
     trace = pathlib.Path(folder, f"{name}.pim")
     pieces = trace.read_text().splitlines() if trace.exists() else []

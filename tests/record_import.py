@@ -16,6 +16,7 @@ from picture_tracks import Tracks
 from record_collector import CHUNK_BYTES, number_in
 from record_last import does, is_permitted, started
 from record_logs import reader
+import record_places
 
 PROGRAMS, SECONDS, SKIPPED = ROOT / "record/out/programs", 600, 77
 IMPORTER, PIM = ROOT / "crates/pim_importer/out/pim_importer", ROOT / "crates/pim/out/pim"
@@ -142,8 +143,18 @@ STORED = {"chain": "chain", "ceiling": "ceiling", "recursive": "recursive", "con
 RACING = ("random 1 400", "random 2 400", "signals", "robust", "waits", "executes", "vforks")
 
 
+# A place in the code, as pim-import prints it: `planner.c:88 (plan)`, `planner+0x1a30` or `0x7f10b2f006c0`.
+PLACE = r"\S+(?: \([^()]*\))?"
+
+
 def run(*command, **how):
     return subprocess.run([str(word) for word in command], capture_output=True, timeout=SECONDS, **how)
+
+
+def unplaced(line):
+    """Returns a line of the findings without its places in the code: tests/record_places.py compares those."""
+    line = re.sub(rf" at {PLACE}(?= for mutex )", "", line)
+    return re.sub(rf", which took it at {PLACE}(?=[:,]|$)", "", line)
 
 
 class Import:
@@ -153,7 +164,7 @@ class Import:
         self.log = pathlib.Path(log)
         done = run(IMPORTER, *options, log)
         self.status, self.text = done.returncode, done.stdout.decode()
-        self.lines, self.said = self.text.splitlines(), done.stderr.decode()
+        self.lines, self.said = [*map(unplaced, self.text.splitlines())], done.stderr.decode()
 
     def pieces(self):
         names = [self.log.name + ".pim"]
@@ -205,7 +216,8 @@ def missing(lines, wanted, unwanted):
             return f"no line {expression!r} in {lines}"
     for begin in unwanted:
         for line in lines:
-            if line.startswith(begin) or (begin == "not bounded" and begin in line):
+            is_heading = line.startswith("blocking by ")
+            if line.startswith(begin) or (begin == "not bounded" and begin in line and not is_heading):
                 return f"a line {line!r}"
     return None
 
@@ -236,7 +248,7 @@ def programs(folder):
         if command == "chain":
             options(found)
         if command == "missed":
-            others = [line for line in found.lines if " waited " in line and not re.fullmatch(MISSED, line)]
+            others = [line for line in found.lines if ", waited " in line and not re.fullmatch(MISSED, line)]
             check("each wait of high in missed is for low", difference((others,), ([],)))
     for command in RACING:
         log, _ended = record_own(folder, command)
@@ -498,7 +510,7 @@ def state_of(lines):
 
 def long(folder):
     """A trace of more than 65,536 steps is cut into pieces, each of which begins as the one before ends."""
-    log = pathlib.Path(folder, "log")
+    log = pathlib.Path(folder, "long")
     run(ROOT / "record/out/generate", "-n", "300000", "-c", "80", "-t", "40", "-m", "30", log)
     found = Import(log)
     pieces = [piece.read_text().splitlines()[1:] for piece in found.pieces()]
@@ -560,6 +572,25 @@ def places(folder):
 
 
 # ---- all files or none
+
+def code_places(folder):
+    """A wait has the line of its call, and that at which the owner took the mutex; without the file of lines the offsets."""
+    line_of = {line.rpartition("// ")[2]: number for number, line in enumerate(record_places.PLAN.splitlines(), 1)}
+    log, _status = record(folder, record_places.compiled(folder, "plan.c", record_places.PLAN))
+    who, names = r"plan\[\d+\], at SCHED_OTHER", pathlib.Path(f"{log}.places")
+    wait = rf"{who}, waited {DURATION} from {MOMENT} on at %s for mutex 1 \(none\) of {who}, which took it at %s: no inversion"
+    places = (rf"plan\.c:{line_of['PLAN']} \(plan\)", rf"plan\.c:{line_of['TAKE']} \(update_map\)")
+    if names.exists():
+        check("the lines of a wait and of its owner", missing(Import(log).text.splitlines(), [wait % places], []))
+        waits = json.loads(Import(log, "--json").text)["longest_waits"]
+        got = [[one["at"], one["owner_at"]] for one in waits if one["owner_at"].endswith("(update_map)")]
+        check("--json has them", difference(got, [[place.replace("\\", "") for place in places]]))
+        names.unlink()
+    else:
+        skip("the lines of a wait and of its owner", "there is no addr2line")
+    offset = r"plan\+0x[0-9a-f]+"
+    check("the offsets of a wait and of its owner", missing(Import(log).text.splitlines(), [wait % (offset, offset)], []))
+
 
 def contents(folder):
     """Returns the bytes of each file of a folder, by its name."""
@@ -743,7 +774,7 @@ def imports(attempt, folder):
     """Each part, of which one that breaks off leaves the others as they are."""
     if not built():
         return check("the importer is built", "it isn't")
-    for part in (programs, stored, kernel, alone, static, real, long, places, whole, damaged, latest,
+    for part in (programs, stored, kernel, alone, static, real, long, places, code_places, whole, damaged, latest,
                  command_line):
         attempt(part, folder)
     return None
