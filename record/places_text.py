@@ -1,7 +1,10 @@
-"""Names the places in the code of logs: writes LOG.places, which record/PLACES.md specifies.
+"""Names the places of logs, in the code and of static mutexes: writes LOG.places, which
+record/PLACES.md specifies.
 
 `pim-log --places` does so, and pim-record has it done when the program has ended.
 """
+import array
+import bisect
 import glob
 import mmap
 import os
@@ -9,14 +12,18 @@ import pathlib
 import re
 import shutil
 import subprocess
+import sys
 
 SYMBOLIZERS = ("eu-addr2line", "addr2line")  # the first is right of headers in more cases
 STANDARD = re.compile(r"/c\+\+/|/bits/|(^|/)(std_mutex|gthr-default)\.h$")  # headers of C++
 FRAME = re.compile(r"(.*?):(\d+)(:\d+)?( \(discriminator \d+\))?$")
 QUALIFIERS = re.compile(r"( const| volatile| &| &&)+$")
 OWN = re.compile(rb"[1-9]\d* 0x[0-9a-f]+ ")
+DATA = re.compile(r"([0-9a-f]+) ([0-9a-f]+) [bBdDgGsSuvV] (.+)")  # address, size, type and name
 MODULE_BYTES = 1 << 24  # an address further than this from the begin of a file isn't in it
 NAME_LENGTH = 80
+ADDRESS = (1 << 48) - 1  # the bits of an object that are its address
+RECORD_BYTES, BLOCK_BYTES = 32, 1 << 20
 
 
 class NotWritten(Exception):
@@ -32,24 +39,47 @@ class Places:
         self.path = path
         with open(path, "rb") as file:
             data = mmap.mmap(file.fileno(), 0, access=mmap.ACCESS_READ)
-            log = reader.Log(data, {reader.MODULE, reader.TEXT})
+            log = reader.Log(data, {reader.MODULE, reader.TEXT, reader.INIT, reader.PLACE})
+            self.objects = objects_in(data, log.head.header_bytes)
+        self.calls = initialising(reader, log.records)
         self.addresses = {at: address for at, address in enumerate(log.places, 1) if address}
         self.modules = [(record.object, os.fsdecode(record.text))
                         for record in log.records if record.event == reader.MODULE]
+        self.objects -= {begin for begin, _ in self.modules}
+
+    def module_of(self, address):
+        """Returns the path of a file and the offset there of an address, or None."""
+        begin, path = max((it for it in self.modules if it[0] <= address), default=(0, None))
+        return (path, address - begin) if path else None
 
     def location(self, address):
         """Returns the path of a file and the offset there of the last byte of a call, or None."""
-        last = address - 1
-        begin, path = max((it for it in self.modules if it[0] <= last), default=(0, None))
-        return (path, last - begin) if path else None
+        return self.module_of(address - 1)
 
-    def write(self, texts):
-        """Writes the file, with the texts by location."""
+    def unnumbered(self, texts, symbols):
+        """Returns the texts of addresses that have no number, by address: of the static mutexes,
+        and of the calls that initialised others."""
+        found = {}
+        for address in self.objects:
+            path, offset = self.module_of(address) or (None, 0)
+            symbol = symbols.get(path, Symbols()).at(offset)
+            if symbol:
+                found[address] = symbol
+        for address in self.calls:
+            text = texts.get(self.location(address))
+            if text:
+                found[address] = text
+        return found
+
+    def write(self, texts, symbols):
+        """Writes the file, with the texts by location and the symbols by file."""
         lines = []
         for number, address in self.addresses.items():
             where = self.location(address)
             text = texts.get(where) or unnamed(where) or f"{address:#x}"
             lines.append(f"{number} {address:#x} {text}\n")
+        for address, text in sorted(self.unnumbered(texts, symbols).items()):
+            lines.append(f"- {address:#x} {text}\n")
         result = pathlib.Path(f"{self.path}.places")
         if result.exists() and not is_own(result):
             raise NotWritten(f"{result} is there, and has no places")
@@ -57,6 +87,29 @@ class Places:
         with open(os.open(part, os.O_WRONLY | os.O_CREAT | os.O_TRUNC, 0o600), "wb") as file:
             file.write(os.fsencode("".join(lines)))
         os.replace(part, result)
+
+
+def objects_in(data, begin):
+    """Returns the objects of all records, without their places, and some other numbers. The data
+    from `begin` on are records of four words, of which the object is the third."""
+    numbers, end = set(), len(data) - (len(data) - begin) % RECORD_BYTES
+    for at in range(begin, end, BLOCK_BYTES):
+        words = array.array("Q", data[at:min(at + BLOCK_BYTES, end)])
+        if sys.byteorder == "big":
+            words.byteswap()
+        numbers.update(words[2::4])
+    return {number & ADDRESS for number in numbers}
+
+
+def initialising(reader, records):
+    """Returns the addresses to which the calls return that initialised mutexes."""
+    addresses, before = set(), {}
+    for record in records:
+        thread = record.chunk.thread
+        if record.event == reader.PLACE and before.get(thread) == reader.INIT:
+            addresses.add(record.object)
+        before[thread] = record.event
+    return addresses
 
 
 def texts_of(log, path):
@@ -148,6 +201,37 @@ def last_outside(text, sign):
     return -1
 
 
+# ---- static mutexes
+
+class Symbols:
+    """The static variables of a file."""
+
+    def __init__(self, lines=()):
+        found = filter(None, map(DATA.fullmatch, lines))
+        self.its = sorted((int(it[1], 16), int(it[2], 16), it[3]) for it in found)
+
+    def at(self, offset):
+        """Returns the variable at an offset, such as `lock` or `pool+0x28`, or None."""
+        place = bisect.bisect(self.its, (offset, sys.maxsize)) - 1
+        if place < 0:
+            return None
+        begin, size, name = self.its[place]
+        if offset >= begin + size:
+            return None
+        return name if offset == begin else f"{name}+{offset - begin:#x}"
+
+
+def symbols_of(path):
+    """Returns the static variables of a file: those that it exports, if it is stripped."""
+    for own in ((), ("-D",)):
+        command = ["nm", "-C", "-S", "--defined-only", *own, path]
+        done = subprocess.run(command, capture_output=True, check=False)
+        symbols = Symbols(os.fsdecode(done.stdout).splitlines())
+        if symbols.its:
+            return symbols
+    return Symbols()
+
+
 # ---- the command
 
 def write_places(reader, paths):
@@ -160,12 +244,14 @@ def write_places(reader, paths):
     logs = [Places(reader, path) for path, head in heads.items() if head and head.has_places]
     offsets = {}
     for log in logs:
-        for where in map(log.location, log.addresses.values()):
+        for where in map(log.location, {*log.addresses.values(), *log.calls}):
             if where:
                 offsets.setdefault(where[0], set()).add(where[1])
-    texts = {}
+    texts, symbols = {}, {}
     for path, its in offsets.items():
         texts |= named(program, path, sorted(its))
+    if shutil.which("nm"):
+        symbols = {path: symbols_of(path) for path in {it[1] for log in logs for it in log.modules}}
     for log in logs:
         if log.addresses:
-            log.write(texts)
+            log.write(texts, symbols)

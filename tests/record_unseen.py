@@ -15,7 +15,8 @@ CALLS = {
     "pthread_rwlock_rdlock": "pthread_rwlock_rdlock(&lock)",
     "pthread_rwlock_wrlock": "pthread_rwlock_wrlock(&other)",
     "pthread_barrier_wait": "pthread_barrier_wait(&barrier)", "pthread_spin_lock": "pthread_spin_lock(&spin)",
-    "mtx_lock": "mtx_lock(&mutex)", "syscall": "syscall(SYS_getpid)",
+    "mtx_lock": "mtx_lock(&mutex)", "mtx_timedlock": "mtx_timedlock(&timed, &soon)", "syscall": "syscall(SYS_getpid)",
+    "thrd_join": "thrd_create(&other_thread, run, NULL), thrd_join(other_thread, NULL)",
     "pthread_create": "pthread_create(&thread, NULL, begin, NULL), pthread_join(thread, NULL)",
 }
 PROGRAM = """
@@ -31,13 +32,16 @@ pthread_rwlock_t lock = PTHREAD_RWLOCK_INITIALIZER, other = PTHREAD_RWLOCK_INITI
 pthread_barrier_t barrier;
 pthread_spinlock_t spin;
 pthread_mutex_t own = PTHREAD_MUTEX_INITIALIZER;
-mtx_t mutex;
+mtx_t mutex, timed;
 struct timespec soon;
 pthread_t thread;
+thrd_t other_thread;
 void *begin(void *unused) { return unused; }
+int run(void *unused) { return unused != NULL; }
 int main(void)
 {
     sem_init(&semaphore, 0, 2), pthread_barrier_init(&barrier, NULL, 1), pthread_spin_init(&spin, 0), mtx_init(&mutex, 0);
+    mtx_init(&timed, mtx_timed);
     pthread_mutex_lock(&own), pthread_mutex_unlock(&own);
     CALLS;
     return 0;
@@ -74,20 +78,22 @@ def unseen(folder):
     """Plays all of it."""
     cases = {
         (): "",
-        ("sem_wait",): "sem_wait",
-        ("sem_timedwait", "syscall", "pthread_create"): "sem_timedwait and syscall",
+        ("sem_wait", "sem_timedwait", "pthread_rwlock_rdlock", "pthread_rwlock_wrlock", "pthread_barrier_wait",
+         "pthread_create"): "",
+        ("pthread_spin_lock",): "pthread_spin_lock",
+        ("sem_timedwait", "syscall", "pthread_create"): "syscall",
         ("syscall",): "",
-        ("sem_timedwait", "sem_wait", "pthread_rwlock_rdlock"): "sem_wait and pthread_rwlock_rdlock",
-        ("pthread_rwlock_rdlock", "pthread_rwlock_wrlock", "mtx_lock"): "pthread_rwlock_wrlock and mtx_lock",
-        ("syscall", "pthread_create", "pthread_spin_lock", "pthread_barrier_wait"):
-            "pthread_barrier_wait, pthread_spin_lock and syscall",
+        ("thrd_join",): "thrd_join",
+        ("mtx_timedlock", "mtx_lock", "thrd_join", "pthread_spin_lock"): "pthread_spin_lock and mtx_lock",
+        ("syscall", "pthread_create", "pthread_spin_lock", "mtx_timedlock", "pthread_barrier_wait"):
+            "pthread_spin_lock, mtx_timedlock and syscall",
     }
     for names, listed in cases.items():
         program = built(folder, *names)
         line = f"pim-record: {program} also calls {listed}: what waits by these isn't recorded\n"
         got = said(folder, program)
         check(f"a program that calls {', '.join(names) or 'nothing else'}", difference(got, (0, line if listed else "")))
-    program = built(folder, "sem_wait")
+    program = built(folder, "mtx_lock")
     for name, begin in (("no sections", 0), ("sections behind its end", 1 << 40), ("sections at an odd place", 65)):
         check(f"a program with {name}", difference(said(folder, without_sections(program, begin)), (0, "")))
     status, err = said(folder, "./nowhere")

@@ -13,7 +13,7 @@
 #include <time.h>
 
 enum {
-    LOG_VERSION = 2,
+    LOG_VERSION = 3,
     LOG_BYTE_ORDER = 0x01020304,
     FIELDS_BYTES = 4096, /* of the header, without the table of places */
     PLACE_SLOTS = 8192,
@@ -49,6 +49,9 @@ enum event {
     EVENT_RELEASE = 23,
     EVENT_RELEASE_FAILED = 24,
     EVENT_CONDITION = 25,
+    EVENT_WAIT = 26,
+    EVENT_WAITED = 27,
+    EVENT_GIVE = 28,
 };
 
 /* The call of a REQUEST, GRANTED or RELEASE; OWNER_DIED is added to it. */
@@ -60,6 +63,18 @@ enum call {
     CALL_CONDITION = 4,
     OWNER_DIED = 0x80,
 };
+
+/* What a WAIT, WAITED or GIVE is of. */
+enum kind {
+    KIND_SEMAPHORE = 1,
+    KIND_READ = 2, /* a read-write lock; an unlock is of this kind, too */
+    KIND_WRITE = 3,
+    KIND_BARRIER = 4,
+    KIND_THREAD = 5,
+    KIND_CONDITION = 6,
+};
+
+enum { TO_ALL = 1 }; /* how a broadcast gives */
 
 enum { HAS_PLACES = 1 }; /* of the header's `contents`: records of calls have places */
 

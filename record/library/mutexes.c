@@ -5,9 +5,6 @@
 
 #include <errno.h>
 
-/* The place in the code at which a function of the recorder is called: where it returns to. */
-#define PLACE ((uintptr_t)__builtin_return_address(0))
-
 /* Returns a record of a mutex whose detail can be read. */
 static struct record of_mutex(enum event event, unsigned how, const pthread_mutex_t *mutex) {
     return (struct record){ .event = (uint8_t)event,
@@ -20,20 +17,6 @@ static struct record of_mutex(enum event event, unsigned how, const pthread_mute
 static struct record of_address(enum event event, unsigned how, const pthread_mutex_t *mutex) {
     return (struct record){
         .event = (uint8_t)event, .how = (uint8_t)how, .object = (uintptr_t)mutex };
-}
-
-/* Returns a record with the place at which its call was made. */
-static struct record at(uint64_t place, struct record record) {
-    record.object = places_object(record.object, place);
-    return record;
-}
-
-/* Puts such a record of now. */
-static inline void put_at(uint64_t place, struct record record) {
-    if (!log_begin()) return;
-    record.time = log_time();
-    log_write(at(place, record));
-    log_end();
 }
 
 /* ---- lock ---- */
@@ -49,7 +32,7 @@ static bool put_request(const pthread_mutex_t *mutex, enum call call, uint64_t p
     record.value = inner_owner(mutex);
     if (!log_begin()) return false;
     record.time = *time = log_time();
-    log_write(at(place, record));
+    log_write(places_at(place, record));
     log_end();
     return true;
 }
@@ -91,7 +74,7 @@ static void put_answer(const pthread_mutex_t *mutex, enum call call, uint64_t pl
     if (!log_begin()) return;
     record.time = log_time();
     record.value = log_saturated(record.time - began);
-    log_write(at(place, record));
+    log_write(places_at(place, record));
     log_end();
 }
 
@@ -162,9 +145,9 @@ EXPORT int pthread_mutex_unlock(pthread_mutex_t *mutex) {
     if (!is_recorded()) return real.mutex_unlock(mutex);
     struct held *own = held_is_on() && !log_cursor.is_writing ? held_find(mutex) : NULL;
     if (own) return release_held(mutex, own);
-    put_at(PLACE, of_mutex(EVENT_RELEASE, CALL_LOCK, mutex));
+    places_put(PLACE, of_mutex(EVENT_RELEASE, CALL_LOCK, mutex));
     int error = real.mutex_unlock(mutex);
-    if (error) put_at(PLACE, of_address(EVENT_RELEASE_FAILED, (unsigned)error, mutex));
+    if (error) places_put(PLACE, of_address(EVENT_RELEASE_FAILED, (unsigned)error, mutex));
     return error;
 }
 
@@ -179,7 +162,7 @@ struct wait {
 static void release_to_wait(const pthread_cond_t *condition, const struct wait *of) {
     struct record wait = { .event = EVENT_CONDITION, .object = (uintptr_t)condition };
     struct record release = of_mutex(EVENT_RELEASE, CALL_CONDITION, of->mutex);
-    log_put_both(at(of->place, wait), at(of->place, release));
+    log_put_both(places_at(of->place, wait), places_at(of->place, release));
 }
 
 /* The mutex is relocked but after an error that comes before the wait, when it wasn't released, or
@@ -194,7 +177,7 @@ static int relocked(const struct wait *of, int error) {
         record = of_address(EVENT_FAILED, (unsigned)error, of->mutex);
     else
         record = of_address(EVENT_RELEASE_FAILED, (unsigned)error, of->mutex);
-    put_at(of->place, record);
+    places_put(of->place, record);
     return error;
 }
 

@@ -12,6 +12,9 @@ enum {
     PLACE_HASH_SHIFT = 19,
 };
 
+/* The place in the code at which a function of the recorder is called: where it returns to. */
+#define PLACE ((uintptr_t)__builtin_return_address(0))
+
 _Static_assert(PLACE_SLOTS == 1 << (32 - PLACE_HASH_SHIFT), "the upper bits of a hash are a slot");
 
 /* Does what places_object does, also where the place isn't in the first slot of its hash. */
@@ -31,6 +34,20 @@ static inline uint64_t places_object(uint64_t address, uint64_t place) {
     bool is_found = ((there ^ place) | address >> PLACE_SHIFT) == 0;
     if (__builtin_expect(!is_found, 0)) return places_search(address, place);
     return address | (slot + 1) << PLACE_SHIFT;
+}
+
+/* Returns a record with the place at which its call was made. */
+static inline struct record places_at(uint64_t place, struct record record) {
+    record.object = places_object(record.object, place);
+    return record;
+}
+
+/* Puts such a record of now. */
+static inline void places_put(uint64_t place, struct record record) {
+    if (!log_begin()) return;
+    record.time = log_time();
+    log_write(places_at(place, record));
+    log_end();
 }
 
 #endif

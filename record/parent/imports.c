@@ -13,14 +13,10 @@
 
 /* By kind, each list ended by NULL. `syscall` may be a futex call, as of Rust's own mutexes, in a
  * program that has threads. */
-enum { KINDS = 6, MOST = 7 };
+enum { KINDS = 3, MOST = 6 };
 static const char *const kinds[KINDS][MOST] = {
-    { "sem_wait", "sem_timedwait", "sem_clockwait" },
-    { "pthread_rwlock_wrlock", "pthread_rwlock_rdlock", "pthread_rwlock_timedwrlock",
-      "pthread_rwlock_timedrdlock", "pthread_rwlock_clockwrlock", "pthread_rwlock_clockrdlock" },
-    { "pthread_barrier_wait" },
     { "pthread_spin_lock" },
-    { "mtx_lock", "mtx_timedlock", "cnd_wait", "cnd_timedwait" },
+    { "mtx_lock", "mtx_timedlock", "cnd_wait", "cnd_timedwait", "thrd_join" },
     { "syscall" },
 };
 

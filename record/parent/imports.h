@@ -4,9 +4,9 @@
 
 #include <stddef.h>
 
-/* Puts the names of functions that the program at this path imports, by which it may wait for what
- * isn't a mutex or a condition variable of POSIX: the first of each kind, as "sem_wait and
- * syscall". Puts an empty text where there are none, or the file can't be read. */
+/* Puts the names of functions that the program at this path imports, by which it may wait
+ * without a record: the first of each kind, as "mtx_lock and syscall". Puts an empty text where
+ * there are none, or the file can't be read. */
 void read_unseen(const char *path, char *names, size_t bytes);
 
 #endif

@@ -6,9 +6,11 @@
 static pthread_mutex_t first, second;
 static sem_t has_first, has_second;
 static _Atomic pid_t waiting[2];
+static _Atomic bool is_named;
 
 static void *one(void *unused) {
     pthread_setname_np(pthread_self(), "one");
+    is_named = true;
     lock(&first);
     sem_post(&has_first);
     while (sem_wait(&has_second)) continue;
@@ -18,7 +20,7 @@ static void *one(void *unused) {
 }
 
 static void *two(void *unused) {
-    while (sem_wait(&has_first)) continue; /* so that one's records come first */
+    while (sem_wait(&has_first)) continue;
     pthread_setname_np(pthread_self(), "two");
     lock(&second);
     sem_post(&has_second);
@@ -33,6 +35,7 @@ int main(void) {
     make(&first, PTHREAD_PRIO_NONE, PTHREAD_MUTEX_NORMAL, 0);
     make(&second, PTHREAD_PRIO_NONE, PTHREAD_MUTEX_NORMAL, 0);
     start(one, NULL);
+    while (!is_named) rest(1); /* so that one's records come first */
     start(two, NULL);
     for (int i = 0; i < 2; i++) until_waits(&waiting[i]);
     return 0;

@@ -1,5 +1,5 @@
 -- The used part of a log is the log.
-use Rattle.std.proofs.Common.{◌≡◌, ℕ, zero, suc, ◌+◌, ◌-◌, ◌*◌, ◌==◌, ◌<◌, ◌≤◌, min, Bool, true, false, not, ◌&&◌, ◌||◌, cond, nat_lt, List, length, slice_index, get_or, take, drop, Option, Some, None, refl, sym, ◌∙◌, ap, subst, inl, inr, arith}
+use Rattle.std.proofs.Common.{◌≡◌, ℕ, zero, suc, ◌+◌, ◌-◌, ◌*◌, ◌==◌, ◌<◌, ◌≤◌, min, Bool, true, false, not, ◌&&◌, ◌||◌, cond, nat_le, nat_lt, List, length, slice_index, get_or, take, drop, Option, Some, None, refl, sym, ◌∙◌, ap, subst, inl, inr, arith}
 use Rattle.std.specs.Option.{option_or}
 use Rattle.std.proofs.lemmas.Bool.{cases_lt, eqb-true}
 use Rattle.std.proofs.lemmas.Bool.Decides.{nat_tests}
@@ -160,7 +160,7 @@ form-length : (bytes : List ℕ) → form_fault_of bytes ≡ None → (header_of
 form-length bytes none =
     let sizes : has_sizes bytes ≡ true = last_line NotALog OtherByteOrder OtherVersion OtherSizes
     (nat_lt (length bytes) 4096 || not (number_at 8 0 bytes == MAGIC)) (not (number_at 4 12 bytes == BYTE_ORDER))
-    (not (number_at 4 8 bytes == FIRST_VERSION) && not (number_at 4 8 bytes == VERSION)) (has_sizes bytes) none in
+    (nat_lt (number_at 4 8 bytes) FIRST_VERSION || nat_lt VERSION (number_at 4 8 bytes)) (has_sizes bytes) none in
     eqb-true _ _ (first-of-three (number_at 4 16 bytes == header_bytes_of (number_at 4 8 bytes)) (number_at 4 20 bytes == 32) (number_at 4 24 bytes == 512) sizes)
 
 form-none : (form counters : Option HeaderFault) → option_or form counters ≡ None → form ≡ None
@@ -172,7 +172,7 @@ start-length n start none = form-length start (form-none (form_fault_of start) (
 
 -- a header is as long as the first version's, or longer
 at-least : (version : ℕ) → 4096 ≤ header_bytes_of version
-at-least version = go (version == 2)
+at-least version = go (nat_le 2 version)
   where
     go : (b : Bool) → 4096 ≤ cond b 69632 4096
     go true = omega arith
@@ -232,13 +232,13 @@ log-length a none = start-length (length a) a none
 places : (a b : List ℕ) → Same a b → header_fault a ≡ None → (n : ℕ) → address_of a n ≡ address_of b n
 places a b same none n = elim (cases_lt 8192 n) [
   | inl lt ↦ let many : nat_lt 8192 n ≡ true = grind (arith, nat_tests) in grind (arith, nat_tests)
-  | inr ge ↦ go ((header_of a).version == 2) (omega arith) refl
+  | inr ge ↦ go (nat_le 2 (header_of a).version) (omega arith) refl
 ]
   where
     version : (header_of a).version ≡ (header_of b).version
     version = ap (λ (x : Header). x.version) same.header
 
-    go : (is : Bool) → n ≤ 8192 → ((header_of a).version == 2) ≡ is → address_of a n ≡ address_of b n
+    go : (is : Bool) → n ≤ 8192 → nat_le 2 (header_of a).version ≡ is → address_of a n ≡ address_of b n
     go true few is =
         let long : (header_of a).length ≡ 69632 = log-length a none ∙ ap (λ x. cond x 69632 4096) is in
         let address = same.used.number 8 (4096 + 8 * (n - 1)) (omega (arith, long, few)) in

@@ -2,7 +2,7 @@
 use Rattle.std.specs.Prelude.{◌≡◌, ℕ, ◌/◌, ◌%◌, ◌^◌, ◌-◌, ◌==◌, bit_and, min, nat_le, ◌++◌, Bool, not, ◌&&◌, ◌||◌, if◌then◌else◌, Option, Some, None}
 use Rattle.std.specs.Int.{w16, w32, w64, to_le_bytes}
 use Rattle.pim_log.specs.declared.fields.Fields.{Fields}
-use Rattle.pim_log.specs.declared.header.TheConstants.{VERSION}
+use Rattle.pim_log.specs.declared.header.TheConstants.{PLACED_VERSION, VERSION}
 use Rattle.pim_log.specs.declared.event.Call.{Call}
 use Rattle.pim_log.specs.declared.event.Call.TheVariants as calls
 use Rattle.pim_log.specs.declared.event.ThreadKey.{ThreadKey}
@@ -14,16 +14,26 @@ use Rattle.pim_log.specs.declared.mutex.Mutex.{Mutex}
 use Rattle.pim_log.specs.declared.mutex.MutexKind.{MutexKind}
 use Rattle.pim_log.specs.declared.mutex.Protocol.{Protocol}
 use Rattle.pim_log.specs.declared.mutex.Protocol.TheVariants as protocols
+use Rattle.pim_log.specs.declared.object.Object.{Object}
+use Rattle.pim_log.specs.declared.object.ObjectKind.{ObjectKind}
+use Rattle.pim_log.specs.declared.object.ObjectKind.TheVariants as objects
+use Rattle.pim_log.specs.declared.object.Outcome.{Outcome}
+use Rattle.pim_log.specs.declared.object.Outcome.TheVariants as outcomes
 use Rattle.pim_log.specs.declared.priority.Priority.{Priority}
 use Rattle.pim_log.specs.declared.priority.Priority.TheVariants as priorities
 
--- the events of threads, processes and texts have the numbers 1 to 13, those of mutexes 16 to 25
+-- the events of threads, processes and texts have the numbers 1 to 13, those of mutexes and other waits 16 to 28
 abbrev pub is_event : ℕ → Bool
-is_event code = (nat_le 1 code && nat_le code 13) || (nat_le 16 code && nat_le code 25)
+is_event code = (nat_le 1 code && nat_le code 13) || (nat_le 16 code && nat_le code 28)
 
--- whether the object of an event is an address and a place: in version 2 that of a call that locks, unlocks or waits
+-- those that a log of this version may have: earlier ones have no waits for what isn't a mutex
+abbrev pub is_event_of : ℕ → ℕ → Bool
+is_event_of version code = is_event code && (nat_le code 25 || version == VERSION)
+
+-- whether the object of an event is an address and a place: that of a call that locks, unlocks, waits or gives. Version 1
+-- has no places, and version 2 none of the later events
 abbrev pub has_place : ℕ → ℕ → Bool
-has_place version code = version == VERSION && (nat_le 20 code && nat_le code 25)
+has_place version code = nat_le 20 code && ((version == PLACED_VERSION && nat_le code 25) || (version == VERSION && nat_le code 28))
 
 -- the object of an event without its place: bits 0 to 47 are the address
 abbrev pub object_in : ℕ → ℕ → ℕ → ℕ
@@ -83,6 +93,28 @@ key_of f = if f.object == 0 then Task f.value else Pthread f.object
 abbrev pub owner_of : Fields → Option ℕ
 owner_of f = if f.value == 0 then None else Some f.value
 
+-- what is waited for: its kind is the detail
+abbrev pub object_kind_of : ℕ → Option ObjectKind
+object_kind_of detail =
+    if detail == 1 then Some objects.Semaphore
+    else if detail == 2 then Some objects.ReadLock
+    else if detail == 3 then Some objects.WriteLock
+    else if detail == 4 then Some objects.Barrier
+    else if detail == 5 then Some objects.Thread
+    else if detail == 6 then Some objects.Condition
+    else None
+
+-- what isn't a mutex, of a record that has its kind, and of one that is of a condition variable
+abbrev pub object_of : Fields → Object
+object_of f = record { address = f.object; kind = object_kind_of f.detail }
+
+abbrev pub condition_in : Fields → Object
+condition_in f = record { address = f.object; kind = Some objects.Condition }
+
+-- how a wait ended: with no error, with ETIMEDOUT of Linux, or with another one
+abbrev pub outcome_of : ℕ → Outcome
+outcome_of error = if error == 0 then outcomes.Given else if error == 110 then outcomes.TimedOut else outcomes.Failed
+
 -- a part of a text: 22 bytes, in the place of the time and of the fields behind it
 abbrev pub text_of : Fields → Text
 text_of f = record {
@@ -120,7 +152,11 @@ Says f (events.Failed mutex took is_timeout) =
     (f.code ≡ 22) × (mutex ≡ bare_mutex_in f) × (took ≡ took_of f.value) × (is_timeout ≡ (f.how == 110))
 Says f (events.Release mutex call) = (f.code ≡ 23) × (mutex ≡ mutex_in f) × (call ≡ call_of f.how)
 Says f (events.ReleaseFailed mutex) = (f.code ≡ 24) × (mutex ≡ bare_mutex_in f)
-Says f events.Condition = f.code ≡ 25
+Says f (events.Condition object) = (f.code ≡ 25) × (object ≡ condition_in f)
+Says f (events.Wait object) = (f.code ≡ 26) × (object ≡ object_of f)
+Says f (events.Waited object took outcome) =
+    (f.code ≡ 27) × (object ≡ object_of f) × (took ≡ took_of f.value) × (outcome ≡ outcome_of f.how)
+Says f (events.Give object is_to_all) = (f.code ≡ 28) × (object ≡ object_of f) × (is_to_all ≡ (f.how == 1))
 
 -- the mutex that an event is of
 abbrev pub mutex_of : Event → Option Mutex

@@ -3,7 +3,7 @@ use Rattle.std.specs.Prelude.{ℕ, ◌+◌, ◌*◌, ◌-◌, ◌^◌, ◌==◌,
 use Rattle.std.specs.Option.{option_or}
 use Rattle.pim_log.specs.Numbers.{number_at}
 use Rattle.pim_log.specs.declared.header.Header.{Header}
-use Rattle.pim_log.specs.declared.header.TheConstants.{HEADER_BYTES, SLOT_BYTES, CHUNK_SLOTS, RECORDS_OF_CHUNK, MAGIC, BYTE_ORDER, FIRST_VERSION, VERSION, PLACES, COMMAND_BYTES}
+use Rattle.pim_log.specs.declared.header.TheConstants.{HEADER_BYTES, SLOT_BYTES, CHUNK_SLOTS, RECORDS_OF_CHUNK, MAGIC, BYTE_ORDER, FIRST_VERSION, PLACED_VERSION, VERSION, PLACES, COMMAND_BYTES}
 use Rattle.pim_log.specs.declared.fault.HeaderFault.{HeaderFault}
 use Rattle.pim_log.specs.declared.fault.HeaderFault.TheVariants.{NotALog, OtherByteOrder, OtherVersion, OtherSizes, Contradiction, CutShort, TooManyNumbers}
 
@@ -28,9 +28,9 @@ header_of bytes = record {
   unplaced = number_at 8 248 bytes;
 }
 
--- how many bytes the header of this version has: behind those of version 1 that of version 2 has eight for each place
+-- how many bytes the header of this version has: behind those of version 1 that of a later one has eight for each place
 abbrev pub header_bytes_of : ℕ → ℕ
-header_bytes_of version = if version == VERSION then HEADER_BYTES + 8 * PLACES else HEADER_BYTES
+header_bytes_of version = if nat_le PLACED_VERSION version then HEADER_BYTES + 8 * PLACES else HEADER_BYTES
 
 -- the sizes are those of the version: of the header, a record, and a chunk
 abbrev pub has_sizes : List ℕ → Bool
@@ -42,7 +42,7 @@ abbrev pub form_fault_of : List ℕ → Option HeaderFault
 form_fault_of bytes =
     if nat_lt (length bytes) HEADER_BYTES || not (number_at 8 0 bytes == MAGIC) then Some NotALog
     else if not (number_at 4 12 bytes == BYTE_ORDER) then Some OtherByteOrder
-    else if not (number_at 4 8 bytes == FIRST_VERSION) && not (number_at 4 8 bytes == VERSION) then Some OtherVersion
+    else if nat_lt (number_at 4 8 bytes) FIRST_VERSION || nat_lt VERSION (number_at 4 8 bytes) then Some OtherVersion
     else if not (has_sizes bytes) then Some OtherSizes
     else None
 

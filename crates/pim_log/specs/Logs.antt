@@ -2,12 +2,12 @@
 --
 -- Behind the header a log has slots of 32 bytes. Slot s is the head of a chunk if 512 divides s; the others have room for
 -- a record of that chunk's thread.
-use Rattle.std.specs.Prelude.{◌≡◌, ◌≢◌, ℕ, ◌+◌, ◌-◌, ◌*◌, ◌%◌, ◌<◌, ◌==◌, nat_lt, List, length, slice_index, Bool, not, ◌&&◌, ◌||◌, if◌then◌else◌, Option, Some, None}
+use Rattle.std.specs.Prelude.{◌≡◌, ◌≢◌, ℕ, ◌+◌, ◌-◌, ◌*◌, ◌%◌, ◌<◌, ◌==◌, nat_le, nat_lt, List, length, slice_index, Bool, not, ◌&&◌, ◌||◌, if◌then◌else◌, bit_and, IsTrue, Option, Some, None}
 use Rattle.pim_log.specs.Numbers.{number_at}
-use Rattle.pim_log.specs.Events.{is_event, object_in, place_in, time_of, Says}
+use Rattle.pim_log.specs.Events.{is_event_of, object_in, place_in, time_of, Says}
 use Rattle.pim_log.specs.Headers.{header_of, header_fault, end_of, chunks_of}
 use Rattle.pim_log.specs.declared.header.Header.{Header}
-use Rattle.pim_log.specs.declared.header.TheConstants.{HEADER_BYTES, SLOT_BYTES, CHUNK_SLOTS, PLACES, VERSION}
+use Rattle.pim_log.specs.declared.header.TheConstants.{HEADER_BYTES, SLOT_BYTES, CHUNK_SLOTS, PLACES, PLACED_VERSION}
 use Rattle.pim_log.specs.declared.slots.TheConstants.{CHUNK_MARK}
 use Rattle.pim_log.specs.declared.event.Event.{Event}
 use Rattle.pim_log.specs.declared.event.Event.TheVariants as events
@@ -65,7 +65,7 @@ record_fault bytes s =
     else if mark_in bytes s == 0 then Some OutsideChunk
     else if not (is_in_order bytes s) then Some OutOfOrder
     else if not (nat_lt (number_in bytes s) (header_of bytes).next_number) then Some NumberTooHigh
-    else if not (is_event (code_in bytes s)) then Some UnknownEvent
+    else if not (is_event_of (header_of bytes).version (code_in bytes s)) then Some UnknownEvent
     else None
 
 -- what is wrong with a slot
@@ -141,11 +141,24 @@ pub record IsRecord (bytes : List ℕ) (s : ℕ) (r : Record) : Type 0 where
   pub thread : r.thread ≡ thread_in bytes s
   pub place : r.place ≡ (fields_in bytes s).place
 
+-- whether the record in a slot is a lock's: a REQUEST, a RELEASE, or a GRANTED, unless it ends a wait at a condition variable
+abbrev pub is_lock_in : List ℕ → ℕ → Bool
+is_lock_in bytes s =
+    let code = code_in bytes s in
+    let how = slice_index bytes (slot_at (header_of bytes) s + 31) in
+    (code == 20 || code == 23) || (code == 21 && not (bit_and how 127 == 4))
+
+-- the record with this number is a lock's
+pub record IsOfLock (bytes : List ℕ) (number : ℕ) : Type 0 where
+  pub slot : ℕ
+  pub numbered : IsNumbered bytes slot number
+  pub is_lock : IsTrue (is_lock_in bytes slot)
+
 -- the address in the code of the place with this number, if the log has one
 abbrev pub address_of : List ℕ → ℕ → Option ℕ
 address_of bytes number =
     let address = number_at 8 (HEADER_BYTES + 8 * (number - 1)) bytes in
-    if not ((header_of bytes).version == VERSION) || number == 0 || nat_lt PLACES number || address == 0 then None else Some address
+    if not (nat_le PLACED_VERSION (header_of bytes).version) || number == 0 || nat_lt PLACES number || address == 0 then None else Some address
 
 -- the slots of an index are those of the records of the first slots, by their numbers; 0 where there is none
 pub record IsIndex (bytes : List ℕ) (end : ℕ) (index : List ℕ) : Type 0 where

@@ -3,6 +3,7 @@ ghost use Rattle.std.specs.Prelude.{◌≡◌};
 ghost use Rattle.pim_log.specs.Events.{mutex_of};
 
 use crate::mutex::Mutex;
+use crate::object::{Object, Outcome};
 use crate::priority::Priority;
 use crate::text::Text;
 
@@ -82,7 +83,20 @@ pub enum Event {
     /// It didn't.
     ReleaseFailed(Mutex),
     /// A thread is about to wait at a condition variable.
-    Condition,
+    Condition(Object),
+    /// A thread asks for what it can't have at once, and has to wait.
+    Wait(Object),
+    /// Its wait ended. The call took this long, in nanoseconds, if that is known.
+    Waited {
+        object: Object,
+        took: Option<u32>,
+        outcome: Outcome,
+    },
+    /// A thread is about to give what others may wait for: to one of them, or to all.
+    Give {
+        object: Object,
+        is_to_all: bool,
+    },
 }
 
 /// How a record names a thread.

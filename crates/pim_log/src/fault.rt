@@ -14,7 +14,7 @@ pub enum HeaderFault {
     /// The machine that wrote it has another byte order.
     #[error("it is of a machine with another byte order")]
     OtherByteOrder,
-    /// Another version than 1 and 2.
+    /// Another version than 1, 2 and 3.
     #[error("it is of a version that isn't known")]
     OtherVersion,
     /// Sizes that its version doesn't have.

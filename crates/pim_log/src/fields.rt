@@ -1,10 +1,11 @@
 //! The fields of a record, and what they mean.
 ghost use Rattle.std.specs.Prelude.{◌≡◌, ◌≤◌, MatchOption, true, false};
-ghost use Rattle.pim_log.specs.Events.{has_place, is_event, object_in, place_in, bare_mutex_in, call_of, granted_after, key_of, mutex_in, owner_of, text_of, time_of, took_of, Says};
+ghost use Rattle.pim_log.specs.Events.{has_place, is_event, is_event_of, object_in, place_in, bare_mutex_in, call_of, granted_after, key_of, mutex_in, condition_in, object_of, owner_of, text_of, time_of, took_of, Says};
 
 use crate::event::{Call, Event, ThreadKey};
-use crate::header::VERSION;
+use crate::header::{PLACED_VERSION, VERSION};
 use crate::mutex::{Mutex, MutexKind};
+use crate::object::{Object, ObjectKind, Outcome};
 use crate::priority::Priority;
 use crate::text::{TEXT_BYTES, Text};
 
@@ -34,10 +35,18 @@ const TIMED_OUT: u8 = 110;
 
 /// Returns whether an event has this number.
 #[inline(always)]
-pub fn is_event(code: u8) -> bool
+fn is_event(code: u8) -> bool
     ensures { result ≡ is_event code }
 {
-    1 <= code && code <= 13 || 16 <= code && code <= 25
+    1 <= code && code <= 13 || 16 <= code && code <= 28
+}
+
+/// Returns whether a log of this version may have such an event.
+#[inline(always)]
+pub fn is_event_of(version: u32, code: u8) -> bool
+    ensures { result ≡ is_event_of version code }
+{
+    is_event(code) && (code <= 25 || version == VERSION)
 }
 
 /// Returns whether the object of this event is an address and a place, in a log of this version.
@@ -45,7 +54,7 @@ pub fn is_event(code: u8) -> bool
 fn has_place(version: u32, code: u8) -> bool
     ensures { result ≡ has_place version code }
 {
-    version == VERSION && 20 <= code && code <= 25
+    20 <= code && (version == PLACED_VERSION && code <= 25 || version == VERSION && code <= 28)
 }
 
 /// Returns the object of a record without its place.
@@ -79,7 +88,8 @@ impl Fields {
     {
         match self.code {
             1..=13 => Some(self.event_of_program()),
-            16..=25 => Some(self.event_of_mutex()),
+            16..=24 => Some(self.event_of_mutex()),
+            25..=28 => Some(self.event_of_object()),
             _ => None,
         }
     }
@@ -131,11 +141,11 @@ impl Fields {
         }
     }
 
-    /// Returns the event of a mutex or a condition variable.
+    /// Returns the event of a mutex.
     #[inline(always)]
     fn event_of_mutex(&self) -> Event
         requires low { 16 ≤ self.now.code }
-        requires high { self.now.code ≤ 25 }
+        requires high { self.now.code ≤ 24 }
         ensures { Says self.now result }
     {
         let (mutex, bare_mutex) = (self.mutex(), self.bare_mutex());
@@ -162,8 +172,49 @@ impl Fields {
                 mutex,
                 call: self.call(),
             },
-            24 => Event::ReleaseFailed(bare_mutex),
-            _ => Event::Condition,
+            _ => Event::ReleaseFailed(bare_mutex),
+        }
+    }
+
+    /// Returns the event of what isn't a mutex.
+    fn event_of_object(&self) -> Event
+        requires low { 25 ≤ self.now.code }
+        requires high { self.now.code ≤ 28 }
+        ensures { Says self.now result }
+    {
+        let object = self.object();
+        match self.code {
+            25 => Event::Condition(self.condition()),
+            26 => Event::Wait(object),
+            27 => Event::Waited {
+                object,
+                took: self.took(),
+                outcome: Outcome::of(self.how),
+            },
+            _ => Event::Give {
+                object,
+                is_to_all: self.how == 1,
+            },
+        }
+    }
+
+    /// Returns what is waited for, or given.
+    fn object(&self) -> Object
+        ensures { result ≡ object_of self.now }
+    {
+        Object {
+            address: self.object,
+            kind: ObjectKind::of(self.detail),
+        }
+    }
+
+    /// Returns the condition variable of a record that is of no other kind.
+    fn condition(&self) -> Object
+        ensures { result ≡ condition_in self.now }
+    {
+        Object {
+            address: self.object,
+            kind: Some(ObjectKind::Condition),
         }
     }
 

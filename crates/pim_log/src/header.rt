@@ -6,7 +6,7 @@ ghost use Rattle.pim_log.specs.Logs.{ReadsAs};
 use crate::fault::HeaderFault;
 use crate::numbers::{u32_at, u64_at};
 
-/// The bytes of a header of version 1. One of version 2 has the table of places behind them.
+/// The bytes of a header of version 1. One of a later version has the table of places behind them.
 pub const HEADER_BYTES: usize = 4096;
 /// How many places the table has.
 pub const PLACES: usize = 8192;
@@ -24,8 +24,10 @@ const BYTE_ORDER: u32 = 0x0102_0304;
 
 /// The version before there were places.
 const FIRST_VERSION: u32 = 1;
-/// The version whose records have places.
-pub const VERSION: u32 = 2;
+/// The first version whose records have places.
+pub const PLACED_VERSION: u32 = 2;
+/// The version whose records also tell of waits for what isn't a mutex.
+pub const VERSION: u32 = 3;
 
 const COMMAND_BYTES: u32 = 2048;
 
@@ -37,7 +39,7 @@ fn form_fault(bytes: &[u8]) -> Option<HeaderFault>
         Some(HeaderFault::NotALog)
     } else if u32_at(bytes, 12) != BYTE_ORDER {
         Some(HeaderFault::OtherByteOrder)
-    } else if u32_at(bytes, 8) != FIRST_VERSION && u32_at(bytes, 8) != VERSION {
+    } else if u32_at(bytes, 8) < FIRST_VERSION || u32_at(bytes, 8) > VERSION {
         Some(HeaderFault::OtherVersion)
     } else if !has_sizes(bytes) {
         Some(HeaderFault::OtherSizes)
@@ -50,7 +52,7 @@ fn form_fault(bytes: &[u8]) -> Option<HeaderFault>
 fn header_bytes_of(version: u32) -> usize
     ensures { result ≡ header_bytes_of version }
 {
-    if version == VERSION {
+    if version >= PLACED_VERSION {
         HEADER_BYTES + 8 * PLACES
     } else {
         HEADER_BYTES
@@ -89,7 +91,7 @@ pub fn used_bytes(start: &[u8]) -> Result<usize, HeaderFault>
 /// What the header of a log says.
 #[derive(Clone, Copy, PartialEq, Eq)]
 pub struct Header {
-    /// The version of the form: 1, or 2, whose records have places.
+    /// The version of the form: 1; 2, whose records have places; or 3, which also has waits for what isn't a mutex.
     pub version: u32,
     /// The bytes of the header: where the first chunk begins.
     pub length: u32,

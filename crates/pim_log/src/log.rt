@@ -1,14 +1,14 @@
 //! A log.
-ghost use Rattle.std.specs.Prelude.{◌≡◌, ℕ, MatchOption, MatchResult};
+ghost use Rattle.std.specs.Prelude.{◌≡◌, ℕ, IsTrue, MatchOption, MatchResult};
 ghost use Rattle.pim_log.specs.Headers.{header_of, end_of};
-ghost use Rattle.pim_log.specs.Logs.{address_of, IsLog, IsFault, IsNumbered, IsRecord};
+ghost use Rattle.pim_log.specs.Logs.{address_of, IsLog, IsFault, IsNumbered, IsOfLock, IsRecord};
 
 use crate::fault::LogFault;
-use crate::header::{HEADER_BYTES, Header, PLACES, VERSION};
+use crate::header::{HEADER_BYTES, Header, PLACED_VERSION, PLACES};
 use crate::index::index_of;
 use crate::numbers::u64_at;
 use crate::record::Record;
-use crate::slots::record_of;
+use crate::slots::{is_lock_in, record_of};
 use std::alloc::Global;
 use std::marker::Model;
 
@@ -79,13 +79,30 @@ impl<'a> Log<'a> {
         record_of(&self.header, self.bytes, slot as usize)
     }
 
+    /// Returns whether a lock's record has this number: a REQUEST, a RELEASE, or a GRANTED, unless it ends a wait at a
+    /// condition variable. It isn't decoded: by far the most records are of locks, and who looks for others is quicker by
+    /// asking this first.
+    #[inline(always)]
+    pub fn is_of_lock(&self, number: u64) -> bool
+        ensures { IsTrue result → IsOfLock self.now number }
+    {
+        if number >= self.header.end() {
+            return false;
+        }
+        let slot = self.index[number as usize];
+        if slot == 0 {
+            return false;
+        }
+        is_lock_in(&self.header, self.bytes, slot as usize)
+    }
+
     /// Returns the address in the code of the place with this number: where a call returns to. `None` where the log has no
     /// such place.
     pub fn place(&self, number: u16) -> Option<u64>
         ensures { result ≡ address_of self.now number }
     {
         let number = number as usize;
-        if self.header.version != VERSION || number == 0 || number > PLACES {
+        if self.header.version < PLACED_VERSION || number == 0 || number > PLACES {
             return None;
         }
         let address = u64_at(self.bytes, HEADER_BYTES + 8 * (number - 1));

@@ -1,11 +1,11 @@
 //! The slots of a log: a chunk's head, or room for a record.
 ghost use Rattle.std.specs.Prelude.{◌≡◌, ◌≢◌, ◌+◌, ◌-◌, ◌^◌, ◌<◌, ◌≤◌, ◌%◌, length, false, MatchOption};
 ghost use Rattle.pim_log.specs.Headers.{header_of};
-ghost use Rattle.pim_log.specs.Logs.{slot_at, number_in, code_in, head_fault, is_in_order, record_fault, slot_fault, fields_in, IsRecord};
+ghost use Rattle.pim_log.specs.Logs.{slot_at, number_in, code_in, head_fault, is_in_order, record_fault, slot_fault, fields_in, is_lock_in, IsRecord};
 ghost use Rattle.pim_log.specs.Events.{is_event};
 
 use crate::fault::SlotFault;
-use crate::fields::{Fields, is_event, object_in, place_in};
+use crate::fields::{Fields, is_event_of, object_in, place_in};
 use crate::header::{CHUNK_SLOTS, Header, SLOT_BYTES};
 use crate::numbers::{u16_at, u32_at, u64_at};
 use crate::record::Record;
@@ -92,7 +92,7 @@ fn fault_of_record(header: &Header, bytes: &[u8], slot: usize) -> Option<SlotFau
         Some(SlotFault::OutOfOrder)
     } else if number >= header.next_number {
         Some(SlotFault::NumberTooHigh)
-    } else if !is_event(bytes[offset_of(header, slot) + 30]) {
+    } else if !is_event_of(header.version, bytes[offset_of(header, slot) + 30]) {
         Some(SlotFault::UnknownEvent)
     } else {
         None
@@ -132,6 +132,22 @@ fn fields_of(header: &Header, bytes: &[u8], slot: usize) -> Fields
         detail: u16_at(bytes, at + 28),
         code,
         how: bytes[at + 31],
+    }
+}
+
+/// Returns whether the record in a slot is a lock's: a REQUEST, a RELEASE, or a GRANTED, unless it ends a wait at a condition
+/// variable.
+#[inline(always)]
+pub fn is_lock_in(header: &Header, bytes: &[u8], slot: usize) -> bool
+    requires header { header.now ≡ header_of bytes.now }
+    requires slot { slot_at header.now slot + 32 ≤ length bytes.now }
+    ensures { result ≡ is_lock_in bytes.now slot }
+{
+    let at = offset_of(header, slot);
+    match bytes[at + 30] {
+        20 | 23 => true,
+        21 => bytes[at + 31] & 127 != 4,
+        _ => false,
     }
 }
 

@@ -1,0 +1,215 @@
+/* Waits for what isn't a mutex: semaphores, read-write locks, barriers and ends of threads; and the
+ * calls that end such waits, or those at condition variables. What can be had at once is tried
+ * first, and isn't put. errno is as the plain call leaves it. */
+#define _GNU_SOURCE
+#include "places.h"
+#include "recorder.h"
+
+#include <errno.h>
+#include <semaphore.h>
+
+/* A wait whose WAIT is put, unless a handler interrupted the recorder. */
+struct wait {
+    uint64_t object; /* with the place */
+    uint64_t began;
+    enum kind kind;
+    bool is_put;
+};
+
+/* Puts a WAIT of now. */
+static struct wait begin_wait(enum kind kind, uintptr_t object, uint64_t place) {
+    struct wait wait = { .kind = kind };
+    if (!log_begin()) return wait;
+    wait.object = places_object(object, place);
+    wait.began = log_time();
+    wait.is_put = true;
+    log_write((struct record){ .event = EVENT_WAIT,
+                               .object = wait.object,
+                               .detail = (uint16_t)kind,
+                               .time = wait.began });
+    log_end();
+    return wait;
+}
+
+/* Puts what the call returned, and how long it took. Returns that. What was waited for may be gone,
+ * so that it isn't read. */
+static int end_wait(const struct wait *wait, int error) {
+    if (!wait->is_put || !log_begin()) return error;
+    uint64_t time = log_time();
+    log_write((struct record){ .event = EVENT_WAITED,
+                               .how = (uint8_t)error,
+                               .object = wait->object,
+                               .value = log_saturated(time - wait->began),
+                               .detail = (uint16_t)wait->kind,
+                               .time = time });
+    log_end();
+    return error;
+}
+
+/* Puts a GIVE. It comes before the call: a thread that is woken may free the memory. */
+static void give(enum kind kind, const void *object, unsigned how, uint64_t place) {
+    places_put(place, (struct record){ .event = EVENT_GIVE,
+                                       .how = (uint8_t)how,
+                                       .object = (uintptr_t)object,
+                                       .detail = (uint16_t)kind });
+}
+
+/* glibc refuses other times and clocks also where there is nothing to wait for. */
+static bool is_time(const struct timespec *time) {
+    return time->tv_nsec >= 0 && time->tv_nsec < 1000000000;
+}
+
+static bool is_clock(clockid_t clock) {
+    return clock == CLOCK_REALTIME || clock == CLOCK_MONOTONIC;
+}
+
+/* ---- semaphores ---- */
+
+static bool takes(sem_t *semaphore) {
+    int error = errno;
+    if (real.sem_trywait(semaphore) == 0) return true;
+    errno = error;
+    return false;
+}
+
+/* Such a call returns -1 where it fails, and errno has the error. */
+static int end_semaphore(const struct wait *wait, int result) {
+    end_wait(wait, result ? errno : 0);
+    return result;
+}
+
+/* As glibc's, this acts on a cancellation also where the semaphore can be had at once. */
+EXPORT int sem_wait(sem_t *semaphore) {
+    if (!is_recorded()) return real.sem_wait(semaphore);
+    pthread_testcancel();
+    if (takes(semaphore)) return 0;
+    struct wait wait = begin_wait(KIND_SEMAPHORE, (uintptr_t)semaphore, PLACE);
+    return end_semaphore(&wait, real.sem_wait(semaphore));
+}
+
+EXPORT int sem_timedwait(sem_t *semaphore, const struct timespec *until) {
+    if (!is_recorded() || !is_time(until)) return real.sem_timedwait(semaphore, until);
+    pthread_testcancel();
+    if (takes(semaphore)) return 0;
+    struct wait wait = begin_wait(KIND_SEMAPHORE, (uintptr_t)semaphore, PLACE);
+    return end_semaphore(&wait, real.sem_timedwait(semaphore, until));
+}
+
+/* glibc's acts on a cancellation only where it waits. */
+EXPORT int sem_clockwait(sem_t *semaphore, clockid_t clock, const struct timespec *until) {
+    if (!is_recorded() || !is_clock(clock) || !is_time(until))
+        return real.sem_clockwait(semaphore, clock, until);
+    if (takes(semaphore)) return 0;
+    struct wait wait = begin_wait(KIND_SEMAPHORE, (uintptr_t)semaphore, PLACE);
+    return end_semaphore(&wait, real.sem_clockwait(semaphore, clock, until));
+}
+
+/* May be called in a signal's handler, also in one that has interrupted the recorder. */
+EXPORT int sem_post(sem_t *semaphore) {
+    if (is_recorded()) give(KIND_SEMAPHORE, semaphore, 0, PLACE);
+    return real.sem_post(semaphore);
+}
+
+/* ---- read-write locks ---- */
+
+EXPORT int pthread_rwlock_rdlock(pthread_rwlock_t *lock) {
+    if (!is_recorded()) return real.rwlock_rdlock(lock);
+    if (real.rwlock_tryrdlock(lock) == 0) return 0;
+    struct wait wait = begin_wait(KIND_READ, (uintptr_t)lock, PLACE);
+    return end_wait(&wait, real.rwlock_rdlock(lock));
+}
+
+EXPORT int pthread_rwlock_timedrdlock(pthread_rwlock_t *lock, const struct timespec *until) {
+    if (!is_recorded() || !is_time(until)) return real.rwlock_timedrdlock(lock, until);
+    if (real.rwlock_tryrdlock(lock) == 0) return 0;
+    struct wait wait = begin_wait(KIND_READ, (uintptr_t)lock, PLACE);
+    return end_wait(&wait, real.rwlock_timedrdlock(lock, until));
+}
+
+EXPORT int pthread_rwlock_clockrdlock(pthread_rwlock_t *lock, clockid_t clock,
+                                      const struct timespec *until) {
+    if (!is_recorded() || !is_clock(clock) || !is_time(until))
+        return real.rwlock_clockrdlock(lock, clock, until);
+    if (real.rwlock_tryrdlock(lock) == 0) return 0;
+    struct wait wait = begin_wait(KIND_READ, (uintptr_t)lock, PLACE);
+    return end_wait(&wait, real.rwlock_clockrdlock(lock, clock, until));
+}
+
+EXPORT int pthread_rwlock_wrlock(pthread_rwlock_t *lock) {
+    if (!is_recorded()) return real.rwlock_wrlock(lock);
+    if (real.rwlock_trywrlock(lock) == 0) return 0;
+    struct wait wait = begin_wait(KIND_WRITE, (uintptr_t)lock, PLACE);
+    return end_wait(&wait, real.rwlock_wrlock(lock));
+}
+
+EXPORT int pthread_rwlock_timedwrlock(pthread_rwlock_t *lock, const struct timespec *until) {
+    if (!is_recorded() || !is_time(until)) return real.rwlock_timedwrlock(lock, until);
+    if (real.rwlock_trywrlock(lock) == 0) return 0;
+    struct wait wait = begin_wait(KIND_WRITE, (uintptr_t)lock, PLACE);
+    return end_wait(&wait, real.rwlock_timedwrlock(lock, until));
+}
+
+EXPORT int pthread_rwlock_clockwrlock(pthread_rwlock_t *lock, clockid_t clock,
+                                      const struct timespec *until) {
+    if (!is_recorded() || !is_clock(clock) || !is_time(until))
+        return real.rwlock_clockwrlock(lock, clock, until);
+    if (real.rwlock_trywrlock(lock) == 0) return 0;
+    struct wait wait = begin_wait(KIND_WRITE, (uintptr_t)lock, PLACE);
+    return end_wait(&wait, real.rwlock_clockwrlock(lock, clock, until));
+}
+
+/* Which of the two kinds it is isn't known. */
+EXPORT int pthread_rwlock_unlock(pthread_rwlock_t *lock) {
+    if (is_recorded()) give(KIND_READ, lock, 0, PLACE);
+    return real.rwlock_unlock(lock);
+}
+
+/* ---- barriers ---- */
+
+/* Which thread is the last isn't known before. */
+EXPORT int pthread_barrier_wait(pthread_barrier_t *barrier) {
+    if (!is_recorded()) return real.barrier_wait(barrier);
+    struct wait wait = begin_wait(KIND_BARRIER, (uintptr_t)barrier, PLACE);
+    int result = real.barrier_wait(barrier);
+    end_wait(&wait, result == PTHREAD_BARRIER_SERIAL_THREAD ? 0 : result);
+    return result;
+}
+
+/* ---- ends of threads ---- */
+
+EXPORT int pthread_join(pthread_t thread, void **result) {
+    if (!is_recorded()) return real.join(thread, result);
+    int error = real.tryjoin(thread, result);
+    if (error != EBUSY) return error;
+    struct wait wait = begin_wait(KIND_THREAD, (uintptr_t)thread, PLACE);
+    return end_wait(&wait, real.join(thread, result));
+}
+
+EXPORT int pthread_timedjoin_np(pthread_t thread, void **result, const struct timespec *until) {
+    if (!is_recorded()) return real.timedjoin(thread, result, until);
+    int error = real.tryjoin(thread, result);
+    if (error != EBUSY) return error;
+    struct wait wait = begin_wait(KIND_THREAD, (uintptr_t)thread, PLACE);
+    return end_wait(&wait, real.timedjoin(thread, result, until));
+}
+
+EXPORT int pthread_clockjoin_np(pthread_t thread, void **result, clockid_t clock,
+                                const struct timespec *until) {
+    if (!is_recorded() || !is_clock(clock)) return real.clockjoin(thread, result, clock, until);
+    int error = real.tryjoin(thread, result);
+    if (error != EBUSY) return error;
+    struct wait wait = begin_wait(KIND_THREAD, (uintptr_t)thread, PLACE);
+    return end_wait(&wait, real.clockjoin(thread, result, clock, until));
+}
+
+/* ---- condition variables ---- */
+
+EXPORT int pthread_cond_signal(pthread_cond_t *condition) {
+    if (is_recorded()) give(KIND_CONDITION, condition, 0, PLACE);
+    return real.cond_signal(condition);
+}
+
+EXPORT int pthread_cond_broadcast(pthread_cond_t *condition) {
+    if (is_recorded()) give(KIND_CONDITION, condition, TO_ALL, PLACE);
+    return real.cond_broadcast(condition);
+}
