@@ -107,7 +107,8 @@ impl LeftOut {
     pub fn text(self) -> &'static str {
         match self {
             LeftOut::Absent => "never written: a thread was killed as it put one",
-            LeftOut::Remark => "with names of threads, mutexes, files, places and processes",
+            LeftOut::Remark =>
+                "with names of threads, mutexes, files, places and processes, or of other waits",
             LeftOut::Unchanged => "of priorities and ceilings that were so already",
             LeftOut::Again => "of locks and unlocks of a mutex that their thread keeps",
             LeftOut::Uncontended => "of ownerships for which nobody waited",

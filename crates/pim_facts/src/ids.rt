@@ -1,6 +1,7 @@
 //! Whom each record of a log is about.
-ghost use Rattle.std.specs.Prelude.{IfErr};
+ghost use Rattle.std.specs.Prelude.{◌≡◌, IfErr};
 ghost use Rattle.pim_log.specs.Headers.{header_of, end_of};
+ghost use Rattle.pim_facts.specs.Levels.{id_of, first_level};
 ghost use Rattle.pim_facts.specs.Faults.{NamesOneOf, NamesOnly};
 
 use crate::family::{Family, ceiling_in, family_in};
@@ -115,8 +116,20 @@ impl Ids {
     }
 
     /// Returns the mutex of the record with this number, or the thread that it names or whose priority it sets, or 0.
-    pub fn of_record(&self, number: u64) -> u32 {
+    pub fn of_record(&self, number: u64) -> u32
+        ensures { result ≡ id_of self.now number }
+    {
         self.of_record.get(number as usize).copied().unwrap_or(0)
+    }
+
+    /// Returns the level that the first record of a thread says: 0 if there is no such thread.
+    pub fn first_level(&self, thread: u32) -> u8
+        ensures { result ≡ first_level self.now thread }
+    {
+        match self.threads.get(thread as usize) {
+            Some(is) => is.level,
+            None => 0,
+        }
     }
 
     fn put(&mut self, number: u64, id: u32) {

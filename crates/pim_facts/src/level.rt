@@ -1,4 +1,6 @@
 //! The priorities of threads, as a log has them.
+ghost use Rattle.std.specs.Prelude.{◌≡◌};
+ghost use Rattle.pim_facts.specs.Levels.{level_by};
 
 use pim_log::Priority;
 
@@ -13,7 +15,9 @@ const MAX_REAL_TIME: u8 = 99;
 /// SCHED_FIFO and SCHED_RR have their priority, 1 to 99, SCHED_DEADLINE is above all of them, and each other policy is
 /// below: its threads differ by nothing that a mutex looks at. A record that keeps the policy changes the priority of a
 /// thread under SCHED_FIFO or SCHED_RR alone.
-pub fn level_of(priority: Priority, before: u8) -> u8 {
+pub fn level_of(priority: Priority, before: u8) -> u8
+    ensures { result ≡ level_by priority before }
+{
     match priority {
         Priority::Other => 0,
         Priority::RealTime(level) => level.min(MAX_REAL_TIME),

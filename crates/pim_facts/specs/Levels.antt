@@ -1,0 +1,22 @@
+-- The levels of threads, and whom a record is about.
+use Rattle.std.specs.Prelude.{ℕ, nat_lt, ◌&&◌, min, if◌then◌else◌, slice_index_or, slice_get}
+use Rattle.std.specs.Option.{option_map_or}
+use Rattle.pim_log.specs.declared.priority.Priority.{Priority}
+use Rattle.pim_log.specs.declared.priority.Priority.TheVariants.{Other, RealTime, Deadline, Kept}
+use Rattle.pim_facts.specs.declared.ids.Ids.{Ids}
+
+-- the level that a priority gives to a thread that had this one before: 1 to 99 of SCHED_FIFO and SCHED_RR, 100 of
+-- SCHED_DEADLINE, 0 of all others. Where the policy is kept, only a level of 1 to 99 changes
+abbrev pub level_by : Priority → ℕ → ℕ
+level_by Other before = 0
+level_by (RealTime level) before = min level 99
+level_by Deadline before = 100
+level_by (Kept level) before = if nat_lt 0 before && nat_lt before 100 then min level 99 else before
+
+-- whom the record with a number is about; 0 if it is about nobody
+abbrev pub id_of : Ids → ℕ → ℕ
+id_of ids number = slice_index_or ids.of_record.items number 0
+
+-- the level that the first record of a thread says; 0 of a thread that there isn't
+abbrev pub first_level : Ids → ℕ → ℕ
+first_level ids t = option_map_or (λ thread. thread.level) (slice_get ids.threads.items t) 0

@@ -1,0 +1,2 @@
+pub mod Enders
+pub mod Following

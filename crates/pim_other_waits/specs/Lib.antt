@@ -1,0 +1,4 @@
+pub mod Waits
+pub mod Tables
+pub mod Records
+pub mod Laws

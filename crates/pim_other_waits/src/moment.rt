@@ -1,0 +1,11 @@
+//! A record that has a time.
+
+use pim_log::Record;
+
+/// A record and its time. Parts of texts have none.
+#[derive(Clone, Copy, PartialEq, Eq)]
+pub struct Moment {
+    pub record: Record,
+    /// CLOCK_MONOTONIC in nanoseconds.
+    pub time: u64,
+}
