@@ -9,7 +9,7 @@ use Rattle.pim_course.specs.declared.course.Sources.{Sources}
 abbrev pub mutex_in : Course → ℕ → CourseMutex
 mutex_in course m =
     slice_index_or course.mutexes.items m
-    (record { owner = 0; last_owner = 0; next_owner = 0; taken_at = None; depth = 0; waiting = 0; section = 0; ceiling = 0 })
+    (record { owner = 0; last_owner = 0; next_owner = 0; taken_at = None; was_tried = false; depth = 0; waiting = 0; section = 0; ceiling = 0 })
 
 -- the protocol of a mutex
 abbrev pub family_in : Sources → ℕ → Family

@@ -5,7 +5,7 @@ ghost use Rattle.pim_course.specs.Courses.{family_in, mutex_in};
 use crate::next_owners::NextOwners;
 use crate::requests::{Request, Requests};
 use pim_facts::{Fact, Facts, Family, Ids, LeftOut, What, ceiling_in, level_of};
-use pim_log::{Event, Mutex, Priority, Record};
+use pim_log::{Call, Event, Mutex, Priority, Record};
 use std::alloc::{AllocError, Global};
 
 /// What is known of a log before its course is followed.
@@ -32,6 +32,8 @@ pub struct CourseMutex {
     /// The place in the code at which its owner took it, or its last owner if it is free. A number for
     /// [`Log::place`](pim_log::Log::place).
     pub taken_at: Option<u16>,
+    /// Whether its owner took it by a trylock, which doesn't wait, or its last owner if it is free.
+    pub was_tried: bool,
     /// How often its owner has locked it. 0 if it has none.
     pub depth: u32,
     /// How many threads wait for it.
@@ -85,6 +87,7 @@ const FREE: CourseMutex = CourseMutex {
     last_owner: 0,
     next_owner: 0,
     taken_at: None,
+    was_tried: false,
     depth: 0,
     waiting: 0,
     section: 0,
@@ -359,7 +362,7 @@ impl Course {
         if owner != 0 {
             self.hand_over(owner, mutex, thread);
         }
-        self.take(thread, mutex, record.place);
+        self.take(record, mutex);
         LeftOut::Uncontended
     }
 
@@ -379,8 +382,9 @@ impl Course {
         LeftOut::Again
     }
 
-    /// A thread owns a mutex that is free, from a call at this place in the code on.
-    fn take(&mut self, thread: u32, mutex: u32, place: Option<u16>) {
+    /// The thread of a record owns a mutex that is free, from the call on that the record ends.
+    fn take(&mut self, record: &Record, mutex: u32) {
+        let thread = record.thread;
         let section = self.section_of(mutex);
         let mut owner = self.thread(thread);
         let mut is = self.mutex(mutex);
@@ -392,7 +396,8 @@ impl Course {
         }
         is.owner = thread;
         is.next_owner = 0;
-        is.taken_at = place;
+        is.taken_at = record.place;
+        is.was_tried = is_trylock(&record.event);
         is.depth = 1;
         self.put_thread(thread, owner);
         self.put_mutex(mutex, is);
@@ -482,6 +487,14 @@ pub fn family_of(sources: &Sources, mutex: u32) -> Family
     match sources.ids.mutexes.get(mutex as usize) {
         Some(is) => is.family,
         None => Family::None,
+    }
+}
+
+/// Returns whether an event is the grant of a mutex by a trylock.
+fn is_trylock(event: &Event) -> bool {
+    match event {
+        Event::Granted { call, .. } => *call == Call::TryLock,
+        _ => false,
     }
 }
 

@@ -1,0 +1,3 @@
+mod Seeing
+mod Opposing
+mod Asking

@@ -1,0 +1,4 @@
+pub mod Nestings
+pub mod Seen
+pub mod Opposites
+pub mod Laws
