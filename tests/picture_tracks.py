@@ -141,12 +141,12 @@ class Tracks:
         return faults
 
     def wrong_thread(self, it):
-        """Returns the slice of a CPU if its task isn't one of the file, or its level none."""
+        """Returns the slice of a CPU if it has a task that isn't one of the file, or its level none."""
         arguments = dict(it["args"])
-        task, level = arguments.pop("task"), arguments.pop("level")
+        task, level = arguments.pop("task", None), arguments.pop("level")
         before = arguments.pop("level before", None)
-        is_right = ("process_name", task) in {key[:2] for key in self.called} and not arguments
-        is_right = is_right and {level, before} <= {None, *range(101)} and None != level != before
+        is_known = task is None or ("process_name", task) in {key[:2] for key in self.called}
+        is_right = is_known and not arguments and {level, before} <= {None, *range(101)} and None != level != before
         return [] if is_right else [f"{it['name']} with {it['args']}"]
 
     def at(self, task, step):

@@ -15,7 +15,7 @@ use crate::table::draw_table;
 use crate::walking::Window;
 use pim_base::Verdict;
 use pim_judge::{Fault, Sink, Source, Text, parse, read_all};
-use pim_kernel_events::Tracks;
+use pim_kernel_events::{Tasks, Tracks};
 use pim_names::Piece;
 use std::alloc::Global;
 
@@ -77,7 +77,16 @@ pub struct Recorded<'a> {
     /// Its threads, and when the steps were made.
     pub names: Piece<'a>,
     /// When each thread ran on which CPU, if the kernel's events were recorded. Only tracks show it.
-    pub tracks: Option<&'a Tracks>,
+    pub kernel: Option<Kernel<'a>>,
+}
+
+/// What the kernel's events show of its tasks.
+#[derive(Clone, Copy)]
+pub struct Kernel<'a> {
+    /// When each ran on which CPU.
+    pub tracks: &'a Tracks,
+    /// Their names.
+    pub tasks: &'a Tasks,
 }
 
 /// What there is after a trace was to be drawn with names.

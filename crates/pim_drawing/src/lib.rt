@@ -30,5 +30,5 @@ mod walking;
 mod words;
 
 pub use command_line::{Asked, Form, command};
-pub use drawing::{Named, Recorded, Style, named_picture, picture};
+pub use drawing::{Kernel, Named, Recorded, Style, named_picture, picture};
 pub use walking::Window;

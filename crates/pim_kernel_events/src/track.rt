@@ -73,6 +73,13 @@ impl Track {
         }
     }
 
+    /// Another task runs on this CPU. If no line shows that this one stopped, it isn't known until when it ran.
+    pub(crate) fn miss(&mut self, cpu: u32) {
+        if self.is_on(cpu) {
+            self.since = None;
+        }
+    }
+
     /// The task begins to run, at this level.
     pub(crate) fn enter(&mut self, sign: Sign, level: u8) {
         self.since = Some(sign);

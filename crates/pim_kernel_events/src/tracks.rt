@@ -14,6 +14,8 @@ pub struct Tracks {
     list: Vec<Track>,
     /// By task the place in the list.
     places: HashMap<u32, usize>,
+    /// By CPU the place of the task that a line last showed there.
+    running: HashMap<u32, usize>,
     began: u64,
     ended: u64,
     alloc: Global,
@@ -35,6 +37,7 @@ impl Tracks {
         let mut tracks = Tracks {
             list: Vec::new(alloc),
             places: HashMap::new(alloc),
+            running: HashMap::new(alloc),
             began: recording.began,
             ended: recording.ended,
             alloc,
@@ -79,25 +82,31 @@ impl Tracks {
             time: event.time,
             cpu: event.cpu,
         };
+        if let What::Lost(_) = event.what {
+            return Ok(());
+        }
+        let place = self.show(event.task, sign.cpu)?;
         match event.what {
             What::Switch(switch) => {
-                let place = self.place_of(event.task)?;
                 self.list[place].leave(sign, switch.level, switch.is_asleep)?;
-                let place = self.place_of(switch.next)?;
+                let place = self.show(switch.next, sign.cpu)?;
                 self.list[place].enter(sign, switch.next_level);
                 Ok(())
             }
             What::Boost(boost) => {
-                self.see(event.task, sign)?;
+                self.list[place].see(sign);
                 let place = self.place_of(boost.task)?;
                 self.list[place].change(sign, boost.before, boost.after)
             }
             What::Lock(address) | What::TryLock(address) => {
-                self.call(event.task, sign, false, address)
+                self.list[place].see(sign);
+                self.list[place].call(sign, false, address)
             }
-            What::Unlock(address) => self.call(event.task, sign, true, address),
+            What::Unlock(address) => {
+                self.list[place].see(sign);
+                self.list[place].call(sign, true, address)
+            }
             What::Return => {
-                let place = self.place_of(event.task)?;
                 self.list[place].see(sign);
                 self.list[place].end_call(event.time);
                 Ok(())
@@ -106,22 +115,21 @@ impl Tracks {
         }
     }
 
-    fn see(&mut self, task: u32, sign: Sign) -> Result<(), AllocError> {
+    /// A line shows that a task runs on a CPU. It isn't known when another one that was last shown there stopped. Returns the
+    /// place of the task in the list.
+    fn show(&mut self, task: u32, cpu: u32) -> Result<usize, AllocError>
+        ensures { IfOk result (λ place. place < vec_len self.new.list) }
+    {
         let place = self.place_of(task)?;
-        self.list[place].see(sign);
-        Ok(())
-    }
-
-    fn call(
-        &mut self,
-        task: u32,
-        sign: Sign,
-        is_unlock: bool,
-        address: u64,
-    ) -> Result<(), AllocError> {
-        let place = self.place_of(task)?;
-        self.list[place].see(sign);
-        self.list[place].call(sign, is_unlock, address)
+        let Ok(before) = self.running.insert(cpu, place) else {
+            return Err(AllocError);
+        };
+        if let Some(other) = before {
+            if other != place && other < self.list.len() {
+                self.list[other].miss(cpu);
+            }
+        }
+        Ok(place)
     }
 
     /// Returns the place of a task in the list, which has it from now on.

@@ -8,7 +8,7 @@
 #![tactic(auto)]
 
 use clap::error::ErrorKind;
-use pim_drawing::{Asked, Named, Recorded, Style, command, named_picture, picture};
+use pim_drawing::{Asked, Kernel, Named, Recorded, Style, command, named_picture, picture};
 use pim_judge::{Fault, Input, Output, Verdict, read_all, status};
 use pim_kernel_events::{Recording, TextFault, Tracks};
 use pim_names::{Names, NamesFault, Piece};
@@ -91,8 +91,8 @@ fn draw_with_names(rt: &HostRuntime, asked: &Asked, path: &str) -> io::Result<Ex
 /// Draws standard input with the names of a piece, and with the kernel's events if they are asked for.
 fn draw_piece(rt: &HostRuntime, asked: &Asked, path: &str, names: Piece) -> io::Result<ExitCode> {
     let Some(kernel) = asked.kernel else {
-        let tracks = None;
-        return draw_recorded(rt, asked, path, &Recorded { names, tracks });
+        let kernel = None;
+        return draw_recorded(rt, asked, path, &Recorded { names, kernel });
     };
     let Some(bytes) = bytes_of(rt, kernel)? else {
         return Ok(ExitCode::from(FAULT));
@@ -104,8 +104,11 @@ fn draw_piece(rt: &HostRuntime, asked: &Asked, path: &str, names: Piece) -> io::
     };
     match Tracks::of(rt.alloc(), &recording) {
         Ok(tracks) => {
-            let tracks = Some(&tracks);
-            draw_recorded(rt, asked, path, &Recorded { names, tracks })
+            let kernel = Some(Kernel {
+                tracks: &tracks,
+                tasks: &recording.tasks,
+            });
+            draw_recorded(rt, asked, path, &Recorded { names, kernel })
         }
         Err(_) => report(rt, Fault::Memory),
     }
