@@ -14,7 +14,7 @@ COPIED = """
 README.md CHANGELOG.md SECURITY.md VERSION docs examples web/README.md web/inversion.svg
 record/pim-record record/pim-log record/from-lttng record/kernel_text.py record/log_facts.py record/facts_text.py
 record/places_text.py
-record/FORMAT.md record/KERNEL.md record/LAST.md record/PLACES.md
+record/FORMAT.md record/KERNEL.md record/LAST.md record/PLACES.md record/WAITS.md
 record/recorded/inversion_inherit.log
 conform/pim-conform conform/compare.py conform/fuzz.py conform/walk.py
 conform/set conform/performed

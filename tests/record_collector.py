@@ -154,7 +154,7 @@ def short_threads(reader, broken, folder):
     running = Running(folder, PROGRAMS / "rounds", "threads", "100", options=["--size", "4"])
     for number in range(6):
         running.says("go")
-        until(lambda: next_number(running.path) > 800 * (number + 1))  # eight records of each thread
+        until(lambda: number_in(running.path, 192) > 100 * (number + 1))  # a chunk of each thread
     status = running.end()[0]
     log, data = read(reader, running.path), running.path.stat()
     taken = number_in(running.path, 192)

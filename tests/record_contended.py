@@ -24,13 +24,17 @@ def mutex_events(reader, log):
 def nobody_waits(reader, broken, folder):
     """Neither a lock nor an unlock is in the log, but how many there were."""
     running = started(folder, CONTENDED, last="16M")
-    did = does(running, "busy main busy quiet")
-    status, _, said = running.end()
+    did = does(running, "busy main")
+    early = read(reader, snapshot(running, 1)).head.left_out
+    # all of the busy thread, which has put a post since, and those of the first one that it has counted
+    check("nobody has waited yet", difference((early,), (PAIRS + PAIRS // STEP * STEP,)))
+    did = did and does(running, "busy quiet")
+    status, _, _ = running.end()
     log = read(reader, running.path)
-    # those of the busy thread that it has counted, all of the first one's, none of the quiet one's
-    counted_calls = 2 * PAIRS // STEP * STEP + PAIRS
-    got = did, status, said, mutex_events(reader, log), log.head.left_out
-    check("nobody waits", broken(log) or difference(got, (True, 0, "", [], counted_calls)))
+    # twice the busy thread's, the first one's and a quiet one: each puts a post after them
+    counted_calls = 3 * PAIRS + 1
+    got = did, status, mutex_events(reader, log), log.head.left_out
+    check("nobody waits", broken(log) or difference(got, (True, 0, [], counted_calls)))
     check("its mutexes are there", difference((counted(reader, log, reader.INIT),), (2,)))
 
 

@@ -14,10 +14,13 @@ from record_suite import Case, lines_differ
 SUITE, PIM_LOG = ROOT / "suite/facts", ROOT / "record/pim-log"
 # What a text can't have: docs/FACTS.md says it.
 APART = ("left out: ", "lost: ", "unseen: ", "unplaced: ", "added: ", "not known: ")
-# Recordings whose text has other findings: a damaged one, those in which a mutex is granted while another owns it, and
-# one in which two threads had the same task.
+# Recordings whose text has other findings: a damaged one, those in which a mutex is granted while another owns it, one in
+# which two threads had the same task, one with a trylock, and those with waits for what isn't a mutex.
 OTHER = {"chunks_without_room_are_cut_short", "owner_keeps_its_place_where_it_waits", "owner_that_waits_loses_its_mutex",
-         "release_before_the_grant_is_not_by_the_owner", "wait_is_of_the_thread_that_has_the_number_then"}
+         "release_before_the_grant_is_not_by_the_owner", "wait_is_of_the_thread_that_has_the_number_then",
+         "trylock_waits_for_no_mutex", "condition_variable_is_signalled", "joined_thread_ends_the_wait",
+         "last_thread_at_a_barrier_ends_the_waits", "read_write_lock_is_unlocked_by_a_lower_thread",
+         "semaphore_has_two_waiters", "semaphore_is_posted_by_a_lower_thread", "wait_that_times_out_has_no_giver"}
 
 
 class Text(Case):
@@ -149,7 +152,7 @@ def example(folder):
               "blocking by lower threads, from what was observed, on one CPU; without a protocol not bounded:",
               f"  plan[2], at 30: at most {bound}; waited 3.000 ms",
               f"  spare[3], at 20: at most {bound}; waited 1.000 ms",
-              "owned: mutex 1 (inherit), from map_lock, 4.000 ms at most, by log[1]; 2 waits"]
+              "owned: mutex 1 (inherit), from map_lock, 4.000 ms at most, by log[1]; 2 waits of 4.000 ms in all, 3.000 ms at most"]
     check("the findings of the example", difference((status, got[0], *lines), (0, 0, *wanted)))
 
 

@@ -21,6 +21,8 @@ import record_places
 PROGRAMS, SECONDS, SKIPPED = ROOT / "record/out/programs", 600, 77
 IMPORTER, PIM = ROOT / "crates/pim_importer/out/pim_importer", ROOT / "crates/pim/out/pim"
 PICTURE = ROOT / "crates/pim_picture/out/pim_picture"
+# A place in the code, as pim-import prints it: `planner.c:88 (plan)`, `planner+0x1a30` or `0x7f10b2f006c0`.
+PLACE = r"\S+(?: \([^()]*\))?"
 DURATION, MOMENT = r"\d+\.\d{3} (?:s|ms|us)", r"\d+\.\d{6} s"
 
 # The only line of a wait that the program missed may have: high waits for low alone, and in at least one of its rounds.
@@ -33,13 +35,15 @@ FINDINGS = {
         rf"high\[\d+\], at 30, waited 2\.\d{{3}} s from {MOMENT} on for mutex 1 \(none\) of low\[\d+\], at 10: "
         r"not bounded: mutex 1 is a NONE one",
         rf"should inherit: mutex 1 \(none\), from inversion\+0x[0-9a-f]+: 1 wait not bounded, 2\.\d{{3}} s in all",
-        rf"owned: mutex 1 \(none\), from inversion\+0x[0-9a-f]+, 2\.\d{{3}} s at most, by low\[\d+\]; 1 wait",
+        rf"owned: mutex 1 \(none\), from inversion\+0x[0-9a-f]+, 2\.\d{{3}} s at most, by low\[\d+\]; "
+        r"1 wait of 2\.\d{3} s",
         r"trace: 2 threads and 1 mutex of 5 records make 4 steps of .*; priorities as they are, SCHED_OTHER at 1"],
         ["and ", "out of order", "deadlock"]),
     "inversion inherit 2000": (0, [
         rf"high\[\d+\], at 30, waited \d+\.\d{{3}} ms from {MOMENT} on for mutex 1 \(inherit\) of low\[\d+\], at 10: "
         "bounded by inheritance",
-        rf"owned: mutex 1 \(inherit\), from inversion\+0x[0-9a-f]+, \d+\.\d{{3}} ms at most, by low\[\d+\]; 1 wait"],
+        rf"owned: mutex 1 \(inherit\), from inversion\+0x[0-9a-f]+, \d+\.\d{{3}} ms at most, by low\[\d+\]; "
+        rf"1 wait of {DURATION}"],
         ["should inherit", "not bounded", "out of order", "deadlock"]),
     "chain": (0, [
         rf"chain\[\d+\], at 20, waited {DURATION} from {MOMENT} on for mutex 1 \(inherit\) of chain\[\d+\], at 10: "
@@ -62,7 +66,7 @@ FINDINGS = {
         "left out: 1 record of releases that the system refused"],
         ["not bounded", "deadlock", "left out: 1 record of releases by"]),
     "relock": (0, ["no thread waited for a mutex"], ["added", "deadlock"]),
-    "missed": (1, [MISSED, r"should inherit: mutex 1 \(none\), from missed\+0x[0-9a-f]+: .*"], ["deadlock"]),
+    "missed": (1, [MISSED, r"should inherit: mutex 1 \(none\), from (?:mutex|missed\+0x[0-9a-f]+): .*"], ["deadlock"]),
     "forks": (0, ["no thread waited for a mutex"], ["deadlock"]),
     "aborts": (0, [
         rf"aborts\[\d+\], at SCHED_OTHER, waits {DURATION} from {MOMENT} to the end for mutex 1 \(none\) of "
@@ -71,6 +75,10 @@ FINDINGS = {
     "deadlock": (1, [
         r"deadlock: one\[\d+\] waits for mutex 2 \(none\) of two\[\d+\], two\[\d+\] waits for mutex 1 \(none\) of one\[\d+\]"],
         ["not bounded"]),
+    "orders": (0, ["no thread waited for a mutex", "taken in opposite orders, so that these can deadlock:",
+                   r"  plan\[\d+\] took (orders\S+ \(0x\S+\)), then asked for (orders\S+ \(0x\S+\)); "
+                   r"log\[\d+\] took \2, then asked for \1", "left out: .* names of .*"],
+               ["  and", "deadlock"]),
     "many": (0, [r"trace: .*; priorities as they are, SCHED_OTHER at 1"], ["not bounded", "deadlock"]),
 }
 # Recordings that are kept with the kernel's events: their status, their first lines, how many differences and threads
@@ -143,10 +151,6 @@ STORED = {"chain": "chain", "ceiling": "ceiling", "recursive": "recursive", "con
 RACING = ("random 1 400", "random 2 400", "signals", "robust", "waits", "executes", "vforks")
 
 
-# A place in the code, as pim-import prints it: `planner.c:88 (plan)`, `planner+0x1a30` or `0x7f10b2f006c0`.
-PLACE = r"\S+(?: \([^()]*\))?"
-
-
 def run(*command, **how):
     return subprocess.run([str(word) for word in command], capture_output=True, timeout=SECONDS, **how)
 
@@ -154,6 +158,8 @@ def run(*command, **how):
 def unplaced(line):
     """Returns a line of the findings without its places in the code: tests/record_places.py compares those."""
     line = re.sub(rf" at {PLACE}(?= for mutex )", "", line)
+    if ", then asked for " in line:
+        line = re.sub(rf" at {PLACE}(?=, then asked|; |$)", "", line)
     return re.sub(rf", which took it at {PLACE}(?=[:,]|$)", "", line)
 
 
@@ -248,7 +254,8 @@ def programs(folder):
         if command == "chain":
             options(found)
         if command == "missed":
-            others = [line for line in found.lines if ", waited " in line and not re.fullmatch(MISSED, line)]
+            waits = [line for line in found.lines if ", waited " in line and not line.startswith("  ")]
+            others = [line for line in waits if not re.fullmatch(MISSED, line)]
             check("each wait of high in missed is for low", difference((others,), ([],)))
     for command in RACING:
         log, _ended = record_own(folder, command)
@@ -564,7 +571,12 @@ def places(folder):
     line = next(number for number, text in enumerate(INITIALISES.splitlines(), 1) if "INIT" in text)
     for name, words in {"a program": [], "a forked process": ["fork"]}.items():
         log, _ended = record(folder, program, *words)
-        found = re.search(r"^owned: mutex 1 \(none\), from initialises\+(0x[0-9a-f]+),", Import(log).text, re.M)
+        owned, names = r"^owned: mutex 1 \(none\), from %s,", pathlib.Path(f"{log}.places")
+        if names.exists():
+            named = re.search(owned % r"initialises\.c:(\d+) \(\w+\)", Import(log).text, re.M)
+            check(f"the line of a mutex of {name}", difference([named and int(named[1])], [line]))
+            names.unlink()
+        found = re.search(owned % r"initialises\+(0x[0-9a-f]+)", Import(log).text, re.M)
         place = run("addr2line", "-e", program, found[1]).stdout.decode() if found else ""
         got = re.fullmatch(r".*/initialises\.c:(\d+).*\n", place)
         check(f"the place of a mutex of {name}", difference([got and int(got[1])], [line]))

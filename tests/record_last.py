@@ -56,7 +56,7 @@ def rings(reader, broken, folder):
     check("its memory is bounded", None if few else f"{held} bytes")
     owners = {r.chunk.thread for r in log.records if r.event == reader.INIT}
     mine = [t for t in owners if counted(reader, Part(of_thread(log, t)), reader.GRANTED) == 5]
-    kept = [reader.NAMES[r.event] for t in mine for r in of_thread(log, t)]
+    kept = [reader.NAMES[r.event] for t in mine for r in of_thread(log, t) if r.event not in reader.WITH_KIND]
     wanted = ["thread", "name", "init", "place"] + ["granted", "release"] * 5
     check("the quiet thread has all of its records", difference(kept, wanted))
     others = owners - set(mine)

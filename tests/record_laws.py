@@ -10,7 +10,8 @@ from record_logs import log_of
 THREAD, NAME, CREATE, EXIT, PRIORITY, FORK, CHILD, EXEC, EXEC_FAILED, END = range(1, 11)
 MODULE, PLACE, TEXT = range(11, 14)
 INIT, DESTROY, DESTROY_FAILED, CEILING, REQUEST, GRANTED, FAILED = range(16, 23)
-RELEASE, RELEASE_FAILED, CONDITION = range(23, 26)
+RELEASE, RELEASE_FAILED, CONDITION, WAITS, WAITED, GIVE = range(23, 29)
+SEMAPHORE, READ, WRITE, BARRIER, JOIN, SIGNAL = range(1, 7)
 INHERIT, RECURSIVE, ROBUST, SHARED = 0x24, 0x25, 0x34, 0xA4
 MUTEX, WAIT, OWNER_DIED, SATURATED = 0x5000, 4, 0x80, 2**32 - 1
 
@@ -44,6 +45,14 @@ def request(thread, how=0):
     return [(thread, REQUEST, MUTEX, 101, INHERIT, how)]
 
 
+def waits(thread, kind=SEMAPHORE):
+    return [(thread, WAITS, 0x7000, 0, kind, 0)]
+
+
+def waited(thread, kind=SEMAPHORE, took=10, error=0, target=0x7000):
+    return [(thread, WAITED, target, took, kind, error)]
+
+
 PLACED = [(1, PLACE, 0x1234, 0, 0, 0)]
 WAITING = [(1, CONDITION, 0x6000, 0, 0, 0)] + unlock(1, how=WAIT)
 FORKED = [(1, FORK, 0, 0, 0, 0)] + start(2)
@@ -68,6 +77,12 @@ KEPT = {
     "a later call without a request":
         BOTH + request(1) + lock(1, value=10) + unlock(1) + lock(1, value=3),
     "a request whose owner died": BOTH + request(1) + lock(1, INHERIT, OWNER_DIED, 10),
+    "a wait for a semaphore, and a post": BOTH + waits(1) + [(2, GIVE, 0x7000, 0, SEMAPHORE, 0)] + waited(1, took=20),
+    "a wait that times out": start(1) + waits(1, WRITE) + waited(1, WRITE, error=110),
+    "a wait of five seconds": start(1) + waits(1, JOIN) + waited(1, JOIN, took=SATURATED),
+    "a wait that doesn't end": start(1) + waits(1, BARRIER) + waits(1) + waited(1),
+    "a thread that is killed as it waits": start(1) + waits(1, READ),
+    "a signal, and a broadcast": start(1) + [(1, GIVE, 0x6000, 0, SIGNAL, 0), (1, GIVE, 0x6000, 0, SIGNAL, 1)],
     "a thread's status": start(1) + [(1, END, 0, 3, 0, 1)],
     "a thread's exit": start(1) + [(1, EXIT, 0, 0, 0, 0)],
 }
@@ -94,6 +109,20 @@ BROKEN = {
                                    "record 4: its call began at another time than request 3"),
     "a release with a value": (start(1) + lock(1) + [(1, RELEASE, MUTEX, 1, INHERIT, 0)],
                                "record 3: its field value isn't 0"),
+    "an end of no wait": (start(1) + waited(1), "record 2: its thread doesn't wait"),
+    "an end of a wait that has ended": (start(1) + waits(1) + waited(1) + waited(1), "record 4: its thread doesn't wait"),
+    "an end of another's wait": (BOTH + waits(1) + waited(2), "record 4: its thread doesn't wait"),
+    "an end of a wait for something else": (start(1) + waits(1) + waited(1, target=0x7040),
+                                            "record 3: its wait 2 is for something else"),
+    "an end of a wait of another kind": (start(1) + waits(1, READ) + waited(1, WRITE),
+                                         "record 3: its wait 2 is for something else"),
+    "an end of the wait before": (start(1) + waits(1) + waits(1, BARRIER) + waited(1),
+                                  "record 4: its wait 3 is for something else"),
+    "a wait that began later": (start(1) + waits(1) + waited(1, took=9),
+                                "record 3: its call began at another time than wait 2"),
+    "a wait with a value": (start(1) + [(1, WAITS, 0x7000, 1, 1, 0)], "record 2: its field value isn't 0"),
+    "a wait with an error": (start(1) + [(1, WAITS, 0x7000, 0, 1, 4)], "record 2: its field how isn't 0"),
+    "a gift with a value": (start(1) + [(1, GIVE, 0x7000, 1, 1, 0)], "record 2: its field value isn't 0"),
     "an end with an object": (start(1) + [(1, END, 1, 0, 0, 0)],
                               "record 2: its field object isn't 0"),
     "an exit with a detail": (start(1) + [(1, EXIT, 0, 0, 1, 0)],
@@ -138,9 +167,27 @@ def fields(reader):
         for how in (5, 5 | OWNER_DIED):
             told(reader, f"event {event} has no call {how}", (1, event, MUTEX, 0, INHERIT, how),
                  f"there is no call {how}")
+    for event, kinds in ((WAITS, (0, 6, 7)), (WAITED, (0, 6, 0x101)), (GIVE, (0, 3, 4, 5, 7))):
+        for kind in kinds:
+            told(reader, f"event {event} has no kind {kind}", (1, event, 0x7000, 0, kind, 0), f"there is no kind {kind}")
+    for kind, how in ((SEMAPHORE, 1), (READ, 1), (SIGNAL, 2)):
+        told(reader, f"nothing of kind {kind} is given to {how}", (1, GIVE, 0x7000, 0, kind, how),
+             f"nothing is given to {how}")
     for event in (EXEC_FAILED, DESTROY_FAILED, FAILED, RELEASE_FAILED):
         told(reader, f"event {event} has an error", (1, event, 0, 0, 0, 0),
              "it failed without an error")
+
+
+def versions(reader):
+    """A log of an earlier version has no waits but those for mutexes."""
+    for event in (WAITS, WAITED, GIVE):
+        data = log_of_three(start(1) + [(1, event, 0x7000, 0, SEMAPHORE, 0)])
+        struct.pack_into("<I", data, 8, 2)
+        said = verdict(reader, data)
+        check(f"version 2 has no event {event}", difference((said,), ([f"record 2: there is no event {event}"],)))
+    dropped = log_of_three(start(1) + waited(1))
+    struct.pack_into("<QQ", dropped, 232, 1, 900)
+    check("a wait may have been dropped", difference((verdict(reader, dropped),), ([],)))
 
 
 def forks(reader):
@@ -211,6 +258,6 @@ def commands():
 
 
 def by_hand(reader):
-    for part in (laws, fields, forks, numbers):
+    for part in (laws, fields, versions, forks, numbers):
         part(reader)
     commands()

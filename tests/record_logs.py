@@ -31,17 +31,25 @@ def without_places(paths):
     return sorted(path for path in map(pathlib.Path, paths) if path.suffix != ".places")
 
 
+def version_of(rows, places):
+    """Returns the first version of a log that may have such rows and places."""
+    if any(row and row[1] in reader.WITH_KIND for row in rows):
+        return 3
+    return 1 if places is None else 2
+
+
 def log_of(rows, chunks=2, times=None, tasks=None, processes=None, places=None, **fields):
     """Returns a log of rows: thread, event, object, value, detail and how; or thread, event and a part of a text; or
     None, for a number that no record has.
 
     Each thread has a chunk. Unless it is said, record n is of the time 1000 + 10 n, and thread t is task 99 + t of
     process 100. The fields are those of the header. With places, the addresses of the first slots of the table, the log
-    is of version 2, and objects of calls have the number of a place in their bits from 48 on.
+    is of version 2, and objects of calls have the number of a place in their bits from 48 on. With a wait for what isn't
+    a mutex it is of version 3.
     """
     head = {"known": 7, "chunks": chunks, "process": 100, "parent": 50, "began": 1000, "numbers": len(rows) + 1,
             "taken": chunks, "threads": chunks + 1, "lost": 0, "first": 0, "left_out": 0, **fields}
-    version, contents = (1, 0) if places is None else (2, reader.HAS_PLACES)
+    version, contents = version_of(rows, places), 0 if places is None else reader.HAS_PLACES
     begin = reader.HEADER_BYTES[version]
     data = bytearray(begin + chunks * CHUNK_BYTES)
     struct.pack_into("<8sIIIIIIQIIQQII", data, 0, b"pimlog\r\n", version, 0x01020304, begin, 32, 512, head["known"],
@@ -77,6 +85,7 @@ EVENTS = {name.upper().replace("-", "_"): event for event, name in reader.NAMES.
 POLICIES = {name: policy for policy, name in reader.POLICIES.items()}
 PROTOCOLS = {name: detail | reader.DETAIL_KNOWN for detail, name in reader.PROTOCOLS.items()}
 TYPES = {"recursive": 1, "errorcheck": 2, "adaptive": 3, "robust": reader.ROBUST, "shared": reader.SHARED}
+KINDS = {name: kind for kind, name in reader.KINDS.items()}
 WITH_LEVEL = ("fifo", "rr", "kept")
 
 
@@ -97,6 +106,10 @@ def row_of(words):
         elif word == "text":
             text = next(rest).encode()
             value = len(text)
+        elif event in reader.WITH_KIND and word in KINDS:
+            detail = KINDS[word]
+        elif word == "to-all":
+            how = reader.TO_ALL
         elif word in POLICIES:
             detail = POLICIES[word] | (int(next(rest)) << 8 if word in WITH_LEVEL else 0)
         elif word in PROTOCOLS:

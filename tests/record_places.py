@@ -153,6 +153,21 @@ void later(pthread_mutex_t *lock) {
 """
 FORKED = {1: ["granted BOTH", "release LEFT", "granted BOTH", "release LEFT", "granted LATER", "release LAST"],
           2: ["granted BOTH", "release LEFT", "granted CHILD", "release DONE"]}
+NAMED = """#include <pthread.h>
+#include <stdio.h>
+static pthread_mutex_t own = PTHREAD_MUTEX_INITIALIZER, pool[3];
+pthread_mutex_t exported = PTHREAD_MUTEX_INITIALIZER;
+static void use(pthread_mutex_t *mutex) { pthread_mutex_lock(mutex), pthread_mutex_unlock(mutex); }
+int main(void)
+{
+    pthread_mutex_t local;
+    use(&own), use(pool + 1), use(&exported);
+    pthread_mutex_init(&local, NULL);
+    use(&local);
+    printf("%p %p %p %p\\n", (void *)&own, (void *)(pool + 1), (void *)&exported, (void *)&local);
+    return 0;
+}
+"""
 MANY_SITES = """#include <pthread.h>
 #define PAIR pthread_mutex_lock(&lock); pthread_mutex_unlock(&lock);
 #define TEN(what) what what what what what what what what what what
@@ -207,11 +222,18 @@ def texts_of(path):
     """Returns the text of each number of a file of places, with its address."""
     places = pathlib.Path(f"{path}.places")
     rows = [line.split(" ", 2) for line in places.read_text().splitlines()] if places.exists() else []
-    return {int(number): (int(address, 16), text) for number, address, text in rows}
+    return {int(number): (int(address, 16), text) for number, address, text in rows if number != "-"}
+
+
+def names_of(path):
+    """Returns the texts of the addresses without numbers, in the order of the file of places."""
+    rows = [line.split(" ", 2) for line in pathlib.Path(f"{path}.places").read_text().splitlines()]
+    return [(int(address, 16), text) for number, address, text in rows if number == "-"]
 
 
 def told(path, *sources):
-    """Returns by thread the event of each call, the name of its line, and its function if it isn't the file's only one.
+    """Returns by thread the event of each call, the name of its line, and its function if it isn't the file's only one;
+    but for the waits of record_others.py.
 
     `sources` are files and their texts.
     """
@@ -219,7 +241,7 @@ def told(path, *sources):
              for file, text in sources for number, line in enumerate(text.splitlines(), 1) if "// " in line}
     log, texts, said = read(reader, path), texts_of(path), {}
     for record in log.records:
-        if record.event not in reader.WITH_PLACE:
+        if record.event not in reader.WITH_PLACE or record.event in reader.WITH_KIND:
             continue
         address, text = texts.get(record.place, (None, "nowhere"))
         line, _, function = text.partition(" ")
@@ -458,6 +480,23 @@ def symbolizers(folder):
     check("pim-log --places without it", difference((done.returncode, done.stderr), (2, wanted)))
 
 
+def named(broken, folder):
+    """The mutexes of static variables have their names, and the calls that initialise mutexes their lines."""
+    for options in ((), ("-no-pie",), ("-s", "-rdynamic")):
+        program = compiled(folder, "names.c", NAMED, *options)
+        done, path = recorded(folder, program)
+        own, pooled, exported, local = (int(word, 16) for word in done.stdout.split())
+        wanted = {exported: "exported"}
+        if "-s" not in options:
+            wanted |= {own: "own", pooled: "pool+0x28"}
+        lines_of = [text for address, text in names_of(path) if address not in (own, pooled, exported)]
+        got = {address: text for address, text in names_of(path) if address in (own, pooled, exported, local)}
+        initialised = [] if "-s" in options else ["names.c:10 (main)"]
+        check(f"the names of static mutexes, {' '.join(options) or 'plain'}", broken(read(reader, path)) or
+              difference((got, lines_of), (wanted, initialised)))
+        check("the addresses ascend", difference(names_of(path), sorted(names_of(path))))
+
+
 def stripped(folder):
     """A place without a line is a file and an offset, of the last byte of the call."""
     program = compiled(folder, "plan.c", PLAN)
@@ -496,7 +535,7 @@ def files(folder):
 
 def places(attempt, broken, folder):
     """Each part in a folder of its own."""
-    of_logs = (lines, inlined, forked, full, latest, facts)
+    of_logs = (lines, inlined, forked, full, latest, facts, named)
     if not any(map(shutil.which, places_text.SYMBOLIZERS)):
         skip("the lines of places", "there is no addr2line")
         of_logs = (full,)

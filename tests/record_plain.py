@@ -1,8 +1,8 @@
 """What tests/record does with random logs: pim-import finds in each what the plain second
 implementation finds.
 
-random_log.py makes the logs; record/log_facts.py, plain_findings.py and plain_bounds.py are the
-second implementation. tests/findings compares more of them. docs/FINDINGS.md says what is compared.
+random_log.py makes the logs; record/log_facts.py, plain_findings.py, plain_bounds.py and
+plain_orders.py are the second implementation. tests/findings compares more of them. docs/FINDINGS.md says what is compared.
 """
 import json
 import pathlib
@@ -12,13 +12,15 @@ from collections import Counter
 
 import plain_bounds
 import plain_findings
+import plain_orders
 from checks import ROOT, check
 from random_log import RandomLog
 from record_import import IMPORTER
 from record_logs import log_facts, read_text, reader
 
 LOGS, FIRST_SEED = 300, 301
-COMPARED = ("faults", "waits", "deadlocks", "added requests", "hand-overs", "ownerships", "bounds")
+COMPARED = ("faults", "waits", "deadlocks", "added requests", "hand-overs", "ownerships", "bounds",
+            "opposite orders")
 FAULT = re.compile(r"pim-import: record (\d+): it contradicts the records before it\n")
 TALLIED = ("again", "refused", "not_owner", "revoked")
 HAND_OVERS = {"to_the_first_waiter": plain_findings.FIRST,
@@ -62,11 +64,13 @@ class Said:
         cycles = [[thread_of(one["thread"]) for one in cycle] for cycle in said["deadlocks"]]
         return {"fault": None, "status": status, "number of waits": said["waits"],
                 "waits": [self.wait(wait) for wait in said["longest_waits"]],
+                "all waits": [self.wait(wait) for wait in said["all_waits"]],
                 "mutexes": sorted(self.mutex(mutex) for mutex in said["mutexes"]),
                 "hand-overs": sorted(self.hand_overs(mutex) for mutex in said["mutexes"]),
                 "deadlocks": sorted(map(rotated, cycles)), "added": said["requests_added"],
                 "left out": {why: left_out[why] for why in TALLIED}, "owners": self.owners(),
-                "bounds": [self.bound(bound) for bound in said["bounds"]]}
+                "bounds": [self.bound(bound) for bound in said["bounds"]],
+                "opposite orders": [list(map(self.nesting, pair)) for pair in said["opposite_orders"]]}
 
     def wait(self, wait):
         owner, owner_level = thread_of(wait.get("owner")), wait.get("owner_priority")
@@ -78,14 +82,23 @@ class Said:
         return (thread_of(bound["thread"]), bound["priority"], bound["under_inherit"],
                 bound["under_protect"], bound["waited"], list(map(self.section, bound["sections"])))
 
+    def nesting(self, nesting):
+        places = [None if self.has_modules else nesting.get(key) for key in ("outer_at", "inner_at")]
+        return (thread_of(nesting["thread"]), self.used(nesting["outer"]),
+                self.used(nesting["inner"]), *places)
+
+    def used(self, mutex):
+        return mutex["protocol"], mutex["address"], None if self.has_modules else mutex["place"]
+
     def section(self, section):
         place = None if self.has_modules else section["place"]
         return (thread_of(section["thread"]), section["priority"], section["protocol"], place,
                 section["lasted"])
 
     def mutex(self, mutex):
-        return (self.mutexes[mutex["number"]], mutex["waits"], mutex["waits_not_bounded"],
-                mutex["time_not_bounded"], mutex["longest_ownership"])
+        keys = ("waits", "time_waited", "longest_wait", "waits_not_bounded", "time_not_bounded",
+                "longest_ownership")
+        return self.mutexes[mutex["number"]], *(mutex[key] for key in keys)
 
     def hand_overs(self, mutex):
         return self.mutexes[mutex["number"]], *(mutex[kind] for kind in HAND_OVERS)
@@ -118,7 +131,8 @@ class Plain:
     """What the second implementation finds in a log."""
 
     def __init__(self, data, has_modules=False):
-        self.log, self.has_modules = log_facts.Log(reader.Log(data).records), has_modules
+        self.read, self.has_modules = reader.Log(data), has_modules
+        self.log = log_facts.Log(self.read.records)
         self.facts, self.added, world = log_facts.facts_of(self.log)
         self.fault, self.tally = next(iter(world.contradictions), None), world.tally
 
@@ -133,12 +147,15 @@ class Plain:
         mutexes = {wait.mutex for wait in waits}
         return {"fault": None, "status": int(is_bad), "number of waits": len(waits),
                 "waits": [self.wait(wait) for wait in waits[:plain_findings.LONGEST]],
+                "all waits": list(map(self.wait, findings.waits)),
                 "mutexes": sorted(self.of_mutex(findings, mutex) for mutex in mutexes),
                 "hand-overs": sorted(self.hand_overs(findings, mutex) for mutex in mutexes),
                 "deadlocks": sorted(map(rotated, cycles)), "added": self.added,
                 "left out": {why: self.tally[why] for why in TALLIED},
                 "owners": self.owners(findings),
-                "bounds": list(map(self.bound, plain_bounds.bounds_of(self.facts, self.log)))}
+                "bounds": list(map(self.bound, plain_bounds.bounds_of(self.facts, self.log))),
+                "opposite orders": [list(map(self.nesting, pair)) for pair
+                                    in plain_orders.opposites_of(self.facts, self.log)]}
 
     def thread(self, thread):
         return self.log.identity.get(thread)
@@ -164,6 +181,20 @@ class Plain:
         return (self.thread(bound.thread), *bound[1:5],
                 [self.section(*section) for section in bound.sections])
 
+    def nesting(self, nesting):
+        places = map(self.place_in_code, (nesting.outer_record, nesting.inner_record))
+        return (self.thread(nesting.thread), self.used(nesting.outer), self.used(nesting.inner),
+                *places)
+
+    def place_in_code(self, record):
+        """Returns the last byte of the call that a record is of, or None if it isn't known."""
+        place = None if self.has_modules or record is None else self.read.place_of(record)
+        return place and f"{place - 1:#x}"
+
+    def used(self, mutex):
+        _, protocol, place = self.mutex(mutex)
+        return protocol, f"{mutex.address:#x}", None if self.has_modules else place
+
     def section(self, user, lasted):
         _, protocol, place = self.mutex(user.mutex)
         place = None if self.has_modules else place
@@ -171,9 +202,10 @@ class Plain:
 
     def of_mutex(self, findings, mutex):
         own = [wait for wait in findings.waits if wait.mutex == mutex]
+        lasted = [wait.lasted for wait in own]
         unbounded = [wait.lasted for wait in own if self.is_unbounded(wait)]
-        return (self.mutex(mutex), len(own), len(unbounded), sum(unbounded),
-                findings.longest(mutex))
+        return (self.mutex(mutex), len(own), sum(lasted), max(lasted), len(unbounded),
+                sum(unbounded), findings.longest(mutex))
 
     def hand_overs(self, findings, mutex):
         counts = (findings.hand_overs[mutex, kind] for kind in HAND_OVERS.values())
@@ -237,6 +269,7 @@ def count(total, found):
         total["added requests"] += found["added"]
         total["hand-overs"] += sum(sum(counts) for _, *counts in found["hand-overs"])
         total["bounds"] += len(found["bounds"])
+        total["opposite orders"] += len(found["opposite orders"])
         total["ownerships"] += sum(len(turns) for _, turns in found["owners"])
 
 

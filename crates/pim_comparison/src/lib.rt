@@ -6,7 +6,7 @@
 //!
 //! ```text
 //! let recording = Recording::read(alloc, &bytes)?;
-//! let imported = import_log(alloc, &log, false, &waits_of(alloc, &recording)?)?;
+//! let imported = import_log(alloc, &log, ImportOptions::default(), &waits_of(alloc, &recording)?)?;
 //! let compared = compare(alloc, &log, &imported, &recording, 50_000)?;
 //! compared.found.first(); // Some: a thread that ran at another priority, and for how long
 //! ```

@@ -1,13 +1,14 @@
 -- What is reported with one wait more.
-use Rattle.std.proofs.Common.{◌≡◌, ◌≢◌, ℕ, ◌+◌, ◌<◌, ◌==◌, Bool, true, false, cond, ◌&&◌, List, ◌∷◌, length, take, count_by, sum_by, suc, Result, Ok, Err, inl, inr, refl, sym, ap, ◌∙◌, arith, eq-eqb}
+use Rattle.std.proofs.Common.{◌≡◌, ◌≢◌, ℕ, ◌+◌, ◌<◌, ◌==◌, Bool, true, false, cond, ◌&&◌, List, [], ◌∷◌, ◌++◌, length, take, reverse, max, count_by, sum_by, suc, Option, Some, None, option_map, IfSome, Result, Ok, Err, inl, inr, refl, sym, ap, subst, ◌∙◌, arith, eq-eqb}
 use Rattle.std.specs.Result.{IfOk}
 use Rattle.std.proofs.lemmas.Bool.{ne_eqb, cases_eq}
+use Rattle.std.proofs.lemmas.List.{reverse-append}
 use Rattle.std.proofs.lemmas.List.Sums.{sum_by-cons}
 use Rattle.pim_findings.specs.declared.found_wait.FoundWait.{FoundWait}
 use Rattle.pim_findings.specs.declared.found_waits.FoundWaits.{FoundWaits}
 use Rattle.pim_findings.specs.declared.found_waits.MutexWaits.{MutexWaits}
 use Rattle.pim_findings.specs.declared.found_waits.TheConstants.{LONGEST}
-use Rattle.pim_findings.specs.Longest.{AreReported, capped, counted_with, counts_of, is_unbounded_for, longest_first, placed, waits_at}
+use Rattle.pim_findings.specs.Longest.{AreReported, capped, counted_with, counts_of, is_unbounded_for, listed, longest_first, longest_for, placed, waits_at}
 use Rattle.pim_findings.proofs.Placing.{take-placed}
 
 sum-more : (p : FoundWait → Bool) (f : FoundWait → ℕ) (b : Bool) (x : FoundWait) (xs : List FoundWait) → p x ≡ b →
@@ -26,11 +27,17 @@ capped-cond : (b : Bool) (n k : ℕ) → cond b (capped (capped n + k)) (capped 
 capped-cond true n k = capped-more n k
 capped-cond false n k = refl
 
-abbrev of_three : ℕ → ℕ → ℕ → MutexWaits
-of_three a b c = record { count = a; unbounded = b; unbounded_time = c }
+abbrev of_all : ℕ → ℕ → ℕ → ℕ → ℕ → MutexWaits
+of_all count time longest unbounded unbounded_time =
+    record { count = count; time = time; longest = longest; unbounded = unbounded; unbounded_time = unbounded_time }
 
-same-three : (a b c x y z : ℕ) → a ≡ x → b ≡ y → c ≡ z → of_three a b c ≡ of_three x y z
-same-three a b c x y z e f g = ap (λ n. of_three n b c) e ∙ ap (λ n. of_three x n c) f ∙ ap (λ n. of_three x y n) g
+same-all : (a b c d e u v x y z : ℕ) → a ≡ u → b ≡ v → c ≡ x → d ≡ y → e ≡ z → of_all a b c d e ≡ of_all u v x y z
+same-all a b c d e u v x y z p q r s t =
+    ap (λ n. of_all n b c d e) p ∙ ap (λ n. of_all u n c d e) q ∙ ap (λ n. of_all u v n d e) r ∙ ap (λ n. of_all u v x n e) s ∙ ap (λ n. of_all u v x y n) t
+
+longest-one : (b : Bool) (m : ℕ) (wait : FoundWait) (waits : List FoundWait) → (wait.mutex == m) ≡ b →
+    longest_for m (wait ∷ waits) ≡ cond b (max (longest_for m waits) wait.lasted) (longest_for m waits)
+longest-one b m wait waits is = ap (λ c. cond c (max (longest_for m waits) wait.lasted) (longest_for m waits)) is
 
 unbounded-same : (m : ℕ) (wait : FoundWait) → (wait.mutex == m) ≡ true → is_unbounded_for m wait ≡ wait.is_unbounded
 unbounded-same m wait here = ap (λ b. b && wait.is_unbounded) here
@@ -44,8 +51,11 @@ pub counts-same : (m : ℕ) (wait : FoundWait) (waits : List FoundWait) → wait
 counts-same m wait waits e =
     let here : (wait.mutex == m) ≡ true = eq-eqb wait.mutex m e in
     let unbounded : is_unbounded_for m wait ≡ wait.is_unbounded = unbounded-same m wait here in
-    same-three _ _ _ _ _ _
+    same-all _ _ _ _ _ _ _ _ _ _
     (capped-more (count_by (λ w. w.mutex == m) waits) 1 ∙ sym (ap capped (sum-more (λ w. w.mutex == m) (λ w. 1) true wait waits here)))
+    (capped-more (sum_by (λ w. cond (w.mutex == m) w.lasted 0) waits) wait.lasted
+    ∙ sym (ap capped (sum-more (λ w. w.mutex == m) (λ w. w.lasted) true wait waits here)))
+    (sym (longest-one true m wait waits here))
     (capped-cond wait.is_unbounded (count_by (is_unbounded_for m) waits) 1
     ∙ sym (ap capped (sum-more (is_unbounded_for m) (λ w. 1) wait.is_unbounded wait waits unbounded)))
     (capped-cond wait.is_unbounded (sum_by (λ w. cond (is_unbounded_for m w) w.lasted 0) waits) wait.lasted
@@ -56,8 +66,10 @@ pub counts-other : (m : ℕ) (wait : FoundWait) (waits : List FoundWait) → wai
 counts-other m wait waits ne =
     let there : (wait.mutex == m) ≡ false = ne_eqb wait.mutex m ne in
     let unbounded : is_unbounded_for m wait ≡ false = unbounded-other m wait there in
-    same-three _ _ _ _ _ _
+    same-all _ _ _ _ _ _ _ _ _ _
     (sym (ap capped (sum-more (λ w. w.mutex == m) (λ w. 1) false wait waits there)))
+    (sym (ap capped (sum-more (λ w. w.mutex == m) (λ w. w.lasted) false wait waits there)))
+    (sym (longest-one false m wait waits there))
     (sym (ap capped (sum-more (is_unbounded_for m) (λ w. 1) false wait waits unbounded)))
     (sym (ap capped (sum-more (is_unbounded_for m) (λ w. w.lasted) false wait waits unbounded)))
 
@@ -66,6 +78,13 @@ pub longest-more : (wait : FoundWait) (waits old new : List FoundWait) →
     old ≡ take LONGEST (longest_first waits) → new ≡ take LONGEST (placed wait old) → new ≡ take LONGEST (longest_first (wait ∷ waits))
 longest-more wait waits old new e f =
     f ∙ ap (λ l. take LONGEST (placed wait l)) e ∙ take-placed LONGEST wait (longest_first waits)
+
+-- the list with one wait more
+pub listed-more : (wait : FoundWait) (waits : List FoundWait) (old new : Option (List FoundWait)) →
+    new ≡ option_map (λ all. all ++ wait ∷ []) old → IfSome old (λ all. all ≡ reverse waits) → IfSome new (λ all. all ≡ reverse (wait ∷ waits))
+listed-more wait waits None new e h = subst (λ o. IfSome o (λ all. all ≡ reverse (wait ∷ waits))) (sym e) tt
+listed-more wait waits (Some all) new e h = subst (λ o. IfSome o (λ these. these ≡ reverse (wait ∷ waits))) (sym e)
+    (ap (λ l. l ++ wait ∷ []) h ∙ sym (reverse-append (wait ∷ []) waits))
 
 -- what holds where a call succeeded
 pub ok-then : {T E P Q : Type 0} (r : Result T E) → (P → Q) → IfOk r (λ _. P) → IfOk r (λ _. Q)
@@ -76,14 +95,16 @@ suc-more : (n : ℕ) → n + 1 ≡ suc n
 suc-more n = omega arith
 
 -- one wait more is reported
-pub reported-more : (wait : FoundWait) (old new : FoundWaits) → new.count ≡ capped (old.count + 1) →
+pub reported-more : (wait : FoundWait) (old new : FoundWaits) → listed new.all ≡ option_map (λ all. all ++ wait ∷ []) (listed old.all) →
+    new.count ≡ capped (old.count + 1) →
     new.longest.items ≡ take LONGEST (placed wait old.longest.items) → length new.by_mutex.items ≡ length old.by_mutex.items →
     ((m : ℕ) → m < length old.by_mutex.items → waits_at new.by_mutex.items m ≡
     cond (m == wait.mutex) (counted_with (waits_at old.by_mutex.items m) wait) (waits_at old.by_mutex.items m)) →
     (k : ℕ) (waits : List FoundWait) → AreReported k waits old → AreReported k (wait ∷ waits) new
-reported-more wait old new count longest len each k waits r = record {
+reported-more wait old new all count longest len each k waits r = record {
   count = count ∙ ap (λ n. capped (n + 1)) r.count ∙ capped-more (length waits) 1 ∙ ap capped (suc-more (length waits));
   longest = longest-more wait waits old.longest.items new.longest.items r.longest longest;
+  all = listed-more wait waits (listed old.all) (listed new.all) all r.all;
   mutexes = len ∙ r.mutexes;
   by_mutex = λ m h.
       let inside : m < length old.by_mutex.items = omega (arith, r.mutexes) in

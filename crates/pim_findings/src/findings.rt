@@ -1,8 +1,11 @@
 //! What is found in a recording.
-ghost use Rattle.std.specs.Prelude.{◌≡◌, ℕ, ◌<◌, ◌==◌, ◌↔◌, ◌⊎◌, List, [], length, Any, IfOk, IsTrue, if◌then◌else◌, vec_len};
+ghost use Rattle.std.specs.Prelude.{◌≡◌, ℕ, ◌<◌, ◌==◌, ◌↔◌, ◌⊎◌, List, [], length, is_some, Any, IfOk, IsTrue, if◌then◌else◌, vec_len};
 ghost use Rattle.pim_findings.specs.Waits.{Moment, all_waits, and_fact, and_until};
 ghost use Rattle.pim_findings.specs.Longest.{AreReported};
 ghost use Rattle.pim_findings.specs.Found.{Finds, KeepsWaits, wait_at};
+ghost use Rattle.pim_orders.specs.Nestings as nesting;
+ghost use Rattle.pim_orders.specs.Opposites.{AreOpposites};
+ghost use Rattle.pim_orders.specs.Seen as nested;
 
 use crate::bounds::{Blocking, Bound};
 use crate::deadlocks::{Deadlock, deadlocks_of};
@@ -12,6 +15,7 @@ use crate::found_waits::FoundWaits;
 use crate::waiting::Waiting;
 use pim_course::{Course, Sources, family_of};
 use pim_facts::{Fact, Family, What};
+use pim_orders::{Opposite, Orders};
 use std::alloc::{AllocError, Global};
 
 /// What is found in a recording.
@@ -24,26 +28,34 @@ pub struct Findings {
     pub deadlocks: Vec<Deadlock>,
     /// What threads can be blocked for. Known at the end of the log.
     pub bounds: Vec<Bound>,
+    /// The mutexes that two threads took in opposite orders. Known at the end of the log.
+    pub opposites: Vec<Opposite>,
     blocking: Blocking,
+    orders: Orders,
     waiting: Waiting,
 }
 
 impl Findings {
-    /// Returns that nothing was found yet.
+    /// Returns that nothing was found yet. All waits will be listed if that is asked for, and only the longest
+    /// otherwise.
     ///
     /// # Errors
     ///
     /// Returns `AllocError` if out of memory.
-    pub fn new(alloc: Global, sources: &Sources) -> Result<Findings, AllocError>
-        ensures { IfOk result (λ found. Finds (length sources.now.ids.threads.items) (length sources.now.ids.mutexes.items) [] found) }
+    pub fn new(alloc: Global, sources: &Sources, lists_waits: bool) -> Result<Findings, AllocError>
+        ensures lists { IfOk result (λ found. is_some found.waits.all ≡ lists_waits) }
+        ensures waits { IfOk result (λ found. Finds (length sources.now.ids.threads.items) (length sources.now.ids.mutexes.items) [] found) }
+        ensures orders { IfOk result (λ found. nested.Knows (length sources.now.ids.threads.items) [] found.orders) }
     {
         let mutexes = sources.ids.mutexes.len();
         Ok(Findings {
-            waits: FoundWaits::new(alloc, mutexes)?,
+            waits: FoundWaits::new(alloc, mutexes, lists_waits)?,
             mutexes: vec![in alloc; FoundMutex::UNSEEN; mutexes]?,
             deadlocks: Vec::new(alloc),
             bounds: Vec::new(alloc),
+            opposites: Vec::new(alloc),
             blocking: Blocking::new(alloc, sources)?,
+            orders: Orders::new(alloc, sources.ids.threads.len())?,
             waiting: Waiting::new(alloc, sources.ids.threads.len())?,
         })
     }
@@ -64,8 +76,8 @@ impl Findings {
         self.waits.has_unbounded() || !self.deadlocks.is_empty()
     }
 
-    /// Learns from a fact of this time who uses which mutex, and for how long: also from one that
-    /// isn't in the trace. The course has already gone past its record.
+    /// Learns from a fact of this time who uses which mutex, for how long, and while owning which:
+    /// also from one that isn't in the trace. The course has already gone past its record.
     ///
     /// # Errors
     ///
@@ -77,9 +89,12 @@ impl Findings {
         fact: &Fact,
         time: u64,
     ) -> Result<(), AllocError>
-        ensures { KeepsWaits self.old self.new }
+        ensures waits { KeepsWaits self.old self.new }
+        ensures orders { IfOk result (λ _. (n : ℕ) (facts : List nesting.Moment) → nested.Knows n facts self.old.orders →
+            nested.Knows n (nested.and_fact n (record { fact = fact.now; course = course.now }) facts) self.new.orders) }
     {
-        self.blocking.look(sources, course, fact, time)
+        self.blocking.look(sources, course, fact, time)?;
+        self.orders.look(course, fact)
     }
 
     /// Learns from a fact of this time. The course has already gone past its record.
@@ -94,7 +109,9 @@ impl Findings {
         fact: &Fact,
         time: u64,
     ) -> Result<(), AllocError>
-        ensures { IfOk result (λ _. (n k : ℕ) (facts : List Moment) → Finds n k facts self.old →
+        ensures lists { is_some self.new.waits.all ≡ is_some self.old.waits.all }
+        ensures orders { self.new.orders ≡ self.old.orders }
+        ensures waits { IfOk result (λ _. (n k : ℕ) (facts : List Moment) → Finds n k facts self.old →
             Finds n k (and_fact n (record {
               fact = fact.now;
               time = time;
@@ -123,7 +140,9 @@ impl Findings {
     fn end_wait(&mut self, thread: usize, time: u64, is_open: bool) -> Result<(), AllocError>
         ensures waits { IfOk result (λ _. (k : ℕ) (waits : List FoundWait) → AreReported k waits self.old.waits →
             AreReported k (and_until time is_open (wait_at self.old.waiting thread) waits) self.new.waits) }
+        ensures lists { is_some self.new.waits.all ≡ is_some self.old.waits.all }
         ensures len { length self.new.waiting.open.items ≡ length self.old.waiting.open.items }
+        ensures orders { self.new.orders ≡ self.old.orders }
         ensures others { (t : ℕ) → wait_at self.new.waiting t ≡ (if t == thread then None else wait_at self.old.waiting t) }
     {
         match self.waiting.end(thread) {
@@ -134,7 +153,8 @@ impl Findings {
 
     /// A thread has a mutex from now on.
     fn own(&mut self, sources: &Sources, fact: &Fact, time: u64) -> Result<(), AllocError>
-        ensures { KeepsWaits self.old self.new }
+        ensures orders { self.new.orders ≡ self.old.orders }
+        ensures waits { KeepsWaits self.old self.new }
     {
         let mut found = self.mutex(fact.mutex);
         if let Some(left) = found.left() {
@@ -153,7 +173,8 @@ impl Findings {
 
     /// The owner of a mutex has it no more. Keeps who waits for it then, and who is first.
     fn release(&mut self, sources: &Sources, course: &Course, fact: &Fact, time: u64)
-        ensures { KeepsWaits self.old self.new }
+        ensures orders { self.new.orders ≡ self.old.orders }
+        ensures waits { KeepsWaits self.old self.new }
     {
         let mut found = self.mutex(fact.mutex);
         let left = match self.waiting.first(sources, course, fact) {
@@ -169,21 +190,25 @@ impl Findings {
         self.waiting.leave(fact.mutex);
     }
 
-    /// Ends the waits that last at the end of the log, which has this time, and finds the deadlocks
-    /// and what threads can be blocked for.
+    /// Ends the waits that last at the end of the log, which has this time, and finds the deadlocks,
+    /// what threads can be blocked for, and the opposite orders.
     ///
     /// # Errors
     ///
     /// Returns `AllocError` if out of memory.
     pub fn end(&mut self, alloc: Global, course: &Course, time: u64) -> Result<(), AllocError>
-        ensures { IfOk result (λ _. (n k : ℕ) (facts : List Moment) → Finds n k facts self.old →
+        ensures lists { is_some self.new.waits.all ≡ is_some self.old.waits.all }
+        ensures waits { IfOk result (λ _. (n k : ℕ) (facts : List Moment) → Finds n k facts self.old →
             AreReported k (all_waits facts time n) self.new.waits) }
+        ensures opposites { IfOk result (λ _. (n : ℕ) (facts : List nesting.Moment) → nested.Knows n facts self.old.orders →
+            AreOpposites (nesting.nestings facts) self.new.opposites.items) }
     {
         for thread in 0..self.waiting.threads() {
             self.end_wait(thread, time, true)?;
         }
         self.deadlocks = deadlocks_of(alloc, course)?;
         self.bounds = self.blocking.end(alloc, time)?;
+        self.opposites = self.orders.opposites(alloc)?;
         Ok(())
     }
 }

@@ -1,7 +1,8 @@
 //! The waits of a program: how many, and the longest.
-ghost use Rattle.std.specs.Prelude.{◌≡◌, ℕ, ◌<◌, ◌==◌, ◌↔◌, List, [], ◌∷◌, length, take, Any, IsTrue, IfOk, if◌then◌else◌};
+ghost use Rattle.std.specs.Prelude.{◌≡◌, ℕ, ◌<◌, ◌==◌, ◌↔◌, List, [], ◌∷◌, ◌++◌, length, take, is_some, Any, IsTrue, IfOk, if◌then◌else◌};
 ghost use Rattle.std.specs.List.{position_or_len};
-ghost use Rattle.pim_findings.specs.Longest.{AreReported, counted_with, is_shorter, placed, waits_at};
+ghost use Rattle.std.specs.Option.{option_map};
+ghost use Rattle.pim_findings.specs.Longest.{AreReported, counted_with, is_shorter, listed, placed, waits_at};
 
 use crate::found_wait::FoundWait;
 use std::alloc::{AllocError, Global};
@@ -14,7 +15,11 @@ pub const LONGEST: usize = 10;
 pub struct MutexWaits {
     /// How many there were.
     pub count: u64,
-    /// How many of those nothing bounded.
+    /// How long they lasted in all, in nanoseconds.
+    pub time: u64,
+    /// How long the longest lasted, in nanoseconds. 0 if there was none.
+    pub longest: u64,
+    /// How many of them nothing bounded.
     pub unbounded: u64,
     /// How long these lasted in all, in nanoseconds.
     pub unbounded_time: u64,
@@ -28,28 +33,44 @@ pub struct FoundWaits {
     /// The longest, at most [`LONGEST`]: the longest first, and of equally long ones that which
     /// ended first.
     pub longest: Vec<FoundWait>,
+    /// All of them, if that was asked for: in the order in which they ended, and behind these, by
+    /// thread, those that last to the end.
+    pub all: Option<Vec<FoundWait>>,
     /// By mutex, as in [`Ids`](pim_facts::Ids).
     by_mutex: Vec<MutexWaits>,
 }
 
 const NO_WAIT: MutexWaits = MutexWaits {
     count: 0,
+    time: 0,
+    longest: 0,
     unbounded: 0,
     unbounded_time: 0,
 };
 
 impl FoundWaits {
-    /// Returns that nobody waited yet for any of so many mutexes.
+    /// Returns that nobody waited yet for any of so many mutexes. Lists all waits if that is asked for.
     ///
     /// # Errors
     ///
     /// Returns `AllocError` if out of memory.
-    pub(crate) fn new(alloc: Global, mutexes: usize) -> Result<FoundWaits, AllocError>
-        ensures { IfOk result (λ found. AreReported mutexes [] found) }
+    pub(crate) fn new(
+        alloc: Global,
+        mutexes: usize,
+        lists_all: bool,
+    ) -> Result<FoundWaits, AllocError>
+        ensures reported { IfOk result (λ found. AreReported mutexes [] found) }
+        ensures lists { IfOk result (λ found. is_some found.all ≡ lists_all) }
     {
+        let all = if lists_all {
+            Some(Vec::new(alloc))
+        } else {
+            None
+        };
         Ok(FoundWaits {
             count: 0,
             longest: Vec::with_capacity(alloc, LONGEST + 1)?,
+            all,
             by_mutex: vec![in alloc; NO_WAIT; mutexes]?,
         })
     }
@@ -77,9 +98,11 @@ impl FoundWaits {
     ///
     /// Returns `AllocError` if out of memory.
     pub(crate) fn add(&mut self, wait: FoundWait) -> Result<(), AllocError>
-        ensures { IfOk result (λ _. (k : ℕ) (waits : List FoundWait) →
+        ensures reported { IfOk result (λ _. (k : ℕ) (waits : List FoundWait) →
             AreReported k waits self.old → AreReported k (wait ∷ waits) self.new) }
+        ensures lists { is_some self.new.all ≡ is_some self.old.all }
     {
+        list(&mut self.all, wait)?;
         self.count = self.count.saturating_add(1);
         count(&mut self.by_mutex, &wait);
         put(&mut self.longest, wait)
@@ -91,16 +114,36 @@ impl MutexWaits {
     fn with(self, wait: &FoundWait) -> MutexWaits
         ensures { result ≡ counted_with self wait.now }
     {
-        let count = self.count.saturating_add(1);
+        let all = MutexWaits {
+            count: self.count.saturating_add(1),
+            time: self.time.saturating_add(wait.lasted),
+            longest: self.longest.max(wait.lasted),
+            ..self
+        };
         if !wait.is_unbounded {
-            return MutexWaits { count, ..self };
+            return all;
         }
         MutexWaits {
-            count,
             unbounded: self.unbounded.saturating_add(1),
             unbounded_time: self.unbounded_time.saturating_add(wait.lasted),
+            ..all
         }
     }
+}
+
+/// Puts a wait behind the others, if there is a list.
+///
+/// # Errors
+///
+/// Returns `AllocError` if out of memory.
+fn list(all: &mut Option<Vec<FoundWait>>, wait: FoundWait) -> Result<(), AllocError>
+    ensures more { IfOk result (λ _. listed all.new ≡ option_map (λ waits. waits ++ wait ∷ []) (listed all.old)) }
+    ensures same { is_some all.new ≡ is_some all.old }
+{
+    if let Some(waits) = all {
+        waits.push(wait)?;
+    }
+    Ok(())
 }
 
 /// Counts a wait for its mutex.

@@ -20,6 +20,16 @@ use pim_log::Log;
 use pim_replay::{Piece, Priorities};
 use std::alloc::Global;
 
+/// What is asked of an import. The default is neither.
+#[derive(Clone, Copy, Default)]
+pub struct ImportOptions {
+    /// Whether the trace has all critical sections. If not, it has those for which a thread waited,
+    /// and those of PROTECT mutexes.
+    pub keeps_all: bool,
+    /// Whether the findings list all waits, not only the longest.
+    pub lists_waits: bool,
+}
+
 /// The trace of a log, and what is found in it.
 #[derive(Drop)]
 pub struct Built {
@@ -48,10 +58,9 @@ pub struct Imported {
     pub ended: u64,
 }
 
-/// Makes a trace of a log, and finds what it shows. Where `is_all` isn't set, the critical sections
-/// for which nobody waited are left out, but those of PROTECT mutexes. The waits are those that the
-/// kernel's events show, in any order. If the log lacks the request of one, and it shows whose
-/// mutex that was, the request is added.
+/// Makes a trace of a log, and finds what it shows. The waits are those that the kernel's events
+/// show, in any order. If the log lacks the request of one, and it shows whose mutex that was, the
+/// request is added.
 ///
 /// # Errors
 ///
@@ -64,14 +73,14 @@ pub struct Imported {
 pub fn import_log(
     alloc: Global,
     log: &Log,
-    is_all: bool,
+    options: ImportOptions,
     waits: &[Wait],
 ) -> Result<Imported, ImportFault>
     ensures counted { IfOk result (λ imported. total imported.built.tally ≡ end_of (header_of log.now) - 1) }
     ensures fault { IfErr result (NamesOneOf (end_of (header_of log.now))) }
 {
     let sources = sources_of(alloc, log, waits)?;
-    let sections = CriticalSections::of(alloc, log, &sources, is_all)?;
+    let sections = CriticalSections::of(alloc, log, &sources, options.keeps_all)?;
     let Some(priorities) = Priorities::of(&sources.ids.levels) else {
         return Err(ImportFault::TooManyPriorities);
     };
@@ -84,7 +93,8 @@ pub fn import_log(
         participants: &participants,
         numbering: &numbering,
     };
-    let built = build(alloc, log, &context, &sections, ended)?;
+    let findings = Findings::new(alloc, &sources, options.lists_waits)?;
+    let built = build(alloc, log, &context, &sections, findings, ended)?;
     Ok(Imported {
         built,
         sources,
@@ -134,6 +144,7 @@ fn build(
     log: &Log,
     context: &Context,
     sections: &CriticalSections,
+    findings: Findings,
     ended: u64,
 ) -> Result<Built, ImportFault>
     ensures counted { IfOk result (λ built. total built.tally ≡ end_of (header_of log.now) - 1) }
@@ -141,7 +152,7 @@ fn build(
 {
     let sources = context.sources;
     let mut builder = TraceBuilder::new(alloc, context)?;
-    let mut findings = Findings::new(alloc, sources)?;
+    let mut findings = findings;
     let mut walk = Walk::new(alloc, &sources.ids)?;
     let end = log.header().end();
     let tally = play(

@@ -6,7 +6,7 @@
 //!
 //! ```text
 //! let log = Log::read(alloc, &bytes)?;
-//! let imported = import_log(alloc, &log, false, &[])?;
+//! let imported = import_log(alloc, &log, ImportOptions::default(), &[])?;
 //! imported.built.pieces[0].replay.entries(); // the steps, each with the model's reply
 //! ```
 //!
@@ -28,6 +28,6 @@ mod tally;
 
 pub use builder::Appearance;
 pub use fault::ImportFault;
-pub use importing::{Built, Imported, blocker_of, import_log};
+pub use importing::{Built, ImportOptions, Imported, blocker_of, import_log};
 pub use numbering::{Numbering, Numbers};
 pub use tally::Tally;

@@ -4,7 +4,7 @@ use crate::inversion::{KERNEL, log_bytes};
 use pim_base::{MutexNo, Reason, TaskNo};
 use pim_comparison::{Compared, Difference, Found, Lengthened, compare, waits_of};
 use pim_course::Wait;
-use pim_import::import_log;
+use pim_import::{ImportOptions, import_log};
 use pim_kernel_events::{Recording, Tracks};
 use pim_log::Log;
 use std::alloc::Global;
@@ -30,7 +30,7 @@ fn compared(alloc: Global) -> Result<Compared, Fail> {
         return Err(Fail::from("it isn't a log"));
     };
     let recording = Recording::read(alloc, KERNEL.as_bytes())?;
-    let Ok(imported) = import_log(alloc, &log, false, &[]) else {
+    let Ok(imported) = import_log(alloc, &log, ImportOptions::default(), &[]) else {
         return Err(Fail::from("it isn't imported"));
     };
     let tracks = Tracks::of(alloc, &recording)?;

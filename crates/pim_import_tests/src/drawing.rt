@@ -1,6 +1,6 @@
 //! pim_drawing: pictures of a small trace, and arguments.
 
-use pim_drawing::{Form, Named, Recorded, Style, Window, command, named_picture, picture};
+use pim_drawing::{Form, Kernel, Named, Recorded, Style, Window, command, named_picture, picture};
 use pim_judge::{MemoryReader, MemoryWriter, Verdict};
 use pim_kernel_events::{Recording, Tracks};
 use pim_names::{Names, NamesFault};
@@ -135,7 +135,10 @@ fn tracks_of(alloc: Global) -> Result<(Named, MemoryWriter), Fail> {
     let tracks = Tracks::of(alloc, &recording)?;
     let recorded = Recorded {
         names: piece,
-        tracks: Some(&tracks),
+        kernel: Some(Kernel {
+            tracks: &tracks,
+            tasks: &recording.tasks,
+        }),
     };
     let mut reader = MemoryReader::new(BOOSTED.as_bytes());
     let mut writer = MemoryWriter::new(alloc);

@@ -4,7 +4,7 @@ use crate::inversion::{FOURTH_PLACED, THIRD_PLACED, log_bytes, placed_bytes, wri
 use pim_base::{Entry, MutexNo, Op, Protocol, Reply, Step, TaskNo};
 use pim_course::family_of;
 use pim_facts::{Family, LeftOut};
-use pim_import::{Imported, blocker_of, import_log};
+use pim_import::{ImportOptions, Imported, blocker_of, import_log};
 use pim_log::Log;
 use std::alloc::Global;
 use std::test::*;
@@ -26,7 +26,7 @@ fn imported_of(alloc: Global, bytes: &[u8]) -> Result<Imported, Fail> {
     let Ok(log) = Log::read(alloc, bytes) else {
         return Err(Fail::from("it isn't a log"));
     };
-    match import_log(alloc, &log, false, &[]) {
+    match import_log(alloc, &log, ImportOptions::default(), &[]) {
         Ok(imported) => Ok(imported),
         Err(_) => Err(Fail::from("it isn't imported")),
     }

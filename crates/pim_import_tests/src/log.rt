@@ -89,9 +89,44 @@ const SHARED: Mutex = Mutex {
     }),
 };
 
+const CONDITION: Object = Object {
+    address: 0x500,
+    kind: Some(ObjectKind::Condition),
+};
+
+const SEMAPHORE: Object = Object {
+    address: 0x500,
+    kind: Some(ObjectKind::Semaphore),
+};
+
+const WRITE_LOCK: Object = Object {
+    address: 0x500,
+    kind: Some(ObjectKind::WriteLock),
+};
+
+const READ_LOCK: Object = Object {
+    address: 0x500,
+    kind: Some(ObjectKind::ReadLock),
+};
+
+const THREAD: Object = Object {
+    address: 0x500,
+    kind: Some(ObjectKind::Thread),
+};
+
+const BARRIER: Object = Object {
+    address: 0x500,
+    kind: Some(ObjectKind::Barrier),
+};
+
+const UNKNOWN_OBJECT: Object = Object {
+    address: 0x500,
+    kind: None,
+};
+
 /// The last eight bytes of a record, which are how, event, detail and value, and the event of a record that has 0x500 as
 /// its object.
-const EVENTS: [(u64, Event); 31] = [
+const EVENTS: [(u64, Event); 40] = [
     (
         0x00_01_2802_0000_0000,
         Event::Thread {
@@ -211,7 +246,49 @@ const EVENTS: [(u64, Event); 31] = [
         },
     ),
     (0x01_18_0000_0000_0000, Event::ReleaseFailed(BARE)),
-    (0x00_19_0000_0000_0000, Event::Condition),
+    (0x00_19_0000_0000_0000, Event::Condition(CONDITION)),
+    (0x00_1a_0001_0000_0000, Event::Wait(SEMAPHORE)),
+    (0x00_1a_0003_0000_0000, Event::Wait(WRITE_LOCK)),
+    (0x00_1a_0005_0000_0000, Event::Wait(THREAD)),
+    (0x00_1a_0007_0000_0000, Event::Wait(UNKNOWN_OBJECT)),
+    (
+        0x00_1b_0002_0000_1388,
+        Event::Waited {
+            object: READ_LOCK,
+            took: Some(5000),
+            outcome: Outcome::Given,
+        },
+    ),
+    (
+        0x6e_1b_0001_ffff_ffff,
+        Event::Waited {
+            object: SEMAPHORE,
+            took: None,
+            outcome: Outcome::TimedOut,
+        },
+    ),
+    (
+        0x04_1b_0004_0000_0000,
+        Event::Waited {
+            object: BARRIER,
+            took: Some(0),
+            outcome: Outcome::Failed,
+        },
+    ),
+    (
+        0x00_1c_0001_0000_0000,
+        Event::Give {
+            object: SEMAPHORE,
+            is_to_all: false,
+        },
+    ),
+    (
+        0x01_1c_0006_0000_0000,
+        Event::Give {
+            object: CONDITION,
+            is_to_all: true,
+        },
+    ),
     (
         0x00_05_0101_0000_0000,
         Event::Priority {
@@ -222,7 +299,7 @@ const EVENTS: [(u64, Event); 31] = [
 ];
 
 /// Numbers of no event.
-const UNKNOWN: [u64; 5] = [0, 14, 15, 26, 255];
+const UNKNOWN: [u64; 5] = [0, 14, 15, 29, 255];
 
 /// Returns record 6 of a log, or the fault that the log has.
 fn sixth(alloc: Global, bytes: &[u8]) -> Result<Option<Record>, LogFault> {
@@ -232,15 +309,17 @@ fn sixth(alloc: Global, bytes: &[u8]) -> Result<Option<Record>, LogFault> {
 
 #[test]
 fn record_says_what_its_fields_say(rt: HostRuntime) -> Result<(), Fail> {
-    let mut bytes = log_bytes(rt.alloc())?;
+    let mut bytes = placed_bytes(rt.alloc())?;
+    write(&mut bytes, 8, 4, 3);
+    write(&mut bytes, SIXTH_PLACED + 16, 8, 0x500);
     for (fields, wanted) in EVENTS {
-        write(&mut bytes, SIXTH + 24, 8, fields);
+        write(&mut bytes, SIXTH_PLACED + 24, 8, fields);
         let event = sixth(rt.alloc(), &bytes)?.map(|record| record.event);
         assert!(rt; event == Some(wanted), "{fields:x}");
     }
     for code in UNKNOWN {
-        write(&mut bytes, SIXTH + 24, 8, code << 48);
-        let fault = LogFault::Slot(SIXTH, SlotFault::UnknownEvent);
+        write(&mut bytes, SIXTH_PLACED + 24, 8, code << 48);
+        let fault = LogFault::Slot(SIXTH_PLACED, SlotFault::UnknownEvent);
         assert!(rt; sixth(rt.alloc(), &bytes) == Err(fault), "{code}");
     }
     Ok(())
@@ -347,6 +426,32 @@ fn calls_have_places_and_other_objects_are_whole(rt: HostRuntime) -> Result<(), 
         let found = record.event.mutex().map(|mutex| mutex.address);
         assert!(rt; found == address, "{code}");
     }
+    // Version 2 has no later events.
+    for code in 26..29 {
+        write(&mut bytes, SIXTH_PLACED + 24, 8, code << 48);
+        let fault = LogFault::Slot(SIXTH_PLACED, SlotFault::UnknownEvent);
+        assert!(rt; sixth(rt.alloc(), &bytes) == Err(fault), "{code}");
+    }
+    Ok(())
+}
+
+/// From version 3 on the events of waits for what isn't a mutex have places, too. Their objects are without them.
+#[test]
+fn waits_of_version_3_have_places(rt: HostRuntime) -> Result<(), Fail> {
+    let mut bytes = placed_bytes(rt.alloc())?;
+    write(&mut bytes, 8, 4, 3);
+    write(&mut bytes, SIXTH_PLACED + 16, 8, PLACED_OBJECT);
+    for code in [20, 25, 26, 27, 28] {
+        write(&mut bytes, SIXTH_PLACED + 24, 8, code << 48);
+        let record = sixth(rt.alloc(), &bytes)?.ok_or("there is a record 6")?;
+        assert!(rt; record.place == Some(3), "{code}");
+        let address = match record.event {
+            Event::Condition(object) | Event::Wait(object) => object.address,
+            Event::Waited { object, .. } | Event::Give { object, .. } => object.address,
+            event => event.mutex().ok_or("it is of a mutex")?.address,
+        };
+        assert!(rt; address == 0x7fff_1234_0500, "{code}");
+    }
     Ok(())
 }
 
@@ -379,6 +484,11 @@ fn header_has_the_length_of_its_version(rt: HostRuntime) -> Result<(), Fail> {
     write(&mut bytes, 16, 4, 4096);
     assert!(rt; sixth(rt.alloc(), &bytes) == other_sizes);
     write(&mut bytes, 8, 4, 3);
-    assert!(rt; sixth(rt.alloc(), &bytes) == Err(LogFault::Header(HeaderFault::OtherVersion)));
+    assert!(rt; sixth(rt.alloc(), &bytes) == other_sizes);
+    for version in [0, 4] {
+        write(&mut bytes, 8, 4, version);
+        let other_version = Err(LogFault::Header(HeaderFault::OtherVersion));
+        assert!(rt; sixth(rt.alloc(), &bytes) == other_version);
+    }
     Ok(())
 }

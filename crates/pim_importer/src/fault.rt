@@ -25,8 +25,8 @@ pub enum Fault {
     /// The kernel's events can't be read.
     #[error("{0}: {1}")]
     Kernel(String, TextFault),
-    /// This line of the file names no place in the code of the log.
-    #[error("{0}: line {1}: it names no place in the code of the log")]
+    /// This line of the file names no place of the log, or is out of order.
+    #[error("{0}: line {1}: it names no place of the log, or is out of order")]
     Place(String, u64),
     /// The facts can't be read.
     #[error("{0}: {1}")]

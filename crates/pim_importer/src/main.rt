@@ -25,7 +25,7 @@ use crate::files::{read_log, write_names, write_traces};
 use crate::kernel::{events_of, kernel_of, waits_in};
 use crate::places::place_texts;
 use crate::results::Results;
-use pim_import::{ImportFault, Imported, import_log};
+use pim_import::{ImportFault, ImportOptions, Imported, import_log};
 use pim_log::Log;
 use pim_report::{Kernel, Labels, json_alone, json_of, report_alone, report_of};
 use std::alloc::Global;
@@ -75,7 +75,7 @@ fn import(rt: &HostRuntime, alloc: Global, arguments: &Arguments) -> Result<u8, 
     let log = Log::read(alloc, &bytes)?;
     let events = events_of(rt, alloc, arguments)?;
     let waits = waits_in(alloc, events.as_ref())?;
-    let imported = import_log(alloc, &log, arguments.is_all, &waits)?;
+    let imported = import_log(alloc, &log, options_of(arguments), &waits)?;
     let kernel = kernel_of(alloc, arguments, &log, &imported, events)?;
     let path = arguments.log.as_str();
     let mut labels = Labels::of(alloc, &log, &imported.sources.ids)?;
@@ -96,7 +96,7 @@ fn import(rt: &HostRuntime, alloc: Global, arguments: &Arguments) -> Result<u8, 
 fn import_facts(rt: &HostRuntime, alloc: Global, arguments: &Arguments) -> Result<u8, Fault> {
     let Facts { path, log, names } = read_facts(rt, alloc, arguments.facts.as_str())?;
     let log = Log::read(alloc, &log)?;
-    let imported = match import_log(alloc, &log, arguments.is_all, &[]) {
+    let imported = match import_log(alloc, &log, options_of(arguments), &[]) {
         Ok(imported) => imported,
         Err(ImportFault::Contradiction(line)) => return Err(Fault::AboveCeiling(path, line)),
         Err(fault) => return Err(Fault::from(fault)),
@@ -113,6 +113,14 @@ fn import_facts(rt: &HostRuntime, alloc: Global, arguments: &Arguments) -> Resul
         &labels,
         None,
     )
+}
+
+/// Returns what the arguments ask of an import. JSON lists all waits.
+fn options_of(arguments: &Arguments) -> ImportOptions {
+    ImportOptions {
+        keeps_all: arguments.is_all,
+        lists_waits: arguments.is_json,
+    }
 }
 
 /// Writes the traces, the names and the findings, and returns the exit status.

@@ -128,7 +128,7 @@ impl<'a> Table<'a> {
             self.line.put(" ");
             self.line.number(u64::from(is.process));
             self.line.put(" ");
-            self.labels.put_place(&mut self.line, mutex, is);
+            self.labels.put_offset(&mut self.line, mutex, is);
             self.line.put("\n");
         }
     }

@@ -1,25 +1,26 @@
-//! The lines of the source of places in the code, next to a log.
+//! The texts of places, next to a log: of those in the code, and of static mutexes.
 
 use crate::fault::Fault;
 use crate::files::{is_file, read_file};
 use pim_log::Log;
-use std::alloc::{AllocError, Global};
+use pim_report::PlaceTexts;
+use std::alloc::Global;
 
-/// Returns by the number of each place in the code what the file LOG.places says of it. If there is no such file, or if the
-/// log has no places, that is nothing.
+/// Returns what the file LOG.places says of each place. If there is no such file, or if the log has no places, that is
+/// nothing.
 ///
 /// # Errors
 ///
-/// Returns `Read` if the file can't be read, `Place` with the first line that names no place of the log, and `Memory` if
-/// out of memory.
+/// Returns `Read` if the file can't be read, `Place` with the first line that names no place of the log or is out of order,
+/// and `Memory` if out of memory.
 pub fn place_texts(
     rt: &HostRuntime,
     alloc: Global,
     path: &str,
     log: &Log,
-) -> Result<Vec<Vec<u8>>, Fault> {
+) -> Result<PlaceTexts, Fault> {
     let path = format!(in alloc; "{path}.places")?;
-    let mut texts = Vec::new(alloc);
+    let mut texts = PlaceTexts::none(alloc);
     if log.header().version < 2 || !is_file(rt, path.as_str()) {
         return Ok(texts);
     }
@@ -29,41 +30,63 @@ pub fn place_texts(
         if rest.is_empty() {
             break;
         }
-        let Some((place, others)) = next_place(log, rest, texts.len()) else {
+        let Some((place, others)) = next_place(log, rest, &texts) else {
             return Err(Fault::Place(path, line));
         };
-        put(alloc, &mut texts, &place)?;
+        texts.put(alloc, place.number, place.address, place.text)?;
         rest = others;
     }
     Ok(texts)
 }
 
-/// What a line says of a place in the code.
+/// What a line says of a place.
 #[derive(Clone, Copy)]
 struct NamedPlace<'a> {
-    number: u16,
+    /// The number of a place in the code. `None` for another address.
+    number: Option<u16>,
+    address: u64,
     text: &'a [u8],
 }
 
-/// Returns what the first line says, and the lines behind it. It has the number of a place of the log, which isn't below
-/// `least`, the place's address, and a text.
-fn next_place<'a>(log: &Log, lines: &'a [u8], least: usize) -> Option<(NamedPlace<'a>, &'a [u8])> {
+/// Returns what the first line says, and the lines behind it. It has the number of a place of the log, or `-`, an address,
+/// and a text. The numbers ascend, and behind them the addresses that have none.
+fn next_place<'a>(
+    log: &Log,
+    lines: &'a [u8],
+    before: &PlaceTexts,
+) -> Option<(NamedPlace<'a>, &'a [u8])> {
     let (line, others) = cut(lines, b'\n')?;
     let (number, words) = cut(line, b' ')?;
     let (address, text) = cut(words, b' ')?;
-    let number = value_of(number, 10)?;
     let digits = match address {
         [b'0', b'x', digits @ ..] => digits,
         _ => address,
     };
-    if number > u64::from(u16::MAX) || (number as usize) < least {
+    let address = value_of(digits, 16)?;
+    let number = if number == b"-".as_slice() {
+        None
+    } else {
+        Some(number_of(log, number, address)?)
+    };
+    if !before.are_before(number, address) {
         return None;
     }
-    let number = number as u16;
-    if log.place(number)? != value_of(digits, 16)? {
-        return None;
+    let place = NamedPlace {
+        number,
+        address,
+        text,
+    };
+    Some((place, others))
+}
+
+/// Returns the number that these digits spell, if the place of that number is at this address.
+fn number_of(log: &Log, digits: &[u8], address: u64) -> Option<u16> {
+    let number = u16::try_from(value_of(digits, 10)?).ok()?;
+    if log.place(number)? == address {
+        Some(number)
+    } else {
+        None
     }
-    Some((NamedPlace { number, text }, others))
 }
 
 /// Returns the bytes before the first one that is this, and those behind it.
@@ -92,21 +115,4 @@ fn value_of(digits: &[u8], base: u64) -> Option<u64> {
         value = value.checked_mul(base)?.checked_add(u64::from(digit))?;
     }
     if digits.is_empty() { None } else { Some(value) }
-}
-
-/// Puts the text of a place at its number, which is behind all others.
-fn put(alloc: Global, texts: &mut Vec<Vec<u8>>, place: &NamedPlace) -> Result<(), AllocError> {
-    for _unnamed in texts.len()..usize::from(place.number) {
-        push(texts, Vec::new(alloc))?;
-    }
-    let mut text = vec![in alloc; 0; place.text.len()]?;
-    text.copy_from_slice(place.text);
-    push(texts, text)
-}
-
-fn push(texts: &mut Vec<Vec<u8>>, text: Vec<u8>) -> Result<(), AllocError> {
-    match texts.push(text) {
-        Ok(()) => Ok(()),
-        Err(_) => Err(AllocError),
-    }
 }

@@ -67,7 +67,7 @@ fn put_section(out: &mut Out, told: &Told, section: &Section) {
 }
 
 /// Writes a mutex by its number in the trace, or where it comes from if it isn't in the trace.
-fn put_used(out: &mut Out, told: &Told, mutex: u32) {
+pub fn put_used(out: &mut Out, told: &Told, mutex: u32) {
     if told.imported.numbering.mutexes.of(mutex) > 0 {
         put_mutex(out, told, mutex);
     } else {

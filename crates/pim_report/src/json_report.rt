@@ -4,6 +4,8 @@ use crate::bounds_json::put_bounds;
 use crate::kernel::{Kernel, put_reason};
 use crate::labels::Labels;
 use crate::meanwhile::put_meanwhile_json;
+use crate::orders_json::put_opposites;
+use crate::other_waits_json::put_other_waits;
 use crate::words::{Told, family_of, found_of, mutexes, put_code, put_place, waits_of};
 use pim_comparison::{Found, Lengthened};
 use pim_facts::LeftOut;
@@ -33,11 +35,17 @@ pub fn json_of(
         began: log.header().began,
     };
     let mut out = JsonOut::new(alloc);
-    put_all(alloc, &mut out, &told, log, kernel);
+    put_all(alloc, &mut out, &told, log, kernel)?;
     out.finish_line()
 }
 
-fn put_all(alloc: Global, out: &mut JsonOut, told: &Told, log: &Log, kernel: Option<&Kernel>) {
+fn put_all(
+    alloc: Global,
+    out: &mut JsonOut,
+    told: &Told,
+    log: &Log,
+    kernel: Option<&Kernel>,
+) -> Result<(), AllocError> {
     let waits = &told.imported.built.findings.waits;
     out.begin_object();
     out.number("began", log.header().began);
@@ -46,18 +54,10 @@ fn put_all(alloc: Global, out: &mut JsonOut, told: &Told, log: &Log, kernel: Opt
         put_kernel(alloc, out, told, kernel);
     }
     out.number("waits", waits.count);
-    out.key("longest_waits");
-    out.begin_array();
-    for (place, wait) in waits.longest.iter().enumerate() {
-        out.begin_object();
-        put_wait(alloc, out, told, wait);
-        if let Some(kernel) = kernel {
-            put_meanwhile_json(out, kernel, place);
-        }
-        out.end_object();
-    }
-    out.end_array();
+    put_longest_waits(alloc, out, told, kernel);
+    put_all_waits(alloc, out, told);
     put_bounds(alloc, out, told);
+    put_other_waits(alloc, out, told)?;
     out.key("mutexes");
     out.begin_array();
     for mutex in 0..mutexes(told) {
@@ -68,8 +68,41 @@ fn put_all(alloc: Global, out: &mut JsonOut, told: &Told, log: &Log, kernel: Opt
     }
     out.end_array();
     put_deadlocks(alloc, out, told);
+    put_opposites(alloc, out, told);
     put_left_out(out, told, log);
     out.end_object();
+    Ok(())
+}
+
+/// Writes the longest waits, the longest first, each with who ran meanwhile in the place of the owner.
+fn put_longest_waits(alloc: Global, out: &mut JsonOut, told: &Told, kernel: Option<&Kernel>) {
+    out.key("longest_waits");
+    out.begin_array();
+    let waits = &told.imported.built.findings.waits;
+    for (place, wait) in waits.longest.iter().enumerate() {
+        out.begin_object();
+        put_wait(alloc, out, told, wait);
+        if let Some(kernel) = kernel {
+            put_meanwhile_json(out, kernel, place);
+        }
+        out.end_object();
+    }
+    out.end_array();
+}
+
+/// Writes all waits, in the order in which they ended, if they were listed.
+fn put_all_waits(alloc: Global, out: &mut JsonOut, told: &Told) {
+    let Some(waits) = &told.imported.built.findings.waits.all else {
+        return;
+    };
+    out.key("all_waits");
+    out.begin_array();
+    for wait in waits {
+        out.begin_object();
+        put_wait(alloc, out, told, wait);
+        out.end_object();
+    }
+    out.end_array();
 }
 
 /// Writes where threads ran at another priority, the longest difference first.
@@ -133,7 +166,7 @@ pub fn put_thread(alloc: Global, out: &mut JsonOut, told: &Told, key: &str, thre
 }
 
 /// Writes the place in the code at which a thread called, if it is known.
-fn put_at(
+pub fn put_at(
     alloc: Global,
     out: &mut JsonOut,
     told: &Told,
@@ -187,6 +220,8 @@ fn put_mutex(
     out.string("protocol", family_of(told, mutex).name());
     out.text("place", &place);
     out.number("waits", waits.count);
+    out.number("time_waited", waits.time);
+    out.number("longest_wait", waits.longest);
     out.number("waits_not_bounded", waits.unbounded);
     out.number("time_not_bounded", waits.unbounded_time);
     out.number("to_the_first_waiter", found.hand_overs.in_order);

@@ -1,5 +1,6 @@
 //! What the log says of its threads, mutexes and files: names and places.
 
+use crate::place_texts::PlaceTexts;
 use pim_facts::{Ids, LoggedMutex};
 use pim_log::{Event, Log, Record, Text};
 use pim_out::Out;
@@ -49,8 +50,8 @@ pub struct Labels {
     pending: Vec<Pending>,
     /// The names of a text of facts.
     given: Option<GivenNames>,
-    /// By its number what is known of a place in the code, such as its line in the source.
-    code: Vec<Vec<u8>>,
+    /// What is known of places in the code, such as their lines in the source, and of static mutexes.
+    texts: PlaceTexts,
 }
 
 /// The names that a text of facts gives. A name `-` is no name.
@@ -81,7 +82,7 @@ impl Labels {
             children: Vec::new(alloc),
             pending: vec![in alloc; Pending::Nothing; ids.threads.len()]?,
             given: None,
-            code: Vec::new(alloc),
+            texts: PlaceTexts::none(alloc),
         };
         for number in 1..log.header().end() {
             if let Some(record) = log.record(number) {
@@ -96,9 +97,9 @@ impl Labels {
         self.given = Some(names);
     }
 
-    /// Takes by the number of each place in the code a text that names it. An empty one is none.
-    pub fn name_places(&mut self, texts: Vec<Vec<u8>>) {
-        self.code = texts;
+    /// Takes texts that name places in the code and static mutexes.
+    pub fn name_places(&mut self, texts: PlaceTexts) {
+        self.texts = texts;
     }
 
     /// Returns whether the log was made of a text of facts.
@@ -221,10 +222,21 @@ impl Labels {
         }
     }
 
+    /// Writes where a mutex was initialised, or where it is if it was initialised statically: the text that names the
+    /// place, or else what [`put_offset`](Labels::put_offset) writes.
+    pub fn put_place(&self, out: &mut Out, number: u32, mutex: &LoggedMutex) {
+        let place = self.places.get(number as usize).copied().unwrap_or(0);
+        let address = if place == 0 { mutex.address } else { place };
+        match self.texts.of_address(address) {
+            [] => self.put_offset(out, number, mutex),
+            text => put_words(out, text),
+        }
+    }
+
     /// Writes where a mutex was initialised, or where it is if it was initialised statically: the file and the offset
     /// there, or an address. A place in the code is the last byte of the call, whose line `addr2line` finds. Of a text of
     /// facts it is the name of the mutex.
-    pub fn put_place(&self, out: &mut Out, number: u32, mutex: &LoggedMutex) {
+    pub fn put_offset(&self, out: &mut Out, number: u32, mutex: &LoggedMutex) {
         if let Some(given) = &self.given {
             let name = name_in(&given.mutexes, number);
             if !name.is_empty() {
@@ -237,12 +249,18 @@ impl Labels {
         self.put_address(out, mutex.process, address);
     }
 
+    /// Returns whether `put_place` writes the call that initialised a mutex. It may have initialised others.
+    pub fn is_named_by_a_call(&self, number: u32) -> bool {
+        let place = self.places.get(number as usize).copied().unwrap_or(0);
+        self.given.is_none() && place != 0
+    }
+
     /// Writes a place in the code, to which a call of this process returns: the text that names it, or else the file and
     /// the offset of the last byte of the call, or an address.
     pub fn put_code(&self, out: &mut Out, number: u16, process: u32, returns_to: u64) {
-        match self.code.get(usize::from(number)) {
-            Some(text) if !text.is_empty() => put_words(out, text),
-            _ => self.put_address(out, process, returns_to.saturating_sub(1)),
+        match self.texts.of_number(number) {
+            [] => self.put_address(out, process, returns_to.saturating_sub(1)),
+            text => put_words(out, text),
         }
     }
 

@@ -1,15 +1,18 @@
 //! The findings as lines of text.
 
 use crate::bounds::put_bounds;
+use crate::groups::{Group, groups_of};
 use crate::kernel::{Kernel, put_compared, put_differences};
 use crate::labels::Labels;
 use crate::meanwhile::put_meanwhile;
+use crate::orders::put_opposites;
+use crate::other_waits::put_other_waits;
 use crate::words::{
-    Told, family_of, found_of, mutexes, put_code, put_count, put_duration, put_level, put_moment,
-    put_mutex, put_place, put_thread, waits_of,
+    Told, family_of, put_code, put_count, put_duration, put_level, put_moment, put_mutex,
+    put_place, put_thread,
 };
 use pim_facts::{Family, LeftOut};
-use pim_findings::{FoundMutex, FoundWait, MutexWaits};
+use pim_findings::FoundWait;
 use pim_import::{Imported, blocker_of};
 use pim_log::Log;
 use pim_out::Out;
@@ -30,8 +33,8 @@ not known: locks other than POSIX mutexes, and waits for NONE and PROTECT mutexe
 ";
 
 /// Returns the findings, a line each: where the kernel's events differ, the longest waits, what threads can be blocked
-/// for, the mutexes to convert, hand-overs out of order, the longest ownerships, deadlocks, what was left out, and what
-/// the trace has.
+/// for, the longest waits for what isn't a mutex, the mutexes to convert, hand-overs out of order, the longest
+/// ownerships, deadlocks, opposite orders, what was left out, and what the trace has.
 ///
 /// # Errors
 ///
@@ -55,10 +58,13 @@ pub fn report_of(
     }
     put_waits(&mut out, &told, kernel);
     put_bounds(&mut out, &told);
-    put_conversions(&mut out, &told);
-    put_hand_overs(&mut out, &told);
-    put_ownerships(&mut out, &told);
+    put_other_waits(alloc, &mut out, &told)?;
+    let groups = groups_of(alloc, &told)?;
+    put_conversions(&mut out, &told, &groups);
+    put_hand_overs(&mut out, &told, &groups);
+    put_ownerships(&mut out, &told, &groups);
     put_deadlocks(&mut out, &told);
+    put_opposites(&mut out, &told);
     put_left_out(&mut out, &told, log);
     put_added(&mut out, &told);
     if !labels.are_given() {
@@ -140,30 +146,46 @@ fn put_bound(out: &mut Out, told: &Told, wait: &FoundWait) {
 }
 
 /// Writes the NONE mutexes at which a thread waited for a lower one.
-fn put_conversions(out: &mut Out, told: &Told) {
-    for mutex in 0..mutexes(told) {
-        let waits = waits_of(told, mutex);
-        if waits.unbounded > 0 {
+fn put_conversions(out: &mut Out, told: &Told, groups: &[Group]) {
+    for group in groups {
+        if group.waits.unbounded > 0 {
             out.put("should inherit: ");
-            put_mutex(out, told, mutex);
+            put_mutexes(out, told, group);
             out.put(", from ");
-            put_place(out, told, mutex);
+            put_place(out, told, group.first);
             out.put(": ");
-            put_count(out, waits.unbounded, "wait");
+            put_count(out, group.waits.unbounded, "wait");
             out.put(" not bounded, ");
-            put_duration(out, waits.unbounded_time);
+            put_duration(out, group.waits.unbounded_time);
             out.put(" in all\n");
         }
     }
 }
 
+/// Writes a mutex, or how many of one place there are.
+fn put_mutexes(out: &mut Out, told: &Told, group: &Group) {
+    if group.count == 1 {
+        put_mutex(out, told, group.first);
+        return;
+    }
+    put_count(out, group.count, "mutex");
+    out.put(" (");
+    out.put(family_of(told, group.first).name());
+    out.put(")");
+}
+
 /// Writes the mutexes that passed over their first waiters.
-fn put_hand_overs(out: &mut Out, told: &Told) {
-    for mutex in 0..mutexes(told) {
-        let given = found_of(told, mutex).hand_overs;
+fn put_hand_overs(out: &mut Out, told: &Told, groups: &[Group]) {
+    for group in groups {
+        let given = group.hand_overs;
         if given.to_later > 0 || given.to_last_owner > 0 || given.to_newcomer > 0 {
             out.put("out of order: ");
-            put_mutex(out, told, mutex);
+            put_mutexes(out, told, group);
+            if group.count > 1 {
+                out.put(", from ");
+                put_place(out, told, group.first);
+                out.put(",");
+            }
             out.put(" went ");
             put_count(out, given.to_last_owner, "time");
             out.put(" to its last owner again, ");
@@ -177,34 +199,38 @@ fn put_hand_overs(out: &mut Out, told: &Told) {
     }
 }
 
-/// Writes the longest ownership of each mutex that was waited for.
-fn put_ownerships(out: &mut Out, told: &Told) {
-    for mutex in 0..mutexes(told) {
-        let waits = waits_of(told, mutex);
-        if waits.count > 0 {
-            put_ownership(out, told, mutex, &found_of(told, mutex), &waits);
+/// Writes the longest ownership of the mutexes that were waited for, and how long threads waited.
+fn put_ownerships(out: &mut Out, told: &Told, groups: &[Group]) {
+    for group in groups {
+        out.put("owned: ");
+        put_mutexes(out, told, group);
+        out.put(", from ");
+        put_place(out, told, group.first);
+        out.put(", ");
+        put_longest(out, told, group);
+        out.put("; ");
+        put_count(out, group.waits.count, "wait");
+        out.put(" of ");
+        put_duration(out, group.waits.time);
+        if group.waits.count > 1 {
+            out.put(" in all, ");
+            put_duration(out, group.waits.longest);
+            out.put(" at most");
         }
+        out.put("\n");
     }
 }
 
-fn put_ownership(out: &mut Out, told: &Told, mutex: u32, found: &FoundMutex, waits: &MutexWaits) {
-    out.put("owned: ");
-    put_mutex(out, told, mutex);
-    out.put(", from ");
-    put_place(out, told, mutex);
-    out.put(", ");
-    match found.longest {
+fn put_longest(out: &mut Out, told: &Told, group: &Group) {
+    match group.longest {
         Some(longest) => {
             put_duration(out, longest.lasted);
             out.put(" at most, by ");
             put_thread(out, told, longest.thread);
         }
-        None if found.was_owned() => out.put("to the end"),
+        None if group.was_owned => out.put("to the end"),
         None => out.put("by no thread that is known"),
     }
-    out.put("; ");
-    put_count(out, waits.count, "wait");
-    out.put("\n");
 }
 
 /// Writes the deadlocks that stood at the end.

@@ -1,17 +1,26 @@
-use Rattle.std.proofs.Common.{◌≡◌, ◌<◌, arith}
+use Rattle.std.proofs.Common.{◌≡◌, ◌<◌, ◌∙◌, refl, sym, subst, arith}
+use Rattle.pim_orders.specs.Seen.{Knows}
 use Rattle.pim_findings.proofs.Following.{ending-none, ending-more, ending-all}
 use Rattle.pim_findings.proofs.findings.Findings.end.Goals as goal
 
 pub loop-thread-init : goal.loop-thread-init
-loop-thread-init c = λ n k facts f. ending-none n k facts c.args.time c.args.self.now f
+loop-thread-init c = record { lists = refl; orders = refl; waits = λ n k facts f. ending-none n k facts c.args.time c.args.self.now f }
 
 pub loop-thread-preserved : goal.loop-thread-preserved
-loop-thread-preserved c = λ n k facts f.
-    let inside : c.loop-thread.thread < n = omega (arith, f.threads, c.threads-thread-end.ensures, c.loop-thread-test.true) in
-    ending-more n k facts c.args.time c.loop-thread.thread c.loop-thread.self c.end_wait.new.self inside
-    c.in_ok-end_wait.ensures.waits c.in_ok-end_wait.ensures.len c.in_ok-end_wait.ensures.others (c.loop-thread.invariant n k facts f)
+loop-thread-preserved c = record {
+  lists = c.in_ok-end_wait.ensures.lists ∙ c.loop-thread.invariant.lists;
+  orders = c.in_ok-end_wait.ensures.orders ∙ c.loop-thread.invariant.orders;
+  waits = λ n k facts f.
+      let inside : c.loop-thread.thread < n = omega (arith, f.threads, c.threads-thread-end.ensures, c.loop-thread-test.true) in
+      ending-more n k facts c.args.time c.loop-thread.thread c.loop-thread.self c.end_wait.new.self inside
+      c.in_ok-end_wait.ensures.waits c.in_ok-end_wait.ensures.len c.in_ok-end_wait.ensures.others (c.loop-thread.invariant.waits n k facts f);
+}
 
-pub returns : goal.returns
-returns c = λ n k facts f.
+pub returns-clause-waits : goal.returns-clause-waits
+returns-clause-waits c = λ n k facts f.
     let all : c.loop-thread.thread ≡ n = omega (arith, f.threads, c.threads-thread-end.ensures, c.loop-thread-test.false) in
-    ending-all n k facts c.args.time c.loop-thread.thread c.loop-thread.self all (c.loop-thread.invariant n k facts f)
+    ending-all n k facts c.args.time c.loop-thread.thread c.loop-thread.self all (c.loop-thread.invariant.waits n k facts f)
+
+pub returns-clause-opposites : goal.returns-clause-opposites
+returns-clause-opposites c = λ n facts known.
+    c.in_ok-self-3.ensures n facts (subst (λ orders. Knows n facts orders) (sym c.loop-thread.invariant.orders) known)

@@ -1,4 +1,4 @@
-use Rattle.std.proofs.Common.{ℕ, List}
+use Rattle.std.proofs.Common.{◌≡◌, ℕ, List, is_some}
 use Rattle.pim_findings.specs.Waits.{Moment}
 use Rattle.pim_findings.specs.Found.{Finds}
 use Rattle.pim_findings.proofs.Following.{IsEnding}
@@ -6,4 +6,8 @@ use Rattle.pim_findings.proofs.findings.Findings.end.Given as goal
 
 -- the waits of the threads so far have ended
 abbrev pub invariant-loop-thread : goal.invariant-loop-thread
-invariant-loop-thread l = (n k : ℕ) (facts : List Moment) → Finds n k facts l.fn.self → IsEnding n k facts l.time l.thread l.self
+invariant-loop-thread l = record {
+  lists : is_some l.self.waits.all ≡ is_some l.fn.self.waits.all;
+  orders : l.self.orders ≡ l.fn.self.orders;
+  waits : (n k : ℕ) (facts : List Moment) → Finds n k facts l.fn.self → IsEnding n k facts l.time l.thread l.self;
+}

@@ -4,8 +4,8 @@ use Rattle.pim_findings.proofs.Counting.{ok-then}
 use Rattle.pim_findings.proofs.Following.{finds-kept, finds-ended}
 use Rattle.pim_findings.proofs.findings.Findings.look.Goals as goal
 
-pub returns-in-GaveUp : goal.returns-in-GaveUp
-returns-in-GaveUp c =
+pub returns-in-GaveUp-clause-waits : goal.returns-in-GaveUp-clause-waits
+returns-in-GaveUp-clause-waits c =
     let m : Moment = record { fact = c.args.fact.now; time = c.args.time; course = c.args.course.now; sources = c.args.sources.now } in
     ok-then c.end_wait.result
     (λ reported n k facts f. finds-ended n k facts m c.args.self.now c.end_wait.new.self
@@ -13,12 +13,12 @@ returns-in-GaveUp c =
     reported c.end_wait.ensures.len c.end_wait.ensures.others f)
     c.end_wait.ensures.waits
 
-pub returns-in_ok-own-in-Granted : goal.returns-in_ok-own-in-Granted
-returns-in_ok-own-in-Granted c =
+pub returns-in_ok-own-in-Granted-clause-waits : goal.returns-in_ok-own-in-Granted-clause-waits
+returns-in_ok-own-in-Granted-clause-waits c =
     let m : Moment = record { fact = c.args.fact.now; time = c.args.time; course = c.args.course.now; sources = c.args.sources.now } in
     ok-then c.end_wait-in-Granted.result
     (λ reported n k facts f. finds-ended n k facts m c.own.new.self c.end_wait-in-Granted.new.self
     (ap ends_wait c.in-Granted.is) (λ wait. ap (λ what. after_own m what wait) c.in-Granted.is)
     reported c.end_wait-in-Granted.ensures.len c.end_wait-in-Granted.ensures.others
-    (finds-kept n k facts c.args.self.now c.own.new.self c.own.ensures f))
+    (finds-kept n k facts c.args.self.now c.own.new.self c.own.ensures.waits f))
     c.end_wait-in-Granted.ensures.waits
