@@ -58,14 +58,23 @@ static bool goes_on(pid_t program, int *status) {
     return true;
 }
 
+/* Waits until each signal that is being sent to this process' group has come to all of it: the kernel
+ * holds the lock of all process groups meanwhile, and setpgid takes it, also where it changes
+ * nothing. */
+static void wait_for_senders(void) {
+    setpgid(0, getpgrp());
+}
+
 /* Passes a signal on. If a stop was sent to the whole group, its end may have come to the program
  * already; then it is pending here, and holds. */
 static void pass_on(pid_t program, int number) {
     bool is_stop = number == SIGTSTP || number == SIGTTIN || number == SIGTTOU;
     sigset_t pending;
     kill(program, number);
+    if (!is_stop) return;
+    wait_for_senders();
     sigpending(&pending);
-    if (is_stop && sigismember(&pending, SIGCONT)) kill(program, SIGCONT);
+    if (sigismember(&pending, SIGCONT)) kill(program, SIGCONT);
 }
 
 /* A process has sent a signal. */
