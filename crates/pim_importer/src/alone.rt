@@ -5,7 +5,7 @@ use crate::fault::Fault;
 use crate::files::{is_file, is_missing, read_file};
 use crate::kernel::path_of;
 use pim_kernel_events::{Recording, TextFault, Tracks};
-use pim_report::Alone;
+use pim_labels::Alone;
 use pim_waits::Findings;
 use std::alloc::Global;
 

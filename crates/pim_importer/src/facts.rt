@@ -3,7 +3,7 @@
 use crate::fault::Fault;
 use crate::files::read_file;
 use pim_facts_text::{FactsFault, Text, log_of, mutex_of, thread_of};
-use pim_report::GivenNames;
+use pim_labels::GivenNames;
 use std::alloc::{AllocError, Global};
 use std::io::Read;
 

@@ -7,8 +7,8 @@ use pim_comparison::{compare, waits_of};
 use pim_course::Wait;
 use pim_import::Imported;
 use pim_kernel_events::{Recording, TextFault, Tracks};
+use pim_labels::Kernel;
 use pim_log::Log;
-use pim_report::Kernel;
 use pim_waits::{Awaited, ran_meanwhile};
 use std::alloc::{AllocError, Global};
 

@@ -3,8 +3,8 @@
 //! It reads the log, passes it to `pim_import::import_log`, and writes the trace, the names and the
 //! findings. The decisions about the log are in `pim_course` and `pim_import`; docs/RECORDING.md says
 //! what is proved of them, and the rest is tested. Of the kernel's events without a log it writes what
-//! `pim_waits` finds. `pim_report` has the texts. This crate has what no contract can say: the files
-//! and the process.
+//! `pim_waits` finds. `pim_report` and `pim_report_json` write the findings. This crate has what no
+//! contract can say: the files and the process.
 #![tactic(auto)]
 
 mod alone;
@@ -26,8 +26,10 @@ use crate::kernel::{events_of, kernel_of, waits_in};
 use crate::places::place_texts;
 use crate::results::Results;
 use pim_import::{ImportFault, ImportOptions, Imported, import_log};
+use pim_labels::{Kernel, Labels};
 use pim_log::Log;
-use pim_report::{Kernel, Labels, json_alone, json_of, report_alone, report_of};
+use pim_report::{report_alone, report_of};
+use pim_report_json::{json_alone, json_of};
 use std::alloc::Global;
 use std::io;
 use std::process::ExitCode;

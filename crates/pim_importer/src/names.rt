@@ -2,9 +2,9 @@
 
 use pim_course::family_of;
 use pim_import::{Appearance, Imported};
+use pim_labels::Labels;
 use pim_out::Out;
 use pim_replay::Piece;
-use pim_report::Labels;
 use std::alloc::Global;
 use std::io;
 use std::io::Write;

@@ -2,8 +2,8 @@
 
 use crate::fault::Fault;
 use crate::files::{is_file, read_file};
+use pim_labels::PlaceTexts;
 use pim_log::Log;
-use pim_report::PlaceTexts;
 use std::alloc::Global;
 
 /// Returns what the file LOG.places says of each place. If there is no such file, or if the log has no places, that is

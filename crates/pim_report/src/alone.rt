@@ -1,27 +1,17 @@
 //! The kernel's events without a log: what they say alone, as lines of text.
 
 use crate::kernel::put_lost;
-use crate::words::{put_count, put_duration, put_level, put_since};
-use pim_kernel_events::{Boost, Recording};
+use pim_kernel_events::Boost;
+use pim_labels::{Alone, LISTED_WAITS, put_count, put_duration, put_level, put_since};
 use pim_out::Out;
-use pim_waits::{Boosted, Findings, Wait, boosts_by};
+use pim_waits::{Boosted, Wait, boosts_by};
 use std::alloc::{AllocError, Global};
-
-/// How many waits are listed.
-pub const LONGEST: usize = 10;
 
 /// What the kernel's events alone can't know.
 const UNKNOWN: &str = "\
 not known: NONE and PROTECT mutexes, locks that nobody waits for, who owned a mutex at first, and priorities that the program sets
 so nothing is compared with what POSIX gives, and no trace is written
 ";
-
-/// The kernel's events of a program that has no log, and what is found in them.
-#[derive(Drop)]
-pub struct Alone {
-    pub recording: Recording,
-    pub findings: Findings,
-}
 
 /// Returns what the kernel's events alone say, a line each: the longest waits, the threads that ran at the priority of
 /// a boost, and what isn't known.
@@ -32,7 +22,7 @@ pub struct Alone {
 pub fn report_alone(alloc: Global, alone: &Alone) -> Result<String, AllocError> {
     let mut out = Out::new(alloc);
     let waits = alone.findings.waits.as_slice();
-    for place in 0..waits.len().min(LONGEST) {
+    for place in 0..waits.len().min(LISTED_WAITS) {
         put_wait(&mut out, alone, &waits[place]);
         for boost in &boosts_by(alloc, &alone.recording, &waits[place])? {
             put_boost(&mut out, alone, boost);
@@ -41,8 +31,8 @@ pub fn report_alone(alloc: Global, alone: &Alone) -> Result<String, AllocError> 
     }
     if waits.is_empty() {
         out.put("no thread waited for an INHERIT mutex\n");
-    } else if waits.len() > LONGEST {
-        let others = waits.len() - LONGEST;
+    } else if waits.len() > LISTED_WAITS {
+        let others = waits.len() - LISTED_WAITS;
         out.put("and ");
         put_count(&mut out, others as u64, "wait");
         out.put(", none of them longer\n");

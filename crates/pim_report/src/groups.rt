@@ -1,7 +1,7 @@
 //! The mutexes that come from one place, taken together.
 
-use crate::words::{Told, family_of, found_of, mutexes, put_place, waits_of};
 use pim_findings::{FoundMutex, FoundOwnership, HandOvers, MutexWaits};
+use pim_labels::{Told, family_of, found_of, mutexes, put_place, waits_of};
 use pim_out::Out;
 use std::alloc::{AllocError, Global};
 use std::collections::BTreeMap;

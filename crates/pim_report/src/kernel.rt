@@ -1,40 +1,14 @@
 //! Where the kernel's events differ from the trace, as lines of text.
 
-use crate::words::{Told, put_count, put_duration, put_level, put_moment, put_thread};
-use pim_base::Reason;
-use pim_comparison::{Compared, Found, Lengthened};
-use pim_kernel_events::{Tasks, line_at};
+use pim_comparison::{Found, Lengthened};
+use pim_kernel_events::line_at;
+use pim_labels::{
+    Kernel, Told, put_count, put_duration, put_level, put_moment, put_reason, put_thread,
+};
 use pim_out::Out;
-use pim_waits::RanMeanwhile;
 
 /// How many differences the text lists.
 const LONGEST: usize = 10;
-
-/// What the kernel's events show.
-#[derive(Drop)]
-pub struct Kernel {
-    /// The file's bytes.
-    pub bytes: Vec<u8>,
-    pub compared: Compared,
-    /// How many events were lost.
-    pub lost: u64,
-    /// Whether the file has its last line.
-    pub is_whole: bool,
-    /// The names of the tasks.
-    pub tasks: Tasks,
-    /// Of each of the longest waits who ran in the place of the owner.
-    pub meanwhile: Vec<Vec<RanMeanwhile>>,
-}
-
-impl Kernel {
-    /// Returns who ran in the place of the owner during one of the longest waits, the one that ran longest first.
-    pub fn ran_meanwhile(&self, wait: usize) -> &[RanMeanwhile] {
-        match self.meanwhile.get(wait) {
-            Some(ran) => ran.as_slice(),
-            None => &[],
-        }
-    }
-}
 
 /// Writes the longest differences, the longest first, each with the lines that show it.
 pub fn put_differences(out: &mut Out, told: &Told, kernel: &Kernel) {
@@ -84,23 +58,6 @@ fn put_lengthened(out: &mut Out, told: &Told, wait: &Lengthened) {
     out.put(", from ");
     put_moment(out, told, wait.began);
     out.put(" on");
-}
-
-/// Writes why a thread should have its priority, as a report of `pim` does.
-pub fn put_reason(out: &mut Out, reason: Reason) {
-    match reason {
-        Reason::Base => out.put("base"),
-        Reason::Ceiling(mutex) => {
-            out.put("ceiling ");
-            out.number(u64::from(mutex.get()));
-        }
-        Reason::Waiter(task, mutex) => {
-            out.put("waiter ");
-            out.number(u64::from(task.get()));
-            out.put(" mutex ");
-            out.number(u64::from(mutex.get()));
-        }
-    }
 }
 
 /// Writes the lines of the file that show when a difference began and ended.

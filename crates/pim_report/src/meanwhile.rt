@@ -1,9 +1,7 @@
-//! Who ran in the place of an owner while another thread waited, as lines of text and as JSON.
+//! Who ran in the place of an owner while another thread waited, as lines of text.
 
-use crate::kernel::Kernel;
-use crate::words::{Told, put_count, put_duration, put_level, put_thread};
-use pim_out::{JsonOut, Out};
-use pim_waits::RanMeanwhile;
+use pim_labels::{Kernel, Told, put_count, put_duration, put_level, put_thread};
+use pim_out::Out;
 
 /// How many threads the text lists for a wait.
 const LISTED: usize = 3;
@@ -45,23 +43,4 @@ fn thread_of(told: &Told, task: u32) -> Option<u32> {
     let threads = told.imported.sources.ids.threads.as_slice();
     let place = threads.iter().rposition(|thread| thread.task == task)?;
     u32::try_from(place).ok()
-}
-
-/// Writes the same to an array, all of them.
-pub fn put_meanwhile_json(out: &mut JsonOut, kernel: &Kernel, wait: usize) {
-    out.key("ran_meanwhile");
-    out.begin_array();
-    for ran in kernel.ran_meanwhile(wait) {
-        put_ran(out, kernel, ran);
-    }
-    out.end_array();
-}
-
-fn put_ran(out: &mut JsonOut, kernel: &Kernel, ran: &RanMeanwhile) {
-    out.begin_object();
-    out.number("task", u64::from(ran.task));
-    out.string("name", kernel.tasks.name_of(ran.task));
-    out.number("priority", u64::from(ran.level));
-    out.number("ran", ran.ran);
-    out.end_object();
 }

@@ -1,7 +1,7 @@
 //! Mutexes that were taken in opposite orders, as lines of text.
 
 use crate::bounds::put_used;
-use crate::words::{Told, put_code, put_count, put_thread};
+use pim_labels::{Told, put_code, put_count, put_thread};
 use pim_orders::{Nesting, Opposite};
 use pim_out::Out;
 

@@ -1,13 +1,12 @@
 //! The waits of real-time threads for what isn't a mutex, as lines of text.
 
-use crate::words::{Told, put_code, put_count, put_duration, put_level, put_moment, put_thread};
+use pim_labels::{
+    LISTED_WAITS, Told, put_code, put_count, put_duration, put_level, put_moment, put_thread,
+};
 use pim_log::{ObjectKind, Outcome};
 use pim_other_waits::{Gift, OtherWait, longest_first, other_waits_of};
 use pim_out::Out;
 use std::alloc::{AllocError, Global};
-
-/// How many waits are listed.
-pub const LISTED: usize = 10;
 
 /// Writes the longest waits, the longest first. Nothing if there is none.
 ///
@@ -22,10 +21,10 @@ pub fn put_other_waits(alloc: Global, out: &mut Out, told: &Told) -> Result<(), 
         out.number(waits.len() as u64);
         out.put(", of real-time threads\n");
     }
-    for place in 0..waits.len().min(LISTED) {
+    for place in 0..waits.len().min(LISTED_WAITS) {
         put_wait(out, told, &waits[place]);
     }
-    let more = waits.len().saturating_sub(LISTED);
+    let more = waits.len().saturating_sub(LISTED_WAITS);
     if more > 0 {
         out.put("  and ");
         put_count(out, more as u64, "wait");

@@ -2,18 +2,17 @@
 
 use crate::bounds::put_bounds;
 use crate::groups::{Group, groups_of};
-use crate::kernel::{Kernel, put_compared, put_differences};
-use crate::labels::Labels;
+use crate::kernel::{put_compared, put_differences};
 use crate::meanwhile::put_meanwhile;
 use crate::orders::put_opposites;
 use crate::other_waits::put_other_waits;
-use crate::words::{
-    Told, family_of, put_code, put_count, put_duration, put_level, put_moment, put_mutex,
-    put_place, put_thread,
-};
 use pim_facts::{Family, LeftOut};
 use pim_findings::FoundWait;
 use pim_import::{Imported, blocker_of};
+use pim_labels::{
+    Kernel, Labels, Told, family_of, put_code, put_count, put_duration, put_level, put_moment,
+    put_mutex, put_place, put_thread,
+};
 use pim_log::Log;
 use pim_out::Out;
 use pim_replay::Scale;

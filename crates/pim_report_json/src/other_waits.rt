@@ -1,8 +1,7 @@
 //! The waits of real-time threads for what isn't a mutex, as JSON.
 
-use crate::json_report::{put_at, put_thread};
-use crate::other_waits::LISTED;
-use crate::words::Told;
+use crate::report::{put_at, put_thread};
+use pim_labels::{LISTED_WAITS, Told};
 use pim_log::{ObjectKind, Outcome};
 use pim_other_waits::{OtherWait, longest_first, other_waits_of};
 use pim_out::{JsonOut, Out};
@@ -19,7 +18,7 @@ pub fn put_other_waits(alloc: Global, out: &mut JsonOut, told: &Told) -> Result<
     out.number("other_waits_in_all", waits.len() as u64);
     out.key("other_waits");
     out.begin_array();
-    for place in 0..waits.len().min(LISTED) {
+    for place in 0..waits.len().min(LISTED_WAITS) {
         put_wait(alloc, out, told, &waits[place]);
     }
     out.end_array();

@@ -1,16 +1,16 @@
 //! The findings as JSON.
 
-use crate::bounds_json::put_bounds;
-use crate::kernel::{Kernel, put_reason};
-use crate::labels::Labels;
-use crate::meanwhile::put_meanwhile_json;
-use crate::orders_json::put_opposites;
-use crate::other_waits_json::put_other_waits;
-use crate::words::{Told, family_of, found_of, mutexes, put_code, put_place, waits_of};
+use crate::bounds::put_bounds;
+use crate::meanwhile::put_meanwhile;
+use crate::orders::put_opposites;
+use crate::other_waits::put_other_waits;
 use pim_comparison::{Found, Lengthened};
 use pim_facts::LeftOut;
 use pim_findings::{FoundMutex, FoundWait, MutexWaits};
 use pim_import::{Imported, blocker_of};
+use pim_labels::{
+    Kernel, Labels, Told, family_of, found_of, mutexes, put_code, put_place, put_reason, waits_of,
+};
 use pim_log::Log;
 use pim_out::{JsonOut, Out};
 use std::alloc::{AllocError, Global};
@@ -83,7 +83,7 @@ fn put_longest_waits(alloc: Global, out: &mut JsonOut, told: &Told, kernel: Opti
         out.begin_object();
         put_wait(alloc, out, told, wait);
         if let Some(kernel) = kernel {
-            put_meanwhile_json(out, kernel, place);
+            put_meanwhile(out, kernel, place);
         }
         out.end_object();
     }

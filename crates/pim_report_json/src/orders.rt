@@ -1,7 +1,7 @@
 //! Mutexes that were taken in opposite orders, as JSON.
 
-use crate::json_report::{put_at, put_thread};
-use crate::words::{Told, family_of, put_place};
+use crate::report::{put_at, put_thread};
+use pim_labels::{Told, family_of, put_place};
 use pim_orders::Nesting;
 use pim_out::{JsonOut, Out};
 use std::alloc::Global;

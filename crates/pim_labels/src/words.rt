@@ -7,6 +7,9 @@ use pim_import::Imported;
 use pim_log::Log;
 use pim_out::Out;
 
+/// How many waits are listed, in text and in JSON.
+pub const LISTED_WAITS: usize = 10;
+
 /// What the texts are made from.
 #[derive(Clone, Copy)]
 pub struct Told<'a> {

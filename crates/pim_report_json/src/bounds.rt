@@ -1,8 +1,8 @@
 //! What threads can be blocked for, as JSON.
 
-use crate::json_report::put_thread;
-use crate::words::{Told, family_of, put_place};
+use crate::report::put_thread;
 use pim_findings::{Bound, Section};
+use pim_labels::{Told, family_of, put_place};
 use pim_out::{JsonOut, Out};
 use std::alloc::Global;
 

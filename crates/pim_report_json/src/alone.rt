@@ -1,7 +1,7 @@
 //! What the kernel's events alone say, as JSON.
 
-use crate::alone::{Alone, LONGEST};
 use pim_kernel_events::Boost;
+use pim_labels::{Alone, LISTED_WAITS};
 use pim_out::{JsonOut, Out};
 use pim_waits::{Boosted, Wait, boosts_by};
 use std::alloc::{AllocError, Global};
@@ -22,7 +22,7 @@ pub fn json_alone(alloc: Global, alone: &Alone) -> Result<Vec<u8>, AllocError> {
     out.number("waits", findings.waits.len() as u64);
     out.key("longest_waits");
     out.begin_array();
-    for place in 0..findings.waits.len().min(LONGEST) {
+    for place in 0..findings.waits.len().min(LISTED_WAITS) {
         let wait = &findings.waits[place];
         let boosts = boosts_by(alloc, &alone.recording, wait)?;
         put_wait(alloc, &mut out, alone, wait, &boosts);

@@ -1,0 +1,57 @@
+//! What the kernel's events show, beside a log and alone.
+
+use pim_base::Reason;
+use pim_comparison::Compared;
+use pim_kernel_events::{Recording, Tasks};
+use pim_out::Out;
+use pim_waits::{Findings, RanMeanwhile};
+
+/// What the kernel's events show.
+#[derive(Drop)]
+pub struct Kernel {
+    /// The file's bytes.
+    pub bytes: Vec<u8>,
+    pub compared: Compared,
+    /// How many events were lost.
+    pub lost: u64,
+    /// Whether the file has its last line.
+    pub is_whole: bool,
+    /// The names of the tasks.
+    pub tasks: Tasks,
+    /// Of each of the longest waits who ran in the place of the owner.
+    pub meanwhile: Vec<Vec<RanMeanwhile>>,
+}
+
+impl Kernel {
+    /// Returns who ran in the place of the owner during one of the longest waits, the one that ran longest first.
+    pub fn ran_meanwhile(&self, wait: usize) -> &[RanMeanwhile] {
+        match self.meanwhile.get(wait) {
+            Some(ran) => ran.as_slice(),
+            None => &[],
+        }
+    }
+}
+
+/// The kernel's events of a program that has no log, and what is found in them.
+#[derive(Drop)]
+pub struct Alone {
+    pub recording: Recording,
+    pub findings: Findings,
+}
+
+/// Writes why a thread should have its priority, as a report of `pim` does.
+pub fn put_reason(out: &mut Out, reason: Reason) {
+    match reason {
+        Reason::Base => out.put("base"),
+        Reason::Ceiling(mutex) => {
+            out.put("ceiling ");
+            out.number(u64::from(mutex.get()));
+        }
+        Reason::Waiter(task, mutex) => {
+            out.put("waiter ");
+            out.number(u64::from(task.get()));
+            out.put(" mutex ");
+            out.number(u64::from(mutex.get()));
+        }
+    }
+}
