@@ -56,12 +56,16 @@ The findings go to standard output, a line each:
   the longest waits: who waited for which mutex, who owned it, at which priorities; and what bounds the wait. A wait of
   a thread for a lower one at a NONE mutex is not bounded: any thread between them can make it longer. Where in the code
   the wait was, and the owner took the mutex, is the line in LOG.places, which pim-record writes, or an offset in the file
+  what each real-time thread that locks can be blocked for by lower ones, from the longest ownerships that were observed,
+  under INHERIT and under PROTECT
   the NONE mutexes at which that happened, with the place where each was initialised: these should inherit. Those of one
   place have one line
   hand-overs that passed over the first waiter, by mutex
   the longest ownership of each mutex that was waited for, and how long threads waited for it in all and at most
   deadlocks that stood at the end
   the mutexes that two threads took in opposite orders, so that they can deadlock
+  the longest waits of real-time threads for semaphores, read-write locks, barriers, threads and condition variables,
+  which no protocol bounds, and who ended each
   what was left out of the trace, and why
 
 A static program has no log. If LOG isn't there, but LOG.kernel is, the kernel's events are read alone, and FILE if no
