@@ -3,25 +3,26 @@ import re
 from collections import Counter, namedtuple
 
 MAGIC = b"pim-kernel "
-VERSION, CLOCK = 1, b"mono"  # the clock of the log
+VERSIONS, CLOCK = (1, 2), b"mono"  # the clock of the log
 
 NUMBER, SIGNED = rb"(?:0|[1-9][0-9]{0,19})", rb"(?:0|-?[1-9][0-9]{0,19})"
 PRIORITY = rb"(?:-1|0|[1-9][0-9]?|1[0-3][0-9]|140)"
 ADDRESS, SHARING = rb"0x[0-9a-f]{1,16}", rb"(?:private|shared)"
 STATE = rb"(?:[RSDTtXZPI]\+?|0x[0-9a-f]{1,16})"
 NAME = rb"(?:[!-\[\]-~]|\\x[0-9a-f]{2}){0,16}"
-HEAD = (rb"pim-kernel 1", rb"kernel ([!-~]+) ([!-~]+)", rb"clock ([!-~]+)",
+HEAD = (rb"pim-kernel ([12])", rb"kernel ([!-~]+) ([!-~]+)", rb"clock ([!-~]+)",
         *(word + rb" (" + NUMBER + rb")" for word in (b"process", b"began", b"cpus")))
-CALLS = ("lock", "lock2", "unlock", "trylock")
+CALLS = ("lock", "lock2", "unlock", "trylock", "wait")
+SINCE_2 = ("wait", "wake")
 FIELDS = {"switch": (PRIORITY, STATE, NUMBER, PRIORITY), "setprio": (NUMBER, PRIORITY, PRIORITY),
-          "return": (SIGNED,), "name": (NUMBER, NAME), "lost": (NUMBER, NUMBER),
+          "return": (SIGNED,), "wake": (NUMBER,), "name": (NUMBER, NAME), "lost": (NUMBER, NUMBER),
           **dict.fromkeys(CALLS, (ADDRESS, SHARING))}
 PATTERNS = {what: re.compile(b" ".join((NUMBER, NUMBER, NUMBER, what.encode(), *fields)))
             for what, fields in FIELDS.items()}
 END = re.compile(rb"end (" + NUMBER + rb") (" + NUMBER + rb") (" + NUMBER + rb")")
 NOT_COUNTED = ("name", "lost")
 
-Head = namedtuple("Head", "release machine clock process began cpus")
+Head = namedtuple("Head", "version release machine clock process began cpus")
 Event = namedtuple("Event", "line time cpu task what values")
 
 
@@ -33,20 +34,20 @@ def read_head(lines):
     """Returns the head, or raises NotAKernelText."""
     if not lines[0].startswith(MAGIC):
         raise NotAKernelText("it isn't a recording of the kernel's events")
-    if lines[0] != HEAD[0]:
-        raise NotAKernelText(f"its version isn't {VERSION}, which this reader knows")
+    if not re.fullmatch(HEAD[0], lines[0]):
+        raise NotAKernelText(f"its version isn't {' or '.join(map(str, VERSIONS))}, which this reader knows")
     found = [re.fullmatch(form, line) for form, line in zip(HEAD, lines)]
     if len(found) < len(HEAD) or None in found:
         raise NotAKernelText("its head isn't whole")
-    release, machine, clock, *numbers = [word.decode() for match in found for word in match.groups()]
-    return Head(release, machine, clock, *map(int, numbers))
+    version, release, machine, clock, *numbers = [word.decode() for match in found for word in match.groups()]
+    return Head(int(version), release, machine, clock, *map(int, numbers))
 
 
-def event_of(number, line):
-    """Returns the event of a line, or None where the line has no such form."""
+def event_of(version, number, line):
+    """Returns the event of a line, or None where the line has no form of that version."""
     parts = line.split(b" ")
     what = parts[3].decode("latin-1") if len(parts) > 3 else ""
-    if what not in PATTERNS or not PATTERNS[what].fullmatch(line):
+    if what not in PATTERNS or not PATTERNS[what].fullmatch(line) or version == 1 and what in SINCE_2:
         return None
     time, cpu, task = map(int, parts[:3])
     numbers = (NUMBER, SIGNED, PRIORITY)
@@ -70,7 +71,7 @@ class KernelText:
             self.faults.append("the end is missing: the recorder was killed, or goes on")
 
     def read_line(self, number, line):
-        event, end = event_of(number, line), END.fullmatch(line)
+        event, end = event_of(self.head.version, number, line), END.fullmatch(line)
         if self.end is not None:
             self.faults.append(f"line {number}: it follows the end")
         elif end:
@@ -78,7 +79,7 @@ class KernelText:
         elif event:
             self.events.append(event)
         else:
-            self.faults.append(f"line {number}: it has no form of version {VERSION}")
+            self.faults.append(f"line {number}: it has no form of version {self.head.version}")
 
     def counted(self):
         return [event for event in self.events if event.what not in NOT_COUNTED]
@@ -95,9 +96,9 @@ class Checker:
     def __init__(self, text):
         self.text, self.faults = text, list(text.faults)
         self.last_time = text.head.began
-        self.calling = set()  # tasks whose calls haven't returned
+        self.calling = {}     # by task: its call that hasn't returned
         self.running = {}     # by CPU: the recorded task that a switch began
-        self.recorded = {it.task for it in text.counted() if it.what != "switch"}
+        self.recorded = {it.task for it in text.counted() if it.what not in ("switch", "wake")}
         self.stretches = sorted(((it.values[1], it.time) for it in text.lost()), reverse=True)
         self.lost_until = 0
 
@@ -116,6 +117,8 @@ class Checker:
                 self.forget()
             elif event.what == "switch":
                 self.switch(event)
+            elif event.what == "wake":
+                self.wake(event)
             elif event.what != "name":
                 self.run_by(event)
                 self.call(event)
@@ -148,10 +151,15 @@ class Checker:
 
     def switch(self, event):
         if event.values[1][0] in "XZ":
-            self.calling.discard(event.task)
+            self.calling.pop(event.task, None)
         self.running.pop(event.cpu, None)
         if event.values[2] in self.recorded:  # of others, the next switch may not be there
             self.running[event.cpu] = event.values[2]
+
+    def wake(self, event):
+        woken, = event.values
+        if self.calling.get(woken) != "wait":
+            self.fault(event, f"task {woken} doesn't wait")
 
     def run_by(self, event):
         if self.running.get(event.cpu, event.task) != event.task:
@@ -161,11 +169,11 @@ class Checker:
         if event.what in CALLS:
             if event.task in self.calling:
                 self.fault(event, f"task {event.task} has a call that hasn't returned")
-            self.calling.add(event.task)
+            self.calling[event.task] = event.what
         elif event.what == "return":
             if event.task not in self.calling:
                 self.fault(event, f"task {event.task} returns from no call")
-            self.calling.discard(event.task)
+            self.calling.pop(event.task, None)
 
     def count(self):
         time, events, lost = self.text.end
@@ -188,11 +196,11 @@ def check(text):
         begin, end = seconds(head, event.values[1]), seconds(head, event.time)
         print(f"CPU {event.cpu}: {event.values[0]} events were lost, from {begin} to {end}")
     counts = Counter(event.what for event in events)
-    switches, priorities = counts["switch"], counts["setprio"]
+    switches, priorities, wakes = counts["switch"], counts["setprio"], counts["wake"]
     tasks, lost = len({event.task for event in events}), sum(it.values[0] for it in text.lost())
     print(f"{len(faults)} faults in {len(events)} events of {tasks} tasks: {switches} switches,"
-          f" {priorities} set priorities, {len(events) - switches - priorities} of futex;"
-          f" {lost} lost; clock {head.clock}")
+          f" {priorities} set priorities, {len(events) - switches - priorities - wakes} of futex,"
+          f" {wakes} wakes; {lost} lost; clock {head.clock}")
     return 1 if faults else 0
 
 
@@ -225,7 +233,10 @@ def line_of(event, head, names):
         return f"{start} task={called(task)} old={priority_word(old)} new={priority_word(new)}"
     if event.what == "return":
         return f"{start} result={event.values[0]}"
-    return f"{start} mutex={event.values[0]} {event.values[1]}"
+    if event.what == "wake":
+        return f"{start} task={called(event.values[0])}"
+    what = "word" if event.what == "wait" else "mutex"
+    return f"{start} {what}={event.values[0]} {event.values[1]}"
 
 
 def show(text):

@@ -5,7 +5,10 @@
  * PIM_RECORD_CONTENDED only of what is waited for. PIM_RECORD_READER, the path of pim-log, names
  * the places at the end. With PIM_KERNEL, the name of a file, it records the kernel's events there:
  * without the library where the program can't have it, or where PIM_RECORD names no log. The
- * library finds the name of the collector's socket in PIM_RECORD. */
+ * library finds the name of the collector's socket in PIM_RECORD.
+ *
+ * pim-launch --pid PROCESS NANOSECONDS: records there the kernel's events of a program that runs
+ * already, for so long, or until it ends where that is 0. */
 #define _GNU_SOURCE
 #include <dlfcn.h>
 #include <elf.h>
@@ -24,6 +27,7 @@
 
 #include "library/log.h"
 #include "parent/parent.h"
+#include "parent/running.h"
 
 enum { FAULT = 2, NOT_RUNNABLE = 126, NOT_FOUND = 127, MOST_SCRIPTS = 5, LINE_BYTES = 256 };
 
@@ -219,10 +223,23 @@ static struct amount take_amount(void) {
     return amount;
 }
 
+/* Records a program that runs already, by the arguments and the variables. */
+static _Noreturn void run_beside(char **arguments) {
+    struct running wanted = {
+        .process = (pid_t)strtol(arguments[2], NULL, 10),
+        .nanoseconds = strtoull(arguments[3], NULL, 10),
+        .kernel = take_variable("PIM_KERNEL"),
+        .kilobytes = take_variable("PIM_KERNEL_KB"),
+    };
+    if (!wanted.kernel || !wanted.kilobytes) refuse(FAULT, "PIM_KERNEL", "it isn't set");
+    record_running(&wanted);
+}
+
 int main(int count, char **arguments) {
     static struct wanted wanted;
     char path[PATH_MAX];
     const char *what = NULL;
+    if (count == 4 && strcmp(arguments[1], "--pid") == 0) run_beside(arguments);
     wanted.log = take_variable("PIM_RECORD");
     wanted.amount = take_amount();
     wanted.kernel = take_variable("PIM_KERNEL");

@@ -57,8 +57,9 @@ static void calls(void) {
         put(RETURN, 21, -(int64_t)i, 0, 0, 0);
     }
     for (int64_t operation = 0; operation < 128; operation++) {
-        bool is_known = (operation >= 6 && operation <= 8) || operation == 13;
-        if (is_known) continue;
+        bool is_lock = (operation >= 6 && operation <= 8) || operation == 13;
+        bool is_wait = operation == 0 || operation == 9 || operation == 11;
+        if (is_lock || is_wait) continue;
         call(21, operation);
         put(RETURN, 21, 1, 0, 0, 0);
     }
@@ -68,16 +69,52 @@ static void calls(void) {
     put(RETURN, 22, 2, 0, 0, 0); /* which answers no call */
     put(RETURN, 21, -110, 0, 0, 0);
     call(21, 134);
-    call(21, 0);
+    call(21, 1);
     put(RETURN, 21, 3, 0, 0, 0); /* of the later call */
     call(NO_TASK, 134);
     call(-1, 134);
+}
+
+static void wake(int task, int64_t woken) { put(WAKING, task, woken, 0, 0, 0); }
+
+static void waits(void) {
+    static const int64_t operations[] = { 0, 9, 11, 128, 0x180, 0x189, 139 };
+    for (size_t i = 0; i < sizeof operations / sizeof *operations; i++) {
+        call(23, operations[i]);
+        put(RETURN, 23, -(int64_t)i, 0, 0, 0);
+    }
+    wake(21, 23); /* which has returned */
+    call(23, 128);
+    wake(21, 22); /* which doesn't wait */
+    wake(21, 23);
+    wake(0, 23);
+    wake(23, 23);
+    wake(NO_TASK, 23);
+    wake(21, 0);
+    wake(21, -1);
+    wake(21, NO_TASK);
+    put(RETURN, 23, 0, 0, 0, 0);
+    call(23, 134);
+    wake(21, 23); /* which waits for a PI mutex */
+    call(23, 0);
+    put_switch(23, "a", 2, 22, "b");
+    wake(21, 23);
+    put_switch(23, "a", 0x10, 22, "b"); /* it ends */
+    wake(21, 23);
+    call(23, 0);
+    put_switch(23, "a", 0x20, 22, "b");
+    wake(21, 23);
+    put(RETURN, 23, 5, 0, 0, 0);
+    call(23, 0);
 }
 
 static void losses(void) {
     call(21, 134);
     put(LOST, 0, 5, 2150, 0, 0);
     put(RETURN, 21, 4, 0, 0, 0); /* of a call before the loss */
+    wake(21, 23);                /* in such a call */
+    call(23, 0);
+    wake(21, 23);
     call(22, 134);
     put(RETURN, 22, 0, 0, 0, 0);
     time_of_event += 10;
@@ -111,6 +148,7 @@ int main(int count, char **arguments) {
     names();
     states();
     calls();
+    waits();
     losses();
     put_end(&text, 9000);
     uint64_t from = text.lost_from, to = text.lost_to;

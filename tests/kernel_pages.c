@@ -17,7 +17,8 @@ static const struct layouts layouts = {
             [SWITCH] = { 9, 64,
                          { { 8, 4 }, { 16, 8 }, { 12, 4 }, { 24, 4 }, { 28, 16 }, { 44, 16 } } },
             [CALL] = { 11, 24, { { 8, 8 }, { 16, 8 } } },
-            [RETURN] = { 13, 16, { { 8, 8 } } } },
+            [RETURN] = { 13, 16, { { 8, 8 } } },
+            [WAKING] = { 15, 28, { { 24, 4 } } } },
 };
 
 static unsigned char page[2 * PAGE]; /* the rest is never to be read */
@@ -117,6 +118,9 @@ static void kinds(void) {
     put_head(4, 1);
     const uint32_t back[] = { 13, 21, (uint32_t)-35, (uint32_t)-1 };
     for (int i = 0; i < 4; i++) put_word(back[i]);
+    put_head(7, 1);
+    const uint32_t waking[] = { 15, 21, 1, 2, 3, 4, 22 };
+    for (int i = 0; i < 7; i++) put_word(waking[i]);
     put_head(5, 1);
     put_priority(21, 22, 89, 88);
     page[DATA + used - 20] = 8; /* an event of another number */

@@ -465,7 +465,7 @@ def settings(folder, tracefs):
     policies = [os.sched_getscheduler(int(process)) for process in (child.pid, program)]
     check("the recorder leaves its real-time priority", difference(policies, (os.SCHED_OTHER, os.SCHED_FIFO)))
     head = pathlib.Path(folder, "run.kernel").read_bytes()
-    check("the head is written as the program begins", None if head.startswith(b"pim-kernel 1\n") else f"{head[:80]}")
+    check("the head is written as the program begins", None if head.startswith(b"pim-kernel 2\n") else f"{head[:80]}")
     written = until(lambda: b" switch " in pathlib.Path(folder, "run.kernel").read_bytes())
     check("events are written while the program runs", None if written else "none is")
     child.terminate()
@@ -655,7 +655,7 @@ LINES = """\
 0.000002100 cpu1 [0] switch priority=other state=R next=[102] next-priority=30
 0.000002200 cpu1 [102] return result=-35
 """
-COUNTED = "0 faults in 9 events of 4 tasks: 3 switches, 2 set priorities, 4 of futex; 0 lost; clock mono\n"
+COUNTED = "0 faults in 9 events of 4 tasks: 3 switches, 2 set priorities, 4 of futex, 0 wakes; 0 lost; clock mono\n"
 # What is changed in the file by hand, and the fault that is to be found.
 LAWS = {
     "a time that is before": ("2600 1", "2400 1", "line 11: its time is before"),
@@ -710,7 +710,75 @@ GOOD = {
     "a preempted task": ("switch 49 S", "switch 49 R+"),
     "deadline": ("switch 49 S", "switch -1 S"),
 }
-HEADS = {"another version": ("pim-kernel 1", "pim-kernel 2", "its version isn't 1"),
+# Version 2: 101 waits twice. 100 wakes it; then the idle task does, in whose time the interrupt of a timeout comes.
+WAITS_BY_HAND = """\
+pim-kernel 2
+kernel 6.18.44 x86_64
+clock mono
+process 100
+began 1000
+cpus 2
+2000 0 101 wait 0x5000 private
+2100 0 101 switch 69 S 100 89
+2150 0 300 wake 101
+2200 0 100 wake 101
+2300 0 100 switch 89 R+ 101 69
+2400 0 101 return 0
+2500 0 101 wait 0x5004 shared
+2600 0 101 switch 69 S 0 120
+2700 1 0 wake 101
+2800 1 101 return -110
+2900 1 101 lock 0x5008 private
+3000 1 101 switch 69 S 0 120
+3100 1 101 return 0
+end 4000 13 0
+"""
+LINES_OF_WAITS = """\
+# process 100, Linux 6.18.44 x86_64, 2 CPUs, clock mono
+0.000001000 cpu0 [101] wait word=0x5000 private
+0.000001100 cpu0 [101] switch priority=30 state=S next=[100] next-priority=10
+0.000001150 cpu0 [300] wake task=[101]
+0.000001200 cpu0 [100] wake task=[101]
+0.000001300 cpu0 [100] switch priority=10 state=R+ next=[101] next-priority=30
+0.000001400 cpu0 [101] return result=0
+0.000001500 cpu0 [101] wait word=0x5004 shared
+0.000001600 cpu0 [101] switch priority=30 state=S next=[0] next-priority=other
+0.000001700 cpu1 [0] wake task=[101]
+0.000001800 cpu1 [101] return result=-110
+0.000001900 cpu1 [101] lock mutex=0x5008 private
+0.000002000 cpu1 [101] switch priority=30 state=S next=[0] next-priority=other
+0.000002100 cpu1 [101] return result=0
+"""
+COUNTED_WAITS = "0 faults in 13 events of 4 tasks: 4 switches, 0 set priorities, 6 of futex, 3 wakes; 0 lost; clock mono\n"
+# What is changed of the waits, and the fault that is to be found.
+LAWS_OF_WAITS = {
+    "a wake after the return": ("2900 1 101 lock", "2850 1 0 wake 101\n2900 1 101 lock", "line 17: task 101 doesn't wait"),
+    "a wake in another call": ("3100 1 101 return", "3050 1 0 wake 101\n3100 1 101 return",
+                               "line 19: task 101 doesn't wait"),
+    "a wake of one that has no call": ("2200 0 100 wake 101", "2200 0 100 wake 102", "line 10: task 102 doesn't wait"),
+    "a wake whose call is before a loss": ("2150 0 300 wake 101", "2150 1 0 lost 3 2120", "line 10: task 101 doesn't"),
+    "a wake of a dead task": ("switch 69 S 100 89", "switch 69 X 100 89", "line 9: task 101 doesn't wait"),
+    "a wait in a call": ("2200 0 100 wake 101", "2200 0 101 wait 0x5000 private", "has a call that hasn't returned"),
+    "a wake of a name": ("2200 0 100 wake 101", "2200 0 100 wake x", "line 10: it has no form of version 2"),
+    "a wait of nothing": ("wait 0x5004 shared", "wait 0x5004", "line 13: it has no form of version 2"),
+    "a wait of version 1": ("pim-kernel 2", "pim-kernel 1", "line 7: it has no form of version 1"),
+    "a wake of version 1": ("pim-kernel 2", "pim-kernel 1", "line 9: it has no form of version 1"),
+    "wakes that the end doesn't count": ("end 4000 13 0", "end 4000 10 0", "counts 10 events, and there are 13"),
+    "another task's call behind a wake": ("2400 0 101 return", "2350 0 300 wake 101\n2400 0 100 return",
+                                          "line 13: task 100 isn't the one that runs on CPU 0"),
+}
+# What is changed of the waits, and breaks no law.
+GOOD_WAITS = {
+    "a wake by another task behind a switch": ("2400 0 101", "2350 0 300 wake 101\n2400 0 101",
+                                               ("end 4000 13 0", "end 4000 14 0")),
+    "a wake of its own": ("2100 0 101 switch", "2050 0 101 wake 101\n2100 0 101 switch",
+                          ("end 4000 13 0", "end 4000 14 0")),
+    "a switch to a task that only wakes": ("2600 0 101 switch 69 S 0 120\n2700 1 0 wake 101\n2800 1",
+                                           "2600 0 101 switch 69 S 300 120\n2700 0 300 wake 101\n2800 0"),
+    "a wake within a stretch": ("3100 1 101 return 0", "3050 0 0 wake 7\n3100 1 0 lost 2 3040",
+                                ("end 4000 13 0", "end 4000 13 2")),
+}
+HEADS = {"another version": ("pim-kernel 1", "pim-kernel 3", "its version isn't 1 or 2"),
          "no clock": ("clock mono\n", "", "its head isn't whole"),
          "a head that is cut": ("cpus 2\n", "", "its head isn't whole"),
          "a number that isn't one": ("began 1000", "began x", "its head isn't whole")}
@@ -726,8 +794,7 @@ def cut_file(folder):
     return path
 
 
-def changed(pairs):
-    text = BY_HAND
+def changed(pairs, text=BY_HAND):
     for old, new in pairs:
         assert text.count(old) == 1, old
         text = text.replace(old, new)
@@ -755,7 +822,7 @@ def by_hand(folder):
     path.write_bytes(changed(STRETCH))
     done = run(RECORD / "pim-log", "--check", path)
     told = ["CPU 1: 4 events were lost, from 0.000001500 to 0.000001600",
-            "0 faults in 7 events of 4 tasks: 3 switches, 1 set priorities, 3 of futex; 4 lost; clock mono"]
+            "0 faults in 7 events of 4 tasks: 3 switches, 1 set priorities, 3 of futex, 0 wakes; 4 lost; clock mono"]
     check("a lost stretch is reported", difference((done.returncode, done.stdout.splitlines()), (0, told)))
     words = {-1: "deadline", 0: "99", 98: "1", 99: "other", 100: "other", 139: "other"}
     got = {priority: kernel_text.priority_word(priority) for priority in words}
@@ -764,6 +831,20 @@ def by_hand(folder):
     check("a file without its end has the status 1", difference((done.returncode, done.stderr), (1, "")))
     shown = run(RECORD / "pim-log", path).stdout.splitlines()[3]
     check("a lost stretch is printed", difference((shown,), ("0.000001600 cpu1 lost events=4 from=0.000001500",)))
+
+
+def waits_by_hand(folder):
+    path = pathlib.Path(folder, "waits.kernel")
+    path.write_text(WAITS_BY_HAND)
+    done = run(RECORD / "pim-log", path)
+    check("the lines of waits by hand", difference((done.returncode, done.stdout, done.stderr), (0, LINES_OF_WAITS, "")))
+    done = run(RECORD / "pim-log", "--check", path)
+    check("the count of waits by hand", difference((done.returncode, done.stdout), (0, COUNTED_WAITS)))
+    for name, (old, new, why) in LAWS_OF_WAITS.items():
+        faults = faults_of(changed([(old, new)], WAITS_BY_HAND))
+        check(f"a kernel's file with {name}", None if any(why in fault for fault in faults) else f"{faults}")
+    for name, (old, new, *more) in GOOD_WAITS.items():
+        check(f"a kernel's file with {name}", "; ".join(faults_of(changed([(old, new), *more], WAITS_BY_HAND))))
 
 
 def is_answered(data):
@@ -815,7 +896,8 @@ kinds: missed 0
 2 cpu 3 task 21 kind 1: 89 257 22 69 stops runs-next-12345
 3 cpu 3 task 21 kind 2: 134 545460867072 0 0
 4 cpu 3 task 21 kind 3: -35 0 0 0
-last 6
+5 cpu 3 task 21 kind 4: 22 0 0 0
+last 7
 an event that the end cuts: missed 0
 last 1
 an event that is too long: missed 0
@@ -885,7 +967,7 @@ def instance(folder):
 
 # By KERNEL.md: calls and returns, priorities and states as they are given to put_event in kernel_lines.c.
 WRITTEN = """\
-pim-kernel 1
+pim-kernel 2
 kernel {release} {machine}
 clock mono
 process 4242
@@ -939,24 +1021,55 @@ cpus 4
 2038 1 21 return -8
 2039 1 21 lock 0x5000 shared
 2040 1 21 return -9
-2289 1 21 lock 0xfffffffffffff000 private
-2290 1 22 lock 0x5000 private
-2291 1 22 return -35
-2293 1 21 return -110
-2294 1 21 lock 0x5000 private
-2297 1 4194304 lock 0x5000 private
-2298 1 -1 lock 0x5000 private
-2299 1 21 lock 0x5000 private
-2300 1 0 lost 5 2150
-2302 1 22 lock 0x5000 private
-2303 1 22 return 0
-2314 1 0 lost 7 2149
-2305 1 0 lost 1 2160
-2306 1 21 setprio 22 89 -1
-end 9000 52 13
+2283 1 21 lock 0xfffffffffffff000 private
+2284 1 22 lock 0x5000 private
+2285 1 22 return -35
+2287 1 21 return -110
+2288 1 21 lock 0x5000 private
+2291 1 4194304 lock 0x5000 private
+2292 1 -1 lock 0x5000 private
+2293 1 23 wait 0x5000 shared
+2294 1 23 return 0
+2295 1 23 wait 0x5000 shared
+2296 1 23 return -1
+2297 1 23 wait 0x5000 shared
+2298 1 23 return -2
+2299 1 23 wait 0x5000 private
+2300 1 23 return -3
+2301 1 23 wait 0x5000 private
+2302 1 23 return -4
+2303 1 23 wait 0x5000 private
+2304 1 23 return -5
+2305 1 23 wait 0x5000 private
+2306 1 23 return -6
+2308 1 23 wait 0x5000 private
+2310 1 21 wake 23
+2311 1 0 wake 23
+2312 1 23 wake 23
+2313 1 4194304 wake 23
+2317 1 23 return 0
+2318 1 23 lock 0x5000 private
+2320 1 23 wait 0x5000 shared
+2321 3 23 name 23 a
+2321 3 23 switch 49 D 22 89
+2322 1 21 wake 23
+2323 3 23 switch 49 X 22 89
+2325 1 23 wait 0x5000 shared
+2326 3 23 switch 49 Z 22 89
+2329 1 23 wait 0x5000 shared
+2330 1 21 lock 0x5000 private
+2331 1 0 lost 5 2150
+2334 1 23 wait 0x5000 shared
+2335 1 21 wake 23
+2336 1 22 lock 0x5000 private
+2337 1 22 return 0
+2348 1 0 lost 7 2149
+2339 1 0 lost 1 2160
+2340 1 21 setprio 22 89 -1
+end 9000 82 13
 """
 COUNTS_OF_LINES = """\
-52 events, 13 lost in 3 stretches, 2149 to 2314
+82 events, 13 lost in 3 stretches, 2149 to 2348
 whole
 a file that is there: File exists
 a file of 5000 bytes, 5000 later: whole
@@ -979,6 +1092,7 @@ def lines(folder):
 
 def kernel_files(folder):
     by_hand(folder)
+    waits_by_hand(folder)
     stored()
     pages(folder)
     instance(folder)

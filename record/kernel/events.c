@@ -18,6 +18,7 @@ static const struct {
                  { "prev_prio", "prev_state", "next_pid", "next_prio", "prev_comm", "next_comm" } },
     [CALL] = { "syscalls/sys_enter_futex", { "op", "uaddr" } },
     [RETURN] = { "syscalls/sys_exit_futex", { "ret" } },
+    [WAKING] = { "sched/sched_waking", { "pid" } },
 };
 
 /* ---- the layout ---- */

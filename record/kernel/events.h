@@ -15,6 +15,7 @@ enum kind {
     SWITCH,       /* priority and state of the task that stops; the next task, its priority */
     CALL,         /* operation of futex, address */
     RETURN,       /* result of futex */
+    WAKING,       /* task that is made ready */
     KINDS,
     LOST = KINDS, /* how many; from when on */
 };

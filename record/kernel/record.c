@@ -14,6 +14,7 @@
 #include "events.h"
 #include "instance.h"
 #include "text.h"
+#include "threads.h"
 
 enum { NO_RIGHTS = 77, FAULT = 2, MOST_PAGES = 4096 };
 
@@ -25,6 +26,7 @@ static const uint64_t HELD_BACK = 1000000000;
 static const char INITIAL_PID_NAMESPACE[] = "pid:[4026531836]";
 
 static struct recording {
+    enum program program;
     const char *path;
     struct instance instance;
     struct layouts layouts;
@@ -50,11 +52,15 @@ static void end_instance(void) {
     end_guard(recording.guard, &recording.instance);
 }
 
+/* What wasn't done where nothing was. */
+static const char *done(void) { return recording.program == RUNNING ? "recorded" : "run"; }
+
 static _Noreturn void refuse(const char *what) {
     const char *why = errno ? strerror(errno) : "it isn't as it should be";
     fprintf(stderr,
-            "pim-record: --kernel needs root, and tracefs with the events of futex and sched: %s: %s;"
-            " nothing was run\n", what, why);
+            "pim-record: %s needs root, and tracefs with the events of futex and sched: %s: %s;"
+            " nothing was %s\n", recording.program == RUNNING ? "--pid" : "--kernel", what, why,
+            done());
     exit(NO_RIGHTS);
 }
 
@@ -168,20 +174,19 @@ _Noreturn void give_up_kernel(const char *failed) {
     if (recording.text.file) unlink(recording.path);
     errno = error;
     if (failed != recording.path) refuse(failed);
-    fprintf(stderr, "pim-record: %s: %s; nothing was run\n", failed, strerror(error));
+    fprintf(stderr, "pim-record: %s: %s; nothing was %s\n", failed, strerror(error), done());
     exit(FAULT);
 }
 
 const char *turn_on_kernel(pid_t program) {
-    char number[32];
-    snprintf(number, sizeof number, "%d", (int)program);
-    if (!put_setting(&recording.instance, "set_event_pid", number)) return "set_event_pid";
+    if (!choose_threads(&recording.instance, program)) return "set_event_pid";
     recording.text.began = now();
     for (int cpu = 0; cpu < recording.cpus; cpu++)
         recording.queues[cpu].last_time = recording.text.began;
+    if (!put_setting(&recording.instance, "tracing_on", "1")) return "tracing_on";
     put_head(&recording.text, program, recording.cpus);
     flush_text(&recording.text);
-    return put_setting(&recording.instance, "tracing_on", "1") ? NULL : "tracing_on";
+    return NULL;
 }
 
 void read_kernel(void) {
@@ -190,21 +195,24 @@ void read_kernel(void) {
     put_events(limit);
 }
 
-void end_kernel(bool is_kept) {
+bool end_kernel(bool is_kept) {
     if (is_kept) put_rest();
     end_instance();
     bool is_whole = close_text(&recording.text);
     if (!is_kept) {
         unlink(recording.path);
-        return;
+        return false;
     }
     if (!is_whole)
         fprintf(stderr, "pim-record: %s isn't whole: %s\n", recording.path, strerror(errno));
     say_lost();
+    return is_whole;
 }
 
-void begin_kernel(const char *path, const char *kilobytes, struct guard *guard) {
+void begin_kernel(enum program program, const char *path, const char *kilobytes,
+                  struct guard *guard) {
     char namespace[64] = "";
+    recording.program = program;
     recording.path = path;
     recording.guard = guard;
     errno = 0;

@@ -7,11 +7,16 @@
 
 #include "../parent/guard.h"
 
+/* Whether the recorder starts the program, or it runs already. */
+enum program { STARTED, RUNNING };
+
 /* Prepares the recording into a new file, and starts its guard. With the rights missing, ends the
  * process with a line that says so. `kilobytes` is the room for events of each CPU. */
-void begin_kernel(const char *path, const char *kilobytes, struct guard *guard);
+void begin_kernel(enum program program, const char *path, const char *kilobytes,
+                  struct guard *guard);
 
-/* Begins the recording of a program. Returns NULL, or the name of what is missing. */
+/* Begins the recording of a program, with all threads that it has. The file has its head once it
+ * has begun. Returns NULL, or the name of what is missing. */
 const char *turn_on_kernel(pid_t program);
 
 /* Ends what was begun, and the process, with a line that says what is missing. */
@@ -21,7 +26,7 @@ _Noreturn void give_up_kernel(const char *missing);
 void read_kernel(void);
 
 /* Ends the recording, and the guard. The file is removed if it isn't kept; if it is, what it
- * lacks is reported. */
-void end_kernel(bool is_kept);
+ * lacks is reported. Returns whether the file is whole. */
+bool end_kernel(bool is_kept);
 
 #endif

@@ -10,7 +10,15 @@
 /* The kernel's PID_MAX_LIMIT, above every task's number. Untouched pages aren't allocated. */
 enum { TASKS = 4 << 20 };
 
-enum { LOCK_PI = 6, UNLOCK_PI = 7, TRYLOCK_PI = 8, LOCK_PI2 = 13, OPERATION = 127, PRIVATE = 128 };
+enum { OPERATION = 127, PRIVATE = 128 };
+
+/* By FUTEX_WAIT and the others of linux/futex.h. */
+static const char WAIT[] = "wait";
+static const char *const CALLS[] = {
+    [0] = WAIT, [9] = WAIT, [11] = WAIT, /* of a bit set; to be requeued to a PI mutex */
+    [6] = "lock", [7] = "unlock", [8] = "trylock", [13] = "lock2",
+};
+enum { CALLED = sizeof CALLS / sizeof *CALLS };
 
 bool open_text(struct text *text, const char *path) {
     *text = (struct text){ .file = fopen(path, "wxe") };
@@ -23,7 +31,7 @@ bool open_text(struct text *text, const char *path) {
 void put_head(struct text *text, pid_t process, int cpus) {
     struct utsname system;
     uname(&system);
-    fprintf(text->file, "pim-kernel 1\nkernel %s %s\nclock mono\n", system.release, system.machine);
+    fprintf(text->file, "pim-kernel 2\nkernel %s %s\nclock mono\n", system.release, system.machine);
     fprintf(text->file, "process %d\nbegan %" PRIu64 "\ncpus %d\n", (int)process, text->began,
             cpus);
 }
@@ -50,6 +58,8 @@ static void put_name(struct text *text, const struct event *event, int64_t numbe
     fputc('\n', text->file);
 }
 
+enum { DEAD = 0x30 }; /* in the state of a task that stopped: X or Z */
+
 /* What a task was as it stopped: sched_switch has a bit for each, and one more for preempted. */
 static void put_state(struct text *text, int64_t state) {
     static const char letters[] = "SDTtXZPI";
@@ -61,8 +71,9 @@ static void put_state(struct text *text, int64_t state) {
         fprintf(text->file, "%c%s", bits ? letters[__builtin_ctzll((uint64_t)bits)] : 'R', plus);
 }
 
-static void put_switch(struct text *text, const struct event *event) {
+static void put_switch(struct text *text, const struct event *event, struct task *task) {
     const int64_t *values = event->values;
+    if (values[1] & DEAD) task->calling = 0; /* another task may have its number later */
     put_name(text, event, event->task, event->names[0]);
     put_name(text, event, values[2], event->names[1]);
     put_start(text, event);
@@ -74,12 +85,10 @@ static void put_switch(struct text *text, const struct event *event) {
 /* sys_exit_futex doesn't report the operation that returns. So each task's last call is
  * kept, and returns of other operations are left out; those before a loss, too. */
 static bool put_call(struct text *text, const struct event *event, struct task *task) {
-    static const char *const names[] = {
-        [LOCK_PI] = "lock", [UNLOCK_PI] = "unlock", [TRYLOCK_PI] = "trylock", [LOCK_PI2] = "lock2",
-    };
     uint32_t word = (uint32_t)event->values[0], operation = word & OPERATION;
-    const char *name = operation <= LOCK_PI2 ? names[operation] : NULL;
+    const char *name = operation < CALLED ? CALLS[operation] : NULL;
     task->calling = name ? text->losses + 1 : 0;
+    task->is_waiting = name == WAIT;
     if (!name) return false;
     put_start(text, event);
     fprintf(text->file, "%s 0x%" PRIx64 " %s\n", name, (uint64_t)event->values[1],
@@ -93,6 +102,17 @@ static bool put_return(struct text *text, const struct event *event, struct task
     if (!is_known) return false;
     put_start(text, event);
     fprintf(text->file, "return %" PRId64 "\n", event->values[0]);
+    return true;
+}
+
+/* Tells who made a task ready, if that task waits in a call that is known. */
+static bool put_wake(struct text *text, const struct event *event) {
+    int64_t woken = event->values[0];
+    if (woken <= 0 || woken >= TASKS) return false;
+    const struct task *task = &text->tasks[woken];
+    if (task->calling != text->losses + 1 || !task->is_waiting) return false;
+    put_start(text, event);
+    fprintf(text->file, "wake %" PRId64 "\n", woken);
     return true;
 }
 
@@ -116,9 +136,10 @@ void put_event(struct text *text, const struct event *event) {
         fprintf(text->file, "setprio %" PRId64 " %" PRId64 " %" PRId64 "\n", event->values[0],
                 event->values[1], event->values[2]);
         break;
-    case SWITCH: put_switch(text, event); break;
+    case SWITCH: put_switch(text, event, task); break;
     case CALL: is_put = put_call(text, event, task); break;
     case RETURN: is_put = put_return(text, event, task); break;
+    case WAKING: is_put = put_wake(text, event); break;
     default: put_lost(text, event); break;
     }
     text->events += is_put;

@@ -11,7 +11,8 @@
 
 struct task {
     char name[NAME_BYTES];
-    uint32_t calling; /* the text's `losses` + 1 at its call of a PI mutex that hasn't returned */
+    bool is_waiting;  /* whether the call is a wait */
+    uint32_t calling; /* the text's `losses` + 1 at its call that hasn't returned, or 0 */
 };
 
 struct text {

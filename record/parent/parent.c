@@ -236,7 +236,7 @@ static void start_recorders(void) {
     const char *why = NULL;
     sigset_t all, before;
     if (parent.wanted->kernel) {
-        begin_kernel(parent.wanted->kernel, parent.wanted->kilobytes, &parent.guard);
+        begin_kernel(STARTED, parent.wanted->kernel, parent.wanted->kilobytes, &parent.guard);
     } else {
         sigfillset(&all);
         sigprocmask(SIG_SETMASK, &all, &before);

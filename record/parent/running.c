@@ -1,0 +1,81 @@
+#define _GNU_SOURCE
+#include "running.h"
+
+#include "../kernel/record.h"
+#include "guard.h"
+#include "ordinary.h"
+
+#include <errno.h>
+#include <poll.h>
+#include <signal.h>
+#include <stdbool.h>
+#include <stdio.h>
+#include <stdlib.h>
+#include <string.h>
+#include <sys/signalfd.h>
+#include <sys/syscall.h>
+#include <time.h>
+#include <unistd.h>
+
+enum { FAULT = 2, ENDS = 2 };
+
+static const uint64_t SECOND = 1000000000, PERIOD = 50000000; /* between two reads of events */
+
+static uint64_t now(void) {
+    struct timespec time;
+    clock_gettime(CLOCK_MONOTONIC, &time);
+    return (uint64_t)time.tv_sec * SECOND + (uint64_t)time.tv_nsec;
+}
+
+static _Noreturn void refuse(pid_t process, const char *why) {
+    fprintf(stderr, "pim-record: process %d: %s; nothing was recorded\n", (int)process, why);
+    exit(FAULT);
+}
+
+/* Returns a descriptor that says when the process has ended. */
+static int watch_process(pid_t process) {
+    int watched = (int)syscall(SYS_pidfd_open, process, 0);
+    struct pollfd end = { .fd = watched, .events = POLLIN };
+    if (watched < 0 && errno != ESRCH && kill(process, 0) == 0)
+        refuse(process, "it is a thread, and not a process's number");
+    if (watched < 0) refuse(process, strerror(errno));
+    if (poll(&end, 1, 0) > 0) refuse(process, "it has ended");
+    return watched;
+}
+
+/* Returns a descriptor that says when a signal has come that ends the recording. */
+static int watch_signals(void) {
+    static const int numbers[] = { SIGINT, SIGTERM, SIGHUP };
+    sigset_t signals;
+    sigemptyset(&signals);
+    for (size_t i = 0; i < sizeof numbers / sizeof *numbers; i++) sigaddset(&signals, numbers[i]);
+    sigprocmask(SIG_BLOCK, &signals, NULL);
+    return signalfd(-1, &signals, SFD_CLOEXEC);
+}
+
+/* Reads events until one of the ends is there, or the time is over. */
+static void read_until(struct pollfd ends[ENDS], uint64_t nanoseconds) {
+    uint64_t began = now(), passed = 0;
+    while (!nanoseconds || passed < nanoseconds) {
+        uint64_t rest = nanoseconds ? nanoseconds - passed : PERIOD;
+        struct timespec period = { 0, (long)(rest < PERIOD ? rest : PERIOD) };
+        if (ppoll(ends, ENDS, &period, NULL) > 0) return;
+        read_kernel();
+        passed = now() - began;
+    }
+}
+
+_Noreturn void record_running(const struct running *wanted) {
+    struct guard guard;
+    struct pollfd ends[ENDS] = {
+        { .fd = watch_process(wanted->process), .events = POLLIN },
+        { .fd = watch_signals(), .events = POLLIN },
+    };
+    be_ordinary();
+    signal(SIGXFSZ, SIG_IGN); /* a file that may not grow isn't whole */
+    begin_kernel(RUNNING, wanted->kernel, wanted->kilobytes, &guard);
+    const char *missing = turn_on_kernel(wanted->process);
+    if (missing) give_up_kernel(missing);
+    read_until(ends, wanted->nanoseconds);
+    exit(end_kernel(true) ? 0 : FAULT);
+}
