@@ -8,7 +8,9 @@
 #include <stdlib.h>
 #include <unistd.h>
 
-enum { TASKS = 4 << 20 }; /* the kernel's PID_MAX_LIMIT, above every task's number */
+/* The kernel's PID_MAX_LIMIT, above every task's number; and how many looks at the end find nothing
+ * new. */
+enum { TASKS = 4 << 20, LOOKS = 2 };
 
 static const char CHOSEN[] = "set_event_pid";
 
@@ -60,10 +62,17 @@ static bool leave_others(const struct instance *of, struct threads *threads) {
     return is_read;
 }
 
-static bool choose(const struct instance *of, int thread) {
-    char number[32];
-    snprintf(number, sizeof number, "%d", thread);
-    return put_setting(of, CHOSEN, number);
+/* Adds these threads, by one write: the kernel waits in each. */
+static bool choose(const struct instance *of, const struct threads *threads) {
+    enum { DIGITS = 12 };
+    char *text = malloc(DIGITS * threads->count + 1);
+    size_t length = 0;
+    if (!text) return false;
+    for (size_t i = 0; i < threads->count; i++)
+        length += (size_t)sprintf(text + length, "%d ", threads->numbers[i]);
+    bool is_chosen = length == 0 || put_setting(of, CHOSEN, text);
+    free(text);
+    return is_chosen;
 }
 
 /* A thread that isn't chosen yet may create one that no look has found: so this looks again while
@@ -71,12 +80,11 @@ static bool choose(const struct instance *of, int thread) {
  * none. A thread of a chosen one is chosen by the kernel, before it runs. */
 bool choose_threads(const struct instance *of, pid_t process) {
     struct threads others = { .count = 0 };
-    bool is_done = choose(of, process);
-    for (int looks = 0; is_done && looks < 2; looks++) {
-        is_done = read_threads(process, &others) && leave_others(of, &others);
+    bool is_done = add(&others, process) && choose(of, &others);
+    for (int looks = 0; is_done && looks < LOOKS; looks++) {
+        is_done = read_threads(process, &others) && leave_others(of, &others) &&
+                  choose(of, &others);
         if (others.count) looks = -1;
-        for (size_t i = 0; is_done && i < others.count; i++)
-            is_done = choose(of, others.numbers[i]);
     }
     free(others.numbers);
     return is_done;
