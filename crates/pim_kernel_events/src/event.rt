@@ -7,6 +7,8 @@ pub struct Switch {
     pub level: u8,
     /// Whether it stops by itself: it sleeps, or has ended. If not, it was preempted.
     pub is_asleep: bool,
+    /// Whether its state is S or D: it waits for something.
+    pub is_blocked: bool,
     /// Whether it has ended.
     pub has_ended: bool,
     /// The task that runs next, or 0 if none does.
@@ -35,6 +37,19 @@ pub struct Loss {
     pub from: u64,
 }
 
+/// What a futex call returned.
+#[derive(Clone, Copy, PartialEq, Eq)]
+pub enum Answer {
+    /// 0, or a count.
+    Success,
+    /// -ETIMEDOUT.
+    TimedOut,
+    /// -EAGAIN: of a wait, the futex had another value.
+    Changed,
+    /// Another error.
+    Failed,
+}
+
 /// What happened.
 #[derive(Clone, Copy, PartialEq, Eq)]
 pub enum What {
@@ -46,8 +61,12 @@ pub enum What {
     TryLock(u64),
     /// It unlocks it.
     Unlock(u64),
+    /// The task waits for a futex that isn't a mutex's, by FUTEX_WAIT, FUTEX_WAIT_BITSET or FUTEX_WAIT_REQUEUE_PI.
+    Wait(u64),
     /// The last of these calls returns.
-    Return,
+    Return(Answer),
+    /// The task that ran, which may be one that isn't recorded, makes this one ready, which is in a `Wait`.
+    Wake(u32),
     Lost(Loss),
 }
 
@@ -59,7 +78,7 @@ pub struct Event {
     /// CLOCK_MONOTONIC in nanoseconds.
     pub time: u64,
     pub cpu: u32,
-    /// The task that ran on the CPU. Of `Lost` it is 0.
+    /// The task that ran on the CPU. Of `Lost` it is 0. Of `Wake` it may be the idle one, which is 0.
     pub task: u32,
     pub what: What,
 }

@@ -11,7 +11,7 @@ pub enum LineFault {
     /// The first line isn't that of such a file.
     #[error("it isn't a recording of the kernel's events")]
     NotARecording,
-    /// Another version than 1.
+    /// Another version than 1 and 2.
     #[error("its version isn't known")]
     OtherVersion,
     /// A line of the head isn't as it should be.
@@ -23,6 +23,9 @@ pub enum LineFault {
     /// The line has no form of version 1.
     #[error("it has no form of version 1")]
     Form,
+    /// The line has no form of version 2.
+    #[error("it has no form of version 2")]
+    Form2,
     /// Its time is before that of a line above, or it is a loss that begins before the recording or behind its own end.
     #[error("its time is out of order")]
     OutOfOrder,

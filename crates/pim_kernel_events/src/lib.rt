@@ -29,7 +29,7 @@ mod track;
 mod tracks;
 mod words;
 
-pub use event::{Boost, Event, Loss, Switch, What};
+pub use event::{Answer, Boost, Event, Loss, Switch, What};
 pub use fault::{LineFault, TextFault};
 pub use losses::Losses;
 pub use ran::Ran;

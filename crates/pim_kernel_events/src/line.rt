@@ -1,7 +1,10 @@
 //! The lines below the head.
 
-use crate::event::{Boost, Event, Loss, Switch, What};
+use crate::event::{Answer, Boost, Event, Loss, Switch, What};
 use crate::words::{Words, address_of, number_of};
+
+/// The first version that has waits for futexes and who ended them.
+const WAITS_SINCE: u64 = 2;
 
 /// What a line below the head says.
 #[derive(Clone, Copy, PartialEq, Eq)]
@@ -31,8 +34,8 @@ pub struct End {
     pub lost: u64,
 }
 
-/// Returns what a line says, or `None` where it has no form of version 1.
-pub fn read_line(line: &[u8], number: u64) -> Option<Line<'_>> {
+/// Returns what a line says, or `None` where it has no form of this version.
+pub fn read_line(line: &[u8], number: u64, version: u64) -> Option<Line<'_>> {
     let mut words = Words::of(line);
     let first = words.next()?;
     if first == b"end".as_slice() {
@@ -45,7 +48,7 @@ pub fn read_line(line: &[u8], number: u64) -> Option<Line<'_>> {
     if kind == b"name".as_slice() {
         return read_name(&mut words, time);
     }
-    let what = what_of(kind, &mut words)?;
+    let what = what_of(kind, &mut words, version)?;
     if !words.is_done() {
         return None;
     }
@@ -78,17 +81,16 @@ fn read_name<'a>(words: &mut Words<'a>, time: u64) -> Option<Line<'a>> {
 }
 
 /// Returns what happened, by the word for it and the words behind.
-fn what_of(kind: &[u8], words: &mut Words) -> Option<What> {
+fn what_of(kind: &[u8], words: &mut Words, version: u64) -> Option<What> {
     match kind {
+        b"wait" if version >= WAITS_SINCE => Some(What::Wait(call_of(words)?)),
+        b"wake" if version >= WAITS_SINCE => Some(What::Wake(words.small()?)),
         b"switch" => Some(What::Switch(switch_of(words)?)),
         b"setprio" => Some(What::Boost(boost_of(words)?)),
         b"lock" | b"lock2" => Some(What::Lock(call_of(words)?)),
         b"trylock" => Some(What::TryLock(call_of(words)?)),
         b"unlock" => Some(What::Unlock(call_of(words)?)),
-        b"return" => {
-            let _result = number_of(without_sign(words.next()?))?;
-            Some(What::Return)
-        }
+        b"return" => { Some(What::Return(answer_of(words.next()?)?)) }
         b"lost" => {
             let events = words.number()?;
             let from = words.number()?;
@@ -107,6 +109,7 @@ fn switch_of(words: &mut Words) -> Option<Switch> {
     Some(Switch {
         level,
         is_asleep,
+        is_blocked: matches!(state, [b'S' | b'D']),
         has_ended: matches!(state, [b'X' | b'Z']),
         next,
         next_level,
@@ -142,6 +145,17 @@ fn call_of(words: &mut Words) -> Option<u64> {
     match words.next()? {
         b"private" | b"shared" => Some(address),
         _ => None,
+    }
+}
+
+/// Returns what a call returned, by its result: -110 is ETIMEDOUT, and -11 EAGAIN.
+fn answer_of(word: &[u8]) -> Option<Answer> {
+    let _size = number_of(without_sign(word))?;
+    match word {
+        b"-110" => Some(Answer::TimedOut),
+        b"-11" => Some(Answer::Changed),
+        [b'-', ..] => Some(Answer::Failed),
+        _ => Some(Answer::Success),
     }
 }
 

@@ -9,12 +9,19 @@ use crate::tasks::Tasks;
 use crate::words::Words;
 use std::alloc::{AllocError, Global};
 
+/// The versions that are known.
+const OLDEST_VERSION: u64 = 1;
+
+const LATEST_VERSION: u64 = 2;
+
 /// How many lines the head has.
 const HEAD_LINES: u64 = 6;
 
 /// What the kernel did while a program was recorded.
 #[derive(Drop)]
 pub struct Recording {
+    /// The version of the file's form.
+    pub version: u64,
     /// The program's process.
     pub process: u64,
     /// A number above that of each CPU.
@@ -64,6 +71,7 @@ impl Recording {
 
     fn new(alloc: Global) -> Recording {
         Recording {
+            version: 0,
             process: 0,
             cpus: 0,
             began: 0,
@@ -83,11 +91,12 @@ impl Recording {
         if self.is_whole {
             return Ok(Some(LineFault::BehindTheEnd));
         }
-        match read_line(line, number) {
+        match read_line(line, number, self.version) {
             Some(Line::Event(event)) => self.take_event(event),
             Some(Line::Name(name)) => self.take_name(&name),
             Some(Line::End(end)) => Ok(self.take_end(&end)),
-            None => Ok(Some(LineFault::Form)),
+            None if self.version == OLDEST_VERSION => Ok(Some(LineFault::Form)),
+            None => Ok(Some(LineFault::Form2)),
         }
     }
 
@@ -96,7 +105,7 @@ impl Recording {
         let mut words = Words::of(line);
         let name = words.next();
         match number {
-            1 => version_fault(name, &mut words),
+            1 => self.take_version(name, &mut words),
             2 if name == Some(b"kernel".as_slice()) => None,
             3 if name == Some(b"clock".as_slice()) => clock_fault(&mut words),
             4 if name == Some(b"process".as_slice()) => keep(&mut self.process, &mut words),
@@ -107,6 +116,20 @@ impl Recording {
             }
             6 if name == Some(b"cpus".as_slice()) => keep(&mut self.cpus, &mut words),
             _ => Some(LineFault::Head),
+        }
+    }
+
+    /// Takes the first line.
+    fn take_version(&mut self, name: Option<&[u8]>, words: &mut Words) -> Option<LineFault> {
+        if name != Some(b"pim-kernel".as_slice()) {
+            return Some(LineFault::NotARecording);
+        }
+        match words.number() {
+            Some(version @ OLDEST_VERSION..=LATEST_VERSION) if words.is_done() => {
+                self.version = version;
+                None
+            }
+            _ => Some(LineFault::OtherVersion),
         }
     }
 
@@ -164,18 +187,6 @@ pub fn line_at(bytes: &[u8], number: u64) -> &[u8] {
         }
     }
     &bytes[..0]
-}
-
-/// Returns what is wrong with the first line.
-fn version_fault(name: Option<&[u8]>, words: &mut Words) -> Option<LineFault> {
-    if name != Some(b"pim-kernel".as_slice()) {
-        return Some(LineFault::NotARecording);
-    }
-    if words.number() == Some(1) && words.is_done() {
-        None
-    } else {
-        Some(LineFault::OtherVersion)
-    }
 }
 
 fn clock_fault(words: &mut Words) -> Option<LineFault> {

@@ -82,7 +82,8 @@ impl Tracks {
             time: event.time,
             cpu: event.cpu,
         };
-        if let What::Lost(_) = event.what {
+        // Who wakes another may be no recorded task, whose switches aren't there: it shows nothing of its CPU.
+        if let What::Lost(_) | What::Wake(_) = event.what {
             return Ok(());
         }
         let place = self.show(event.task, sign.cpu)?;
@@ -106,12 +107,12 @@ impl Tracks {
                 self.list[place].see(sign);
                 self.list[place].call(sign, true, address)
             }
-            What::Return => {
+            What::Wait(_) | What::Return(_) => {
                 self.list[place].see(sign);
                 self.list[place].end_call(event.time);
                 Ok(())
             }
-            What::Lost(_) => Ok(()),
+            What::Lost(_) | What::Wake(_) => Ok(()),
         }
     }
 

@@ -101,8 +101,8 @@ fn callers_in(alloc: Global, events: &[Event]) -> Result<Vec<u32>, AllocError> {
 
 fn is_call(event: &Event) -> bool {
     match event.what {
-        What::Lock(_) | What::TryLock(_) | What::Unlock(_) => true,
-        What::Switch(_) | What::Boost(_) | What::Return | What::Lost(_) => false,
+        What::Lock(_) | What::TryLock(_) | What::Unlock(_) | What::Wait(_) => true,
+        What::Switch(_) | What::Boost(_) | What::Return(_) | What::Wake(_) | What::Lost(_) => false,
     }
 }
 
