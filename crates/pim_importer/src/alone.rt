@@ -4,6 +4,7 @@ use crate::arguments::Arguments;
 use crate::fault::Fault;
 use crate::files::{is_file, is_missing, read_file};
 use crate::kernel::path_of;
+use pim_futex_waits::{futex_waits_of, longest_first};
 use pim_kernel_events::{Recording, TextFault, Tracks};
 use pim_labels::Alone;
 use pim_waits::Findings;
@@ -42,8 +43,11 @@ pub fn alone_of(rt: &HostRuntime, alloc: Global, path: &str) -> Result<Alone, Fa
     };
     let tracks = Tracks::of(alloc, &recording)?;
     let findings = Findings::of(alloc, &recording, &tracks)?;
+    let mut futexes = futex_waits_of(alloc, &recording)?;
+    longest_first(&mut futexes.waits)?;
     Ok(Alone {
         recording,
         findings,
+        futexes,
     })
 }

@@ -5,12 +5,17 @@ use crate::fault::Fault;
 use crate::files::{is_file, read_file};
 use pim_comparison::{compare, waits_of};
 use pim_course::Wait;
+use pim_futex_waits::{FutexWait, futex_waits_of, longest_first};
 use pim_import::Imported;
 use pim_kernel_events::{Recording, TextFault, Tracks};
 use pim_labels::Kernel;
 use pim_log::Log;
+use pim_report::unlogged;
 use pim_waits::{Awaited, ran_meanwhile};
 use std::alloc::{AllocError, Global};
+
+/// The first version of the events that has waits for futexes.
+const FUTEXES_SINCE: u64 = 2;
 
 /// The kernel's events.
 #[derive(Drop)]
@@ -87,6 +92,7 @@ pub fn kernel_of(
     let compared = compare(alloc, log, imported, &tracks, arguments.tolerance)?;
     let waits = awaited_in(alloc, imported)?;
     let meanwhile = ran_meanwhile(alloc, &recording, &tracks, &waits)?;
+    let futexes = futexes_in(alloc, log, imported, &recording)?;
     let Recording {
         tasks,
         lost,
@@ -100,7 +106,29 @@ pub fn kernel_of(
         is_whole,
         tasks,
         meanwhile,
+        futexes,
     }))
+}
+
+/// Returns the waits for futexes that the log doesn't have, the longest first.
+fn futexes_in(
+    alloc: Global,
+    log: &Log,
+    imported: &Imported,
+    recording: &Recording,
+) -> Result<Vec<FutexWait>, AllocError> {
+    let found = futex_waits_of(alloc, recording)?;
+    let mut waits = unlogged(alloc, log, imported, &found.waits)?;
+    longest_first(&mut waits)?;
+    Ok(waits)
+}
+
+/// Returns whether the events have waits for futexes: then the log's waits are compared with them.
+pub fn have_futexes(events: Option<&Events>) -> bool {
+    match events {
+        Some(events) => events.recording.version >= FUTEXES_SINCE,
+        None => false,
+    }
 }
 
 /// Returns the longest waits, as far as the kernel's events are asked about them.

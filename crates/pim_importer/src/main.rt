@@ -22,7 +22,7 @@ use crate::arguments::{Arguments, Asked, read_arguments};
 use crate::facts::{Facts, read_facts};
 use crate::fault::Fault;
 use crate::files::{read_log, write_names, write_traces};
-use crate::kernel::{events_of, kernel_of, waits_in};
+use crate::kernel::{events_of, have_futexes, kernel_of, waits_in};
 use crate::places::place_texts;
 use crate::results::Results;
 use pim_import::{ImportFault, ImportOptions, Imported, import_log};
@@ -77,7 +77,8 @@ fn import(rt: &HostRuntime, alloc: Global, arguments: &Arguments) -> Result<u8, 
     let log = Log::read(alloc, &bytes)?;
     let events = events_of(rt, alloc, arguments)?;
     let waits = waits_in(alloc, events.as_ref())?;
-    let imported = import_log(alloc, &log, options_of(arguments), &waits)?;
+    let options = options_of(arguments, have_futexes(events.as_ref()));
+    let imported = import_log(alloc, &log, options, &waits)?;
     let kernel = kernel_of(alloc, arguments, &log, &imported, events)?;
     let path = arguments.log.as_str();
     let mut labels = Labels::of(alloc, &log, &imported.sources.ids)?;
@@ -98,7 +99,7 @@ fn import(rt: &HostRuntime, alloc: Global, arguments: &Arguments) -> Result<u8, 
 fn import_facts(rt: &HostRuntime, alloc: Global, arguments: &Arguments) -> Result<u8, Fault> {
     let Facts { path, log, names } = read_facts(rt, alloc, arguments.facts.as_str())?;
     let log = Log::read(alloc, &log)?;
-    let imported = match import_log(alloc, &log, options_of(arguments), &[]) {
+    let imported = match import_log(alloc, &log, options_of(arguments, false), &[]) {
         Ok(imported) => imported,
         Err(ImportFault::Contradiction(line)) => return Err(Fault::AboveCeiling(path, line)),
         Err(fault) => return Err(Fault::from(fault)),
@@ -117,11 +118,11 @@ fn import_facts(rt: &HostRuntime, alloc: Global, arguments: &Arguments) -> Resul
     )
 }
 
-/// Returns what the arguments ask of an import. JSON lists all waits.
-fn options_of(arguments: &Arguments) -> ImportOptions {
+/// Returns what the arguments ask of an import. JSON lists all waits, and waits for futexes are compared with all.
+fn options_of(arguments: &Arguments, has_futexes: bool) -> ImportOptions {
     ImportOptions {
         keeps_all: arguments.is_all,
-        lists_waits: arguments.is_json,
+        lists_waits: arguments.is_json || has_futexes,
     }
 }
 

@@ -2,6 +2,7 @@
 
 use pim_base::Reason;
 use pim_comparison::Compared;
+use pim_futex_waits::{FutexWait, FutexWaits};
 use pim_kernel_events::{Recording, Tasks};
 use pim_out::Out;
 use pim_waits::{Findings, RanMeanwhile};
@@ -20,6 +21,8 @@ pub struct Kernel {
     pub tasks: Tasks,
     /// Of each of the longest waits who ran in the place of the owner.
     pub meanwhile: Vec<Vec<RanMeanwhile>>,
+    /// The waits for futexes that the log doesn't have, the longest first.
+    pub futexes: Vec<FutexWait>,
 }
 
 impl Kernel {
@@ -37,6 +40,8 @@ impl Kernel {
 pub struct Alone {
     pub recording: Recording,
     pub findings: Findings,
+    /// The waits for futexes, the longest first.
+    pub futexes: FutexWaits,
 }
 
 /// Writes why a thread should have its priority, as a report of `pim` does.

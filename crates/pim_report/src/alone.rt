@@ -1,5 +1,6 @@
 //! The kernel's events without a log: what they say alone, as lines of text.
 
+use crate::futex_waits::{put_futex_waits, put_left_out};
 use crate::kernel::put_lost;
 use pim_kernel_events::Boost;
 use pim_labels::{Alone, LISTED_WAITS, put_count, put_duration, put_level, put_since};
@@ -13,8 +14,8 @@ not known: NONE and PROTECT mutexes, locks that nobody waits for, who owned a mu
 so nothing is compared with what POSIX gives, and no trace is written
 ";
 
-/// Returns what the kernel's events alone say, a line each: the longest waits, the threads that ran at the priority of
-/// a boost, and what isn't known.
+/// Returns what the kernel's events alone say, a line each: the longest waits for mutexes and for futexes, the threads that
+/// ran at the priority of a boost, and what isn't known.
 ///
 /// # Errors
 ///
@@ -37,6 +38,13 @@ pub fn report_alone(alloc: Global, alone: &Alone) -> Result<String, AllocError> 
         put_count(&mut out, others as u64, "wait");
         out.put(", none of them longer\n");
     }
+    let recording = &alone.recording;
+    put_futex_waits(
+        &mut out,
+        &recording.tasks,
+        recording.began,
+        &alone.futexes.waits,
+    );
     for boosted in &alone.findings.boosted {
         put_boosted(&mut out, alone, boosted);
     }
@@ -126,4 +134,5 @@ fn put_summary(out: &mut Out, alone: &Alone) {
         put_count(out, findings.left_out, "wait");
         out.put(" during which events were lost\n");
     }
+    put_left_out(out, alone.futexes.left_out as u64);
 }

@@ -13,12 +13,15 @@
 
 mod alone;
 mod bounds;
+mod futex_waits;
 mod groups;
 mod kernel;
 mod meanwhile;
 mod orders;
 mod other_waits;
 mod report;
+mod unlogged;
 
 pub use alone::report_alone;
 pub use report::report_of;
+pub use unlogged::unlogged;

@@ -1,6 +1,7 @@
 //! The findings as lines of text.
 
 use crate::bounds::put_bounds;
+use crate::futex_waits::put_futex_waits;
 use crate::groups::{Group, groups_of};
 use crate::kernel::{put_compared, put_differences};
 use crate::meanwhile::put_meanwhile;
@@ -58,6 +59,9 @@ pub fn report_of(
     put_waits(&mut out, &told, kernel);
     put_bounds(&mut out, &told);
     put_other_waits(alloc, &mut out, &told)?;
+    if let Some(kernel) = kernel {
+        put_futex_waits(&mut out, &kernel.tasks, told.began, &kernel.futexes);
+    }
     let groups = groups_of(alloc, &told)?;
     put_conversions(&mut out, &told, &groups);
     put_hand_overs(&mut out, &told, &groups);

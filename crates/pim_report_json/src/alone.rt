@@ -1,5 +1,6 @@
 //! What the kernel's events alone say, as JSON.
 
+use crate::futex_waits::put_futex_waits;
 use pim_kernel_events::Boost;
 use pim_labels::{Alone, LISTED_WAITS};
 use pim_out::{JsonOut, Out};
@@ -28,6 +29,12 @@ pub fn json_alone(alloc: Global, alone: &Alone) -> Result<Vec<u8>, AllocError> {
         put_wait(alloc, &mut out, alone, wait, &boosts);
     }
     out.end_array();
+    put_futex_waits(
+        alloc,
+        &mut out,
+        &alone.recording.tasks,
+        &alone.futexes.waits,
+    );
     out.key("boosted");
     out.begin_array();
     for boosted in &findings.boosted {
@@ -47,6 +54,7 @@ fn put_counts(out: &mut JsonOut, alone: &Alone) {
     out.number("boosts", findings.boosts);
     out.number("cpus", alone.recording.cpus);
     out.number("waits_left_out", findings.left_out);
+    out.number("futex_waits_left_out", alone.futexes.left_out as u64);
     out.number("stretches_left_out", findings.losses);
     out.number("time_left_out", findings.lost_time);
     out.number("kernel_events_lost", alone.recording.lost);

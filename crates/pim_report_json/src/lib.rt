@@ -13,6 +13,7 @@
 
 mod alone;
 mod bounds;
+mod futex_waits;
 mod meanwhile;
 mod orders;
 mod other_waits;

@@ -1,6 +1,7 @@
 //! The findings as JSON.
 
 use crate::bounds::put_bounds;
+use crate::futex_waits::put_futex_waits;
 use crate::meanwhile::put_meanwhile;
 use crate::orders::put_opposites;
 use crate::other_waits::put_other_waits;
@@ -58,6 +59,9 @@ fn put_all(
     put_all_waits(alloc, out, told);
     put_bounds(alloc, out, told);
     put_other_waits(alloc, out, told)?;
+    if let Some(kernel) = kernel {
+        put_futex_waits(alloc, out, &kernel.tasks, &kernel.futexes);
+    }
     out.key("mutexes");
     out.begin_array();
     for mutex in 0..mutexes(told) {
