@@ -248,7 +248,8 @@ def random_program(reader, folder):
     check("its boosts are within the log's times", None if list(times) == sorted(times) else f"{times}")
     mutexes = {f"{r.object:#x}" for r in log.records if r.event == reader.INIT}
     # the C library tries such a call, too, before the log begins
-    calls = [it for it in text.events if it.what in kernel_text.CALLS and it.time > log.records[0].time]
+    locks = [what for what in kernel_text.CALLS if what != "wait"]
+    calls = [it for it in text.events if it.what in locks and it.time > log.records[0].time]
     seen = {event.values[0] for event in calls}
     check("its futexes are the log's mutexes", None if seen and seen <= mutexes else f"{seen} of {mutexes}")
     tasks = {r.chunk.task for r in log.records}
