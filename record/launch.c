@@ -2,10 +2,11 @@
  * in one line why it can't be recorded, and runs nothing. pim-record calls it. It stays until
  * the program ends. PIM_RECORD is the log's file, of PIM_RECORD_BYTES, or of the last records of
  * PIM_RECORD_LAST bytes, with snapshots by PIM_RECORD_TRIGGER nanoseconds; with
- * PIM_RECORD_CONTENDED only of what is waited for. PIM_RECORD_READER, the path of pim-log, names
- * the places at the end. With PIM_KERNEL, the name of a file, it records the kernel's events there:
- * without the library where the program can't have it, or where PIM_RECORD names no log. The
- * library finds the name of the collector's socket in PIM_RECORD.
+ * PIM_RECORD_CONTENDED only of what is waited for, and with PIM_RECORD_STACKS with the stacks of
+ * requests. PIM_RECORD_READER, the path of pim-log, names the places at the end. With PIM_KERNEL,
+ * the name of a file, it records the kernel's events there: without the library where the program
+ * can't have it, or where PIM_RECORD names no log. The library finds the name of the collector's
+ * socket in PIM_RECORD.
  *
  * pim-launch --pid PROCESS NANOSECONDS: records there the kernel's events of a program that runs
  * already, for so long, or until it ends where that is 0. */
@@ -219,6 +220,7 @@ static struct amount take_amount(void) {
     amount.room.is_last = last != 0;
     amount.room.trigger = trigger ? trigger : UINT64_MAX;
     amount.room.is_contended = take_number("PIM_RECORD_CONTENDED") != 0;
+    amount.room.has_stacks = take_number("PIM_RECORD_STACKS") != 0;
     amount.snapshots = (uint32_t)take_number("PIM_RECORD_SNAPSHOTS");
     return amount;
 }

@@ -48,7 +48,8 @@ LINES = {  # thread, event, object, value, detail, how: what the line says behin
     "an unlock of a read-write lock": ((1, 28, 0x7000, 0, 2, 0), "give kind=rwlock address=0x7000"),
     "a signal": ((1, 28, 0x7000, 0, 6, 0), "give kind=condition address=0x7000"),
     "a broadcast": ((1, 28, 0x7000, 0, 6, 1), "give kind=condition address=0x7000 to-all"),
-    "an unknown event": ((1, 29, 0, 0, 0, 0), "event-29"),
+    "a frame": ((1, 29, 0, 2, 0, 0), "frame index=2"),
+    "an unknown event": ((1, 30, 0, 0, 0, 0), "event-30"),
 }
 TEXTS = {b"plain": '"plain"', b'a "word"': r'"a \"word\""', b"a\\b": r'"a\\b"',
          b"two\nlines": r'"two\x0alines"', b"\xff": r'"\xff"', b"\\xff": r'"\\xff"',

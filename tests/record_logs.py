@@ -33,7 +33,7 @@ def without_places(paths):
 
 def version_of(rows, places):
     """Returns the first version of a log that may have such rows and places."""
-    if any(row and row[1] in reader.WITH_KIND for row in rows):
+    if any(row and row[1] in (*reader.WITH_KIND, reader.FRAME) for row in rows):
         return 3
     return 1 if places is None else 2
 
@@ -45,7 +45,7 @@ def log_of(rows, chunks=2, times=None, tasks=None, processes=None, places=None, 
     Each thread has a chunk. Unless it is said, record n is of the time 1000 + 10 n, and thread t is task 99 + t of
     process 100. The fields are those of the header. With places, the addresses of the first slots of the table, the log
     is of version 2, and objects of calls have the number of a place in their bits from 48 on. With a wait for what isn't
-    a mutex it is of version 3.
+    a mutex, or a frame, it is of version 3.
     """
     head = {"known": 7, "chunks": chunks, "process": 100, "parent": 50, "began": 1000, "numbers": len(rows) + 1,
             "taken": chunks, "threads": chunks + 1, "lost": 0, "first": 0, "left_out": 0, **fields}

@@ -105,7 +105,8 @@ static bool answer_request(struct visitor *of) {
     bool is_first = state.first != NULL;
     struct answer answer = { .version = SHARED_VERSION,
                              .is_first = is_first,
-                             .is_contended = state.amount.room.is_contended };
+                             .is_contended = state.amount.room.is_contended,
+                             .has_stacks = state.amount.room.has_stacks };
     if (request.version == SHARED_VERSION) of->store = make_store(of->channel, request.process);
     if (of->store) answer.slots = of->store->slots;
     send_answer(of->channel, &answer, of->store ? of->store->memory : -1);

@@ -19,6 +19,7 @@ struct room {
     bool is_last;     /* --last: the latest are kept, and written at the end */
     uint64_t trigger; /* nanoseconds, or UINT64_MAX */
     bool is_contended; /* --contended: only what is waited for is recorded */
+    bool has_stacks;   /* --stacks: with the stacks of requests */
 };
 
 struct store {

@@ -2,6 +2,7 @@
 #include "shared.h"
 
 #include "held.h"
+#include "stacks.h"
 
 #include <errno.h>
 #include <fcntl.h>
@@ -104,6 +105,7 @@ static bool ask(const char *name) {
     if (memory >= 0) is_mapped = map_memory(memory, &answer);
     is_first_program = answer.is_first;
     if (is_mapped && answer.is_contended) held_start(shared);
+    if (is_mapped && answer.has_stacks) stacks_start();
     if (is_mapped) is_mapped = send(collector, "m", 1, MSG_NOSIGNAL) == 1;
     if (!is_mapped && answer.version == 0)
         dprintf(STDERR_FILENO, "pim-record: process %d isn't recorded: the recorder: %s\n",

@@ -52,6 +52,7 @@ enum event {
     EVENT_WAIT = 26,
     EVENT_WAITED = 27,
     EVENT_GIVE = 28,
+    EVENT_FRAME = 29,
 };
 
 /* The call of a REQUEST, GRANTED or RELEASE; OWNER_DIED is added to it. */

@@ -2,6 +2,7 @@
 #include "held.h"
 #include "places.h"
 #include "recorder.h"
+#include "stacks.h"
 
 #include <errno.h>
 
@@ -25,7 +26,8 @@ static bool locks_again(const pthread_mutex_t *mutex, uint32_t owner) {
     return (inner_detail(mutex) & DETAIL_TYPE) == DETAIL_RECURSIVE && owner == log_cursor.task;
 }
 
-/* Puts a REQUEST, and when the call began. Returns whether it did. */
+/* Puts a REQUEST, with the stack if that is wanted, and when the call began. Returns whether it
+ * did. */
 static bool put_request(const pthread_mutex_t *mutex, enum call call, uint64_t place,
                         uint64_t *time) {
     struct record record = of_mutex(EVENT_REQUEST, call, mutex);
@@ -33,6 +35,7 @@ static bool put_request(const pthread_mutex_t *mutex, enum call call, uint64_t p
     if (!log_begin()) return false;
     record.time = *time = log_time();
     log_write(places_at(place, record));
+    if (stacks_are_on) stacks_put(place, record.time);
     log_end();
     return true;
 }

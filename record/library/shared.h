@@ -51,6 +51,7 @@ struct answer {
     uint32_t version;
     uint32_t is_first; /* 1: of the first program of the recording */
     uint32_t is_contended; /* 1: only what is waited for is recorded */
+    uint32_t has_stacks;   /* 1: with the stacks of requests */
     uint64_t slots;
 };
 

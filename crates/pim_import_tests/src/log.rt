@@ -126,7 +126,7 @@ const UNKNOWN_OBJECT: Object = Object {
 
 /// The last eight bytes of a record, which are how, event, detail and value, and the event of a record that has 0x500 as
 /// its object.
-const EVENTS: [(u64, Event); 40] = [
+const EVENTS: [(u64, Event); 42] = [
     (
         0x00_01_2802_0000_0000,
         Event::Thread {
@@ -289,6 +289,8 @@ const EVENTS: [(u64, Event); 40] = [
             is_to_all: true,
         },
     ),
+    (0x00_1d_0000_0000_0001, Event::Frame { index: 1 }),
+    (0x00_1d_0000_0000_000f, Event::Frame { index: 15 }),
     (
         0x00_05_0101_0000_0000,
         Event::Priority {
@@ -299,7 +301,7 @@ const EVENTS: [(u64, Event); 40] = [
 ];
 
 /// Numbers of no event.
-const UNKNOWN: [u64; 5] = [0, 14, 15, 29, 255];
+const UNKNOWN: [u64; 5] = [0, 14, 15, 30, 255];
 
 /// Returns record 6 of a log, or the fault that the log has.
 fn sixth(alloc: Global, bytes: &[u8]) -> Result<Option<Record>, LogFault> {
@@ -427,7 +429,7 @@ fn calls_have_places_and_other_objects_are_whole(rt: HostRuntime) -> Result<(), 
         assert!(rt; found == address, "{code}");
     }
     // Version 2 has no later events.
-    for code in 26..29 {
+    for code in 26..30 {
         write(&mut bytes, SIXTH_PLACED + 24, 8, code << 48);
         let fault = LogFault::Slot(SIXTH_PLACED, SlotFault::UnknownEvent);
         assert!(rt; sixth(rt.alloc(), &bytes) == Err(fault), "{code}");
@@ -435,7 +437,8 @@ fn calls_have_places_and_other_objects_are_whole(rt: HostRuntime) -> Result<(), 
     Ok(())
 }
 
-/// From version 3 on the events of waits for what isn't a mutex have places, too. Their objects are without them.
+/// From version 3 on the events of waits for what isn't a mutex have places, too. Their objects are without them. A frame
+/// is a place.
 #[test]
 fn waits_of_version_3_have_places(rt: HostRuntime) -> Result<(), Fail> {
     let mut bytes = placed_bytes(rt.alloc())?;
@@ -452,6 +455,9 @@ fn waits_of_version_3_have_places(rt: HostRuntime) -> Result<(), Fail> {
         };
         assert!(rt; address == 0x7fff_1234_0500, "{code}");
     }
+    write(&mut bytes, SIXTH_PLACED + 24, 8, 0x00_1d_0000_0000_0002);
+    let record = sixth(rt.alloc(), &bytes)?.ok_or("there is a record 6")?;
+    assert!(rt; record.place == Some(3) && record.event == Event::Frame { index: 2 });
     Ok(())
 }
 

@@ -22,18 +22,18 @@ use Rattle.pim_log.specs.declared.object.Outcome.TheVariants as outcomes
 use Rattle.pim_log.specs.declared.priority.Priority.{Priority}
 use Rattle.pim_log.specs.declared.priority.Priority.TheVariants as priorities
 
--- the events of threads, processes and texts have the numbers 1 to 13, those of mutexes and other waits 16 to 28
+-- the events of threads, processes and texts have the numbers 1 to 13, those of mutexes and other waits 16 to 29
 abbrev pub is_event : ℕ → Bool
-is_event code = (nat_le 1 code && nat_le code 13) || (nat_le 16 code && nat_le code 28)
+is_event code = (nat_le 1 code && nat_le code 13) || (nat_le 16 code && nat_le code 29)
 
 -- those that a log of this version may have: earlier ones have no waits for what isn't a mutex
 abbrev pub is_event_of : ℕ → ℕ → Bool
 is_event_of version code = is_event code && (nat_le code 25 || version == VERSION)
 
--- whether the object of an event is an address and a place: that of a call that locks, unlocks, waits or gives. Version 1
--- has no places, and version 2 none of the later events
+-- whether the object of an event is an address and a place: that of a call that locks, unlocks, waits or gives, and that
+-- of a frame. Version 1 has no places, and version 2 none of the later events
 abbrev pub has_place : ℕ → ℕ → Bool
-has_place version code = nat_le 20 code && ((version == PLACED_VERSION && nat_le code 25) || (version == VERSION && nat_le code 28))
+has_place version code = nat_le 20 code && ((version == PLACED_VERSION && nat_le code 25) || (version == VERSION && nat_le code 29))
 
 -- the object of an event without its place: bits 0 to 47 are the address
 abbrev pub object_in : ℕ → ℕ → ℕ → ℕ
@@ -157,6 +157,7 @@ Says f (events.Wait object) = (f.code ≡ 26) × (object ≡ object_of f)
 Says f (events.Waited object took outcome) =
     (f.code ≡ 27) × (object ≡ object_of f) × (took ≡ took_of f.value) × (outcome ≡ outcome_of f.how)
 Says f (events.Give object is_to_all) = (f.code ≡ 28) × (object ≡ object_of f) × (is_to_all ≡ (f.how == 1))
+Says f (events.Frame index) = (f.code ≡ 29) × (index ≡ f.value)
 
 -- the mutex that an event is of
 abbrev pub mutex_of : Event → Option Mutex

@@ -97,6 +97,11 @@ pub enum Event {
         object: Object,
         is_to_all: bool,
     },
+    /// The place of a caller of the call that the thread's last request is of: 1 of the function that called, 2 of the
+    /// function that called this one, and so on.
+    Frame {
+        index: u32,
+    },
 }
 
 /// How a record names a thread.

@@ -38,7 +38,7 @@ const TIMED_OUT: u8 = 110;
 fn is_event(code: u8) -> bool
     ensures { result ≡ is_event code }
 {
-    1 <= code && code <= 13 || 16 <= code && code <= 28
+    1 <= code && code <= 13 || 16 <= code && code <= 29
 }
 
 /// Returns whether a log of this version may have such an event.
@@ -54,7 +54,7 @@ pub fn is_event_of(version: u32, code: u8) -> bool
 fn has_place(version: u32, code: u8) -> bool
     ensures { result ≡ has_place version code }
 {
-    20 <= code && (version == PLACED_VERSION && code <= 25 || version == VERSION && code <= 28)
+    20 <= code && (version == PLACED_VERSION && code <= 25 || version == VERSION && code <= 29)
 }
 
 /// Returns the object of a record without its place.
@@ -90,6 +90,7 @@ impl Fields {
             1..=13 => Some(self.event_of_program()),
             16..=24 => Some(self.event_of_mutex()),
             25..=28 => Some(self.event_of_object()),
+            29 => Some(Event::Frame { index: self.value }),
             _ => None,
         }
     }
