@@ -15,8 +15,9 @@ from picture_cpus import cut, plainly
 from picture_tracks import Tracks
 from record_collector import CHUNK_BYTES, number_in
 from record_last import does, is_permitted, started
-from record_logs import reader
+from record_logs import read_text, reader
 import record_places
+import record_stacks
 
 PROGRAMS, SECONDS, SKIPPED = ROOT / "record/out/programs", 600, 77
 IMPORTER, PIM = ROOT / "crates/pim_importer/out/pim_importer", ROOT / "crates/pim/out/pim"
@@ -604,6 +605,31 @@ def code_places(folder):
     check("the offsets of a wait and of its owner", missing(Import(log).text.splitlines(), [wait % (offset, offset)], []))
 
 
+def callers(folder):
+    """Under a wait are the functions that called, in lines of text and as JSON; without --stacks there are none."""
+    lines = {line.rpartition("// ")[2]: number for number, line in enumerate(record_stacks.NEST.splitlines(), 1)}
+    program = record_places.compiled(folder, "nest.c", record_stacks.NEST)
+    _, log = record_places.recorded(folder, program, options=["--stacks"])
+    stack = [("plan", "PLAN"), ("drive", "DRIVE")]
+    if pathlib.Path(f"{log}.places").exists():
+        wanted = "    called by " + ", ".join(f"{name} (nest.c:{lines[line]})" for name, line in stack)
+        check("who called a lock that waits", missing(Import(log).text.splitlines(), [re.escape(wanted)], []))
+    else:
+        skip("who called a lock that waits", "there is no addr2line")
+    _, log = record_places.recorded(folder, program)
+    check("without --stacks nobody", None if "called by" not in Import(log).text else "there is one")
+    log = pathlib.Path(folder, "run")
+    name = ROOT / "suite/recordings/waits_have_the_functions_that_called"
+    log.write_bytes(read_text(pathlib.Path(f"{name}.log.txt").read_text()))
+    pathlib.Path(f"{log}.places").write_text(pathlib.Path(f"{name}.places").read_text())
+    found = json.loads(Import(log, "--json").text)
+    wanted = [[{}, {"at": "start.s:7"}, {"at": "0x7100"}],
+              [{"at": "planner.c:120 (drive)"}, {"at": "main.c:14 (main)"}], None]
+    for key, order in (("longest_waits", (0, 1, 2)), ("all_waits", (1, 0, 2))):
+        got = [wait.get("stack") for wait in found[key]]
+        check(f"the stacks of {key}", difference(got, [wanted[place] for place in order]))
+
+
 def contents(folder):
     """Returns the bytes of each file of a folder, by its name."""
     return {path.name: path.read_bytes() for path in pathlib.Path(folder).iterdir()}
@@ -786,7 +812,7 @@ def imports(attempt, folder):
     """Each part, of which one that breaks off leaves the others as they are."""
     if not built():
         return check("the importer is built", "it isn't")
-    for part in (programs, stored, kernel, alone, static, real, long, places, code_places, whole, damaged, latest,
-                 command_line):
+    for part in (programs, stored, kernel, alone, static, real, long, places, code_places, callers, whole, damaged,
+                 latest, command_line):
         attempt(part, folder)
     return None

@@ -1,6 +1,7 @@
 //! What the log says of its threads, mutexes and files: names and places.
 
 use crate::place_texts::PlaceTexts;
+use crate::stacks::{Asked, Stacks};
 use pim_facts::{Ids, LoggedMutex};
 use pim_log::{Event, Log, Record, Text};
 use pim_out::Out;
@@ -34,6 +35,10 @@ enum Pending {
     Module(usize),
     /// The place of the initialisation of a mutex.
     Init(u32),
+    /// The first frame of a request.
+    Request(Asked),
+    /// The next frame of a request.
+    Stack,
 }
 
 /// What the log says of its threads, mutexes and files.
@@ -52,6 +57,8 @@ pub struct Labels {
     given: Option<GivenNames>,
     /// What is known of places in the code, such as their lines in the source, and of static mutexes.
     texts: PlaceTexts,
+    /// Who called the locks that found their mutexes owned.
+    stacks: Stacks,
 }
 
 /// The names that a text of facts gives. A name `-` is no name.
@@ -83,6 +90,7 @@ impl Labels {
             pending: vec![in alloc; Pending::Nothing; ids.threads.len()]?,
             given: None,
             texts: PlaceTexts::none(alloc),
+            stacks: Stacks::none(alloc, ids.threads.len())?,
         };
         for number in 1..log.header().end() {
             if let Some(record) = log.record(number) {
@@ -100,6 +108,11 @@ impl Labels {
     /// Takes texts that name places in the code and static mutexes.
     pub fn name_places(&mut self, texts: PlaceTexts) {
         self.texts = texts;
+    }
+
+    /// Returns who called the locks that found their mutexes owned.
+    pub fn stacks(&self) -> &Stacks {
+        &self.stacks
     }
 
     /// Returns whether the log was made of a text of facts.
@@ -121,6 +134,8 @@ impl Labels {
             Event::Name { .. } => self.begin_name(ids.of_record(record.number)),
             Event::Module { address } => self.add_module(alloc, record.process, address)?,
             Event::Init(_) => Pending::Init(ids.of_record(record.number)),
+            Event::Request { .. } => asked(ids, record),
+            Event::Frame { .. } => return self.read_frame(alloc, thread, pending, record.place),
             Event::Child { parent } => {
                 self.add_child(ids, record.process, parent)?;
                 Pending::Nothing
@@ -206,9 +221,26 @@ impl Labels {
                     push_text(&mut self.modules[place].path, text.as_bytes())?;
                 }
             }
-            Pending::Nothing | Pending::Init(_) => {}
+            Pending::Nothing | Pending::Init(_) | Pending::Request(_) | Pending::Stack => {}
         }
         Ok(())
+    }
+
+    /// Adds a caller of a request. A frame that is behind another record is of none.
+    fn read_frame(
+        &mut self,
+        alloc: Global,
+        thread: usize,
+        pending: Pending,
+        place: Option<u16>,
+    ) -> Result<(), AllocError> {
+        match pending {
+            Pending::Request(asked) => self.stacks.begin(alloc, thread, asked)?,
+            Pending::Stack => {}
+            _ => return Ok(()),
+        }
+        self.expect(thread, Pending::Stack);
+        self.stacks.add(thread, place)
     }
 
     /// Writes the name of a thread, or nothing if it has none.
@@ -262,6 +294,20 @@ impl Labels {
             [] => self.put_address(out, process, returns_to.saturating_sub(1)),
             text => put_words(out, text),
         }
+    }
+
+    /// Writes the function of a place in the code, and its line in brackets. Returns whether the text that names the place
+    /// has both; else nothing is written.
+    pub fn put_function(&self, out: &mut Out, number: u16) -> bool {
+        let text = self.texts.of_number(number);
+        let Some((line, function)) = line_and_function(text) else {
+            return false;
+        };
+        put_words(out, function);
+        out.put(" (");
+        put_words(out, line);
+        out.put(")");
+        true
     }
 
     /// Writes the file that is loaded at an address of a process and the offset there, or else the address.
@@ -325,6 +371,27 @@ fn name_in(names: &[Vec<u8>], number: u32) -> &[u8] {
         Some(name) if name.as_slice() != b"-".as_slice() => name.as_slice(),
         _ => &[],
     }
+}
+
+/// Returns the request that a record is, which frames may follow.
+fn asked(ids: &Ids, record: &Record) -> Pending {
+    match record.time {
+        Some(time) => Pending::Request(Asked {
+            time,
+            mutex: ids.of_record(record.number),
+        }),
+        None => Pending::Nothing,
+    }
+}
+
+/// Returns the line and the function of a text such as `planner.c:88 (plan)`.
+fn line_and_function(text: &[u8]) -> Option<(&[u8], &[u8])> {
+    let space = text.iter().position(|byte| *byte == b' ')?;
+    let (line, rest) = text.split_at(space);
+    let function = rest
+        .strip_prefix(b" (".as_slice())?
+        .strip_suffix(b")".as_slice())?;
+    Some((line, function))
 }
 
 /// Returns of two files the one that begins later.

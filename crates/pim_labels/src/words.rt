@@ -1,8 +1,9 @@
 //! How threads, mutexes and times are written.
 
 use crate::labels::Labels;
+use crate::stacks::Asked;
 use pim_facts::Family;
-use pim_findings::{FoundMutex, MutexWaits};
+use pim_findings::{FoundMutex, FoundWait, MutexWaits};
 use pim_import::Imported;
 use pim_log::Log;
 use pim_out::Out;
@@ -34,6 +35,15 @@ pub fn found_of(told: &Told, mutex: u32) -> FoundMutex {
 /// Returns what is found of the waits for a mutex.
 pub fn waits_of(told: &Told, mutex: u32) -> MutexWaits {
     told.imported.built.findings.waits.of_mutex(mutex)
+}
+
+/// Returns the places of the callers, the innermost first. Without `pim-record --stacks` there are none.
+pub fn callers_of<'a>(told: &Told<'a>, wait: &FoundWait) -> &'a [Option<u16>] {
+    let asked = Asked {
+        time: wait.began,
+        mutex: wait.mutex,
+    };
+    told.labels.stacks().of(wait.thread, asked)
 }
 
 /// Writes how many there are of something, such as `1 wait` or `2 waits`.
@@ -98,6 +108,17 @@ pub fn put_code(out: &mut Out, told: &Told, words: &str, thread: u32, place: Opt
     };
     out.put(words);
     told.labels.put_code(out, number, process, address);
+}
+
+/// Writes the place of a caller: its function and the line there, or `?` if it isn't known.
+pub fn put_caller(out: &mut Out, told: &Told, thread: u32, place: Option<u16>) {
+    let Some(number) = place else {
+        out.put("?");
+        return;
+    };
+    if !told.labels.put_function(out, number) {
+        put_code(out, told, "", thread, place);
+    }
 }
 
 /// Writes a priority of SCHED_FIFO and SCHED_RR, or the policy of a thread that has none.

@@ -13,6 +13,7 @@
 
 mod alone;
 mod bounds;
+mod callers;
 mod futex_waits;
 mod groups;
 mod kernel;

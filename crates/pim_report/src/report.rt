@@ -1,6 +1,7 @@
 //! The findings as lines of text.
 
 use crate::bounds::put_bounds;
+use crate::callers::put_callers;
 use crate::futex_waits::put_futex_waits;
 use crate::groups::{Group, groups_of};
 use crate::kernel::{put_compared, put_differences};
@@ -77,11 +78,12 @@ pub fn report_of(
     out.finish()
 }
 
-/// Writes the longest waits, the longest first, each with who ran meanwhile in the place of the owner.
+/// Writes the longest waits, the longest first, each with who called, and who ran meanwhile in the place of the owner.
 fn put_waits(out: &mut Out, told: &Told, kernel: Option<&Kernel>) {
     let waits = &told.imported.built.findings.waits;
     for (place, wait) in waits.longest.iter().enumerate() {
         put_wait(out, told, wait);
+        put_callers(out, told, wait);
         if let Some(kernel) = kernel {
             put_meanwhile(out, told, kernel, place);
         }

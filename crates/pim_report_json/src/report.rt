@@ -1,6 +1,7 @@
 //! The findings as JSON.
 
 use crate::bounds::put_bounds;
+use crate::callers::put_callers;
 use crate::futex_waits::put_futex_waits;
 use crate::meanwhile::put_meanwhile;
 use crate::orders::put_opposites;
@@ -199,6 +200,7 @@ fn put_wait(alloc: Global, out: &mut JsonOut, told: &Told, wait: &FoundWait) {
     out.number("lasted", wait.lasted);
     out.boolean("at_the_end", wait.is_open);
     put_at(alloc, out, told, "at", wait.thread, wait.at);
+    put_callers(alloc, out, told, wait);
     put_number(out, told, "mutex", wait.mutex);
     out.string("protocol", family_of(told, wait.mutex).name());
     if let Some(owner) = wait.owner {
