@@ -1,8 +1,8 @@
 //! From the events of a recording to the waits in it.
-ghost use Rattle.std.specs.Prelude.{◌≡◌, ℕ, List, [], ◌∷◌, ◌++◌, Option, reverse, IfOk, OnOk};
+ghost use Rattle.std.specs.Prelude.{◌≡◌, List, [], ◌∷◌, ◌++◌, reverse, IfOk, OnOk};
 ghost use Rattle.std.specs.List.Sorted.{IsPermutation};
 ghost use Rattle.pim_kernel_events.specs.declared.event.Event.{Event};
-ghost use Rattle.pim_futex_waits.specs.Waits.{AreFutexWaits, all_waits, certain, ended_now, found, lasting_at, loss_of, losses_in, meets, meets_one};
+ghost use Rattle.pim_futex_waits.specs.Waits.{AreFutexWaits, all_waits, certain, ended_now, found, lasting_at, loss_of, meets};
 ghost use Rattle.pim_futex_waits.specs.Tables.{Knows, call_in};
 ghost use Rattle.pim_futex_waits.specs.Orders.{AreLongestFirst};
 
