@@ -97,8 +97,7 @@
  *
  *   pim_make             640   allocates some m blocks, and fills them
  *   pim_drop             192   gives them back
- *   pim_lock             512   n hops at most for the test of deadlock, a queue, and the walk. If
- *                              the queue has no room: looks at all queues, and copies of two
+ *   pim_lock             512   n hops at most for the test of deadlock, a queue, and the walk
  *   pim_try              512   the walk
  *   pim_unlock           512   a queue, and at most 2 priorities
  *   pim_release_all      576   a queue and a priority for each mutex that the task owns, and 1 more
@@ -184,20 +183,7 @@ extern "C" {
 /* The most bytes that a manager takes from heap/static.c or heap/given.c, where the memory is
  * aligned to 16. */
 #define PIM_MEMORY(tasks, mutexes) \
-    (1008u + 76u * (tasks) + 33u * (mutexes) + 16u * PIM_WAITERS_((tasks), (mutexes)))
-
-/* For how many waiters there is room: in the queue of the mutex k for tasks / k of them, but for 3
- * at least, and in those behind the queue number `tasks` for none. */
-#define PIM_WAITERS_(n, m) (1u * (n) * (m) < PIM_MOST_(n) ? 1u * (n) * (m) : PIM_MOST_(n))
-#define PIM_MOST_(n) (PIM_SUM_(n) + 2u * (n) - (n) / 2u - (n) / 3u)
-/* The sum of n / k for all k up to n: each point under the hyperbola is counted at one of its
- * coordinates up to the root of n, which is 16 at most. */
-#define PIM_SUM_(n)                                                                                \
-    (PIM_AT_(n, 1u) + PIM_AT_(n, 2u) + PIM_AT_(n, 3u) + PIM_AT_(n, 4u) + PIM_AT_(n, 5u) +          \
-     PIM_AT_(n, 6u) + PIM_AT_(n, 7u) + PIM_AT_(n, 8u) + PIM_AT_(n, 9u) + PIM_AT_(n, 10u) +         \
-     PIM_AT_(n, 11u) + PIM_AT_(n, 12u) + PIM_AT_(n, 13u) + PIM_AT_(n, 14u) + PIM_AT_(n, 15u) +     \
-     PIM_AT_(n, 16u))
-#define PIM_AT_(n, k) ((n) < (k) * (k) ? 0u : 2u * ((n) / (k)) + 1u - 2u * (k))
+    (1152u + 88u * (tasks) + 64u * (mutexes) + 16u * (tasks) * (mutexes))
 
 /* ---- the handle ------------------------------------------------------------------------------ */
 

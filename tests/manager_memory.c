@@ -9,10 +9,7 @@
 _Static_assert(PIM_MEMORY(1 + 2, 4 + 1) == PIM_MEMORY(3, 5), "sums as arguments");
 _Static_assert(PIM_MEMORY(1 ? 3 : 4, 1 ? 5 : 6) == PIM_MEMORY(3, 5), "conditions as arguments");
 _Static_assert(2 * PIM_MEMORY(3, 5) == PIM_MEMORY(3, 5) + PIM_MEMORY(3, 5), "a part of a product");
-_Static_assert(PIM_MEMORY(3, 5) == 1008 + 76 * 3 + 33 * 5 + 16 * 9, "three queues of 3");
-_Static_assert(PIM_MEMORY(256, 1) == 1008 + 76 * 256 + 33 + 16 * 256, "one queue of all tasks");
-_Static_assert(PIM_MEMORY(12, 20) == 1008 + 76 * 12 + 33 * 20 + 16 * (12 + 6 + 4 + 9 * 3), "12 queues");
-_Static_assert(PIM_MEMORY(32, 64) <= 8192, "a small kernel's");
+_Static_assert(PIM_MEMORY(3, 5) == 1152 + 88 * 3 + 64 * 5 + 16 * 15, "the sum by hand");
 
 static _Alignas(16) unsigned char memory[PIM_MEMORY(256, 256)];
 

@@ -24,8 +24,6 @@ mod priorities;
 #[cfg(test)]
 mod queue;
 #[cfg(test)]
-mod rooms;
-#[cfg(test)]
 mod sets;
 #[cfg(test)]
 mod sizes;

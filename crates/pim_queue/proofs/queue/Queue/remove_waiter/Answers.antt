@@ -4,5 +4,5 @@ use Rattle.pim_queue.proofs.queue.Queue.remove_waiter.Goals as goal
 
 pub invariant_of-self : goal.invariant_of-self
 invariant_of-self c =
-    let queued = queued_without _ c.args.waiter.now.task _ c.self.invariant in
-    grind (arith, c.take_out.ensures, queued)
+    let queued = queued_without _ c.args.waiter.now.task _ c.self.invariant.0 in
+    grind (arith, c.take_out.ensures, c.self.invariant.1, queued)

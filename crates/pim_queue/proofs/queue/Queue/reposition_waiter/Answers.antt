@@ -6,6 +6,7 @@ use Rattle.pim_queue.proofs.queue.Queue.reposition_waiter.Goals as goal
 pub invariant_of-self : goal.invariant_of-self
 invariant_of-self c =
     let w = c.args.waiter.now in
-    let queued = queued_repositioned _ w.task c.args.prio w _ c.self.invariant in
+    let queued = queued_repositioned _ w.task c.args.prio w _ c.self.invariant.0 in
+    let room = c.self.invariant.1 in
     let value = c.deref_mut.ensures.value in
-    grind (arith, c.give_prio.ensures, value, with_items_is, c.requires, c.self.view_is, queued)
+    grind (arith, c.give_prio.ensures, value, with_items_is, c.requires, c.self.view_is, room, queued)
