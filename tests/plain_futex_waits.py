@@ -8,6 +8,7 @@ from collections import namedtuple
 MOST, HEAD = 10, 6
 OUTCOMES = {0: "woken", -110: "timed out"}  # ETIMEDOUT
 CHANGED = -11                               # EAGAIN
+CALLS = "wait", "lock", "lock2", "trylock", "unlock"
 Line = namedtuple("Line", "time task what words")
 # `by` is the task that woke it, and `by_level` its level. They and `outcome` may be None.
 Wait = namedtuple("Wait", "task level address began lasted is_open outcome by by_level")
@@ -53,11 +54,11 @@ class Text:
 
     def end_of(self, begin):
         """Returns the place of the line that ends a wait, which is behind all lines if none does, and how it ends:
-        "woken" .., or None if it lasts or was no wait. Returns None if another wait takes its place."""
+        "woken" .., or None if it lasts or its return is missing. Returns None if it was no wait."""
         for at in self.own(begin):
             line = self.lines[at]
-            if line.what == "wait":
-                return None
+            if line.what in CALLS:
+                return at, None
             if line.what == "return":
                 result = int(line.words[0])
                 ends = OUTCOMES.get(min(result, 0), "interrupted")
@@ -85,7 +86,7 @@ class Text:
             by_level = self.level(by, wakes[-1])
         until = self.ended if end == len(self.lines) else self.lines[end].time
         wait = Wait(line.task, level_of(self.lines[asleep[0]].words[0]), int(line.words[0], 16), line.time,
-                    until - line.time, outcome is None, outcome, by, by_level)
+                    until - line.time, end == len(self.lines), outcome, by, by_level)
         return (end, begin), wait
 
     def is_certain(self, wait):

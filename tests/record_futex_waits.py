@@ -71,11 +71,12 @@ def futex_waits(folder, texts=TEXTS):
         found = found_of(path, text)
         kinds.update((wait.outcome, wait.by is not None, wait.by_level is not None) for wait in waits)
         kinds["left out"] += left_out
+        kinds["missing"] += sum(wait.outcome is None and not wait.is_open for wait in waits)
         kinds["more"] += len(waits) > plain_futex_waits.MOST
         if found != wanted:
             differ.append(f"text {seed}: {found} in place of {wanted}")
     check(f"pim-import finds in {texts} random texts the waits for futexes", differ[0] if differ else None)
     kinds_wanted = ("left out", "more", ("woken", True, True), ("woken", True, False), ("woken", False, False),
-                    ("timed out", False, False), ("interrupted", False, False), (None, False, False))
+                    ("timed out", False, False), ("interrupted", False, False), (None, False, False), "missing")
     missing = [kind for kind in kinds_wanted if not kinds[kind]]
     check("each kind of them is among these", f"no {missing}" if missing else None)

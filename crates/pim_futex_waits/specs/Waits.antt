@@ -62,9 +62,12 @@ abbrev pub stopped : Switch → Option Call → Option Call
 stopped s None = None
 stopped s (Some call) = if s.has_ended then None else if s.is_blocked then Some (with_level s.level call) else Some call
 
--- the call of task t after an event, whose task has this level
+-- the call of task t after an event, whose task has this level: another call of its task takes its place
 abbrev pub call_by : Event → What → Option ℕ → ℕ → Option Call → Option Call
 call_by e (whats.Wait address) level t call = if e.task == t then Some (begun e address) else call
+call_by e (whats.Lock address) level t call = if e.task == t then None else call
+call_by e (whats.TryLock address) level t call = if e.task == t then None else call
+call_by e (whats.Unlock address) level t call = if e.task == t then None else call
 call_by e (whats.Return answer) level t call = if e.task == t then None else call
 call_by e (whats.Switch s) level t call = if e.task == t then stopped s call else call
 call_by e (whats.Wake woken) level t call =
@@ -90,6 +93,10 @@ end_by_answer answers.Failed waker = Some ends.Interrupted
 
 abbrev pub end_by : What → Option Waker → Option End
 end_by (whats.Return answer) waker = end_by_answer answer waker
+end_by (whats.Wait address) waker = Some ends.Missing
+end_by (whats.Lock address) waker = Some ends.Missing
+end_by (whats.TryLock address) waker = Some ends.Missing
+end_by (whats.Unlock address) waker = Some ends.Missing
 end_by (whats.Switch s) waker = if s.has_ended then Some ends.Interrupted else None
 end_by _ waker = None
 

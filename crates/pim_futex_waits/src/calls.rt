@@ -39,6 +39,7 @@ impl Calls {
     {
         match event.what {
             What::Wait(address) => self.put(event.task, Some(begun(event, address))),
+            What::Lock(_) | What::TryLock(_) | What::Unlock(_) => self.put(event.task, None),
             What::Return(_) => self.put(event.task, None),
             What::Switch(switch) => self.switch(event.task, &switch),
             What::Wake(woken) => self.wake(event.task, level, woken),

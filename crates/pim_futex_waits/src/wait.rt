@@ -21,6 +21,8 @@ pub enum End {
     TimedOut,
     /// By a signal, or the task was killed.
     Interrupted,
+    /// Its return is missing, as where events were lost: the task made another call.
+    Missing,
 }
 
 /// A wait of a real-time task for a futex.
@@ -105,6 +107,9 @@ impl Call {
             What::Return(Answer::Success) => Some(End::Woken(self.waker)),
             What::Return(Answer::TimedOut) => Some(End::TimedOut),
             What::Return(Answer::Failed) => Some(End::Interrupted),
+            What::Wait(_) | What::Lock(_) | What::TryLock(_) | What::Unlock(_) => Some(
+                End::Missing,
+            ),
             What::Switch(switch) if switch.has_ended => Some(End::Interrupted),
             _ => None,
         }

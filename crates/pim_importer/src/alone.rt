@@ -3,12 +3,12 @@
 use crate::arguments::Arguments;
 use crate::fault::Fault;
 use crate::files::{is_file, is_missing, read_file};
-use crate::kernel::path_of;
-use pim_futex_waits::{futex_waits_of, longest_first};
+use crate::kernel::{has_futexes, path_of};
+use pim_futex_waits::{FutexWaits, futex_waits_of, longest_first};
 use pim_kernel_events::{Recording, TextFault, Tracks};
 use pim_labels::Alone;
 use pim_waits::Findings;
-use std::alloc::Global;
+use std::alloc::{AllocError, Global};
 
 /// Returns the path of the kernel's events if these are to be read alone: no log is named, or the one that is named isn't
 /// there, and LOG.kernel is.
@@ -43,11 +43,20 @@ pub fn alone_of(rt: &HostRuntime, alloc: Global, path: &str) -> Result<Alone, Fa
     };
     let tracks = Tracks::of(alloc, &recording)?;
     let findings = Findings::of(alloc, &recording, &tracks)?;
-    let mut futexes = futex_waits_of(alloc, &recording)?;
-    longest_first(&mut futexes.waits)?;
+    let futexes = futexes_in(alloc, &recording)?;
     Ok(Alone {
         recording,
         findings,
         futexes,
     })
+}
+
+/// Returns the waits for futexes, the longest first. `None` of events that have none.
+fn futexes_in(alloc: Global, recording: &Recording) -> Result<Option<FutexWaits>, AllocError> {
+    if !has_futexes(recording) {
+        return Ok(None);
+    }
+    let mut futexes = futex_waits_of(alloc, recording)?;
+    longest_first(&mut futexes.waits)?;
+    Ok(Some(futexes))
 }

@@ -55,7 +55,8 @@ The findings go to standard output, a line each:
   than the tolerance, each with the lines of LOG.kernel that show it. TIME is in microseconds, or has a unit: 200us, 1ms
   the longest waits: who waited for which mutex, who owned it, at which priorities; and what bounds the wait. A wait of
   a thread for a lower one at a NONE mutex is not bounded: any thread between them can make it longer. Where in the code
-  the wait was, and the owner took the mutex, is the line in LOG.places, which pim-record writes, or an offset in the file
+  the wait was, and the owner took the mutex, is the line in LOG.places, which pim-record writes, or an offset in the file.
+  After pim-record --stacks a line more says who called
   what each real-time thread that locks can be blocked for by lower ones, from the longest ownerships that were observed,
   under INHERIT and under PROTECT
   the NONE mutexes at which that happened, with the place where each was initialised: these should inherit. Those of one
@@ -65,12 +66,13 @@ The findings go to standard output, a line each:
   deadlocks that stood at the end
   the mutexes that two threads took in opposite orders, so that they can deadlock
   the longest waits of real-time threads for semaphores, read-write locks, barriers, threads and condition variables,
-  which no protocol bounds, and who ended each
+  which no protocol bounds, and who ended each; with LOG.kernel those for futexes, as of locks of Rust, that LOG lacks
   what was left out of the trace, and why
 
 A static program has no log. If LOG isn't there, but LOG.kernel is, the kernel's events are read alone, and FILE if no
-LOG is given. The findings then are the longest waits for INHERIT mutexes, with the boosts that each began; the threads
-that ran at the priority of a boost, how often and for how long; and what these events can't know. No file is written:
+LOG is given. The findings then are the longest waits for INHERIT mutexes, with the boosts that each began; those of
+real-time threads for futexes, and who woke them; the threads that ran at the priority of a boost, how often and for how
+long; and what these events can't know. No file is written:
 
     # record/pim-record --kernel -o run ./static-controller
     $ ./pim-import run

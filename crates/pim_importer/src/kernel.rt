@@ -110,23 +110,31 @@ pub fn kernel_of(
     }))
 }
 
-/// Returns the waits for futexes that the log doesn't have, the longest first.
+/// Returns the waits for futexes that the log doesn't have, the longest first. `None` of events that have none.
 fn futexes_in(
     alloc: Global,
     log: &Log,
     imported: &Imported,
     recording: &Recording,
-) -> Result<Vec<FutexWait>, AllocError> {
+) -> Result<Option<Vec<FutexWait>>, AllocError> {
+    if !has_futexes(recording) {
+        return Ok(None);
+    }
     let found = futex_waits_of(alloc, recording)?;
     let mut waits = unlogged(alloc, log, imported, &found.waits)?;
     longest_first(&mut waits)?;
-    Ok(waits)
+    Ok(Some(waits))
 }
 
-/// Returns whether the events have waits for futexes: then the log's waits are compared with them.
+/// Returns whether the form of the events has waits for futexes.
+pub fn has_futexes(recording: &Recording) -> bool {
+    recording.version >= FUTEXES_SINCE
+}
+
+/// Returns whether there are such events: then the log's waits are compared with them.
 pub fn have_futexes(events: Option<&Events>) -> bool {
     match events {
-        Some(events) => events.recording.version >= FUTEXES_SINCE,
+        Some(events) => has_futexes(&events.recording),
         None => false,
     }
 }

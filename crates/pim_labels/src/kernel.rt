@@ -21,8 +21,8 @@ pub struct Kernel {
     pub tasks: Tasks,
     /// Of each of the longest waits who ran in the place of the owner.
     pub meanwhile: Vec<Vec<RanMeanwhile>>,
-    /// The waits for futexes that the log doesn't have, the longest first.
-    pub futexes: Vec<FutexWait>,
+    /// The waits for futexes that the log doesn't have, the longest first. `None` of events that have none.
+    pub futexes: Option<Vec<FutexWait>>,
 }
 
 impl Kernel {
@@ -40,8 +40,8 @@ impl Kernel {
 pub struct Alone {
     pub recording: Recording,
     pub findings: Findings,
-    /// The waits for futexes, the longest first.
-    pub futexes: FutexWaits,
+    /// The waits for futexes, the longest first. `None` of events that have none.
+    pub futexes: Option<FutexWaits>,
 }
 
 /// Writes why a thread should have its priority, as a report of `pim` does.

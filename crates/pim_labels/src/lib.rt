@@ -19,11 +19,13 @@ mod kernel;
 mod labels;
 mod place_texts;
 mod stacks;
+mod task_names;
 mod words;
 
 pub use kernel::{Alone, Kernel, put_reason};
 pub use labels::{GivenNames, Labels};
 pub use place_texts::PlaceTexts;
+pub use task_names::{TaskNames, put_task, thread_of};
 pub use words::{
     LISTED_WAITS, Told, callers_of, family_of, found_of, mutexes, put_caller, put_code, put_count,
     put_duration, put_level, put_moment, put_mutex, put_place, put_since, put_thread, waits_of,

@@ -3,7 +3,9 @@
 use crate::futex_waits::{put_futex_waits, put_left_out};
 use crate::kernel::put_lost;
 use pim_kernel_events::Boost;
-use pim_labels::{Alone, LISTED_WAITS, put_count, put_duration, put_level, put_since};
+use pim_labels::{
+    Alone, LISTED_WAITS, TaskNames, put_count, put_duration, put_level, put_since, put_task,
+};
 use pim_out::Out;
 use pim_waits::{Boosted, Wait, boosts_by};
 use std::alloc::{AllocError, Global};
@@ -38,13 +40,14 @@ pub fn report_alone(alloc: Global, alone: &Alone) -> Result<String, AllocError> 
         put_count(&mut out, others as u64, "wait");
         out.put(", none of them longer\n");
     }
-    let recording = &alone.recording;
-    put_futex_waits(
-        &mut out,
-        &recording.tasks,
-        recording.began,
-        &alone.futexes.waits,
-    );
+    if let Some(futexes) = &alone.futexes {
+        put_futex_waits(
+            &mut out,
+            &names_of(alone),
+            alone.recording.began,
+            &futexes.waits,
+        );
+    }
     for boosted in &alone.findings.boosted {
         put_boosted(&mut out, alone, boosted);
     }
@@ -53,15 +56,16 @@ pub fn report_alone(alloc: Global, alone: &Alone) -> Result<String, AllocError> 
     out.finish()
 }
 
-fn put_task(out: &mut Out, alone: &Alone, task: u32) {
-    out.put(alone.recording.tasks.name_of(task));
-    out.put("[");
-    out.number(u64::from(task));
-    out.put("]");
+/// Returns where the names of the tasks are.
+fn names_of(alone: &Alone) -> TaskNames<'_> {
+    TaskNames {
+        tasks: &alone.recording.tasks,
+        told: None,
+    }
 }
 
 fn put_wait(out: &mut Out, alone: &Alone, wait: &Wait) {
-    put_task(out, alone, wait.task);
+    put_task(out, &names_of(alone), wait.task);
     out.put(", at ");
     put_level(out, wait.level);
     let end = wait.began.saturating_add(wait.lasted);
@@ -86,7 +90,7 @@ fn put_wait(out: &mut Out, alone: &Alone, wait: &Wait) {
 /// Writes a boost that a wait began.
 fn put_boost(out: &mut Out, alone: &Alone, boost: &Boost) {
     out.put("; ");
-    put_task(out, alone, boost.task);
+    put_task(out, &names_of(alone), boost.task);
     out.put(" was boosted from ");
     put_level(out, boost.before);
     out.put(" to ");
@@ -96,7 +100,7 @@ fn put_boost(out: &mut Out, alone: &Alone, boost: &Boost) {
 /// Writes how often and for how long a thread ran at the priority of a boost.
 fn put_boosted(out: &mut Out, alone: &Alone, boosted: &Boosted) {
     out.put("boosted: ");
-    put_task(out, alone, boosted.task);
+    put_task(out, &names_of(alone), boosted.task);
     out.put(" ran at ");
     put_level(out, boosted.level);
     out.put(" in place of ");
@@ -134,5 +138,7 @@ fn put_summary(out: &mut Out, alone: &Alone) {
         put_count(out, findings.left_out, "wait");
         out.put(" during which events were lost\n");
     }
-    put_left_out(out, alone.futexes.left_out as u64);
+    if let Some(futexes) = &alone.futexes {
+        put_left_out(out, futexes.left_out as u64);
+    }
 }

@@ -1,19 +1,20 @@
 //! The waits of real-time threads for futexes, as lines of text.
 
 use pim_futex_waits::{End, FutexWait, Waker};
-use pim_kernel_events::Tasks;
-use pim_labels::{LISTED_WAITS, put_count, put_duration, put_level, put_since};
+use pim_labels::{
+    LISTED_WAITS, TaskNames, put_count, put_duration, put_level, put_since, put_task,
+};
 use pim_out::Out;
 
 /// Writes the longest waits, the longest first, with times since one. Nothing if there is none.
-pub fn put_futex_waits(out: &mut Out, tasks: &Tasks, began: u64, waits: &[FutexWait]) {
+pub fn put_futex_waits(out: &mut Out, names: &TaskNames, began: u64, waits: &[FutexWait]) {
     if !waits.is_empty() {
         out.put("futex waits of real-time threads, which no protocol bounds: ");
         out.number(waits.len() as u64);
         out.put("\n");
     }
     for place in 0..waits.len().min(LISTED_WAITS) {
-        put_wait(out, tasks, began, &waits[place]);
+        put_wait(out, names, began, &waits[place]);
     }
     let more = waits.len().saturating_sub(LISTED_WAITS);
     if more > 0 {
@@ -23,10 +24,10 @@ pub fn put_futex_waits(out: &mut Out, tasks: &Tasks, began: u64, waits: &[FutexW
     }
 }
 
-fn put_wait(out: &mut Out, tasks: &Tasks, began: u64, wait: &FutexWait) {
+fn put_wait(out: &mut Out, names: &TaskNames, began: u64, wait: &FutexWait) {
     let is_open = wait.end.is_none();
     out.put("  ");
-    put_task(out, tasks, wait.task);
+    put_task(out, names, wait.task);
     out.put(", at ");
     put_level(out, wait.level);
     out.put(if is_open { ", waits " } else { ", waited " });
@@ -37,20 +38,20 @@ fn put_wait(out: &mut Out, tasks: &Tasks, began: u64, wait: &FutexWait) {
     out.put(" for the futex at ");
     out.address(wait.address);
     match wait.end {
-        Some(End::Woken(waker)) => put_waker(out, tasks, waker),
+        Some(End::Woken(waker)) => put_waker(out, names, waker),
         Some(End::TimedOut) => out.put(", until it timed out"),
         Some(End::Interrupted) => out.put(", until it was interrupted"),
-        None => {}
+        Some(End::Missing) | None => {}
     }
     out.put("\n");
 }
 
 /// Writes who woke a thread.
-fn put_waker(out: &mut Out, tasks: &Tasks, waker: Option<Waker>) {
+fn put_waker(out: &mut Out, names: &TaskNames, waker: Option<Waker>) {
     out.put(", until ");
     match waker {
         Some(waker) => {
-            put_task(out, tasks, waker.task);
+            put_task(out, names, waker.task);
             if let Some(level) = waker.level {
                 out.put(", at ");
                 put_level(out, level);
@@ -69,12 +70,4 @@ pub fn put_left_out(out: &mut Out, count: u64) {
         put_count(out, count, "futex wait");
         out.put(" during which events were lost\n");
     }
-}
-
-/// Writes a task as NAME[NUMBER].
-fn put_task(out: &mut Out, tasks: &Tasks, task: u32) {
-    out.put(tasks.name_of(task));
-    out.put("[");
-    out.number(u64::from(task));
-    out.put("]");
 }

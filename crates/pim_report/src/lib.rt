@@ -12,6 +12,7 @@
 #![tactic(auto)]
 
 mod alone;
+mod beside_log;
 mod bounds;
 mod callers;
 mod futex_waits;
@@ -21,8 +22,7 @@ mod meanwhile;
 mod orders;
 mod other_waits;
 mod report;
-mod unlogged;
 
 pub use alone::report_alone;
+pub use beside_log::unlogged;
 pub use report::report_of;
-pub use unlogged::unlogged;

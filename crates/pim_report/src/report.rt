@@ -12,8 +12,8 @@ use pim_facts::{Family, LeftOut};
 use pim_findings::FoundWait;
 use pim_import::{Imported, blocker_of};
 use pim_labels::{
-    Kernel, Labels, Told, family_of, put_code, put_count, put_duration, put_level, put_moment,
-    put_mutex, put_place, put_thread,
+    Kernel, Labels, TaskNames, Told, family_of, put_code, put_count, put_duration, put_level,
+    put_moment, put_mutex, put_place, put_thread,
 };
 use pim_log::Log;
 use pim_out::Out;
@@ -22,7 +22,7 @@ use std::alloc::{AllocError, Global};
 
 /// What a log of pim-record can't know.
 const UNKNOWN: &str = "\
-not known: locks other than POSIX mutexes, waits at the end of a condition wait, and what the kernel did
+not known: spin locks, locks of C11, Rust and Go, waits at the end of a condition wait, and what the kernel did
 ";
 
 /// Is written before the place in the code at which the owner of a mutex took it.
@@ -30,11 +30,11 @@ const TOOK_AT: &str = ", which took it at ";
 
 /// What it can't know that the kernel's events don't show either.
 const STILL_UNKNOWN: &str = "\
-not known: locks other than POSIX mutexes, and waits for NONE and PROTECT mutexes at the end of a condition wait
+not known: spin locks, who owned locks of C11, Rust and Go, and waits for NONE and PROTECT mutexes at the end of a condition wait
 ";
 
 /// Returns the findings, a line each: where the kernel's events differ, the longest waits, what threads can be blocked
-/// for, the longest waits for what isn't a mutex, the mutexes to convert, hand-overs out of order, the longest
+/// for, the longest waits for what isn't a mutex and for futexes, the mutexes to convert, hand-overs out of order, the longest
 /// ownerships, deadlocks, opposite orders, what was left out, and what the trace has.
 ///
 /// # Errors
@@ -60,9 +60,7 @@ pub fn report_of(
     put_waits(&mut out, &told, kernel);
     put_bounds(&mut out, &told);
     put_other_waits(alloc, &mut out, &told)?;
-    if let Some(kernel) = kernel {
-        put_futex_waits(&mut out, &kernel.tasks, told.began, &kernel.futexes);
-    }
+    put_unlogged(&mut out, &told, kernel);
     let groups = groups_of(alloc, &told)?;
     put_conversions(&mut out, &told, &groups);
     put_hand_overs(&mut out, &told, &groups);
@@ -76,6 +74,20 @@ pub fn report_of(
     }
     put_summary(&mut out, &told, log);
     out.finish()
+}
+
+/// Writes the waits for futexes that the log doesn't have, if the kernel's events have any.
+fn put_unlogged(out: &mut Out, told: &Told, kernel: Option<&Kernel>) {
+    let Some(kernel) = kernel else {
+        return;
+    };
+    let names = TaskNames {
+        tasks: &kernel.tasks,
+        told: Some(*told),
+    };
+    if let Some(futexes) = &kernel.futexes {
+        put_futex_waits(out, &names, told.began, futexes);
+    }
 }
 
 /// Writes the longest waits, the longest first, each with who called, and who ran meanwhile in the place of the owner.

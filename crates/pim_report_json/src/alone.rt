@@ -1,8 +1,9 @@
 //! What the kernel's events alone say, as JSON.
 
 use crate::futex_waits::put_futex_waits;
+use crate::tasks::put_task;
 use pim_kernel_events::Boost;
-use pim_labels::{Alone, LISTED_WAITS};
+use pim_labels::{Alone, LISTED_WAITS, TaskNames};
 use pim_out::{JsonOut, Out};
 use pim_waits::{Boosted, Wait, boosts_by};
 use std::alloc::{AllocError, Global};
@@ -29,16 +30,13 @@ pub fn json_alone(alloc: Global, alone: &Alone) -> Result<Vec<u8>, AllocError> {
         put_wait(alloc, &mut out, alone, wait, &boosts);
     }
     out.end_array();
-    put_futex_waits(
-        alloc,
-        &mut out,
-        &alone.recording.tasks,
-        &alone.futexes.waits,
-    );
+    if let Some(futexes) = &alone.futexes {
+        put_futex_waits(alloc, &mut out, &names_of(alone), &futexes.waits);
+    }
     out.key("boosted");
     out.begin_array();
     for boosted in &findings.boosted {
-        put_boosted(&mut out, alone, boosted);
+        put_boosted(alloc, &mut out, alone, boosted);
     }
     out.end_array();
     put_counts(&mut out, alone);
@@ -54,19 +52,21 @@ fn put_counts(out: &mut JsonOut, alone: &Alone) {
     out.number("boosts", findings.boosts);
     out.number("cpus", alone.recording.cpus);
     out.number("waits_left_out", findings.left_out);
-    out.number("futex_waits_left_out", alone.futexes.left_out as u64);
+    if let Some(futexes) = &alone.futexes {
+        out.number("futex_waits_left_out", futexes.left_out as u64);
+    }
     out.number("stretches_left_out", findings.losses);
     out.number("time_left_out", findings.lost_time);
     out.number("kernel_events_lost", alone.recording.lost);
     out.boolean("kernel_events_whole", alone.recording.is_whole);
 }
 
-fn put_task(out: &mut JsonOut, alone: &Alone, key: &str, task: u32) {
-    out.key(key);
-    out.begin_object();
-    out.string("name", alone.recording.tasks.name_of(task));
-    out.number("task", u64::from(task));
-    out.end_object();
+/// Returns where the names of the tasks are.
+fn names_of(alone: &Alone) -> TaskNames<'_> {
+    TaskNames {
+        tasks: &alone.recording.tasks,
+        told: None,
+    }
 }
 
 /// Writes a wait, and the boosts that it began.
@@ -74,7 +74,7 @@ fn put_wait(alloc: Global, out: &mut JsonOut, alone: &Alone, wait: &Wait, boosts
     let mut address = Out::new(alloc);
     address.address(wait.address);
     out.begin_object();
-    put_task(out, alone, "thread", wait.task);
+    put_task(alloc, out, &names_of(alone), "thread", wait.task);
     out.number("priority", u64::from(wait.level));
     out.number("began", wait.began);
     out.number("lasted", wait.lasted);
@@ -83,23 +83,23 @@ fn put_wait(alloc: Global, out: &mut JsonOut, alone: &Alone, wait: &Wait, boosts
     out.key("boosts");
     out.begin_array();
     for boost in boosts {
-        put_boost(out, alone, boost);
+        put_boost(alloc, out, alone, boost);
     }
     out.end_array();
     out.end_object();
 }
 
-fn put_boost(out: &mut JsonOut, alone: &Alone, boost: &Boost) {
+fn put_boost(alloc: Global, out: &mut JsonOut, alone: &Alone, boost: &Boost) {
     out.begin_object();
-    put_task(out, alone, "thread", boost.task);
+    put_task(alloc, out, &names_of(alone), "thread", boost.task);
     out.number("from", u64::from(boost.before));
     out.number("to", u64::from(boost.after));
     out.end_object();
 }
 
-fn put_boosted(out: &mut JsonOut, alone: &Alone, boosted: &Boosted) {
+fn put_boosted(alloc: Global, out: &mut JsonOut, alone: &Alone, boosted: &Boosted) {
     out.begin_object();
-    put_task(out, alone, "thread", boosted.task);
+    put_task(alloc, out, &names_of(alone), "thread", boosted.task);
     out.number("ran_at", u64::from(boosted.level));
     out.number("in_place_of", u64::from(boosted.own));
     out.number("times", boosted.times.len() as u64);

@@ -1,27 +1,27 @@
 //! The waits of real-time threads for futexes, as JSON.
 
+use crate::tasks::put_task;
 use pim_futex_waits::{End, FutexWait, Waker};
-use pim_kernel_events::Tasks;
-use pim_labels::LISTED_WAITS;
+use pim_labels::{LISTED_WAITS, TaskNames};
 use pim_out::{JsonOut, Out};
 use std::alloc::Global;
 
 /// Writes how many there are, and the longest ones, the longest first.
-pub fn put_futex_waits(alloc: Global, out: &mut JsonOut, tasks: &Tasks, waits: &[FutexWait]) {
+pub fn put_futex_waits(alloc: Global, out: &mut JsonOut, names: &TaskNames, waits: &[FutexWait]) {
     out.number("futex_waits_in_all", waits.len() as u64);
     out.key("futex_waits");
     out.begin_array();
     for place in 0..waits.len().min(LISTED_WAITS) {
-        put_wait(alloc, out, tasks, &waits[place]);
+        put_wait(alloc, out, names, &waits[place]);
     }
     out.end_array();
 }
 
-fn put_wait(alloc: Global, out: &mut JsonOut, tasks: &Tasks, wait: &FutexWait) {
+fn put_wait(alloc: Global, out: &mut JsonOut, names: &TaskNames, wait: &FutexWait) {
     let mut address = Out::new(alloc);
     address.address(wait.address);
     out.begin_object();
-    put_task(out, tasks, "thread", wait.task);
+    put_task(alloc, out, names, "thread", wait.task);
     out.number("priority", u64::from(wait.level));
     out.number("began", wait.began);
     out.number("lasted", wait.lasted);
@@ -30,29 +30,21 @@ fn put_wait(alloc: Global, out: &mut JsonOut, tasks: &Tasks, wait: &FutexWait) {
     match wait.end {
         Some(End::Woken(waker)) => {
             out.string("outcome", "woken");
-            put_waker(out, tasks, waker);
+            put_waker(alloc, out, names, waker);
         }
         Some(End::TimedOut) => out.string("outcome", "timed out"),
         Some(End::Interrupted) => out.string("outcome", "interrupted"),
-        None => {}
+        Some(End::Missing) | None => {}
     }
     out.end_object();
 }
 
-fn put_waker(out: &mut JsonOut, tasks: &Tasks, waker: Option<Waker>) {
+fn put_waker(alloc: Global, out: &mut JsonOut, names: &TaskNames, waker: Option<Waker>) {
     let Some(waker) = waker else {
         return;
     };
-    put_task(out, tasks, "woken_by", waker.task);
+    put_task(alloc, out, names, "woken_by", waker.task);
     if let Some(level) = waker.level {
         out.number("woken_by_priority", u64::from(level));
     }
-}
-
-fn put_task(out: &mut JsonOut, tasks: &Tasks, key: &str, task: u32) {
-    out.key(key);
-    out.begin_object();
-    out.string("name", tasks.name_of(task));
-    out.number("task", u64::from(task));
-    out.end_object();
 }

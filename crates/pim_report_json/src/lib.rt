@@ -19,6 +19,7 @@ mod meanwhile;
 mod orders;
 mod other_waits;
 mod report;
+mod tasks;
 
 pub use alone::json_alone;
 pub use report::json_of;

@@ -11,7 +11,8 @@ use pim_facts::LeftOut;
 use pim_findings::{FoundMutex, FoundWait, MutexWaits};
 use pim_import::{Imported, blocker_of};
 use pim_labels::{
-    Kernel, Labels, Told, family_of, found_of, mutexes, put_code, put_place, put_reason, waits_of,
+    Kernel, Labels, TaskNames, Told, family_of, found_of, mutexes, put_code, put_place, put_reason,
+    waits_of,
 };
 use pim_log::Log;
 use pim_out::{JsonOut, Out};
@@ -60,9 +61,7 @@ fn put_all(
     put_all_waits(alloc, out, told);
     put_bounds(alloc, out, told);
     put_other_waits(alloc, out, told)?;
-    if let Some(kernel) = kernel {
-        put_futex_waits(alloc, out, &kernel.tasks, &kernel.futexes);
-    }
+    put_unlogged(alloc, out, told, kernel);
     out.key("mutexes");
     out.begin_array();
     for mutex in 0..mutexes(told) {
@@ -168,6 +167,20 @@ pub fn put_thread(alloc: Global, out: &mut JsonOut, told: &Told, key: &str, thre
     let number = told.imported.numbering.threads.of(thread);
     out.number("number", u64::from(number));
     out.end_object();
+}
+
+/// Writes the waits for futexes that the log doesn't have. Nothing if the kernel's events have none.
+fn put_unlogged(alloc: Global, out: &mut JsonOut, told: &Told, kernel: Option<&Kernel>) {
+    let Some(kernel) = kernel else {
+        return;
+    };
+    let names = TaskNames {
+        tasks: &kernel.tasks,
+        told: Some(*told),
+    };
+    if let Some(futexes) = &kernel.futexes {
+        put_futex_waits(alloc, out, &names, futexes);
+    }
 }
 
 /// Writes the place in the code at which a thread called, if it is known.

@@ -45,12 +45,13 @@ fn spans_in(alloc: Global, log: &Log, imported: &Imported) -> Result<Vec<Span>, 
     if let Some(waits) = &imported.built.findings.waits.all {
         for wait in waits {
             let span = span_of(ids, wait.thread, wait.began, wait.lasted, wait.is_open);
-            spans.push(span)?;
+            add(&mut spans, span)?;
         }
     }
     for wait in &other_waits_of(alloc, log, ids)? {
         let is_open = wait.ended.is_none();
-        spans.push(span_of(ids, wait.thread, wait.began, wait.lasted, is_open))?;
+        let span = span_of(ids, wait.thread, wait.began, wait.lasted, is_open);
+        add(&mut spans, span)?;
     }
     spans.sort_unstable_by_key(|span| (span.task, span.began));
     for place in 1..spans.len() {
@@ -62,18 +63,23 @@ fn spans_in(alloc: Global, log: &Log, imported: &Imported) -> Result<Vec<Span>, 
     Ok(spans)
 }
 
-/// Returns when a thread waited. The events may go on when the log has ended.
-fn span_of(ids: &Ids, thread: u32, began: u64, lasted: u64, is_open: bool) -> Span {
-    let task = match ids.threads.get(thread as usize) {
-        Some(thread) => thread.task,
-        None => 0,
-    };
+/// Adds a stretch, if it is known.
+fn add(spans: &mut Vec<Span>, span: Option<Span>) -> Result<(), AllocError> {
+    if let Some(span) = span {
+        spans.push(span)?;
+    }
+    Ok(())
+}
+
+/// Returns when a thread waited, if it is known. The events may go on when the log has ended.
+fn span_of(ids: &Ids, thread: u32, began: u64, lasted: u64, is_open: bool) -> Option<Span> {
+    let task = ids.threads.get(thread as usize)?.task;
     let until = if is_open {
         u64::MAX
     } else {
         began.saturating_add(lasted)
     };
-    Span { task, began, until }
+    Some(Span { task, began, until })
 }
 
 /// Returns whether a wait has a time in common with one of its task in the log.
