@@ -143,6 +143,18 @@ def laws(reader, broken, folder):
             check("each lock of a PROTECT mutex", difference(protected, [1, 1]))
 
 
+def interrupted(reader, broken, folder):
+    """A handler that puts the kept grants may come at any moment: each call is in the log once, or counted once."""
+    path = pathlib.Path(folder, "run")
+    done = run(RECORD / "pim-record", "-o", path, "--last", "16M", CONTENDED, PROGRAMS / "interrupted")
+    got, failed, posts = map(int, done.stdout.split() or (0, 0, 0))
+    log = read(reader, path)
+    put = [counted(reader, log, event) for event in (reader.GRANTED, reader.RELEASE, reader.FAILED, reader.GIVE)]
+    check("calls that are interrupted", broken(log) or difference(
+        (done.returncode, posts > 100, put[0] > 0, put[0] - put[1], log.head.left_out + put[0] + put[2] + put[3]),
+        (0, True, True, 0, got + failed + posts)))
+
+
 def deep(reader, broken, folder):
     """A thread that owns more than eight mutexes: all of them are in the log, and each is released once."""
     running = started(folder, CONTENDED)
@@ -191,7 +203,7 @@ def refused(folder):
 
 def contended(attempt, reader, broken, folder):
     """Each part in a folder of its own."""
-    parts = (nobody_waits, waits, beside, as_in_full, unannounced, laws, deep, forks, goes_on)
+    parts = (nobody_waits, waits, beside, as_in_full, unannounced, laws, interrupted, deep, forks, goes_on)
     for part in (*parts, refused):
         own = pathlib.Path(folder, part.__name__)
         own.mkdir()

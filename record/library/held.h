@@ -77,10 +77,20 @@ static inline void held_order(void) {
 #endif
 }
 
-/* Counts a call that isn't put. */
-static inline void held_leave_out(void) {
+/* Counts a call that isn't put. Between log_enter and log_end. */
+static inline void held_count_left_out(void) {
     log_cursor.is_behind = true;
     if (__builtin_expect(++log_cursor.uncounted == MOST_UNCOUNTED, 0)) log_count_left_out();
+}
+
+/* Counts a call that isn't put. */
+static inline void held_leave_out(void) {
+    if (!log_enter()) {
+        log_leave_out();
+        return;
+    }
+    held_count_left_out();
+    log_end();
 }
 
 /* Keeps a grant of now that nobody waited for, or waits for. Returns false if it is to be put. */
@@ -89,23 +99,26 @@ static inline bool held_keep(const pthread_mutex_t *mutex, enum call call, uint6
     uint16_t detail = inner_detail(mutex);
     bool is_first = !(detail & DETAIL_PROTECT) && !inner_has_waiters(mutex) &&
                     !held_is_requested(mutex, asked->requests);
-    if (!is_first || log_cursor.held == MOST_HELD || log_cursor.is_writing) return false;
-    log_cursor.is_writing = true;
-    struct held *kept = &held[log_cursor.held++];
-    kept->mutex = mutex;
-    kept->place = place;
-    kept->time = log_time();
-    kept->took = log_saturated(kept->time - asked->began);
-    kept->number = atomic_load_explicit(&log_header->next_number, memory_order_relaxed) - 1;
-    kept->requests = asked->requests;
-    kept->detail = detail;
-    kept->call = (uint8_t)call;
-    log_cursor.is_behind = true;
+    if (!is_first || !log_enter()) return false;
+    bool has_room = log_cursor.held < MOST_HELD;
+    if (has_room) {
+        struct held *kept = &held[log_cursor.held++];
+        kept->mutex = mutex;
+        kept->place = place;
+        kept->time = log_time();
+        kept->took = log_saturated(kept->time - asked->began);
+        kept->number = atomic_load_explicit(&log_header->next_number, memory_order_relaxed) - 1;
+        kept->requests = asked->requests;
+        kept->detail = detail;
+        kept->call = (uint8_t)call;
+        log_cursor.is_behind = true;
+    }
     log_end();
-    return true;
+    return has_room;
 }
 
-/* Returns the last grant of a mutex that is kept and that nobody has waited for, or NULL. */
+/* Returns the last grant of a mutex that is kept and that nobody has waited for, or NULL. Between
+ * log_enter and log_end, as held_forget. */
 static inline struct held *held_find(const pthread_mutex_t *mutex) {
     unsigned at = log_cursor.held;
     while (at > 0 && held[at - 1].mutex != mutex) at--;

@@ -224,20 +224,30 @@ static inline void log_leave_out(void) {
     atomic_fetch_add_explicit(&log_header->left_out, 1, memory_order_relaxed);
 }
 
-/* Begins the writing of one or more records that belong together. A signal's handler that
- * interrupts it isn't recorded, but counted: then this returns false. */
-static inline bool log_begin(void) {
-    if (__builtin_expect(log_cursor.is_writing, 0)) {
-        log_leave_out();
-        return false;
-    }
+/* Begins what no signal's handler may see half done: until log_end, one that interrupts it changes
+ * nothing of the cursor, or of the grants that aren't put. Returns false in such a handler. What the
+ * thread keeps is read and changed in between alone: before, a handler may still put the grants. */
+static inline bool log_enter(void) {
+    if (__builtin_expect(log_cursor.is_writing, 0)) return false;
     log_cursor.is_writing = true;
-    if (__builtin_expect(log_cursor.is_behind, 0)) log_catch_up();
+    atomic_signal_fence(memory_order_seq_cst);
     return true;
 }
 
 static inline void log_end(void) {
+    atomic_signal_fence(memory_order_seq_cst);
     log_cursor.is_writing = false;
+}
+
+/* Begins the writing of one or more records that belong together. A signal's handler that
+ * interrupts it isn't recorded, but counted: then this returns false. */
+static inline bool log_begin(void) {
+    if (!log_enter()) {
+        log_leave_out();
+        return false;
+    }
+    if (__builtin_expect(log_cursor.is_behind, 0)) log_catch_up();
+    return true;
 }
 
 /* Returns the place of the thread's next record, or NULL where there is no room. */

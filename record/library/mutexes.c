@@ -129,27 +129,30 @@ EXPORT int pthread_mutex_trylock(pthread_mutex_t *mutex) {
 
 /* ---- unlock ---- */
 
-/* Releases a mutex whose grant is kept, and puts neither. A request that comes meanwhile names the
- * owner: only since when it owned the mutex isn't known. */
-static int release_held(pthread_mutex_t *mutex, struct held *own) {
-    log_cursor.is_writing = true;
-    int error = real.mutex_unlock(mutex);
-    held_order();
-    if (__builtin_expect(held_is_requested(mutex, own->requests), 0)) log_leave_out();
-    if (error == 0) held_forget(own);
+/* Releases a mutex whose grant is kept, and puts neither. Returns false where none is. A request
+ * that comes meanwhile names the owner: only since when it owned the mutex isn't known. */
+static bool release_held(pthread_mutex_t *mutex, int *error) {
+    if (!log_enter()) return false;
+    struct held *own = held_find(mutex);
+    if (own) {
+        *error = real.mutex_unlock(mutex);
+        held_order();
+        if (__builtin_expect(held_is_requested(mutex, own->requests), 0)) log_leave_out();
+        if (*error == 0) held_forget(own);
+        held_count_left_out();
+    }
     log_end();
-    held_leave_out();
-    return error;
+    return own != NULL;
 }
 
 /* Another thread may destroy the mutex and free its memory once it is released: it isn't read
  * after that. */
 EXPORT int pthread_mutex_unlock(pthread_mutex_t *mutex) {
     if (!is_recorded()) return real.mutex_unlock(mutex);
-    struct held *own = held_is_on() && !log_cursor.is_writing ? held_find(mutex) : NULL;
-    if (own) return release_held(mutex, own);
+    int error;
+    if (held_is_on() && release_held(mutex, &error)) return error;
     places_put(PLACE, of_mutex(EVENT_RELEASE, CALL_LOCK, mutex));
-    int error = real.mutex_unlock(mutex);
+    error = real.mutex_unlock(mutex);
     if (error) places_put(PLACE, of_address(EVENT_RELEASE_FAILED, (unsigned)error, mutex));
     return error;
 }

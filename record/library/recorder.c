@@ -14,12 +14,10 @@ static void begin(void) {
     inner_test();
     log_make();
     if (log_header) {
-        log_cursor.depth--;
         processes_start();
         thread_make_key();
         thread_introduce();
         modules_tell();
-        log_cursor.depth++;
     }
     log_has_begun();
 }
@@ -36,7 +34,8 @@ __attribute__((constructor)) void recorder_start(void) {
     int error = errno;
     log_cursor.depth++;
     begin();
+    /* First: a handler of this thread would wait for itself. */
+    atomic_store_explicit(&recorder_is_ready, true, memory_order_release);
     log_cursor.depth--;
     errno = error;
-    atomic_store_explicit(&recorder_is_ready, true, memory_order_release);
 }
