@@ -11,7 +11,7 @@ import select
 import signal
 import time
 
-from checks import ROOT, SECONDS, check, difference, is_gone, skip, stat_of, threads_of, until
+from checks import ROOT, SECONDS, answer, check, difference, is_gone, skip, stat_of, threads_of, until
 from record_kernel import Tracefs, faults_of, guard_of, is_descendant
 
 INTERRUPT, QUIT, SUSPEND = b"\x03", b"\x1c", b"\x1a"
@@ -271,6 +271,32 @@ def leaves(folder, kernel, _):
     return None if until(lambda: is_gone(job.job)) else "it runs on"
 
 
+OUTSIDE = """\
+"$0" -o "$1/run" sh -c 'echo > "$0"; exec sleep 100000' "$1/begun" &
+until [ -s "$1/begun" ]; do sleep 0.02; done
+of_job() { cut -d ' ' -f "$1" "/proc/$job/stat"; }
+job=$! before=$(of_job 5)
+kill -TSTP $job
+until [ "$(of_job 3)" = T ]; do sleep 0.02; done
+kill -CONT $job
+until [ "$(of_job 3)" = S ]; do sleep 0.02; done
+echo "$before $(of_job 5)"
+kill -TERM $job
+wait $job
+"""
+
+
+def outside(folder):
+    """In a process group whose first process is outside of the PID namespace, pim-record stays in its group."""
+    apart = ["unshare", "--pid", "--fork", "--mount-proc", "--kill-child"]
+    name = "stopped in a group of another PID namespace"
+    if answer([*apart, "true"])[0]:
+        return skip(name, "a PID namespace can't be made")
+    own = {"start_new_session": False, "preexec_fn": lambda: os.setpgid(0, 0)}  # an orphaned group can't be stopped
+    status, out, _ = answer([*apart, "sh", "-c", OUTSIDE, ROOT / "record/pim-record", folder], seconds=20, **own)
+    return check(name, difference((status, out), (128 + signal.SIGTERM, b"0 0\n")))
+
+
 PARTS = {"Ctrl-Z, fg, Ctrl-C": stops, "stopped again by others": stops_again,
          "a program that handles the keys": handles, "Ctrl-\\": quits,
          "SIGTSTP to pim-record alone": one_process, "a stop of the program alone": program_alone,
@@ -296,6 +322,7 @@ def end_left():
 
 def terminal(attempt, folder):
     """Each part at a terminal, without --kernel and with it. One that breaks off leaves the others as they are."""
+    attempt(outside, folder)
     tracefs = Tracefs()
     try:
         ways = [[]] if tracefs.missing else [[], ["--kernel"]]
