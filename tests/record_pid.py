@@ -40,10 +40,11 @@ def sleeper():
 class Attached:
     """A recording of a program that runs, which has begun."""
 
-    def __init__(self, tracefs, folder, process, *options):
+    def __init__(self, tracefs, folder, process, *options, **how):
         self.path = pathlib.Path(folder, "run.kernel")
         self.before = self.path.read_bytes() if self.path.exists() else None
-        self.child = started(RECORD / "pim-record", "--pid", process, "-o", pathlib.Path(folder, "run"), *options)
+        words = ("--pid", process, "-o", pathlib.Path(folder, "run"), *options)
+        self.child = started(RECORD / "pim-record", *words, **how)
         self.has_begun = until(lambda: self.is_whole_head() or self.child.poll() is not None)
         self.instances = tracefs.own()
 
@@ -125,9 +126,7 @@ def its_end(tracefs, folder):
     program.kill()
     program.wait()
     check("--pid of a program that ends", difference((*recording.end(), tracefs.own()), (0, "", [])))
-    text = recording.text()
-    dead = [event.values[1] for event in text.events if event.what == "switch" and event.task == program.pid]
-    check("its end is recorded", difference(("; ".join(faults_of(recording.path.read_bytes())), dead[-1:]), ("", ["Z"])))
+    check("the file of a program that ends is whole", "; ".join(faults_of(recording.path.read_bytes())))
 
 
 def times(tracefs, folder):
@@ -144,8 +143,24 @@ def times(tracefs, folder):
         recording.child.send_signal(number)
         check(f"{number.name} ends it", difference((*recording.end(), tracefs.own()), (0, "", [])))
         check("its file is whole", "; ".join(faults_of(recording.path.read_bytes())))
+    ignores(tracefs, folder, program)
     check("the program goes on", difference((program.poll(),), (None,)))
     program.kill()
+
+
+def ignores(tracefs, folder, program):
+    """What nohup or the & of a script has ignored doesn't end it: SIGTERM does."""
+    def ignore():
+        for number in (signal.SIGHUP, signal.SIGINT):
+            signal.signal(number, signal.SIG_IGN)
+    recording = Attached(tracefs, folder, program.pid, "--for", "1s", preexec_fn=ignore)
+    for number in (signal.SIGHUP, signal.SIGINT):
+        recording.child.send_signal(number)
+    got = (*recording.end(), (recording.text().end[0] - recording.text().head.began) >= 10**9)
+    check("signals that are ignored don't end it", difference(got, (0, "", True)))
+    recording = Attached(tracefs, folder, program.pid, "--for", "2m", preexec_fn=ignore)
+    recording.child.send_signal(signal.SIGTERM)
+    check("SIGTERM ends it then", difference((*recording.end(), tracefs.own()), (0, "", [])))
 
 
 def killed(tracefs, folder):
@@ -167,13 +182,13 @@ def many_threads(tracefs, folder):
     """Threads that make threads while the recording is attached are all chosen."""
     program = started(PROGRAMS / "spawns")
     program.stdout.readline()
-    recording = Attached(tracefs, folder, program.pid)
+    recording = Attached(tracefs, folder, program.pid, "--buffer", "32768")
     chosen = lambda: set(map(int, (tracefs.instances / recording.instances[0] / "set_event_pid").read_text().split()))
-    rounds = 0  # in which a thread wasn't chosen: a thread that has just been made may be so for a moment
-    for _ in range(20):
-        there = threads_of(program.pid)
-        rounds += bool(there & threads_of(program.pid) - chosen())
-    check("the threads of a program that makes threads are chosen", f"not so {rounds} times" if rounds > 5 else None)
+    there = threads_of(program.pid)
+    left = there - chosen() & threads_of(program.pid)
+    # a thread that has just been made may be so for a moment
+    is_chosen = until(lambda: not left & threads_of(program.pid) - chosen())
+    check("the threads of a program that makes threads are chosen", None if is_chosen else f"not {left}")
     program.kill()
     program.wait()
     check("--pid of a program that makes threads", difference((*recording.end(), tracefs.own()), (0, "", [])))
@@ -251,14 +266,13 @@ def refused(folder):
 
 def not_there(folder):
     """A number of no process, of a thread, and of a process that has ended."""
-    gone = subprocess.Popen(["true"])
-    gone.wait()
+    gone = int(pathlib.Path("/proc/sys/kernel/pid_max").read_text()) + 1  # of no process, whatever is started
     unseen = started("true")
     until(lambda: stat_of(unseen.pid)[:1] == ["Z"])
     program = started(PROGRAMS / "futexes", "attach", "/dev/null")
     program.stdout.readline()
     thread = max(threads_of(program.pid) - {program.pid})
-    numbers = {"a process that isn't there": (gone.pid, f"there is no process {gone.pid}; nothing was recorded"),
+    numbers = {"a process that isn't there": (gone, f"there is no process {gone}; nothing was recorded"),
                "a process that has ended": (unseen.pid, "it has ended; nothing was recorded"),
                "a thread": (thread, "it is a thread, and not a process's number; nothing was recorded")}
     for name, (number, why) in numbers.items():
@@ -268,8 +282,8 @@ def not_there(folder):
         check(f"--pid of {name}", difference((*got, left), (2, "", 1, True, [])) and f"{got} {done.stderr!r}")
     # by the launcher, if it ends after pim-record has looked
     variables = {**os.environ, "PIM_KERNEL": f"{folder}/none", "PIM_KERNEL_KB": "8192"}
-    done = run(RECORD / "out/pim-launch", "--pid", gone.pid, "0", env=variables)
-    wanted = f"pim-record: process {gone.pid}: {os.strerror(errno.ESRCH)}; nothing was recorded\n"
+    done = run(RECORD / "out/pim-launch", "--pid", gone, "0", env=variables)
+    wanted = f"pim-record: process {gone}: {os.strerror(errno.ESRCH)}; nothing was recorded\n"
     check("--pid of one that has just gone", difference((done.returncode, done.stderr), (2, wanted)))
     program.kill()
 

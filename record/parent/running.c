@@ -36,21 +36,32 @@ static _Noreturn void refuse(pid_t process, const char *why) {
 static int watch_process(pid_t process) {
     int watched = (int)syscall(SYS_pidfd_open, process, 0);
     struct pollfd end = { .fd = watched, .events = POLLIN };
-    if (watched < 0 && errno != ESRCH && kill(process, 0) == 0)
+    int error = errno; /* of a thread EINVAL, or ENOENT by newer kernels */
+    if (watched < 0 && (error == EINVAL || error == ENOENT) && kill(process, 0) == 0)
         refuse(process, "it is a thread, and not a process's number");
-    if (watched < 0) refuse(process, strerror(errno));
+    if (watched < 0) refuse(process, strerror(error));
     if (poll(&end, 1, 0) > 0) refuse(process, "it has ended");
     return watched;
 }
 
-/* Returns a descriptor that says when a signal has come that ends the recording. */
-static int watch_signals(void) {
+/* Returns whether a signal is ignored, as SIGHUP is by nohup, and SIGINT by the & of a script. */
+static bool is_ignored(int number) {
+    struct sigaction action;
+    return sigaction(number, NULL, &action) == 0 && action.sa_handler == SIG_IGN;
+}
+
+/* Returns a descriptor that says when a signal has come that ends the recording. SIGTERM does in any
+ * case. */
+static int watch_signals(pid_t process) {
     static const int numbers[] = { SIGINT, SIGTERM, SIGHUP };
     sigset_t signals;
     sigemptyset(&signals);
-    for (size_t i = 0; i < sizeof numbers / sizeof *numbers; i++) sigaddset(&signals, numbers[i]);
+    for (size_t i = 0; i < sizeof numbers / sizeof *numbers; i++)
+        if (numbers[i] == SIGTERM || !is_ignored(numbers[i])) sigaddset(&signals, numbers[i]);
     sigprocmask(SIG_BLOCK, &signals, NULL);
-    return signalfd(-1, &signals, SFD_CLOEXEC);
+    int watched = signalfd(-1, &signals, SFD_CLOEXEC);
+    if (watched < 0) refuse(process, strerror(errno));
+    return watched;
 }
 
 /* Reads events until one of the ends is there, or the time is over. */
@@ -69,7 +80,7 @@ _Noreturn void record_running(const struct running *wanted) {
     struct guard guard;
     struct pollfd ends[ENDS] = {
         { .fd = watch_process(wanted->process), .events = POLLIN },
-        { .fd = watch_signals(), .events = POLLIN },
+        { .fd = watch_signals(wanted->process), .events = POLLIN },
     };
     be_ordinary();
     signal(SIGXFSZ, SIG_IGN); /* a file that may not grow isn't whole */
