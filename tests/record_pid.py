@@ -199,10 +199,11 @@ def names(folder):
     program = sleeper()
     before = (pathlib.Path(folder, "run"), pathlib.Path(folder, "run.kernel"))
     run(RECORD / "pim-record", "--kernel", "-o", before[0], "true")
-    there = [path.exists() for path in before]
+    there = [path.read_bytes() for path in before]
     done = run(RECORD / "pim-record", "-p", program.pid, "-f", "1ms", "-o", before[0])
-    got = (there, done.returncode, done.stderr, [path.exists() for path in before])
-    check("--pid leaves no older log", difference(got, ([True, True], 0, "", [False, True])))
+    now = [path.read_bytes() for path in before]
+    got = (done.returncode, done.stderr, now[0] == there[0], now[1] == there[1], faults_of(now[1]))
+    check("--pid replaces the kernel's events alone", difference(got, (0, "", True, False, [])))
     empty = pathlib.Path(folder, "empty")
     empty.mkdir()
     done = run(RECORD / "pim-record", "--pid", program.pid, "--for", "1ms", cwd=empty)
@@ -264,6 +265,10 @@ def refused(folder):
         check(f"--pid with {name}", difference((*got, left), (2, "", 1, True, [])) and f"{got} {done.stderr!r}")
 
 
+def files_of(folder):
+    return {path.name: path.read_text() for path in pathlib.Path(folder).glob("none*")}
+
+
 def not_there(folder):
     """A number of no process, of a thread, and of a process that has ended."""
     gone = int(pathlib.Path("/proc/sys/kernel/pid_max").read_text()) + 1  # of no process, whatever is started
@@ -275,11 +280,16 @@ def not_there(folder):
     numbers = {"a process that isn't there": (gone, f"there is no process {gone}; nothing was recorded"),
                "a process that has ended": (unseen.pid, "it has ended; nothing was recorded"),
                "a thread": (thread, "it is a thread, and not a process's number; nothing was recorded")}
+    older = {"none": "", "none.1": "", "none.kernel": "pim-kernel 2\n"}
+    for file, text in older.items():
+        pathlib.Path(folder, file).write_text(text)
     for name, (number, why) in numbers.items():
         done = run(RECORD / "pim-record", "--pid", number, "-o", f"{folder}/none")
         got = (done.returncode, done.stdout, done.stderr.count("\n"), why in done.stderr)
-        left = list(pathlib.Path(folder).glob("none*"))
-        check(f"--pid of {name}", difference((*got, left), (2, "", 1, True, [])) and f"{got} {done.stderr!r}")
+        left = files_of(folder)
+        check(f"--pid of {name}", difference((*got, left), (2, "", 1, True, older)) and f"{got} {left} {done.stderr!r}")
+    for file in older:
+        pathlib.Path(folder, file).unlink()
     # by the launcher, if it ends after pim-record has looked
     variables = {**os.environ, "PIM_KERNEL": f"{folder}/none", "PIM_KERNEL_KB": "8192"}
     done = run(RECORD / "out/pim-launch", "--pid", gone, "0", env=variables)

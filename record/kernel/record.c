@@ -226,6 +226,7 @@ void begin_kernel(enum program program, const char *path, const char *kilobytes,
     const char *failed = start_guard(guard, &recording.instance) ? NULL : "fork";
     sigprocmask(SIG_SETMASK, &before, NULL);
     if (!failed) failed = set_up(kilobytes);
+    if (!failed && program == RUNNING) unlink(path); /* pim-record has seen whose it is */
     if (!failed && !open_text(&recording.text, path)) failed = path;
     if (failed) give_up_kernel(failed);
 }
