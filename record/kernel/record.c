@@ -178,8 +178,8 @@ _Noreturn void give_up_kernel(const char *failed) {
     exit(FAULT);
 }
 
-const char *turn_on_kernel(pid_t program) {
-    if (!choose_threads(&recording.instance, program)) return "set_event_pid";
+const char *turn_on_kernel(pid_t program, bool (*is_over)(void)) {
+    if (!choose_threads(&recording.instance, program, is_over)) return "set_event_pid";
     recording.text.began = now();
     for (int cpu = 0; cpu < recording.cpus; cpu++)
         recording.queues[cpu].last_time = recording.text.began;

@@ -78,13 +78,14 @@ static bool choose(const struct instance *of, const struct threads *threads) {
 /* A thread that isn't chosen yet may create one that no look has found: so this looks again while
  * there are others. A look may pass over a thread while another one ends: so the last two find
  * none. A thread of a chosen one is chosen by the kernel, before it runs. */
-bool choose_threads(const struct instance *of, pid_t process) {
+bool choose_threads(const struct instance *of, pid_t process, bool (*is_over)(void)) {
     struct threads others = { .count = 0 };
     bool is_done = add(&others, process) && choose(of, &others);
     for (int looks = 0; is_done && looks < LOOKS; looks++) {
         is_done = read_threads(process, &others) && leave_others(of, &others) &&
                   choose(of, &others);
         if (others.count) looks = -1;
+        if (is_over && is_over()) break;
     }
     free(others.numbers);
     return is_done;

@@ -206,7 +206,7 @@ static bool is_run(int status, int channel, bool has_log) {
 static _Noreturn void be_parent(pid_t program, const sigset_t *awaited, int channel) {
     be_ordinary();
     signal(SIGXFSZ, SIG_IGN); /* a file that may not grow isn't whole; the program runs on */
-    const char *missing = parent.wanted->kernel ? turn_on_kernel(program) : NULL;
+    const char *missing = parent.wanted->kernel ? turn_on_kernel(program, NULL) : NULL;
     if (missing) {
         end_collector_of_nothing();
         give_up_kernel(missing); /* the child sees the end of its channel */

@@ -64,8 +64,15 @@ static int watch_signals(pid_t process) {
     return watched;
 }
 
+static struct pollfd ends[ENDS]; /* of the program, and of the recording by a signal */
+
+/* Returns whether one of the ends is there. */
+static bool is_over(void) {
+    return poll(ends, ENDS, 0) > 0;
+}
+
 /* Reads events until one of the ends is there, or the time is over. */
-static void read_until(struct pollfd ends[ENDS], uint64_t nanoseconds) {
+static void read_until(uint64_t nanoseconds) {
     uint64_t began = now(), passed = 0;
     while (!nanoseconds || passed < nanoseconds) {
         uint64_t rest = nanoseconds ? nanoseconds - passed : PERIOD;
@@ -78,15 +85,13 @@ static void read_until(struct pollfd ends[ENDS], uint64_t nanoseconds) {
 
 _Noreturn void record_running(const struct running *wanted) {
     struct guard guard;
-    struct pollfd ends[ENDS] = {
-        { .fd = watch_process(wanted->process), .events = POLLIN },
-        { .fd = watch_signals(wanted->process), .events = POLLIN },
-    };
+    ends[0] = (struct pollfd){ .fd = watch_process(wanted->process), .events = POLLIN };
+    ends[1] = (struct pollfd){ .fd = watch_signals(wanted->process), .events = POLLIN };
     be_ordinary();
     signal(SIGXFSZ, SIG_IGN); /* a file that may not grow isn't whole */
     begin_kernel(RUNNING, wanted->kernel, wanted->kilobytes, &guard);
-    const char *missing = turn_on_kernel(wanted->process);
+    const char *missing = turn_on_kernel(wanted->process, is_over);
     if (missing) give_up_kernel(missing);
-    read_until(ends, wanted->nanoseconds);
+    read_until(wanted->nanoseconds);
     exit(end_kernel(true) ? 0 : FAULT);
 }
