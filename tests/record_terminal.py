@@ -293,7 +293,7 @@ def outside(folder):
     if answer([*apart, "true"])[0]:
         return skip(name, "a PID namespace can't be made")
     own = {"start_new_session": False, "preexec_fn": lambda: os.setpgid(0, 0)}  # an orphaned group can't be stopped
-    status, out, _ = answer([*apart, "sh", "-c", OUTSIDE, ROOT / "record/pim-record", folder], seconds=20, **own)
+    status, out, _ = answer([*apart, "sh", "-c", OUTSIDE, ROOT / "record/pim-record", folder], **own)
     return check(name, difference((status, out), (128 + signal.SIGTERM, b"0 0\n")))
 
 
