@@ -34,8 +34,8 @@ struct asked {
 
 /* The upper half of a count has the requests of a mutex, or of several, the lower one the threads
  * that wait. */
-extern _Atomic uint64_t *held_counts; /* NULL: all is recorded */
-extern __thread struct held held[MOST_HELD]; /* in the order of their grants */
+extern HIDDEN _Atomic uint64_t *held_counts; /* NULL: all is recorded */
+extern HIDDEN __thread struct held held[MOST_HELD]; /* in the order of their grants */
 
 /* Has only what is waited for recorded, if the C library shows who waits. */
 void held_start(struct shared *in);

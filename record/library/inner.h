@@ -3,6 +3,8 @@
 #ifndef PIM_INNER_H
 #define PIM_INNER_H
 
+#include "visibility.h"
+
 #include <limits.h>
 #include <pthread.h>
 #include <stdbool.h>
@@ -26,7 +28,7 @@ enum {
     DETAIL_SHARED = 0x80, /* between processes; of a robust mutex only its INIT tells it */
 };
 
-extern uint32_t inner_known;
+extern HIDDEN uint32_t inner_known;
 
 /* Tests which fields are where they are expected, on mutexes of its own. */
 void inner_test(void);

@@ -6,6 +6,8 @@
 #ifndef PIM_LOG_H
 #define PIM_LOG_H
 
+#include "visibility.h"
+
 #include <stdatomic.h>
 #include <stdbool.h>
 #include <stddef.h>
@@ -170,9 +172,9 @@ struct cursor {
     volatile bool is_writing;
 };
 
-extern struct header *log_header; /* NULL: nothing is recorded */
-extern __thread struct cursor log_cursor;
-extern uint64_t log_step; /* from one number to the next */
+extern HIDDEN struct header *log_header; /* NULL: nothing is recorded */
+extern HIDDEN __thread struct cursor log_cursor;
+extern HIDDEN uint64_t log_step; /* from one number to the next */
 
 /* Gets the log's memory from the collector that the environment names. If it can't be reached, or
  * refuses, the program runs unrecorded. */

@@ -70,13 +70,14 @@ static inline struct asked request(const pthread_mutex_t *mutex, enum call call,
 
 static void put_answer(const pthread_mutex_t *mutex, enum call call, uint64_t place,
                        uint64_t began, int error) {
+    if (!log_begin()) return;
+    uint64_t time = log_time();
     bool is_granted = error == 0 || error == EOWNERDEAD;
     struct record record = is_granted ? of_mutex(EVENT_GRANTED, call, mutex)
                                       : of_address(EVENT_FAILED, (unsigned)error, mutex);
     if (error == EOWNERDEAD) record.how |= OWNER_DIED;
-    if (!log_begin()) return;
-    record.time = log_time();
-    record.value = log_saturated(record.time - began);
+    record.time = time;
+    record.value = log_saturated(time - began);
     log_write(places_at(place, record));
     log_end();
 }
@@ -145,6 +146,12 @@ static bool release_held(pthread_mutex_t *mutex, int *error) {
     return own != NULL;
 }
 
+/* Apart, so that the compiler writes an unlock's one other places_put where it is called. */
+static __attribute__((noinline, cold)) void put_failed_release(const pthread_mutex_t *mutex,
+                                                               uint64_t place, int error) {
+    places_put(place, of_address(EVENT_RELEASE_FAILED, (unsigned)error, mutex));
+}
+
 /* Another thread may destroy the mutex and free its memory once it is released: it isn't read
  * after that. */
 EXPORT int pthread_mutex_unlock(pthread_mutex_t *mutex) {
@@ -153,7 +160,7 @@ EXPORT int pthread_mutex_unlock(pthread_mutex_t *mutex) {
     if (held_is_on() && release_held(mutex, &error)) return error;
     places_put(PLACE, of_mutex(EVENT_RELEASE, CALL_LOCK, mutex));
     error = real.mutex_unlock(mutex);
-    if (error) places_put(PLACE, of_address(EVENT_RELEASE_FAILED, (unsigned)error, mutex));
+    if (error) put_failed_release(mutex, PLACE, error);
     return error;
 }
 

@@ -3,12 +3,12 @@
 #ifndef PIM_REAL_H
 #define PIM_REAL_H
 
+#include "visibility.h"
+
 #include <pthread.h>
 #include <sched.h>
 #include <semaphore.h>
 #include <time.h>
-
-#define EXPORT __attribute__((visibility("default")))
 
 struct real {
     int (*mutex_lock)(pthread_mutex_t *);
@@ -57,7 +57,7 @@ struct real {
     void (*exit_now)(int);
 };
 
-extern struct real real;
+extern HIDDEN struct real real;
 
 /* Finds all of them, or ends the process where the C library lacks one. */
 void real_find(void);

@@ -8,7 +8,7 @@
 #include <stdatomic.h>
 #include <stdbool.h>
 
-extern _Atomic bool recorder_is_ready;
+extern HIDDEN _Atomic bool recorder_is_ready;
 
 /* Finds the C library's functions, makes the log, and tells how the program began. Runs before
  * main, or at the first recorded call, which may come before. */

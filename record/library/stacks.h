@@ -3,12 +3,14 @@
 #ifndef PIM_STACKS_H
 #define PIM_STACKS_H
 
+#include "visibility.h"
+
 #include <stdbool.h>
 #include <stdint.h>
 
 enum { MOST_CALLERS = 15 }; /* with the place of the call 16 frames */
 
-extern bool stacks_are_on;
+extern HIDDEN bool stacks_are_on;
 
 /* Has stacks recorded, or says in a line why they can't be. Loads what the unwinder needs, so that
  * nothing is loaded or allocated later. */
