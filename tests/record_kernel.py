@@ -860,17 +860,19 @@ def is_answered(data):
 
 
 def stored():
-    """A stored recording is whole; each prefix of it is found to be cut, and each changed byte answered."""
+    """A stored recording is whole; its prefixes are found to be cut, and changed bytes are answered: each of a small one,
+    and some 2,000 of a greater one, since each is read whole."""
     for path in sorted(STORED.glob("*.kernel")):
         data = path.read_bytes()
         check(f"stored: {path.name} keeps the laws", "; ".join(faults_of(data)))
-        whole = [length for length in range(len(data)) if not is_answered(data[:length])]
+        tried = range(0, len(data), max(1, len(data) // 2000))
+        whole = [length for length in tried if not is_answered(data[:length])]
         check(f"stored: each prefix of {path.name} is found to be cut", f"not {whole[:5]}" if whole else None)
         unseen = 0
-        for at in range(len(data)):
+        for at in tried:
             for change in (0x01, 0x80):
                 unseen += not is_answered(data[:at] + bytes([data[at] ^ change]) + data[at + 1:])
-        why = None if unseen < len(data) else f"{unseen} unseen"
+        why = None if unseen < len(tried) else f"{unseen} unseen"
         check(f"stored: each changed byte of {path.name} is answered", why)
     told = Told((STORED / "inversion.kernel").read_bytes())
     check("stored: the boosts of inversion.kernel", difference((told.boosts(),), (BOOSTS["inversion inherit"],)))
