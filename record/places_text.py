@@ -144,13 +144,23 @@ def family(path):
 
 # ---- lines of the source
 
-def symbolizer():
-    """Returns the program that names addresses, or None."""
-    return next(filter(None, map(shutil.which, SYMBOLIZERS)), None)
+def symbolizers():
+    """Returns the programs that name addresses."""
+    return [*filter(None, map(shutil.which, SYMBOLIZERS))]
 
 
-def named(program, path, offsets):
-    """Returns the texts of offsets of a file, by their locations, but for those without a line."""
+def named(programs, path, offsets):
+    """Returns the texts of offsets of a file, by their locations, but for those without a line.
+    Each program is asked for those of which the ones before it know no line."""
+    texts = {}
+    for program in programs:
+        left = [offset for offset in offsets if (path, offset) not in texts]
+        texts |= named_by(program, path, left) if left else {}
+    return texts
+
+
+def named_by(program, path, offsets):
+    """Returns the texts that one program knows."""
     command = [program, "-a", "-f", "-i", "-C", "-e", path]
     asked = "".join(f"{offset:#x}\n" for offset in offsets)
     own = {**os.environ, "DEBUGINFOD_URLS": ""}  # nothing is fetched
@@ -236,8 +246,8 @@ def symbols_of(path):
 
 def write_places(reader, paths):
     """Writes the places of logs, and of those that belong to them. Raises NotWritten."""
-    program = symbolizer()
-    if not program:
+    programs = symbolizers()
+    if not programs:
         raise NotWritten(f"there is neither {' nor '.join(SYMBOLIZERS)}")
     found = [it for path in paths for it in family(path)]
     heads = {path: reader.head_of(path) for path in dict.fromkeys(found)}
@@ -249,7 +259,7 @@ def write_places(reader, paths):
                 offsets.setdefault(where[0], set()).add(where[1])
     texts, symbols = {}, {}
     for path, its in offsets.items():
-        texts |= named(program, path, sorted(its))
+        texts |= named(programs, path, sorted(its))
     if shutil.which("nm"):
         symbols = {path: symbols_of(path) for path in {it[1] for log in logs for it in log.modules}}
     for log in logs:
