@@ -17,6 +17,7 @@ from record_logs import log_of, reader
 sys.path.insert(0, str(RECORD))
 import places_text
 
+CALLS_OF_MUTEXES = range(reader.REQUEST, reader.WAIT)
 # A comment names a line. A thread waits for the mutex of another, and then at a condition variable.
 PLAN = """#define _GNU_SOURCE
 #include <pthread.h>
@@ -119,6 +120,17 @@ template <class Value> struct Map {
 } // LEFT
 """
 FLED = {1: ["granted ADD", "release ADDED", "granted OWN", "release LEFT"]}
+GUARDS = pathlib.Path(__file__).parent / "guards.cpp"
+WAITED = ["condition", "release", "granted"]
+GUARDED = {1: ["granted GUARD", "release GUARDED", "granted LOCK", "release UNLOCK", "granted TRY", "release TRIED",
+               "granted OWN", "release OWNED", *["granted BOTH"] * 2, *["release LEFT"] * 2,
+               "granted OUTER", "granted INNER", "release LEAVE", "release RETURN", "granted TIMED", "release READ",
+               "give FREE", "granted ENTER", *[f"{event} WAIT_FOR" for event in WAITED],
+               *[f"{event} WAIT" for event in WAITED], "release LEAVE_IT"],
+           2: ["granted MOVE", "give NOTIFY", "release MOVED"]}
+BUILDS = [("g++", "-O0"), ("g++", "-Og"), ("g++", "-O1"), ("g++", "-O2"), ("clang++", "-O0"),
+          ("clang++", "-O2", "-gdwarf-aranges"), ("g++", "-O0", "-static-libstdc++", "-static-libgcc")]
+LIBCXX = "clang++", "-O0", "-stdlib=libc++"  # its timed and shared mutexes are of a mutex and a condition variable
 FORKS = """#include <dlfcn.h>
 #include <pthread.h>
 #include <sys/wait.h>
@@ -189,14 +201,14 @@ static uint64_t next_of(uint64_t slot, uint64_t place) {
     while (places_slot(++place) != slot) continue;
     return place;
 }
-static unsigned number_of(uint64_t place) { return (unsigned)(places_object(0x5000, place) >> 48); }
+static unsigned number_of(uintptr_t place) { return (unsigned)(places_object(0x5000, &place) >> 48); }
 int main(void) {
-    uint64_t first = next_of(8190, 0x1000), place = first;
+    uintptr_t first = next_of(8190, 0x1000), place = first;
     log_header = &header;
     for (int i = 0; i < 18; i++, place = next_of(8190, place)) printf("%u ", number_of(place));
     printf("%u %u %" PRIu64, number_of(first), number_of(next_of(8191, 0x1000)), (uint64_t)header.unplaced);
-    for (int i = 0; i < 2; i++) printf(" %" PRIx64, places_object(0xab00000000005000, first));
-    printf(" %" PRIx64 " %" PRIu64, places_object(0x5000, first), (uint64_t)header.left_out);
+    for (int i = 0; i < 2; i++) printf(" %" PRIx64, places_object(0xab00000000005000, &first));
+    printf(" %" PRIx64 " %" PRIu64, places_object(0x5000, &first), (uint64_t)header.left_out);
     return 0;
 }
 """
@@ -231,9 +243,9 @@ def names_of(path):
     return [(int(address, 16), text) for number, address, text in rows if number == "-"]
 
 
-def told(path, *sources):
+def told(path, *sources, but=(reader.WAIT, reader.WAITED, reader.GIVE)):
     """Returns by thread the event of each call, the name of its line, and its function if it isn't the file's only one;
-    but for the waits of record_others.py.
+    but for some events, as those of the waits of record_others.py.
 
     `sources` are files and their texts.
     """
@@ -241,7 +253,7 @@ def told(path, *sources):
              for file, text in sources for number, line in enumerate(text.splitlines(), 1) if "// " in line}
     log, texts, said = read(reader, path), texts_of(path), {}
     for record in log.records:
-        if record.event not in reader.WITH_PLACE or record.event in reader.WITH_KIND:
+        if record.event not in reader.WITH_PLACE or record.event in but:
             continue
         address, text = texts.get(record.place, (None, "nowhere"))
         line, _, function = text.partition(" ")
@@ -291,6 +303,37 @@ def inlined(broken, folder):
     return check("the function of one", difference((function,), ("fleet::Map<int>::add",)))
 
 
+def guarded(broken, folder):
+    """The place of a call by the standard library of C++ is the program's line, at each level of optimization."""
+    for compiler, *options in (*BUILDS, LIBCXX):
+        name = " ".join((compiler, *options))
+        program = compiled(folder, "guards.cpp", GUARDS.read_text(), "-std=c++17", *options, compiler=compiler)
+        if not program:
+            skip(f"the places of locks by {name}", "it isn't there, or can't build")
+            continue
+        done, path = recorded(folder, program)
+        got = told(path, ("guards.cpp", GUARDS.read_text()), but=(reader.REQUEST, reader.WAIT, reader.WAITED))
+        got, wanted = of_main(got), GUARDED
+        if (compiler, *options) == LIBCXX:
+            alike = GUARDED[1].index("release RETURN") + 1
+            its = [words for words in got[2] if "libc++" not in words]  # what begins the thread locks, too
+            got, wanted = {1: got[1][:alike], 2: its}, {**GUARDED, 1: GUARDED[1][:alike]}
+        check(f"the places of locks by {name}", broken(read(reader, path)) or
+              difference((done.returncode,), (0,)) or same(got, wanted, False))
+        check(f"the function of one by {name}", difference(got[1][:1], ["granted GUARD guarded"]))
+        joins = told(path, ("guards.cpp", GUARDS.read_text()), but=[*CALLS_OF_MUTEXES, reader.GIVE]).get(1, ())
+        is_named = all(words.split()[1] == "JOIN" for words in joins)  # there is none if the thread has ended
+        check(f"the place of a join by {name}", None if is_named else f"{joins}")
+
+
+def of_main(got):
+    """Returns what is told, but for what the first thread does before and after main."""
+    lines = [words.split()[1] for words in got[1]]
+    if not {"GUARD", "LEAVE_IT"} <= set(lines):
+        return got
+    return {**got, 1: got[1][lines.index("GUARD"):len(lines) - lines[::-1].index("LEAVE_IT")]}
+
+
 def forked(broken, folder):
     """Processes share the table; a library that is loaded later is told at the end."""
     library = compiled(folder, "later.c", LATER, "-shared", "-fPIC")
@@ -338,7 +381,8 @@ def probes(folder):
     """A place is in one of 16 slots, of which the first follows the last of the table."""
     source, program = pathlib.Path(folder, "probed.c"), pathlib.Path(folder, "probed")
     source.write_text(PROBED)
-    built = run("cc", "-I", RECORD / "library", source, RECORD / "library/places.c", "-o", program)
+    parts = [RECORD / f"library/{name}.c" for name in ("places", "wrappers", "symbols")]
+    built = run("cc", "-I", RECORD / "library", source, *parts, "-o", program, "-ldl")
     numbers = [8191, 8192, *range(1, PROBES - 1), 0, 0, 8191, 15, 2]
     objects = ["1fff000000005000"] * 3
     wanted = [*map(str, numbers), *objects, "2"]
@@ -535,7 +579,7 @@ def files(folder):
 
 def places(attempt, broken, folder):
     """Each part in a folder of its own."""
-    of_logs = (lines, inlined, forked, full, latest, facts, named)
+    of_logs = (lines, inlined, guarded, forked, full, latest, facts, named)
     if not any(map(shutil.which, places_text.SYMBOLIZERS)):
         skip("the lines of places", "there is no addr2line")
         of_logs = (full,)

@@ -11,7 +11,8 @@ import tempfile
 from checks import check, difference, end, skip
 from record_collector import RECORD, read, run
 from record_logs import log_of, reader
-from record_places import compiled, first_fault, recorded, texts_of
+from record_places import compiled, first_fault, recorded, same, texts_of
+from record_places import told as places_told
 
 sys.path.insert(0, str(RECORD))
 import places_text
@@ -64,6 +65,37 @@ int main(void) {
 }
 """
 NESTED = {1: [["STOP stop", "MAIN main"]], 2: [["READ read_map", "PLAN plan", "DRIVE drive"]]}
+# Without optimization std::lock_guard's constructor calls std::mutex::lock, and that __gthread_mutex_lock.
+GUARDED = """#include <mutex>
+#include <pthread.h>
+#include <unistd.h>
+static std::mutex map_lock;
+static volatile int steps; /* else a call may be a jump */
+__attribute__((noinline)) static void read_map() {
+    {
+        std::lock_guard<std::mutex> guard(map_lock); // READ
+        steps = steps + 1;
+    } // LEFT
+    steps = steps + 1;
+}
+static void *plan(void *unused) {
+    read_map(); // PLAN
+    steps = steps + 1;
+    return unused;
+}
+int main() {
+    pthread_t planner;
+    {
+        std::lock_guard<std::mutex> guard(map_lock); // OWN
+        pthread_create(&planner, nullptr, plan, nullptr);
+        while (*(volatile int *)map_lock.native_handle() != 2) usleep(100);
+    } // FREED
+    pthread_join(planner, nullptr);
+    return 0;
+}
+"""
+GUARDS = {1: ["granted OWN main", "release FREED main"],
+          2: ["request READ read_map", "frame PLAN plan", "granted READ read_map", "release LEFT read_map"]}
 # The thread waits in as many functions as the argument says, which call each other, and in its first one.
 DEEP = """#include <pthread.h>
 #include <stdlib.h>
@@ -298,6 +330,20 @@ def nested(broken, folder):
         check(f"without --stacks there are none, {level}", difference((frames_in(read(reader, path)),), (0,)))
 
 
+def guarded(broken, folder):
+    """Where a std::lock_guard waits, the stack begins in the function that has it, also if nothing is inlined."""
+    for level in ("-O0", "-Og", "-O2"):
+        program = compiled(folder, "guarded.cpp", GUARDED, level, compiler="g++")
+        if not program:
+            return skip("the callers of a std::lock_guard", "there is no g++")
+        for options in (("--stacks",), ("--stacks", "--last", "1M", "--contended")):
+            _, path = recorded(folder, program, options=options)
+            got = places_told(path, ("guarded.cpp", GUARDED))
+            check(f"the callers of a std::lock_guard, {' '.join((level, *options))}",
+                  broken(read(reader, path)) or same(got, GUARDS))
+    return None
+
+
 def deep(broken, folder):
     """A stack has 16 frames at most, with the call's own place, and the last ones aren't those of the C library."""
     program = compiled(folder, "deep.c", DEEP)
@@ -429,10 +475,10 @@ def by_hand(_):
 
 def stacks(attempt, broken, folder):
     """Each part in a folder of its own."""
-    of_logs = (nested, deep, allocated, stormed, dropped, crowded, refused, spoiled)
+    of_logs = (nested, guarded, deep, allocated, stormed, dropped, crowded, refused, spoiled)
     if not any(map(shutil.which, places_text.SYMBOLIZERS)):
         skip("the lines of stacks", "there is no addr2line")
-        of_logs = of_logs[1:]
+        of_logs = of_logs[2:]
     for part in (*of_logs, by_hand):
         own = pathlib.Path(folder, part.__name__)
         own.mkdir()

@@ -1,8 +1,6 @@
 #define _GNU_SOURCE
 #include "held.h"
 
-#include "places.h"
-
 #define ONE_REQUEST (UINT64_C(1) << 32)
 #define ONE_WAITER UINT64_C(1)
 
@@ -34,7 +32,7 @@ void log_count_left_out(void) {
 
 void log_catch_up(void) {
     for (unsigned i = 0; i < log_cursor.held; i++) {
-        uint64_t object = places_object((uintptr_t)held[i].mutex, held[i].place);
+        uint64_t object = places_numbered((uintptr_t)held[i].mutex, held[i].place);
         struct record *record = log_fill((struct record){ .event = EVENT_GRANTED,
                                                           .how = held[i].call,
                                                           .object = object,

@@ -10,7 +10,9 @@
 
 #include "inner.h"
 #include "log.h"
+#include "places.h"
 #include "shared.h"
+#include "wrappers.h"
 
 enum { MOST_HELD = 8, /* the grants of further mutexes are put */
        MOST_UNCOUNTED = 1024 /* calls of a thread that aren't put */ };
@@ -94,7 +96,7 @@ static inline void held_leave_out(void) {
 }
 
 /* Keeps a grant of now that nobody waited for, or waits for. Returns false if it is to be put. */
-static inline bool held_keep(const pthread_mutex_t *mutex, enum call call, uint64_t place,
+static inline bool held_keep(const pthread_mutex_t *mutex, enum call call, const uintptr_t *caller,
                              const struct asked *asked) {
     uint16_t detail = inner_detail(mutex);
     bool is_first = !(detail & DETAIL_PROTECT) && !inner_has_waiters(mutex) &&
@@ -104,7 +106,7 @@ static inline bool held_keep(const pthread_mutex_t *mutex, enum call call, uint6
     if (has_room) {
         struct held *kept = &held[log_cursor.held++];
         kept->mutex = mutex;
-        kept->place = place;
+        kept->place = wrappers_are_known ? places_caller(caller) : *caller;
         kept->time = log_time();
         kept->took = log_saturated(kept->time - asked->began);
         kept->number = atomic_load_explicit(&log_header->next_number, memory_order_relaxed) - 1;

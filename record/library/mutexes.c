@@ -28,47 +28,48 @@ static bool locks_again(const pthread_mutex_t *mutex, uint32_t owner) {
 
 /* Puts a REQUEST, with the stack if that is wanted, and when the call began. Returns whether it
  * did. */
-static bool put_request(const pthread_mutex_t *mutex, enum call call, uint64_t place,
+static bool put_request(const pthread_mutex_t *mutex, enum call call, const uintptr_t *caller,
                         uint64_t *time) {
     struct record record = of_mutex(EVENT_REQUEST, call, mutex);
     record.value = inner_owner(mutex);
     if (!log_begin()) return false;
     record.time = *time = log_time();
-    log_write(places_at(place, record));
-    if (stacks_are_on) stacks_put(place, record.time);
+    log_write(places_at(caller, record));
+    if (stacks_are_on) stacks_put(*caller, record.time);
     log_end();
     return true;
 }
 
 /* The same with --contended, unless the mutex was released meanwhile. */
-static bool announce_request(const pthread_mutex_t *mutex, enum call call, uint64_t place,
+static bool announce_request(const pthread_mutex_t *mutex, enum call call, const uintptr_t *caller,
                              uint64_t *time) {
     if (!held_announce(mutex)) return false;
-    bool is_put = put_request(mutex, call, place, time);
+    bool is_put = put_request(mutex, call, caller, time);
     if (!is_put) held_withdraw(mutex);
     return is_put;
 }
 
 /* Asks for an owned mutex, unless it is the thread's own, which may lock it again. */
 static __attribute__((noinline)) bool request_owned(const pthread_mutex_t *mutex, enum call call,
-                                                    uint64_t place, uint64_t *time) {
+                                                    const uintptr_t *caller, uint64_t *time) {
     if (locks_again(mutex, inner_owner(mutex))) return false;
-    return held_is_on() ? announce_request(mutex, call, place, time)
-                        : put_request(mutex, call, place, time);
+    return held_is_on() ? announce_request(mutex, call, caller, time)
+                        : put_request(mutex, call, caller, time);
 }
 
 /* Puts a REQUEST where the mutex is owned. Returns when the call began. */
-static inline struct asked request(const pthread_mutex_t *mutex, enum call call, uint64_t place) {
+static inline struct asked request(const pthread_mutex_t *mutex, enum call call,
+                                   const uintptr_t *caller) {
     struct asked asked = { .began = log_time() };
     if (!(inner_known & KNOWN_OWNER))
         log_leave_out();
     else if (inner_is_owned(mutex))
-        asked.is_put = request_owned(mutex, call, place, &asked.began);
+        asked.is_put = request_owned(mutex, call, caller, &asked.began);
     if (held_is_on()) asked.requests = held_requests(mutex);
     return asked;
 }
 
-static void put_answer(const pthread_mutex_t *mutex, enum call call, uint64_t place,
+static void put_answer(const pthread_mutex_t *mutex, enum call call, const uintptr_t *caller,
                        uint64_t began, int error) {
     if (!log_begin()) return;
     uint64_t time = log_time();
@@ -78,15 +79,15 @@ static void put_answer(const pthread_mutex_t *mutex, enum call call, uint64_t pl
     if (error == EOWNERDEAD) record.how |= OWNER_DIED;
     record.time = time;
     record.value = log_saturated(time - began);
-    log_write(places_at(place, record));
+    log_write(places_at(caller, record));
     log_end();
 }
 
 /* Returns whether an answer isn't to be put, or not yet: nobody has waited. */
-static bool is_left_out(const pthread_mutex_t *mutex, enum call call, uint64_t place,
+static bool is_left_out(const pthread_mutex_t *mutex, enum call call, const uintptr_t *caller,
                         const struct asked *asked, int error) {
     if (!held_is_on() || asked->is_put) return false;
-    if (error == 0) return held_keep(mutex, call, place, asked);
+    if (error == 0) return held_keep(mutex, call, caller, asked);
     if (error != EBUSY) return false;
     held_leave_out();
     return true;
@@ -94,38 +95,38 @@ static bool is_left_out(const pthread_mutex_t *mutex, enum call call, uint64_t p
 
 /* Puts what the call was answered, and how long it took. Returns the answer. A mutex that wasn't
  * granted may be gone. */
-static int answer(const pthread_mutex_t *mutex, enum call call, uint64_t place, struct asked asked,
-                  int error) {
-    if (is_left_out(mutex, call, place, &asked, error)) return error;
-    put_answer(mutex, call, place, asked.began, error);
+static int answer(const pthread_mutex_t *mutex, enum call call, const uintptr_t *caller,
+                  struct asked asked, int error) {
+    if (is_left_out(mutex, call, caller, &asked, error)) return error;
+    put_answer(mutex, call, caller, asked.began, error);
     if (held_is_on() && asked.is_put) held_withdraw(mutex);
     return error;
 }
 
 EXPORT int pthread_mutex_lock(pthread_mutex_t *mutex) {
     if (!is_recorded()) return real.mutex_lock(mutex);
-    struct asked asked = request(mutex, CALL_LOCK, PLACE);
-    return answer(mutex, CALL_LOCK, PLACE, asked, real.mutex_lock(mutex));
+    struct asked asked = request(mutex, CALL_LOCK, CALLER);
+    return answer(mutex, CALL_LOCK, CALLER, asked, real.mutex_lock(mutex));
 }
 
 EXPORT int pthread_mutex_timedlock(pthread_mutex_t *mutex, const struct timespec *until) {
     if (!is_recorded()) return real.mutex_timedlock(mutex, until);
-    struct asked asked = request(mutex, CALL_TIMEDLOCK, PLACE);
-    return answer(mutex, CALL_TIMEDLOCK, PLACE, asked, real.mutex_timedlock(mutex, until));
+    struct asked asked = request(mutex, CALL_TIMEDLOCK, CALLER);
+    return answer(mutex, CALL_TIMEDLOCK, CALLER, asked, real.mutex_timedlock(mutex, until));
 }
 
 EXPORT int pthread_mutex_clocklock(pthread_mutex_t *mutex, clockid_t clock,
                                    const struct timespec *until) {
     if (!is_recorded()) return real.mutex_clocklock(mutex, clock, until);
-    struct asked asked = request(mutex, CALL_CLOCKLOCK, PLACE);
-    return answer(mutex, CALL_CLOCKLOCK, PLACE, asked, real.mutex_clocklock(mutex, clock, until));
+    struct asked asked = request(mutex, CALL_CLOCKLOCK, CALLER);
+    return answer(mutex, CALL_CLOCKLOCK, CALLER, asked, real.mutex_clocklock(mutex, clock, until));
 }
 
 EXPORT int pthread_mutex_trylock(pthread_mutex_t *mutex) {
     if (!is_recorded()) return real.mutex_trylock(mutex);
     struct asked asked = { .began = log_time() };
     if (held_is_on()) asked.requests = held_requests(mutex);
-    return answer(mutex, CALL_TRYLOCK, PLACE, asked, real.mutex_trylock(mutex));
+    return answer(mutex, CALL_TRYLOCK, CALLER, asked, real.mutex_trylock(mutex));
 }
 
 /* ---- unlock ---- */
@@ -148,8 +149,8 @@ static bool release_held(pthread_mutex_t *mutex, int *error) {
 
 /* Apart, so that the compiler writes an unlock's one other places_put where it is called. */
 static __attribute__((noinline, cold)) void put_failed_release(const pthread_mutex_t *mutex,
-                                                               uint64_t place, int error) {
-    places_put(place, of_address(EVENT_RELEASE_FAILED, (unsigned)error, mutex));
+                                                               const uintptr_t *caller, int error) {
+    places_put(caller, of_address(EVENT_RELEASE_FAILED, (unsigned)error, mutex));
 }
 
 /* Another thread may destroy the mutex and free its memory once it is released: it isn't read
@@ -158,9 +159,9 @@ EXPORT int pthread_mutex_unlock(pthread_mutex_t *mutex) {
     if (!is_recorded()) return real.mutex_unlock(mutex);
     int error;
     if (held_is_on() && release_held(mutex, &error)) return error;
-    places_put(PLACE, of_mutex(EVENT_RELEASE, CALL_LOCK, mutex));
+    places_put(CALLER, of_mutex(EVENT_RELEASE, CALL_LOCK, mutex));
     error = real.mutex_unlock(mutex);
-    if (error) put_failed_release(mutex, PLACE, error);
+    if (error) put_failed_release(mutex, CALLER, error);
     return error;
 }
 
@@ -169,13 +170,13 @@ EXPORT int pthread_mutex_unlock(pthread_mutex_t *mutex) {
 /* A wait at a condition variable. All of its records have its place. */
 struct wait {
     const pthread_mutex_t *mutex;
-    uint64_t place;
+    const uintptr_t *caller;
 };
 
 static void release_to_wait(const pthread_cond_t *condition, const struct wait *of) {
     struct record wait = { .event = EVENT_CONDITION, .object = (uintptr_t)condition };
     struct record release = of_mutex(EVENT_RELEASE, CALL_CONDITION, of->mutex);
-    log_put_both(places_at(of->place, wait), places_at(of->place, release));
+    log_put_both(places_at(of->caller, wait), places_at(of->caller, release));
 }
 
 /* The mutex is relocked but after an error that comes before the wait, when it wasn't released, or
@@ -190,7 +191,7 @@ static int relocked(const struct wait *of, int error) {
         record = of_address(EVENT_FAILED, (unsigned)error, of->mutex);
     else
         record = of_address(EVENT_RELEASE_FAILED, (unsigned)error, of->mutex);
-    places_put(of->place, record);
+    places_put(of->caller, record);
     return error;
 }
 
@@ -200,7 +201,7 @@ static void cancelled(void *wait) {
 }
 
 EXPORT int pthread_cond_wait(pthread_cond_t *condition, pthread_mutex_t *mutex) {
-    struct wait wait = { mutex, PLACE };
+    struct wait wait = { mutex, CALLER };
     int error;
     if (!is_recorded()) return real.cond_wait(condition, mutex);
     release_to_wait(condition, &wait);
@@ -212,7 +213,7 @@ EXPORT int pthread_cond_wait(pthread_cond_t *condition, pthread_mutex_t *mutex) 
 
 EXPORT int pthread_cond_timedwait(pthread_cond_t *condition, pthread_mutex_t *mutex,
                                   const struct timespec *until) {
-    struct wait wait = { mutex, PLACE };
+    struct wait wait = { mutex, CALLER };
     int error;
     if (!is_recorded()) return real.cond_timedwait(condition, mutex, until);
     release_to_wait(condition, &wait);
@@ -224,7 +225,7 @@ EXPORT int pthread_cond_timedwait(pthread_cond_t *condition, pthread_mutex_t *mu
 
 EXPORT int pthread_cond_clockwait(pthread_cond_t *condition, pthread_mutex_t *mutex,
                                   clockid_t clock, const struct timespec *until) {
-    struct wait wait = { mutex, PLACE };
+    struct wait wait = { mutex, CALLER };
     int error;
     if (!is_recorded()) return real.cond_clockwait(condition, mutex, clock, until);
     release_to_wait(condition, &wait);
@@ -242,7 +243,7 @@ EXPORT int pthread_mutex_init(pthread_mutex_t *mutex, const pthread_mutexattr_t 
     if (error || !is_told) return error;
     struct record init = of_address(EVENT_INIT, 0, mutex);
     init.detail = inner_detail_of_attributes(attributes);
-    log_put_both(init, (struct record){ .event = EVENT_PLACE, .object = PLACE });
+    log_put_both(init, (struct record){ .event = EVENT_PLACE, .object = places_caller(CALLER) });
     return 0;
 }
 

@@ -2,6 +2,7 @@
 #include "recorder.h"
 
 #include "inner.h"
+#include "wrappers.h"
 
 #include <errno.h>
 #include <sched.h>
@@ -14,6 +15,7 @@ static void begin(void) {
     inner_test();
     log_make();
     if (log_header) {
+        wrappers_find();
         processes_start();
         thread_make_key();
         thread_introduce();

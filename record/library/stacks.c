@@ -2,6 +2,7 @@
 #include "stacks.h"
 
 #include "places.h"
+#include "wrappers.h"
 
 #include <dlfcn.h>
 #include <errno.h>
@@ -12,7 +13,7 @@
 
 enum {
     OWN_FRAMES = 8, /* of this library there are fewer, with the call's own place */
-    MOST_FRAMES = OWN_FRAMES + MOST_CALLERS,
+    MOST_FRAMES = OWN_FRAMES + MOST_WRAPPERS + MOST_CALLERS,
     ENTRY_BYTES = 64, /* of a program's _start, at most */
 };
 
@@ -62,11 +63,13 @@ void stacks_put(uint64_t place, uint64_t time) {
     void *found[MOST_FRAMES];
     int error = errno, at = 0, count = backtrace(found, MOST_FRAMES);
     while (at < count && (uintptr_t)found[at] != place) at++;
+    while (at < count && wrappers_have((uintptr_t)found[at])) at++;
     bool is_whole = count < MOST_FRAMES;
     while (is_whole && count > at && is_of_start((uintptr_t)found[count - 1])) count--;
     for (uint32_t index = 1; index <= MOST_CALLERS && ++at < count; index++) {
-        struct record frame = { .event = EVENT_FRAME, .value = index, .time = time };
-        log_write(places_at((uintptr_t)found[at], frame));
+        uint64_t object = places_numbered(0, (uintptr_t)found[at]);
+        log_write((struct record){
+            .event = EVENT_FRAME, .object = object, .value = index, .time = time });
     }
     errno = error;
 }

@@ -17,8 +17,9 @@ extern HIDDEN bool stacks_are_on;
 void stacks_start(void);
 
 /* Puts a FRAME of this time for each caller of the function at whose place the call is made, the
- * innermost first. It is called between log_begin and log_end: a lock that the unwinder takes, or a
- * handler that interrupts it, isn't put, but counted, and never unwinds. */
+ * innermost first. Functions that lock for others by wrappers.h are left out. It is called between
+ * log_begin and log_end: a lock that the unwinder takes, or a handler that interrupts it, isn't
+ * put, but counted, and never unwinds. */
 void stacks_put(uint64_t place, uint64_t time);
 
 #endif

@@ -17,10 +17,10 @@ struct wait {
 };
 
 /* Puts a WAIT of now. */
-static struct wait begin_wait(enum kind kind, uintptr_t object, uint64_t place) {
+static struct wait begin_wait(enum kind kind, uintptr_t object, const uintptr_t *caller) {
     struct wait wait = { .kind = kind };
     if (!log_begin()) return wait;
-    wait.object = places_object(object, place);
+    wait.object = places_object(object, caller);
     wait.began = log_time();
     wait.is_put = true;
     log_write((struct record){ .event = EVENT_WAIT,
@@ -47,8 +47,8 @@ static int end_wait(const struct wait *wait, int error) {
 }
 
 /* Puts a GIVE. It comes before the call: a thread that is woken may free the memory. */
-static void give(enum kind kind, const void *object, unsigned how, uint64_t place) {
-    places_put(place, (struct record){ .event = EVENT_GIVE,
+static void give(enum kind kind, const void *object, unsigned how, const uintptr_t *caller) {
+    places_put(caller, (struct record){ .event = EVENT_GIVE,
                                        .how = (uint8_t)how,
                                        .object = (uintptr_t)object,
                                        .detail = (uint16_t)kind });
@@ -83,7 +83,7 @@ EXPORT int sem_wait(sem_t *semaphore) {
     if (!is_recorded()) return real.sem_wait(semaphore);
     pthread_testcancel();
     if (takes(semaphore)) return 0;
-    struct wait wait = begin_wait(KIND_SEMAPHORE, (uintptr_t)semaphore, PLACE);
+    struct wait wait = begin_wait(KIND_SEMAPHORE, (uintptr_t)semaphore, CALLER);
     return end_semaphore(&wait, real.sem_wait(semaphore));
 }
 
@@ -91,7 +91,7 @@ EXPORT int sem_timedwait(sem_t *semaphore, const struct timespec *until) {
     if (!is_recorded() || !is_time(until)) return real.sem_timedwait(semaphore, until);
     pthread_testcancel();
     if (takes(semaphore)) return 0;
-    struct wait wait = begin_wait(KIND_SEMAPHORE, (uintptr_t)semaphore, PLACE);
+    struct wait wait = begin_wait(KIND_SEMAPHORE, (uintptr_t)semaphore, CALLER);
     return end_semaphore(&wait, real.sem_timedwait(semaphore, until));
 }
 
@@ -100,13 +100,13 @@ EXPORT int sem_clockwait(sem_t *semaphore, clockid_t clock, const struct timespe
     if (!is_recorded() || !is_clock(clock) || !is_time(until))
         return real.sem_clockwait(semaphore, clock, until);
     if (takes(semaphore)) return 0;
-    struct wait wait = begin_wait(KIND_SEMAPHORE, (uintptr_t)semaphore, PLACE);
+    struct wait wait = begin_wait(KIND_SEMAPHORE, (uintptr_t)semaphore, CALLER);
     return end_semaphore(&wait, real.sem_clockwait(semaphore, clock, until));
 }
 
 /* May be called in a signal's handler, also in one that has interrupted the recorder. */
 EXPORT int sem_post(sem_t *semaphore) {
-    if (is_recorded()) give(KIND_SEMAPHORE, semaphore, 0, PLACE);
+    if (is_recorded()) give(KIND_SEMAPHORE, semaphore, 0, CALLER);
     return real.sem_post(semaphore);
 }
 
@@ -115,14 +115,14 @@ EXPORT int sem_post(sem_t *semaphore) {
 EXPORT int pthread_rwlock_rdlock(pthread_rwlock_t *lock) {
     if (!is_recorded()) return real.rwlock_rdlock(lock);
     if (real.rwlock_tryrdlock(lock) == 0) return 0;
-    struct wait wait = begin_wait(KIND_READ, (uintptr_t)lock, PLACE);
+    struct wait wait = begin_wait(KIND_READ, (uintptr_t)lock, CALLER);
     return end_wait(&wait, real.rwlock_rdlock(lock));
 }
 
 EXPORT int pthread_rwlock_timedrdlock(pthread_rwlock_t *lock, const struct timespec *until) {
     if (!is_recorded() || !is_time(until)) return real.rwlock_timedrdlock(lock, until);
     if (real.rwlock_tryrdlock(lock) == 0) return 0;
-    struct wait wait = begin_wait(KIND_READ, (uintptr_t)lock, PLACE);
+    struct wait wait = begin_wait(KIND_READ, (uintptr_t)lock, CALLER);
     return end_wait(&wait, real.rwlock_timedrdlock(lock, until));
 }
 
@@ -131,21 +131,21 @@ EXPORT int pthread_rwlock_clockrdlock(pthread_rwlock_t *lock, clockid_t clock,
     if (!is_recorded() || !is_clock(clock) || !is_time(until))
         return real.rwlock_clockrdlock(lock, clock, until);
     if (real.rwlock_tryrdlock(lock) == 0) return 0;
-    struct wait wait = begin_wait(KIND_READ, (uintptr_t)lock, PLACE);
+    struct wait wait = begin_wait(KIND_READ, (uintptr_t)lock, CALLER);
     return end_wait(&wait, real.rwlock_clockrdlock(lock, clock, until));
 }
 
 EXPORT int pthread_rwlock_wrlock(pthread_rwlock_t *lock) {
     if (!is_recorded()) return real.rwlock_wrlock(lock);
     if (real.rwlock_trywrlock(lock) == 0) return 0;
-    struct wait wait = begin_wait(KIND_WRITE, (uintptr_t)lock, PLACE);
+    struct wait wait = begin_wait(KIND_WRITE, (uintptr_t)lock, CALLER);
     return end_wait(&wait, real.rwlock_wrlock(lock));
 }
 
 EXPORT int pthread_rwlock_timedwrlock(pthread_rwlock_t *lock, const struct timespec *until) {
     if (!is_recorded() || !is_time(until)) return real.rwlock_timedwrlock(lock, until);
     if (real.rwlock_trywrlock(lock) == 0) return 0;
-    struct wait wait = begin_wait(KIND_WRITE, (uintptr_t)lock, PLACE);
+    struct wait wait = begin_wait(KIND_WRITE, (uintptr_t)lock, CALLER);
     return end_wait(&wait, real.rwlock_timedwrlock(lock, until));
 }
 
@@ -154,13 +154,13 @@ EXPORT int pthread_rwlock_clockwrlock(pthread_rwlock_t *lock, clockid_t clock,
     if (!is_recorded() || !is_clock(clock) || !is_time(until))
         return real.rwlock_clockwrlock(lock, clock, until);
     if (real.rwlock_trywrlock(lock) == 0) return 0;
-    struct wait wait = begin_wait(KIND_WRITE, (uintptr_t)lock, PLACE);
+    struct wait wait = begin_wait(KIND_WRITE, (uintptr_t)lock, CALLER);
     return end_wait(&wait, real.rwlock_clockwrlock(lock, clock, until));
 }
 
 /* Which of the two kinds it is isn't known. */
 EXPORT int pthread_rwlock_unlock(pthread_rwlock_t *lock) {
-    if (is_recorded()) give(KIND_READ, lock, 0, PLACE);
+    if (is_recorded()) give(KIND_READ, lock, 0, CALLER);
     return real.rwlock_unlock(lock);
 }
 
@@ -169,7 +169,7 @@ EXPORT int pthread_rwlock_unlock(pthread_rwlock_t *lock) {
 /* Which thread is the last isn't known before. */
 EXPORT int pthread_barrier_wait(pthread_barrier_t *barrier) {
     if (!is_recorded()) return real.barrier_wait(barrier);
-    struct wait wait = begin_wait(KIND_BARRIER, (uintptr_t)barrier, PLACE);
+    struct wait wait = begin_wait(KIND_BARRIER, (uintptr_t)barrier, CALLER);
     int result = real.barrier_wait(barrier);
     end_wait(&wait, result == PTHREAD_BARRIER_SERIAL_THREAD ? 0 : result);
     return result;
@@ -181,7 +181,7 @@ EXPORT int pthread_join(pthread_t thread, void **result) {
     if (!is_recorded()) return real.join(thread, result);
     int error = real.tryjoin(thread, result);
     if (error != EBUSY) return error;
-    struct wait wait = begin_wait(KIND_THREAD, (uintptr_t)thread, PLACE);
+    struct wait wait = begin_wait(KIND_THREAD, (uintptr_t)thread, CALLER);
     return end_wait(&wait, real.join(thread, result));
 }
 
@@ -189,7 +189,7 @@ EXPORT int pthread_timedjoin_np(pthread_t thread, void **result, const struct ti
     if (!is_recorded()) return real.timedjoin(thread, result, until);
     int error = real.tryjoin(thread, result);
     if (error != EBUSY) return error;
-    struct wait wait = begin_wait(KIND_THREAD, (uintptr_t)thread, PLACE);
+    struct wait wait = begin_wait(KIND_THREAD, (uintptr_t)thread, CALLER);
     return end_wait(&wait, real.timedjoin(thread, result, until));
 }
 
@@ -198,18 +198,18 @@ EXPORT int pthread_clockjoin_np(pthread_t thread, void **result, clockid_t clock
     if (!is_recorded() || !is_clock(clock)) return real.clockjoin(thread, result, clock, until);
     int error = real.tryjoin(thread, result);
     if (error != EBUSY) return error;
-    struct wait wait = begin_wait(KIND_THREAD, (uintptr_t)thread, PLACE);
+    struct wait wait = begin_wait(KIND_THREAD, (uintptr_t)thread, CALLER);
     return end_wait(&wait, real.clockjoin(thread, result, clock, until));
 }
 
 /* ---- condition variables ---- */
 
 EXPORT int pthread_cond_signal(pthread_cond_t *condition) {
-    if (is_recorded()) give(KIND_CONDITION, condition, 0, PLACE);
+    if (is_recorded()) give(KIND_CONDITION, condition, 0, CALLER);
     return real.cond_signal(condition);
 }
 
 EXPORT int pthread_cond_broadcast(pthread_cond_t *condition) {
-    if (is_recorded()) give(KIND_CONDITION, condition, TO_ALL, PLACE);
+    if (is_recorded()) give(KIND_CONDITION, condition, TO_ALL, CALLER);
     return real.cond_broadcast(condition);
 }

@@ -1,0 +1,242 @@
+#define _GNU_SOURCE
+#include "wrappers.h"
+
+#include "symbols.h"
+
+#include <dlfcn.h>
+#include <errno.h>
+#include <stdatomic.h>
+#include <stddef.h>
+#include <stdlib.h>
+#include <string.h>
+#include <sys/mman.h>
+#include <unwind.h>
+
+enum {
+    FIRST_RANGES = 1024,
+    STEPS = 1024,
+    STEP_SHIFT = 22,
+    STEP_PROBES = 8,
+    MOST_FRAMES = 8 + MOST_WRAPPERS, /* of this library there are fewer than 8 */
+};
+
+_Static_assert(STEPS == 1 << (32 - STEP_SHIFT), "the upper bits of a hash are a step");
+
+bool wrappers_are_known;
+
+/* ---- the functions ---- */
+
+struct range {
+    uintptr_t begin, end;
+};
+
+static struct range *ranges; /* in ascending order once all are found */
+static size_t range_count, range_room;
+
+/* Returns whether an identifier is that of a class or a function that locks or waits. What calls a
+ * function of the program may have it inlined, and isn't: of std::thread there is join alone. */
+static bool is_of_lock(const char *name, size_t length) {
+    static const char *const parts[] = { "mutex", "lock", "condition_variable", "condvar" };
+    for (size_t i = 0; i < sizeof parts / sizeof *parts; i++)
+        if (memmem(name, length, parts[i], strlen(parts[i]))) return true;
+    return strncmp(name, "thread4join", strlen("thread4join")) == 0;
+}
+
+static bool is_namespace(const char *name, size_t length) {
+    static const char *const names[] = { "__gnu_cxx", "__detail", "_V2", "__1" };
+    for (size_t i = 0; i < sizeof names / sizeof *names; i++)
+        if (length == strlen(names[i]) && memcmp(name, names[i], length) == 0) return true;
+    return false;
+}
+
+/* Returns whether a function locks or waits for its caller, by its mangled name without "_Z": one
+ * of namespace std or __gnu_cxx, or of libstdc++'s header gthr-default.h. So does what calls a
+ * lambda of such a function, as std::apply that of a destructor. */
+static bool locks_for_caller(const char *name) {
+    char *text = (char *)name;
+    size_t length = 0;
+    bool is_standard = false;
+    name += strspn(name, "ZNKVROL"); /* what qualifies it */
+    do {
+        if (length || strncmp(name, "St", 2) == 0) is_standard = true;
+        if (strncmp(name, "St", 2) == 0) name += 2 + (name[2] == 'L');
+        length = strtoul(name, &text, 10);
+        if (length == 0 || strnlen(text, length) < length) return false;
+        name = text + length;
+    } while (is_namespace(text, length));
+    if (!is_standard) return strncmp(text, "__gthread_", 10) == 0;
+    if (is_of_lock(text, length)) return true;
+    name += *name == 'I' ? 1 + (name[1] == 'v') : 0;
+    return *name == 'Z' && locks_for_caller(name);
+}
+
+static bool is_wrapper(const char *name) {
+    return strncmp(name, "_Z", 2) == 0 && locks_for_caller(name + 2);
+}
+
+/* Makes room for further ranges. malloc may be the program's own. */
+static bool make_room(void) {
+    size_t room = range_room ? 2 * range_room : FIRST_RANGES;
+    size_t had = range_room * sizeof *ranges, bytes = room * sizeof *ranges;
+    const int rights = PROT_READ | PROT_WRITE, how = MAP_PRIVATE | MAP_ANONYMOUS;
+    void *made = had ? mremap(ranges, had, bytes, MREMAP_MAYMOVE)
+                     : mmap(NULL, bytes, rights, how, -1, 0);
+    if (made == MAP_FAILED) return false;
+    ranges = made;
+    range_room = room;
+    return true;
+}
+
+static void add_range(uintptr_t begin, size_t bytes) {
+    if (range_count == range_room && !make_room()) return;
+    ranges[range_count++] = (struct range){ begin, begin + bytes };
+}
+
+/* Adds the functions of a file that is loaded. One that is stripped has those that it exports. */
+static int add_file(struct dl_phdr_info *info, size_t size, void *is_other) {
+    struct symbols read;
+    const char *path = *(bool *)is_other ? info->dlpi_name : "/proc/self/exe";
+    (void)size;
+    *(bool *)is_other = true;
+    if (!symbols_read(&read, path, SHT_SYMTAB) && !symbols_read(&read, path, SHT_DYNSYM)) return 0;
+    for (size_t at = 0; at < read.count; at++) {
+        const ElfW(Sym) *symbol = &read.its[at];
+        bool is_function = ELF64_ST_TYPE(symbol->st_info) == STT_FUNC && symbol->st_size;
+        if (is_function && symbol->st_shndx != SHN_UNDEF && is_wrapper(symbols_name(&read, at)))
+            add_range(info->dlpi_addr + symbol->st_value, symbol->st_size);
+    }
+    symbols_forget(&read);
+    return 0;
+}
+
+static int by_begin(const void *one, const void *other) {
+    uintptr_t begin = ((const struct range *)one)->begin;
+    uintptr_t its = ((const struct range *)other)->begin;
+    return (begin > its) - (begin < its);
+}
+
+bool wrappers_have(uintptr_t place) {
+    size_t from = 0, to = range_count; /* those before `from` begin before the place */
+    while (from < to) {
+        size_t middle = from + (to - from) / 2;
+        if (ranges[middle].begin < place)
+            from = middle + 1;
+        else
+            to = middle;
+    }
+    return from > 0 && place <= ranges[from - 1].end; /* a call may be a function's last one */
+}
+
+/* ---- the unwinder ---- */
+
+static _Unwind_Reason_Code (*unwind)(_Unwind_Trace_Fn, void *);
+static _Unwind_Word (*cfa_of)(struct _Unwind_Context *);
+static _Unwind_Ptr (*ip_of)(struct _Unwind_Context *);
+
+/* Loads the unwinder. Returns false where there is none, or it would take a lock: the loader's,
+ * which a thread may hold while it waits for another one that asks for a mutex. */
+static bool load_unwinder(void) {
+    void *library = dlopen("libgcc_s.so.1", RTLD_NOW | RTLD_LOCAL);
+    struct link_map *map;
+    struct symbols read;
+    if (!library || dlinfo(library, RTLD_DI_LINKMAP, &map) != 0) return false;
+    if (!symbols_read(&read, map->l_name, SHT_DYNSYM)) return false;
+    bool is_free = symbols_import(&read, "_dl_find_object");
+    symbols_forget(&read);
+    *(void **)&unwind = dlsym(library, "_Unwind_Backtrace");
+    *(void **)&cfa_of = dlsym(library, "_Unwind_GetCFA");
+    *(void **)&ip_of = dlsym(library, "_Unwind_GetIP");
+    return is_free && unwind && cfa_of && ip_of;
+}
+
+/* ---- from a function to its caller ---- */
+
+/* A place in such a function, and how many bytes further on the stack it is where it says to which
+ * place the function returns: always as many, since these functions have frames of a fixed size. */
+struct step {
+    _Atomic uintptr_t place;
+    _Atomic uint32_t bytes; /* 0: it isn't known */
+};
+
+static struct step steps[STEPS];
+
+/* Returns the step of a place, or where there is room for it, or NULL. */
+static struct step *step_of(uintptr_t place) {
+    uint32_t slot = ((uint32_t)place * UINT32_C(0x9e3779b1)) >> STEP_SHIFT;
+    for (int i = 0; i < STEP_PROBES; i++, slot = (slot + 1) % STEPS) {
+        uintptr_t there = atomic_load_explicit(&steps[slot].place, memory_order_relaxed);
+        if (there == place || there == 0) return &steps[slot];
+    }
+    return NULL;
+}
+
+/* Keeps a step, unless there is no room, or another thread has just taken it. */
+static void keep(uintptr_t place, uint32_t bytes) {
+    uintptr_t none = 0;
+    struct step *step = step_of(place);
+    if (!step) return;
+    if (atomic_compare_exchange_strong(&step->place, &none, place) || none == place)
+        atomic_store_explicit(&step->bytes, bytes, memory_order_relaxed);
+}
+
+uintptr_t wrappers_pass(const uintptr_t *at) {
+    for (int i = 0; i < MOST_WRAPPERS; i++) {
+        const struct step *step = step_of(*at);
+        if (!step || atomic_load_explicit(&step->place, memory_order_relaxed) != *at) break;
+        at += atomic_load_explicit(&step->bytes, memory_order_relaxed) / sizeof *at;
+    }
+    return *at;
+}
+
+/* The frames from the recorder's own ones outwards. */
+struct walk {
+    uintptr_t call;       /* the place of the call */
+    uintptr_t caller;     /* the place that is wanted, or 0 */
+    uintptr_t before;     /* the last place in such a function, or 0 before the call's */
+    const uintptr_t *at;  /* where it is on the stack, or NULL */
+    unsigned frames;
+};
+
+/* Returns where on the stack the place of a frame is. On other machines than this one it needn't be
+ * there. */
+static const uintptr_t *slot_of(struct _Unwind_Context *frame) {
+#ifdef __x86_64__
+    const uintptr_t *at = (const uintptr_t *)cfa_of(frame) - 1;
+    return *at == ip_of(frame) ? at : NULL;
+#else
+    (void)frame;
+    return NULL;
+#endif
+}
+
+static _Unwind_Reason_Code look(struct _Unwind_Context *frame, void *of) {
+    struct walk *walk = of;
+    uintptr_t place = ip_of(frame);
+    if (++walk->frames > MOST_FRAMES) return _URC_END_OF_STACK;
+    if (!walk->before && place != walk->call) return _URC_NO_REASON;
+    const uintptr_t *at = slot_of(frame);
+    if (walk->at && at) keep(walk->before, (uint32_t)(at - walk->at) * sizeof *at);
+    walk->before = place;
+    walk->at = at;
+    if (wrappers_have(place)) return _URC_NO_REASON;
+    walk->caller = place;
+    return _URC_END_OF_STACK;
+}
+
+uintptr_t wrappers_unwind(const uintptr_t *at) {
+    struct walk walk = { .call = *at };
+    int error = errno;
+    unwind(look, &walk);
+    errno = error;
+    return walk.caller ? walk.caller : walk.call;
+}
+
+void wrappers_find(void) {
+    bool is_other = false;
+    dl_iterate_phdr(add_file, &is_other);
+    if (range_count == 0 || !load_unwinder()) return;
+    qsort(ranges, range_count, sizeof *ranges, by_begin);
+    uintptr_t none = 0;
+    wrappers_unwind(&none); /* what it calls is found now */
+    wrappers_are_known = true;
+}
