@@ -8,8 +8,8 @@
  * can't have it, or where PIM_RECORD names no log. The library finds the name of the collector's
  * socket in PIM_RECORD.
  *
- * pim-launch --pid PROCESS NANOSECONDS: records there the kernel's events of a program that runs
- * already, for so long, or until it ends where that is 0. */
+ * pim-launch --pid PROCESS [NANOSECONDS]: records there the kernel's events of a program that runs
+ * already, for so long, or until it ends. */
 #define _GNU_SOURCE
 #include <dlfcn.h>
 #include <elf.h>
@@ -227,12 +227,14 @@ static struct amount take_amount(void) {
 
 /* Records a program that runs already, by the arguments and the variables. */
 static _Noreturn void run_beside(char **arguments) {
+    const char *time = arguments[3];
     struct running wanted = {
         .process = (pid_t)strtol(arguments[2], NULL, 10),
-        .nanoseconds = strtoull(arguments[3], NULL, 10),
+        .is_limited = time != NULL,
         .kernel = take_variable("PIM_KERNEL"),
         .kilobytes = take_variable("PIM_KERNEL_KB"),
     };
+    if (time) wanted.nanoseconds = strtoull(time, NULL, 10);
     if (!wanted.kernel || !wanted.kilobytes) refuse(FAULT, "PIM_KERNEL", "it isn't set");
     record_running(&wanted);
 }
@@ -241,7 +243,8 @@ int main(int count, char **arguments) {
     static struct wanted wanted;
     char path[PATH_MAX];
     const char *what = NULL;
-    if (count == 4 && strcmp(arguments[1], "--pid") == 0) run_beside(arguments);
+    bool is_beside = count > 2 && strcmp(arguments[1], "--pid") == 0;
+    if (is_beside && count <= 4) run_beside(arguments);
     wanted.log = take_variable("PIM_RECORD");
     wanted.amount = take_amount();
     wanted.kernel = take_variable("PIM_KERNEL");

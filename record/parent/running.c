@@ -72,10 +72,10 @@ static bool is_over(void) {
 }
 
 /* Reads events until one of the ends is there, or the time is over. */
-static void read_until(uint64_t nanoseconds) {
+static void read_until_end(const struct running *wanted) {
     uint64_t began = now(), passed = 0;
-    while (!nanoseconds || passed < nanoseconds) {
-        uint64_t rest = nanoseconds ? nanoseconds - passed : PERIOD;
+    while (!wanted->is_limited || passed < wanted->nanoseconds) {
+        uint64_t rest = wanted->is_limited ? wanted->nanoseconds - passed : PERIOD;
         struct timespec period = { 0, (long)(rest < PERIOD ? rest : PERIOD) };
         if (ppoll(ends, ENDS, &period, NULL) > 0) return;
         read_kernel();
@@ -92,6 +92,6 @@ _Noreturn void record_running(const struct running *wanted) {
     begin_kernel(RUNNING, wanted->kernel, wanted->kilobytes, &guard);
     const char *missing = turn_on_kernel(wanted->process, is_over);
     if (missing) give_up_kernel(missing);
-    read_until(wanted->nanoseconds);
+    read_until_end(wanted);
     exit(end_kernel(true) ? 0 : FAULT);
 }

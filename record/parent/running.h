@@ -2,12 +2,14 @@
 #ifndef RUNNING_H
 #define RUNNING_H
 
+#include <stdbool.h>
 #include <stdint.h>
 #include <sys/types.h>
 
 struct running {
     pid_t process;
-    uint64_t nanoseconds;  /* how long, or 0: until the program ends */
+    bool is_limited;       /* to a time; otherwise it ends with the program */
+    uint64_t nanoseconds;  /* how long, if it is */
     const char *kernel;    /* the file of the kernel's events */
     const char *kilobytes; /* for events of each CPU */
 };
