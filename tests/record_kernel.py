@@ -261,21 +261,33 @@ def random_program(reader, folder):
 STARTED = []
 
 
-def started(folder, *command, options=(), **how):
-    """Starts a recording, and returns its process, which is the shell of pim-record at first."""
-    words = [RECORD / "pim-record", "--kernel", "-o", pathlib.Path(folder, "run"), *options, *command]
+def start(*words, **how):
+    """Starts a process that end_started ends."""
     pipes = {"stdout": subprocess.PIPE, "stderr": subprocess.PIPE, "text": True}
     STARTED.append(subprocess.Popen([str(word) for word in words], **pipes, **how))
     return STARTED[-1]
 
 
+def started(folder, *command, options=(), **how):
+    """Starts a recording, and returns its process, which is the shell of pim-record at first."""
+    return start(RECORD / "pim-record", "--kernel", "-o", pathlib.Path(folder, "run"), *options, *command, **how)
+
+
 def end_started():
-    """Ends the recordings that a part has left, as one that broke off."""
+    """Ends the processes that a part has left, as one that broke off."""
     for child in STARTED:
         if child.poll() is None:
             child.kill()
             ended(child)
     STARTED.clear()
+
+
+def play(attempt, tracefs, parts):
+    """Plays the parts, with their arguments. One that breaks off leaves the others as they are."""
+    for part, *arguments in parts:
+        attempt(part, *arguments)
+        end_started()
+        until(lambda: not tracefs.own())
 
 
 def first_line(child):
@@ -1103,7 +1115,7 @@ def kernel_files(folder):
 
 
 def kernel(attempt, reader, folder):
-    """Recordings with --kernel, where they can be made. A part that breaks off leaves the others as they are."""
+    """Recordings with --kernel, where they can be made."""
     without_rights(reader, folder)
     tracefs = Tracefs()
     try:
@@ -1114,10 +1126,7 @@ def kernel(attempt, reader, folder):
                  (signals, folder, tracefs), (killed, reader, folder, tracefs), (guards, folder, tracefs),
                  (streams, folder, tracefs), (adopted, folder), (settings, folder, tracefs), (inherited, folder),
                  (no_room, reader, folder), (containers, reader, folder), (mounted, folder), (lost, folder, tracefs))
-        for part, *arguments in parts:
-            attempt(part, *arguments)
-            end_started()
-            until(lambda: not tracefs.own())
+        play(attempt, tracefs, parts)
         return check("no instance of a recording is left", difference((tracefs.own(),), ([],)))
     finally:
         tracefs.end()

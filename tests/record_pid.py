@@ -16,17 +16,14 @@ import tempfile
 
 from checks import check, difference, end, ended, proc_text, skip, stat_of, threads_of, until
 from record_futex import differs, said_waits
-from record_kernel import PROGRAMS, RECORD, Tracefs, faults_of, kernel_text, run
+from record_kernel import PROGRAMS, RECORD, Tracefs, end_started, faults_of, kernel_text, play, run, start
 
 FUTEX = {"x86_64": 202, "aarch64": 98}  # the number of the call
 WAKE = 1
-PIPES = {"stdin": subprocess.PIPE, "stdout": subprocess.PIPE, "stderr": subprocess.PIPE, "text": True}
-STARTED = []
 
 
 def started(*words, **how):
-    STARTED.append(subprocess.Popen([str(word) for word in words], **{**PIPES, **how}))
-    return STARTED[-1]
+    return start(*words, **{"stdin": subprocess.PIPE, **how})
 
 
 def sleeper():
@@ -298,14 +295,6 @@ def not_there(folder):
     program.kill()
 
 
-def end_started():
-    for child in STARTED:
-        if child.poll() is None:
-            child.kill()
-        ended(child)
-    STARTED.clear()
-
-
 def pid(attempt, folder):
     attempt(refused, folder)
     attempt(not_there, folder)
@@ -315,13 +304,14 @@ def pid(attempt, folder):
     try:
         if tracefs.missing:
             return skip("--pid", tracefs.missing)
-        for part, *arguments in ((attached, tracefs, folder), (its_end, tracefs, folder), (times, tracefs, folder),
-                                 (killed, tracefs, folder), (many_threads, tracefs, folder), (names, folder)):
+        parts = ((attached, tracefs, folder), (its_end, tracefs, folder), (times, tracefs, folder),
+                 (killed, tracefs, folder), (many_threads, tracefs, folder), (names, folder))
+
+        def attempt_alone(part, *arguments):
             attempt(part, *arguments)
-            end_started()
-            until(lambda: not tracefs.own())
             for path in pathlib.Path(folder).glob("run*"):
                 path.unlink()
+        play(attempt_alone, tracefs, parts)
         return check("no instance of --pid is left", difference((tracefs.own(),), ([],)))
     finally:
         tracefs.end()

@@ -47,9 +47,7 @@ static void release(struct store *ended) {
 }
 
 static int64_t milliseconds(void) {
-    struct timespec now;
-    clock_gettime(CLOCK_MONOTONIC, &now);
-    return (int64_t)now.tv_sec * 1000 + now.tv_nsec / 1000000;
+    return (int64_t)(clock_time() / 1000000);
 }
 
 /* ---- programs that come ---- */

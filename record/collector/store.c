@@ -306,12 +306,6 @@ static bool collect_chunks(struct store *of, struct shared *shared, bool is_with
     return is_any_done;
 }
 
-static uint64_t monotonic(void) {
-    struct timespec now;
-    clock_gettime(CLOCK_MONOTONIC, &now);
-    return (uint64_t)now.tv_sec * 1000000000u + (uint64_t)now.tv_nsec;
-}
-
 bool store_collect(struct store *of, bool is_with_begun) {
     lock_memory(of);
     struct shared *shared = map_shared(of);
@@ -321,7 +315,7 @@ bool store_collect(struct store *of, bool is_with_begun) {
     else if (shared && !of->ring)
         make_room(of, shared);
     if (shared) munmap(shared, sizeof *shared);
-    if (of->ring && is_with_begun) ring_look_at_time(of->ring, monotonic());
+    if (of->ring && is_with_begun) ring_look_at_time(of->ring, clock_time());
     if (!of->ring && (is_any_done || is_with_begun)) write_header(of);
     return is_any_done;
 }

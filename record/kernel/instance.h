@@ -6,6 +6,9 @@
 #include <stdbool.h>
 #include <stddef.h>
 
+/* The kernel's PID_MAX_LIMIT, above every task's number. */
+enum { TASKS = 4 << 20 };
+
 struct instance {
     int tracefs, instances, folder; /* descriptors */
     char name[64];

@@ -11,6 +11,7 @@
 #include <time.h>
 #include <unistd.h>
 
+#include "../library/clock.h"
 #include "events.h"
 #include "instance.h"
 #include "text.h"
@@ -37,12 +38,6 @@ static struct recording {
     struct queue *queues;
     struct guard *guard;
 } recording;
-
-static uint64_t now(void) {
-    struct timespec time;
-    clock_gettime(CLOCK_MONOTONIC, &time);
-    return (uint64_t)time.tv_sec * (uint64_t)SECOND + (uint64_t)time.tv_nsec;
-}
 
 /* ---- begin and end ---- */
 
@@ -145,7 +140,7 @@ static void put_events(uint64_t limit) {
 /* Reads and writes what is left, once the kernel records no more. */
 static void put_rest(void) {
     put_setting(&recording.instance, "tracing_on", "0");
-    uint64_t end = now();
+    uint64_t end = clock_time();
     for (int cpu = 0; cpu < recording.cpus; cpu++) {
         struct queue *queue = &recording.queues[cpu];
         while (!read_pages(cpu)) continue;
@@ -180,7 +175,7 @@ _Noreturn void give_up_kernel(const char *failed) {
 
 const char *turn_on_kernel(pid_t program, bool (*is_over)(void)) {
     if (!choose_threads(&recording.instance, program, is_over)) return "set_event_pid";
-    recording.text.began = now();
+    recording.text.began = clock_time();
     for (int cpu = 0; cpu < recording.cpus; cpu++)
         recording.queues[cpu].last_time = recording.text.began;
     if (!put_setting(&recording.instance, "tracing_on", "1")) return "tracing_on";
@@ -190,7 +185,7 @@ const char *turn_on_kernel(pid_t program, bool (*is_over)(void)) {
 }
 
 void read_kernel(void) {
-    uint64_t limit = now() - HELD_BACK;
+    uint64_t limit = clock_time() - HELD_BACK;
     for (int cpu = 0; cpu < recording.cpus; cpu++) read_pages(cpu);
     put_events(limit);
 }

@@ -7,9 +7,6 @@
 #include <sys/mman.h>
 #include <sys/utsname.h>
 
-/* The kernel's PID_MAX_LIMIT, above every task's number. Untouched pages aren't allocated. */
-enum { TASKS = 4 << 20 };
-
 enum { OPERATION = 127, PRIVATE = 128 };
 
 /* By FUTEX_WAIT and the others of linux/futex.h. */
@@ -23,6 +20,7 @@ enum { CALLED = sizeof CALLS / sizeof *CALLS };
 bool open_text(struct text *text, const char *path) {
     *text = (struct text){ .file = fopen(path, "wxe") };
     if (!text->file) return false;
+    /* Untouched pages aren't allocated. */
     text->tasks = mmap(NULL, TASKS * sizeof *text->tasks, PROT_READ | PROT_WRITE,
                        MAP_PRIVATE | MAP_ANONYMOUS | MAP_NORESERVE, -1, 0);
     return text->tasks != MAP_FAILED;

@@ -8,9 +8,7 @@
 #include <stdlib.h>
 #include <unistd.h>
 
-/* The kernel's PID_MAX_LIMIT, above every task's number; and how many looks at the end find nothing
- * new. */
-enum { TASKS = 4 << 20, LOOKS = 2 };
+enum { LOOKS = 2 }; /* so many at the end find nothing new */
 
 static const char CHOSEN[] = "set_event_pid";
 

@@ -107,7 +107,7 @@ static inline bool held_keep(const pthread_mutex_t *mutex, enum call call, const
         struct held *kept = &held[log_cursor.held++];
         kept->mutex = mutex;
         kept->place = wrappers_are_known ? places_caller(caller) : *caller;
-        kept->time = log_time();
+        kept->time = clock_time();
         kept->took = log_saturated(kept->time - asked->began);
         kept->number = atomic_load_explicit(&log_header->next_number, memory_order_relaxed) - 1;
         kept->requests = asked->requests;

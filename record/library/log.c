@@ -221,7 +221,7 @@ void log_make(void) {
     header->contents = HAS_PLACES;
     header->process = (uint32_t)getpid();
     header->parent = (uint32_t)getppid();
-    header->began_monotonic = log_time();
+    header->began_monotonic = clock_time();
     header->began_realtime = realtime();
     header->command_bytes = read_command(header->command);
     touch_slots(FEW_SLOTS);
@@ -331,7 +331,7 @@ void log_put_text(enum event event, uint64_t object, const char *text, size_t mo
     log_write((struct record){ .event = (uint8_t)event,
                                .object = object,
                                .value = (uint32_t)length,
-                               .time = log_time() });
+                               .time = clock_time() });
     for (size_t at = 0; at < length; at += TEXT_BYTES)
         write_part(text + at, length - at < TEXT_BYTES ? length - at : TEXT_BYTES);
     log_end();

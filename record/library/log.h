@@ -6,6 +6,7 @@
 #ifndef PIM_LOG_H
 #define PIM_LOG_H
 
+#include "clock.h"
 #include "visibility.h"
 
 #include <stdatomic.h>
@@ -212,12 +213,6 @@ void log_count_left_out(void);
 /* Puts a record with a text behind it, of which at most `most` bytes are taken. */
 void log_put_text(enum event event, uint64_t object, const char *text, size_t most);
 
-static inline uint64_t log_time(void) {
-    struct timespec now;
-    clock_gettime(CLOCK_MONOTONIC, &now);
-    return (uint64_t)now.tv_sec * 1000000000u + (uint64_t)now.tv_nsec;
-}
-
 static inline uint32_t log_saturated(uint64_t nanoseconds) {
     return nanoseconds > UINT32_MAX ? UINT32_MAX : (uint32_t)nanoseconds;
 }
@@ -292,7 +287,7 @@ static inline uint64_t log_write(struct record filled) {
  * times of a thread don't descend. */
 static inline void log_put(struct record filled) {
     if (!log_begin()) return;
-    filled.time = log_time();
+    filled.time = clock_time();
     log_write(filled);
     log_end();
 }
@@ -300,7 +295,7 @@ static inline void log_put(struct record filled) {
 /* Puts two records of now, of which the second follows the first. */
 static inline void log_put_both(struct record first, struct record second) {
     if (!log_begin()) return;
-    first.time = second.time = log_time();
+    first.time = second.time = clock_time();
     log_write(first);
     log_write(second);
     log_end();

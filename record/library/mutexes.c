@@ -33,7 +33,7 @@ static bool put_request(const pthread_mutex_t *mutex, enum call call, const uint
     struct record record = of_mutex(EVENT_REQUEST, call, mutex);
     record.value = inner_owner(mutex);
     if (!log_begin()) return false;
-    record.time = *time = log_time();
+    record.time = *time = clock_time();
     log_write(places_at(caller, record));
     if (stacks_are_on) stacks_put(*caller, record.time);
     log_end();
@@ -60,7 +60,7 @@ static __attribute__((noinline)) bool request_owned(const pthread_mutex_t *mutex
 /* Puts a REQUEST where the mutex is owned. Returns when the call began. */
 static inline struct asked request(const pthread_mutex_t *mutex, enum call call,
                                    const uintptr_t *caller) {
-    struct asked asked = { .began = log_time() };
+    struct asked asked = { .began = clock_time() };
     if (!(inner_known & KNOWN_OWNER))
         log_leave_out();
     else if (inner_is_owned(mutex))
@@ -72,7 +72,7 @@ static inline struct asked request(const pthread_mutex_t *mutex, enum call call,
 static void put_answer(const pthread_mutex_t *mutex, enum call call, const uintptr_t *caller,
                        uint64_t began, int error) {
     if (!log_begin()) return;
-    uint64_t time = log_time();
+    uint64_t time = clock_time();
     bool is_granted = error == 0 || error == EOWNERDEAD;
     struct record record = is_granted ? of_mutex(EVENT_GRANTED, call, mutex)
                                       : of_address(EVENT_FAILED, (unsigned)error, mutex);
@@ -124,7 +124,7 @@ EXPORT int pthread_mutex_clocklock(pthread_mutex_t *mutex, clockid_t clock,
 
 EXPORT int pthread_mutex_trylock(pthread_mutex_t *mutex) {
     if (!is_recorded()) return real.mutex_trylock(mutex);
-    struct asked asked = { .began = log_time() };
+    struct asked asked = { .began = clock_time() };
     if (held_is_on()) asked.requests = held_requests(mutex);
     return answer(mutex, CALL_TRYLOCK, CALLER, asked, real.mutex_trylock(mutex));
 }

@@ -59,7 +59,7 @@ static inline struct record places_at(const uintptr_t *caller, struct record rec
 /* Puts such a record of now. */
 static inline void places_put(const uintptr_t *caller, struct record record) {
     if (!log_begin()) return;
-    record.time = log_time();
+    record.time = clock_time();
     log_write(places_at(caller, record));
     log_end();
 }

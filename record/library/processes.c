@@ -17,7 +17,7 @@ static uint32_t fork_thread;
 static void before_fork(void) {
     fork_number = 0;
     if (!is_recorded() || !log_begin()) return;
-    fork_number = log_write((struct record){ .event = EVENT_FORK, .time = log_time() });
+    fork_number = log_write((struct record){ .event = EVENT_FORK, .time = clock_time() });
     fork_thread = log_cursor.thread;
     log_end();
 }

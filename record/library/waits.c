@@ -21,7 +21,7 @@ static struct wait begin_wait(enum kind kind, uintptr_t object, const uintptr_t 
     struct wait wait = { .kind = kind };
     if (!log_begin()) return wait;
     wait.object = places_object(object, caller);
-    wait.began = log_time();
+    wait.began = clock_time();
     wait.is_put = true;
     log_write((struct record){ .event = EVENT_WAIT,
                                .object = wait.object,
@@ -35,7 +35,7 @@ static struct wait begin_wait(enum kind kind, uintptr_t object, const uintptr_t 
  * so that it isn't read. */
 static int end_wait(const struct wait *wait, int error) {
     if (!wait->is_put || !log_begin()) return error;
-    uint64_t time = log_time();
+    uint64_t time = clock_time();
     log_write((struct record){ .event = EVENT_WAITED,
                                .how = (uint8_t)error,
                                .object = wait->object,
@@ -112,51 +112,26 @@ EXPORT int sem_post(sem_t *semaphore) {
 
 /* ---- read-write locks ---- */
 
-EXPORT int pthread_rwlock_rdlock(pthread_rwlock_t *lock) {
-    if (!is_recorded()) return real.rwlock_rdlock(lock);
-    if (real.rwlock_tryrdlock(lock) == 0) return 0;
-    struct wait wait = begin_wait(KIND_READ, (uintptr_t)lock, CALLER);
-    return end_wait(&wait, real.rwlock_rdlock(lock));
-}
+/* Defines a function that locks such a lock. One that can be had at once, by `tried`, is no wait;
+ * nor is one to a time or by a clock that glibc refuses. */
+#define LOCKS(name, tried, kind, is_valid, arguments, ...)                         \
+    EXPORT int pthread_rwlock_##name(pthread_rwlock_t *lock, ##__VA_ARGS__) {     \
+        if (!is_recorded() || !(is_valid)) return real.rwlock_##name arguments;   \
+        if (real.rwlock_##tried(lock) == 0) return 0;                             \
+        struct wait wait = begin_wait(kind, (uintptr_t)lock, CALLER);             \
+        return end_wait(&wait, real.rwlock_##name arguments);                     \
+    }
 
-EXPORT int pthread_rwlock_timedrdlock(pthread_rwlock_t *lock, const struct timespec *until) {
-    if (!is_recorded() || !is_time(until)) return real.rwlock_timedrdlock(lock, until);
-    if (real.rwlock_tryrdlock(lock) == 0) return 0;
-    struct wait wait = begin_wait(KIND_READ, (uintptr_t)lock, CALLER);
-    return end_wait(&wait, real.rwlock_timedrdlock(lock, until));
-}
-
-EXPORT int pthread_rwlock_clockrdlock(pthread_rwlock_t *lock, clockid_t clock,
-                                      const struct timespec *until) {
-    if (!is_recorded() || !is_clock(clock) || !is_time(until))
-        return real.rwlock_clockrdlock(lock, clock, until);
-    if (real.rwlock_tryrdlock(lock) == 0) return 0;
-    struct wait wait = begin_wait(KIND_READ, (uintptr_t)lock, CALLER);
-    return end_wait(&wait, real.rwlock_clockrdlock(lock, clock, until));
-}
-
-EXPORT int pthread_rwlock_wrlock(pthread_rwlock_t *lock) {
-    if (!is_recorded()) return real.rwlock_wrlock(lock);
-    if (real.rwlock_trywrlock(lock) == 0) return 0;
-    struct wait wait = begin_wait(KIND_WRITE, (uintptr_t)lock, CALLER);
-    return end_wait(&wait, real.rwlock_wrlock(lock));
-}
-
-EXPORT int pthread_rwlock_timedwrlock(pthread_rwlock_t *lock, const struct timespec *until) {
-    if (!is_recorded() || !is_time(until)) return real.rwlock_timedwrlock(lock, until);
-    if (real.rwlock_trywrlock(lock) == 0) return 0;
-    struct wait wait = begin_wait(KIND_WRITE, (uintptr_t)lock, CALLER);
-    return end_wait(&wait, real.rwlock_timedwrlock(lock, until));
-}
-
-EXPORT int pthread_rwlock_clockwrlock(pthread_rwlock_t *lock, clockid_t clock,
-                                      const struct timespec *until) {
-    if (!is_recorded() || !is_clock(clock) || !is_time(until))
-        return real.rwlock_clockwrlock(lock, clock, until);
-    if (real.rwlock_trywrlock(lock) == 0) return 0;
-    struct wait wait = begin_wait(KIND_WRITE, (uintptr_t)lock, CALLER);
-    return end_wait(&wait, real.rwlock_clockwrlock(lock, clock, until));
-}
+LOCKS(rdlock, tryrdlock, KIND_READ, true, (lock))
+LOCKS(wrlock, trywrlock, KIND_WRITE, true, (lock))
+LOCKS(timedrdlock, tryrdlock, KIND_READ, is_time(until), (lock, until),
+      const struct timespec *until)
+LOCKS(timedwrlock, trywrlock, KIND_WRITE, is_time(until), (lock, until),
+      const struct timespec *until)
+LOCKS(clockrdlock, tryrdlock, KIND_READ, is_clock(clock) && is_time(until), (lock, clock, until),
+      clockid_t clock, const struct timespec *until)
+LOCKS(clockwrlock, trywrlock, KIND_WRITE, is_clock(clock) && is_time(until), (lock, clock, until),
+      clockid_t clock, const struct timespec *until)
 
 /* Which of the two kinds it is isn't known. */
 EXPORT int pthread_rwlock_unlock(pthread_rwlock_t *lock) {

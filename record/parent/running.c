@@ -2,6 +2,7 @@
 #include "running.h"
 
 #include "../kernel/record.h"
+#include "../library/clock.h"
 #include "guard.h"
 #include "ordinary.h"
 
@@ -19,13 +20,7 @@
 
 enum { FAULT = 2, ENDS = 2 };
 
-static const uint64_t SECOND = 1000000000, PERIOD = 50000000; /* between two reads of events */
-
-static uint64_t now(void) {
-    struct timespec time;
-    clock_gettime(CLOCK_MONOTONIC, &time);
-    return (uint64_t)time.tv_sec * SECOND + (uint64_t)time.tv_nsec;
-}
+static const uint64_t PERIOD = 50000000; /* nanoseconds between two reads of events */
 
 static _Noreturn void refuse(pid_t process, const char *why) {
     fprintf(stderr, "pim-record: process %d: %s; nothing was recorded\n", (int)process, why);
@@ -73,13 +68,13 @@ static bool is_over(void) {
 
 /* Reads events until one of the ends is there, or the time is over. */
 static void read_until_end(const struct running *wanted) {
-    uint64_t began = now(), passed = 0;
+    uint64_t began = clock_time(), passed = 0;
     while (!wanted->is_limited || passed < wanted->nanoseconds) {
         uint64_t rest = wanted->is_limited ? wanted->nanoseconds - passed : PERIOD;
         struct timespec period = { 0, (long)(rest < PERIOD ? rest : PERIOD) };
         if (ppoll(ends, ENDS, &period, NULL) > 0) return;
         read_kernel();
-        passed = now() - began;
+        passed = clock_time() - began;
     }
 }
 
