@@ -7,3 +7,6 @@ pub mod Owners
 pub mod Lasting
 pub mod Bounding
 pub mod Closing
+pub mod Walking
+pub mod Cycling
+pub mod Blockers

@@ -4,3 +4,6 @@ pub mod Found
 pub mod Laws
 pub mod Sections
 pub mod Bounds
+pub mod Cycles
+pub mod Walks
+pub mod Deadlocks

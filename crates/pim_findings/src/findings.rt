@@ -1,5 +1,7 @@
 //! What is found in a recording.
 ghost use Rattle.std.specs.Prelude.{◌≡◌, ℕ, ◌<◌, ◌==◌, ◌↔◌, ◌⊎◌, List, [], length, is_some, Any, IfOk, IsTrue, if◌then◌else◌, vec_len};
+ghost use Rattle.pim_findings.specs.Cycles.{AreCycles};
+ghost use Rattle.pim_findings.specs.Deadlocks.{blocker_of, threads_of};
 ghost use Rattle.pim_findings.specs.Waits.{Moment, all_waits, and_fact, and_until};
 ghost use Rattle.pim_findings.specs.Longest.{AreReported};
 ghost use Rattle.pim_findings.specs.Found.{Finds, KeepsWaits, wait_at};
@@ -8,7 +10,8 @@ ghost use Rattle.pim_orders.specs.Opposites.{AreOpposites};
 ghost use Rattle.pim_orders.specs.Seen as nested;
 
 use crate::bounds::{Blocking, Bound};
-use crate::deadlocks::{Deadlock, deadlocks_of};
+use crate::deadlock::Deadlock;
+use crate::deadlocks::deadlocks_of;
 use crate::found_mutex::{FoundMutex, Left};
 use crate::found_wait::FoundWait;
 use crate::found_waits::FoundWaits;
@@ -200,6 +203,7 @@ impl Findings {
         ensures lists { is_some self.new.waits.all ≡ is_some self.old.waits.all }
         ensures waits { IfOk result (λ _. (n k : ℕ) (facts : List Moment) → Finds n k facts self.old →
             AreReported k (all_waits facts time n) self.new.waits) }
+        ensures deadlocks { IfOk result (λ _. AreCycles (blocker_of course.now) (threads_of self.new.deadlocks.items)) }
         ensures opposites { IfOk result (λ _. (n : ℕ) (facts : List nesting.Moment) → nested.Knows n facts self.old.orders →
             AreOpposites (nesting.nestings facts) self.new.opposites.items) }
     {

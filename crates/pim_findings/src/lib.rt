@@ -3,9 +3,9 @@
 //!
 //! [`Findings`] learns from each [`Fact`](pim_facts::Fact) of a log, in order, beside the
 //! [`Course`](pim_course::Course) of the program. It is proved that the waits it reports are those
-//! of these facts, with the owner and the levels that the course has as each begins: `specs/` says
-//! what they are, and [`waits_law`] what that comes to. Hand-overs, ownerships and deadlocks are
-//! tested.
+//! of these facts, with the owner and the levels that the course has as each begins, and that the
+//! deadlocks are the cycles of threads that the course has at the end: `specs/` says what they are,
+//! and [`waits_law`] what that comes to for waits. Hand-overs and ownerships are tested.
 //!
 //! ```text
 //! let mut findings = Findings::new(alloc, &sources)?;
@@ -17,6 +17,8 @@
 
 mod blocked;
 mod bounds;
+mod cycles;
+mod deadlock;
 mod deadlocks;
 mod findings;
 mod found_mutex;
@@ -29,7 +31,7 @@ mod sections;
 mod waiting;
 
 pub use bounds::{BOUNDS, Bound};
-pub use deadlocks::Deadlock;
+pub use deadlock::Deadlock;
 pub use findings::Findings;
 pub use found_mutex::{FoundMutex, FoundOwnership, HandOvers};
 pub use found_wait::{FoundOwner, FoundWait};

@@ -1,0 +1,8 @@
+//! Threads that wait for each other.
+
+/// A cycle of waits.
+#[derive(Drop)]
+pub struct Deadlock {
+    /// Each waits for a mutex of the next, and the last for one of the first.
+    pub threads: Vec<u32>,
+}
