@@ -5,8 +5,6 @@ pub mod Following
 pub mod Ordering
 pub mod Owners
 pub mod Lasting
-pub mod Bounding
-pub mod Closing
 pub mod Walking
 pub mod Cycling
 pub mod Blockers

@@ -2,8 +2,6 @@ pub mod Waits
 pub mod Longest
 pub mod Found
 pub mod Laws
-pub mod Sections
-pub mod Bounds
 pub mod Cycles
 pub mod Walks
 pub mod Deadlocks

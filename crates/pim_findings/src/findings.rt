@@ -9,13 +9,13 @@ ghost use Rattle.pim_orders.specs.Nestings as nesting;
 ghost use Rattle.pim_orders.specs.Opposites.{AreOpposites};
 ghost use Rattle.pim_orders.specs.Seen as nested;
 
-use crate::bounds::{Blocking, Bound};
 use crate::deadlock::Deadlock;
 use crate::deadlocks::deadlocks_of;
 use crate::found_mutex::{FoundMutex, Left};
 use crate::found_wait::FoundWait;
 use crate::found_waits::FoundWaits;
 use crate::waiting::Waiting;
+use pim_blocking::{Blocking, Bound};
 use pim_course::{Course, Sources, family_of};
 use pim_facts::{Fact, Family, What};
 use pim_orders::{Opposite, Orders};
@@ -85,18 +85,12 @@ impl Findings {
     /// # Errors
     ///
     /// Returns `AllocError` if out of memory.
-    pub fn observe(
-        &mut self,
-        sources: &Sources,
-        course: &Course,
-        fact: &Fact,
-        time: u64,
-    ) -> Result<(), AllocError>
+    pub fn observe(&mut self, course: &Course, fact: &Fact, time: u64) -> Result<(), AllocError>
         ensures waits { KeepsWaits self.old self.new }
         ensures orders { IfOk result (λ _. (n : ℕ) (facts : List nesting.Moment) → nested.Knows n facts self.old.orders →
             nested.Knows n (nested.and_fact n (record { fact = fact.now; course = course.now }) facts) self.new.orders) }
     {
-        self.blocking.look(sources, course, fact, time)?;
+        self.blocking.look(course, fact, time)?;
         self.orders.look(course, fact)
     }
 

@@ -1,5 +1,5 @@
-//! What is found in a recorded program: waits, hand-overs, ownerships, deadlocks, and what threads
-//! can be blocked for.
+//! What is found in a recorded program: waits, hand-overs, ownerships and deadlocks; and by pim_orders
+//! and pim_blocking opposite orders, and what threads can be blocked for.
 //!
 //! [`Findings`] learns from each [`Fact`](pim_facts::Fact) of a log, in order, beside the
 //! [`Course`](pim_course::Course) of the program. It is proved that the waits it reports are those
@@ -15,8 +15,6 @@
 //! ```
 #![tactic(auto)]
 
-mod blocked;
-mod bounds;
 mod cycles;
 mod deadlock;
 mod deadlocks;
@@ -26,15 +24,11 @@ mod found_wait;
 mod found_waits;
 mod laws;
 mod lists;
-mod section;
-mod sections;
 mod waiting;
 
-pub use bounds::{BOUNDS, Bound};
 pub use deadlock::Deadlock;
 pub use findings::Findings;
 pub use found_mutex::{FoundMutex, FoundOwnership, HandOvers};
 pub use found_wait::{FoundOwner, FoundWait};
 pub use found_waits::{FoundWaits, LONGEST, MutexWaits};
 pub use laws::{longest_law, others_law, waits_law};
-pub use section::{Section, User};

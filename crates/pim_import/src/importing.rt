@@ -278,7 +278,7 @@ fn show_fact(
         IsSetting fact.now.what ⊎ MayBeLeftOut walk.now.course context.now.sources.now fact.now) }
     ensures fault { IfErr result (NamesOnly now.now.number) }
 {
-    findings.observe(context.sources, &walk.course, fact, now.time)?;
+    findings.observe(&walk.course, fact, now.time)?;
     if sections.has(fact) {
         findings.look(context.sources, &walk.course, fact, now.time)?;
         return builder.build(context, fact, now);

@@ -1,6 +1,6 @@
 //! What threads can be blocked for, as lines of text.
 
-use pim_findings::{Bound, Section};
+use pim_blocking::{Bound, Section};
 use pim_labels::{Told, put_count, put_duration, put_level, put_mutex, put_place, put_thread};
 use pim_out::Out;
 

@@ -1,7 +1,7 @@
 //! What threads can be blocked for, as JSON.
 
 use crate::report::put_thread;
-use pim_findings::{Bound, Section};
+use pim_blocking::{Bound, Section};
 use pim_labels::{Told, family_of, put_place};
 use pim_out::{JsonOut, Out};
 use std::alloc::Global;

@@ -1,7 +1,7 @@
 use Rattle.std.proofs.Common.{◌≡◌, take}
 use Rattle.std.specs.List.{filter}
-use Rattle.pim_findings.specs.Bounds.{blocks}
-use Rattle.pim_findings.proofs.bounds.blocking_of.Given as goal
+use Rattle.pim_blocking.specs.Bounds.{blocks}
+use Rattle.pim_blocking.proofs.bounds.blocking_of.Given as goal
 
 -- the sections so far that can block
 abbrev pub invariant-loop-section : goal.invariant-loop-section

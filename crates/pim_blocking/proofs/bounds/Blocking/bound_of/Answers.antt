@@ -1,9 +1,8 @@
 use Rattle.std.proofs.Common.{◌≡◌, ◌∙◌, ap, length, min}
-use Rattle.pim_findings.specs.declared.bounds.Per.TheVariants as per
-use Rattle.pim_findings.specs.Bounds.{blocking, longest_in, longest_of_number, sum_below}
-use Rattle.pim_findings.specs.Longest.{capped}
-use Rattle.pim_findings.proofs.Bounding.{sum-of-longest}
-use Rattle.pim_findings.proofs.bounds.Blocking.bound_of.Goals as goal
+use Rattle.pim_blocking.specs.declared.bounds.Per.TheVariants as per
+use Rattle.pim_blocking.specs.Bounds.{blocking, capped, longest_in, longest_of_number, sum_below}
+use Rattle.pim_blocking.proofs.Bounding.{sum-of-longest}
+use Rattle.pim_blocking.proofs.bounds.Blocking.bound_of.Goals as goal
 
 pub returns : goal.returns
 returns c =

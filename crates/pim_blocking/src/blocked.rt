@@ -1,6 +1,5 @@
 //! What threads were blocked for, and at which levels.
 
-use crate::found_wait::FoundWait;
 use pim_course::{Course, Sources};
 use pim_facts::{Fact, What};
 use std::alloc::{AllocError, Global};
@@ -47,11 +46,10 @@ impl Blocked {
     };
 
     /// Learns from a fact of the thread.
-    pub fn look(&mut self, sources: &Sources, course: &Course, fact: &Fact, time: u64) {
+    pub fn look(&mut self, course: &Course, fact: &Fact, time: u64) {
         match fact.what {
             What::Waits => {
-                let wait = FoundWait::begun(sources, course, fact, time);
-                if wait.owner_level() < wait.level {
+                if awaited_level(course, fact.thread) < course.thread(fact.thread).level {
                     self.since = Some(time);
                 }
             }
@@ -68,4 +66,14 @@ impl Blocked {
             self.since = None;
         }
     }
+}
+
+/// Returns the level of the thread that owned what a thread waits for, as it began to. If that isn't known, it is 0, the
+/// lowest.
+fn awaited_level(course: &Course, thread: u32) -> u8 {
+    let owner = course.thread(thread).awaited_owner;
+    if owner == 0 || owner == thread {
+        return 0;
+    }
+    course.thread(owner).level
 }

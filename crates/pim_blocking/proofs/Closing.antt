@@ -3,9 +3,9 @@ use Rattle.std.proofs.Common.{◌≡◌, ℕ, ◌-◌, max, Option, Some, Result
 use Rattle.std.specs.Option.{IfSome, unwrap_or}
 use Rattle.std.specs.Result.{OnOk}
 use Rattle.std.specs.BTreeMap as tree
-use Rattle.pim_findings.specs.declared.sections.Open.{Open}
-use Rattle.pim_findings.specs.declared.sections.Sections.{Sections}
-use Rattle.pim_findings.specs.Sections.{KeepsLongest, users}
+use Rattle.pim_blocking.specs.declared.sections.Open.{Open}
+use Rattle.pim_blocking.specs.declared.sections.Sections.{Sections}
+use Rattle.pim_blocking.specs.Sections.{KeepsLongest, users}
 
 pub kept-at : {T E : Type 0} (section : Open) (at : Option Open) (old cleared new : Sections) (time lasted : ℕ) (r : Result T E) →
     Some section ≡ at → cleared.longest ≡ old.longest → lasted ≡ time - section.began →

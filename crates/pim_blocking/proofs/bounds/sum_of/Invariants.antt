@@ -1,7 +1,6 @@
 use Rattle.std.proofs.Common.{◌≡◌, get_or}
-use Rattle.pim_findings.specs.Bounds.{sum_below}
-use Rattle.pim_findings.specs.Longest.{capped}
-use Rattle.pim_findings.proofs.bounds.sum_of.Given as goal
+use Rattle.pim_blocking.specs.Bounds.{capped, sum_below}
+use Rattle.pim_blocking.proofs.bounds.sum_of.Given as goal
 
 -- the sum of the durations so far
 abbrev pub invariant-loop-duration : goal.invariant-loop-duration

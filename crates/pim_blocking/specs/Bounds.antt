@@ -2,11 +2,10 @@
 -- Protocols, 1990. The critical sections are those that were observed: a longer one isn't known.
 use Rattle.std.specs.Prelude.{◌≡◌, ℕ, zero, suc, ◌+◌, ◌==◌, nat_lt, nat_le, ◌&&◌, ◌||◌, not, Bool, List, filter, fold, max, min}
 use Rattle.std.specs.List.{list_any}
-use Rattle.pim_findings.specs.declared.section.Section.{Section}
-use Rattle.pim_findings.specs.declared.bounds.Bound.{Bound}
-use Rattle.pim_findings.specs.declared.bounds.Per.{Per}
-use Rattle.pim_findings.specs.declared.bounds.Per.TheVariants as per
-use Rattle.pim_findings.specs.Longest.{capped}
+use Rattle.pim_blocking.specs.declared.section.Section.{Section}
+use Rattle.pim_blocking.specs.declared.bounds.Bound.{Bound}
+use Rattle.pim_blocking.specs.declared.bounds.Per.{Per}
+use Rattle.pim_blocking.specs.declared.bounds.Per.TheVariants as per
 
 -- whether a mutex can block a thread of this level: the thread uses it, or one does at this level or above
 abbrev pub can_block : List Section → ℕ → ℕ → ℕ → Bool
@@ -39,6 +38,10 @@ longest_of_number per sections number = longest_in (filter (λ s. number_of per 
 abbrev pub sum_below : ℕ → (ℕ → ℕ) → ℕ
 sum_below zero f = 0
 sum_below (suc n) f = sum_below n f + f n
+
+-- a number, or the highest that a u64 has if that is higher
+abbrev pub capped : ℕ → ℕ
+capped n = min n 18446744073709551615
 
 -- A thread can be blocked for so long at most, where there are n threads and k mutexes. Under INHERIT: for one section of
 -- each lower thread, and for one at each mutex. Under PROTECT: for one section.

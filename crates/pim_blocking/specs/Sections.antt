@@ -2,9 +2,9 @@
 use Rattle.std.specs.Prelude.{ℕ, max, Some, unwrap_or}
 use Rattle.std.specs.declared.cmp.Ordering.{Ordering}
 use Rattle.std.specs.BTreeMap as tree
-use Rattle.pim_findings.specs.declared.section.User.{User}
-use Rattle.pim_findings.specs.declared.sections.Sections.{Sections}
-use Rattle.pim_findings.specs.contracts.section.UserOrd.TheImpl as user_ord
+use Rattle.pim_blocking.specs.declared.section.User.{User}
+use Rattle.pim_blocking.specs.declared.sections.Sections.{Sections}
+use Rattle.pim_blocking.specs.contracts.section.UserOrd.TheImpl as user_ord
 
 -- users in the order of threads, mutexes and levels
 abbrev pub users : User → User → Ordering

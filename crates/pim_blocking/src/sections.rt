@@ -1,8 +1,7 @@
 //! The longest critical sections of a program.
 ghost use Rattle.std.specs.Prelude.{◌≡◌, ◌-◌, None, OnOk, IfSome, length, slice_index_or};
-ghost use Rattle.pim_findings.specs.Sections.{KeepsLongest};
+ghost use Rattle.pim_blocking.specs.Sections.{KeepsLongest};
 
-use crate::lists::push;
 use crate::section::{Section, User};
 use pim_course::Course;
 use pim_facts::{Fact, What};
@@ -84,13 +83,10 @@ impl Sections {
     pub fn seen(&self, alloc: Global) -> Result<Vec<Section>, AllocError> {
         let mut seen = Vec::new(alloc);
         for (user, lasted) in &self.longest {
-            push(
-                &mut seen,
-                Section {
-                    user: *user,
-                    lasted: *lasted,
-                },
-            )?;
+            seen.push(Section {
+                user: *user,
+                lasted: *lasted,
+            })?;
         }
         Ok(seen)
     }

@@ -1,5 +1,5 @@
-use Rattle.pim_findings.proofs.Closing.{kept-at}
-use Rattle.pim_findings.proofs.sections.Sections.close.Goals as goal
+use Rattle.pim_blocking.proofs.Closing.{kept-at}
+use Rattle.pim_blocking.proofs.sections.Sections.close.Goals as goal
 
 pub returns : goal.returns
 returns c =

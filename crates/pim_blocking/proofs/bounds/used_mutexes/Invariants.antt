@@ -1,6 +1,6 @@
 use Rattle.std.proofs.Common.{◌≡◌, ◌<◌, ℕ, false, take, length, get_or}
-use Rattle.pim_findings.specs.Bounds.{can_block}
-use Rattle.pim_findings.proofs.bounds.blockers.Given as goal
+use Rattle.pim_blocking.specs.Bounds.{can_block}
+use Rattle.pim_blocking.proofs.bounds.blockers.Given as goal
 
 -- by mutex whether one of the sections so far makes it block
 abbrev pub invariant-loop-section : goal.invariant-loop-section

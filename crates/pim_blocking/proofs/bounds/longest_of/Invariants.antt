@@ -1,6 +1,6 @@
 use Rattle.std.proofs.Common.{◌≡◌, take}
-use Rattle.pim_findings.specs.Bounds.{longest_in}
-use Rattle.pim_findings.proofs.bounds.longest_of.Given as goal
+use Rattle.pim_blocking.specs.Bounds.{longest_in}
+use Rattle.pim_blocking.proofs.bounds.longest_of.Given as goal
 
 -- the longest of the sections so far
 abbrev pub invariant-loop-section : goal.invariant-loop-section

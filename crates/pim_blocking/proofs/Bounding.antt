@@ -1,9 +1,8 @@
 -- Sums over numbers.
 use Rattle.std.proofs.Common.{◌≡◌, ℕ, zero, suc, ◌+◌, ◌<◌, List, length, get_or, refl, ap, ◌∙◌, arith}
-use Rattle.pim_findings.specs.declared.section.Section.{Section}
-use Rattle.pim_findings.specs.declared.bounds.Per.{Per}
-use Rattle.pim_findings.specs.Longest.{capped}
-use Rattle.pim_findings.specs.Bounds.{longest_of_number, sum_below}
+use Rattle.pim_blocking.specs.declared.section.Section.{Section}
+use Rattle.pim_blocking.specs.declared.bounds.Per.{Per}
+use Rattle.pim_blocking.specs.Bounds.{capped, longest_of_number, sum_below}
 
 -- the sum of what is the same below n
 pub sum-same : (n : ℕ) (f g : ℕ → ℕ) → ((u : ℕ) → u < n → f u ≡ g u) → sum_below n f ≡ sum_below n g

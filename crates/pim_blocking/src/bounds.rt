@@ -1,10 +1,8 @@
 //! What threads of real-time priority can be blocked for, from what was observed.
 ghost use Rattle.std.specs.Prelude.{◌≡◌, ℕ, ◌<◌, ◌==◌, ◌&&◌, nat_lt, not, length, false, IfOk, slice_index_or};
-ghost use Rattle.pim_findings.specs.Bounds.{IsBound, blocking, can_block, longest_in, longest_of_number, number_of, sum_below};
-ghost use Rattle.pim_findings.specs.Longest.{capped};
+ghost use Rattle.pim_blocking.specs.Bounds.{IsBound, blocking, can_block, capped, longest_in, longest_of_number, number_of, sum_below};
 
 use crate::blocked::{Blocked, blocked_by_thread};
-use crate::lists::push;
 use crate::section::Section;
 use crate::sections::Sections;
 use pim_course::{Course, Sources};
@@ -45,7 +43,7 @@ enum Per {
 
 /// What is known of sections and threads on the way through a log.
 #[derive(Drop)]
-pub(crate) struct Blocking {
+pub struct Blocking {
     sections: Sections,
     /// By thread.
     threads: Vec<Blocked>,
@@ -71,14 +69,13 @@ impl Blocking {
     /// Returns `AllocError` if out of memory.
     pub fn look(
         &mut self,
-        sources: &Sources,
         course: &Course,
         fact: &Fact,
         time: u64,
     ) -> Result<(), AllocError> {
         let thread = fact.thread as usize;
         if thread < self.threads.len() {
-            self.threads[thread].look(sources, course, fact, time);
+            self.threads[thread].look(course, fact, time);
         }
         self.sections.look(course, fact, time)
     }
@@ -219,7 +216,7 @@ fn blocking_of(
     let mut blocking = Vec::new(alloc);
     for section in seen {
         if blocks(&can_block, section, thread, level) {
-            push(&mut blocking, *section)?;
+            blocking.push(*section)?;
         }
     }
     Ok(blocking)
@@ -292,7 +289,7 @@ fn summed(
         let number = per.number(section);
         if number < longest.len() && section.lasted > 0 && longest[number] == section.lasted {
             longest[number] = 0;
-            push(&mut summed, *section)?;
+            summed.push(*section)?;
         }
     }
     summed.sort_by_key(|section: &Section| Reverse(section.lasted))?;

@@ -1,6 +1,6 @@
 use Rattle.std.proofs.Common.{◌≡◌, ◌<◌, ℕ, take, length, get_or}
-use Rattle.pim_findings.specs.Bounds.{longest_of_number}
-use Rattle.pim_findings.proofs.bounds.longest_per.Given as goal
+use Rattle.pim_blocking.specs.Bounds.{longest_of_number}
+use Rattle.pim_blocking.proofs.bounds.longest_per.Given as goal
 
 -- by number the longest of the sections so far
 abbrev pub invariant-loop-section : goal.invariant-loop-section

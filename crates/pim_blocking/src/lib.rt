@@ -1,0 +1,22 @@
+//! What threads of real-time priority can be blocked for by threads of lower levels, from the critical
+//! sections of a recording.
+//!
+//! [`Blocking`] learns from each [`Fact`](pim_facts::Fact) of a log, in order, beside the
+//! [`Course`](pim_course::Course) of the program: of each user of a mutex it keeps the longest
+//! [`Section`]. From these it computes a [`Bound`] for each thread, under INHERIT and under PROTECT. It
+//! is proved that a bound is that of specs/Bounds.antt for these sections.
+//!
+//! ```text
+//! let mut blocking = Blocking::new(alloc, &sources)?;
+//! blocking.look(&walk.course, &fact, time)?;
+//! blocking.end(alloc, ended)?.first(); // Some: the greatest bound
+//! ```
+#![tactic(auto)]
+
+mod blocked;
+mod bounds;
+mod section;
+mod sections;
+
+pub use bounds::{BOUNDS, Blocking, Bound};
+pub use section::{Section, User};
