@@ -1,3 +1,4 @@
 pub mod Waits
 pub mod Tables
 pub mod Orders
+pub mod Laws

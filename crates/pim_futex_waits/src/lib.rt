@@ -12,9 +12,11 @@
 #![tactic(auto)]
 
 mod calls;
+mod laws;
 mod levels;
 mod search;
 mod wait;
 
+pub use laws::waits_law;
 pub use search::{futex_waits_of, longest_first};
 pub use wait::{End, FutexWait, FutexWaits, Waker};
