@@ -15,8 +15,10 @@ mod calls;
 mod laws;
 mod levels;
 mod search;
+mod spans;
 mod wait;
 
 pub use laws::waits_law;
 pub use search::{futex_waits_of, longest_first};
+pub use spans::{Span, outside};
 pub use wait::{End, FutexWait, FutexWaits, Waker};

@@ -5,12 +5,13 @@ use crate::fault::Fault;
 use crate::files::{is_file, read_file};
 use pim_comparison::{compare, waits_of};
 use pim_course::Wait;
+use pim_findings::FoundWait;
 use pim_futex_waits::{FutexWait, futex_waits_of, longest_first};
 use pim_import::Imported;
 use pim_kernel_events::{Recording, TextFault, Tracks};
 use pim_labels::Kernel;
 use pim_log::Log;
-use pim_report::unlogged;
+use pim_unlogged::unlogged;
 use pim_waits::{Awaited, ran_meanwhile};
 use std::alloc::{AllocError, Global};
 
@@ -121,9 +122,18 @@ fn futexes_in(
         return Ok(None);
     }
     let found = futex_waits_of(alloc, recording)?;
-    let mut waits = unlogged(alloc, log, imported, &found.waits)?;
+    let ids = &imported.sources.ids;
+    let mut waits = unlogged(alloc, log, ids, waits_listed(imported), &found.waits)?;
     longest_first(&mut waits)?;
     Ok(Some(waits))
+}
+
+/// Returns the waits for mutexes, which are all listed where the events have waits for futexes.
+fn waits_listed(imported: &Imported) -> &[FoundWait] {
+    match &imported.built.findings.waits.all {
+        Some(waits) => waits.as_slice(),
+        None => &[],
+    }
 }
 
 /// Returns whether the form of the events has waits for futexes.

@@ -12,7 +12,6 @@
 #![tactic(auto)]
 
 mod alone;
-mod beside_log;
 mod bounds;
 mod callers;
 mod futex_waits;
@@ -24,5 +23,4 @@ mod other_waits;
 mod report;
 
 pub use alone::report_alone;
-pub use beside_log::unlogged;
 pub use report::report_of;
