@@ -92,12 +92,14 @@ static void add_range(uintptr_t begin, size_t bytes) {
     ranges[range_count++] = (struct range){ begin, begin + bytes };
 }
 
-/* Adds the functions of a file that is loaded. One that is stripped has those that it exports. */
+/* Adds the functions of a file that is loaded. One that is stripped has those that it exports. The
+ * program is the first, and what the kernel makes is in no folder. */
 static int add_file(struct dl_phdr_info *info, size_t size, void *is_other) {
     struct symbols read;
     const char *path = *(bool *)is_other ? info->dlpi_name : "/proc/self/exe";
     (void)size;
     *(bool *)is_other = true;
+    if (!strchr(path, '/')) return 0;
     if (!symbols_read(&read, path, SHT_SYMTAB) && !symbols_read(&read, path, SHT_DYNSYM)) return 0;
     for (size_t at = 0; at < read.count; at++) {
         const ElfW(Sym) *symbol = &read.its[at];
@@ -116,8 +118,8 @@ static int by_begin(const void *one, const void *other) {
 }
 
 bool wrappers_have(uintptr_t place) {
-    size_t from = 0, to = range_count; /* those before `from` begin before the place */
-    while (from < to) {
+    size_t from = 0, to = wrappers_are_known ? range_count : 0;
+    while (from < to) { /* those before `from` begin before the place */
         size_t middle = from + (to - from) / 2;
         if (ranges[middle].begin < place)
             from = middle + 1;
@@ -233,10 +235,10 @@ uintptr_t wrappers_unwind(const uintptr_t *at) {
 
 void wrappers_find(void) {
     bool is_other = false;
-    dl_iterate_phdr(add_file, &is_other);
-    if (range_count == 0 || !load_unwinder()) return;
-    qsort(ranges, range_count, sizeof *ranges, by_begin);
     uintptr_t none = 0;
+    dl_iterate_phdr(add_file, &is_other);
+    wrappers_are_known = range_count > 0 && load_unwinder();
+    if (!wrappers_are_known) return;
+    qsort(ranges, range_count, sizeof *ranges, by_begin);
     wrappers_unwind(&none); /* what it calls is found now */
-    wrappers_are_known = true;
 }
