@@ -4,6 +4,7 @@ docs/BLOCKING.md says what each bound is. It is a second implementation, as plai
 """
 from collections import defaultdict, namedtuple
 
+import plain_orders
 from record_logs import log_facts
 
 REAL_TIME = range(1, 100)
@@ -55,16 +56,16 @@ class Observed:
         user, since = self.open.pop(mutex)
         self.lasted[user] = max(self.lasted.get(user, 0), time - since)
 
-    def blocking(self, thread, level):
-        """Returns the users whose sections can block a thread of this level."""
-        mutexes = {one.mutex for one in self.lasted if one.thread == thread or one.level >= level}
+    def blocking(self, mutexes, thread, level):
+        """Returns the users whose sections at these mutexes can block a thread of this level."""
         return [one for one in self.lasted
                 if one.mutex in mutexes and one.thread != thread and one.level < level]
 
-    def bound(self, thread, order):
+    def bound(self, thread, order, nested):
         """Returns the bound of a thread. `order` sorts users, the first of equally long ones."""
         level = self.highest[thread]
-        users = sorted(self.blocking(thread, level),
+        used = {one.mutex for one in self.lasted if one.thread == thread or one.level >= level}
+        users = sorted(self.blocking(reached(used, nested), thread, level),
                        key=lambda one: (-self.lasted[one], order(one)))
         of_threads, of_mutexes = {}, {}
         for user in users:
@@ -73,9 +74,16 @@ class Observed:
         sums = [[(one, self.lasted[one]) for one in ones.values() if self.lasted[one]]
                 for ones in (of_threads, of_mutexes)]
         chosen = min(sums, key=lambda ones: sum(lasted for _, lasted in ones))
-        under_protect = self.lasted[users[0]] if users else 0
+        under_protect = max((self.lasted[one] for one in self.blocking(used, thread, level)),
+                            default=0)
         return Bound(thread, level, sum(lasted for _, lasted in chosen), under_protect,
                      self.waited[thread], chosen)
+
+
+def reached(mutexes, nested):
+    """Returns these mutexes, and those that are asked for while one of these or of those is owned."""
+    inner = {inner for outer, inner in nested if outer in mutexes} - mutexes
+    return reached(mutexes | inner, nested) if inner else mutexes
 
 
 def bounds_of(facts, log):
@@ -89,7 +97,8 @@ def bounds_of(facts, log):
     def order(user):
         return user.thread, numbers[user.mutex], user.level
 
-    bounds = [observed.bound(thread, order) for thread, level in sorted(observed.highest.items())
-              if level in REAL_TIME]
+    nested = plain_orders.nestings_of(facts, log)
+    bounds = [observed.bound(thread, order, nested)
+              for thread, level in sorted(observed.highest.items()) if level in REAL_TIME]
     bounds = [bound for bound in bounds if bound.under_inherit]
     return sorted(bounds, key=lambda bound: -bound.under_inherit)[:MOST]

@@ -1,8 +1,11 @@
--- Sums over numbers.
-use Rattle.std.proofs.Common.{◌≡◌, ℕ, zero, suc, ◌+◌, ◌<◌, List, length, get_or, refl, ap, ◌∙◌, arith}
+-- Sums over numbers, and sections at the same mutexes.
+use Rattle.std.proofs.Common.{◌≡◌, ℕ, zero, suc, ◌+◌, ◌<◌, ◌≤◌, ◌&&◌, nat_lt, not, ◌==◌, Bool, cond, List, [], ◌∷◌, length, get_or, filter, refl, sym, ap, ◌∙◌, arith, inl, inr}
+use Rattle.std.proofs.lemmas.Bool.{cases_lt, le-ltb, lt-ltb}
 use Rattle.pim_blocking.specs.declared.section.Section.{Section}
 use Rattle.pim_blocking.specs.declared.bounds.Per.{Per}
-use Rattle.pim_blocking.specs.Bounds.{capped, longest_of_number, sum_below}
+use Rattle.pim_blocking.specs.Bounds.{blocking, blocks, capped, is_used, is_used_below, longest_of_number, sum_below}
+use Rattle.pim_blocking.specs.Reached.{is_in}
+use Rattle.pim_blocking.proofs.Reaching.{outside}
 
 -- the sum of what is the same below n
 pub sum-same : (n : ℕ) (f g : ℕ → ℕ) → ((u : ℕ) → u < n → f u ≡ g u) → sum_below n f ≡ sum_below n g
@@ -21,3 +24,26 @@ sum-of-longest per count n sections these items durations result is same len cou
     ∙ ap (λ l. capped (sum_below l (λ u. get_or items u 0))) (len ∙ counted)
     ∙ ap capped (sum-same n (λ u. get_or items u 0) (longest_of_number per these)
     (λ u h. let inside : u < count = omega (arith, h, counted) in each u inside ∙ ap (λ ss. longest_of_number per ss u) blocking))
+
+filter-same : (p q : Section → Bool) → ((s : Section) → p s ≡ q s) → (sections : List Section) → filter p sections ≡ filter q sections
+filter-same p q same [] = refl
+filter-same p q same (s ∷ sections) =
+    ap (λ b. cond b (s ∷ filter p sections) (filter p sections)) (same s)
+    ∙ ap (λ l. cond (q s) (s ∷ l) l) (filter-same p q same sections)
+
+-- the sections at mutexes that two tests say are the same
+pub blocking-same : (f g : ℕ → Bool) → ((m : ℕ) → f m ≡ g m) → (seen : List Section) (thread level : ℕ) →
+    blocking f seen thread level ≡ blocking g seen thread level
+blocking-same f g same seen thread level =
+    filter-same (blocks f thread level) (blocks g thread level)
+    (λ s. ap (λ b. (not (s.user.thread == thread) && nat_lt s.user.level level) && b) (same s.user.mutex)) seen
+
+-- the mutexes below k that are used, by a list of them
+pub used-same : (k : ℕ) (seen : List Section) (thread level : ℕ) (list : List Bool) → length list ≡ k →
+    ((m : ℕ) → m < k → is_in list m ≡ is_used seen thread level m) → (m : ℕ) → is_in list m ≡ is_used_below k seen thread level m
+used-same k seen thread level list len each m = elim (cases_lt m k) [
+  | inl below ↦ each m below ∙ sym (ap (λ b. b && is_used seen thread level m) (lt-ltb m k below))
+  | inr above ↦
+      let past : length list ≤ m = omega (arith, above, len) in
+      outside list m past ∙ sym (ap (λ b. b && is_used seen thread level m) (le-ltb m k above))
+]

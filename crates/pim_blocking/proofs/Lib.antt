@@ -1,2 +1,3 @@
+pub mod Reaching
 pub mod Bounding
 pub mod Closing

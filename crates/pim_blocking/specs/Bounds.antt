@@ -1,25 +1,29 @@
 -- What a thread can be blocked for by threads of lower levels: L. Sha, R. Rajkumar, J. P. Lehoczky, Priority Inheritance
 -- Protocols, 1990. The critical sections are those that were observed: a longer one isn't known.
-use Rattle.std.specs.Prelude.{◌≡◌, ℕ, zero, suc, ◌+◌, ◌==◌, nat_lt, nat_le, ◌&&◌, ◌||◌, not, Bool, List, filter, fold, max, min}
+use Rattle.std.specs.Prelude.{◌≡◌, ◌↔◌, IsTrue, ℕ, zero, suc, ◌+◌, ◌==◌, nat_lt, nat_le, ◌&&◌, ◌||◌, not, Bool, List, filter, fold, max, min}
 use Rattle.std.specs.List.{list_any}
+use Rattle.pim_blocking.specs.Reached.{IsReached}
 use Rattle.pim_blocking.specs.declared.section.Section.{Section}
 use Rattle.pim_blocking.specs.declared.bounds.Bound.{Bound}
 use Rattle.pim_blocking.specs.declared.bounds.Per.{Per}
 use Rattle.pim_blocking.specs.declared.bounds.Per.TheVariants as per
 
--- whether a mutex can block a thread of this level: the thread uses it, or one does at this level or above
-abbrev pub can_block : List Section → ℕ → ℕ → ℕ → Bool
-can_block seen thread level mutex =
+-- whether this thread uses a mutex, or one does at this level or above
+abbrev pub is_used : List Section → ℕ → ℕ → ℕ → Bool
+is_used seen thread level mutex =
     list_any (λ s. (s.user.mutex == mutex) && ((s.user.thread == thread) || nat_le level s.user.level)) seen
 
--- whether a section can block a thread of this level: it is of another thread, at a lower level, at such a mutex below k
-abbrev pub blocks : ℕ → List Section → ℕ → ℕ → Section → Bool
-blocks k seen thread level s =
-    (not (s.user.thread == thread) && nat_lt s.user.level level) && (nat_lt s.user.mutex k && can_block seen thread level s.user.mutex)
+-- the same, of the mutexes below k
+abbrev pub is_used_below : ℕ → List Section → ℕ → ℕ → ℕ → Bool
+is_used_below k seen thread level mutex = nat_lt mutex k && is_used seen thread level mutex
 
--- the sections that can block a thread of this level
-abbrev pub blocking : ℕ → List Section → ℕ → ℕ → List Section
-blocking k seen thread level = filter (blocks k seen thread level) seen
+-- whether a section can block a thread of this level: it is of another thread, at a lower level, at one of these mutexes
+abbrev pub blocks : (ℕ → Bool) → ℕ → ℕ → Section → Bool
+blocks at thread level s = (not (s.user.thread == thread) && nat_lt s.user.level level) && at s.user.mutex
+
+-- the sections that can block a thread of this level at one of these mutexes
+abbrev pub blocking : (ℕ → Bool) → List Section → ℕ → ℕ → List Section
+blocking at seen thread level = filter (blocks at thread level) seen
 
 -- how long the longest of some sections lasted; 0 if there is none
 abbrev pub longest_in : List Section → ℕ
@@ -43,10 +47,14 @@ sum_below (suc n) f = sum_below n f + f n
 abbrev pub capped : ℕ → ℕ
 capped n = min n 18446744073709551615
 
--- A thread can be blocked for so long at most, where there are n threads and k mutexes. Under INHERIT: for one section of
--- each lower thread, and for one at each mutex. Under PROTECT: for one section.
-pub record IsBound (n k : ℕ) (seen : List Section) (bound : Bound) : Type 0 where
+-- A thread can be blocked for so long at most, where there are n threads and k mutexes, by mutex those that threads asked
+-- for while they owned it. Under INHERIT: for one section of each lower thread, and for one at each mutex, of those at the
+-- mutexes that are reached from the ones used at its level. Under PROTECT: for one section at one that is used so.
+pub record IsBound (n k : ℕ) (seen : List Section) (inner : ℕ → List ℕ) (bound : Bound) : Type 0 where
+  pub at : ℕ → Bool
+  pub reached : (m : ℕ) → IsTrue (at m) ↔ IsReached k (is_used_below k seen bound.thread bound.level) inner m
   pub under_inherit : bound.under_inherit ≡ min
-      (capped (sum_below n (longest_of_number per.Thread (blocking k seen bound.thread bound.level))))
-      (capped (sum_below k (longest_of_number per.Mutex (blocking k seen bound.thread bound.level))))
-  pub under_protect : bound.under_protect ≡ longest_in (blocking k seen bound.thread bound.level)
+      (capped (sum_below n (longest_of_number per.Thread (blocking at seen bound.thread bound.level))))
+      (capped (sum_below k (longest_of_number per.Mutex (blocking at seen bound.thread bound.level))))
+  pub under_protect : bound.under_protect ≡
+      longest_in (blocking (is_used_below k seen bound.thread bound.level) seen bound.thread bound.level)

@@ -1,2 +1,3 @@
 pub mod Sections
+pub mod Reached
 pub mod Bounds

@@ -1,12 +1,15 @@
 //! What threads of real-time priority can be blocked for, from what was observed.
-ghost use Rattle.std.specs.Prelude.{◌≡◌, ℕ, ◌<◌, ◌==◌, ◌&&◌, nat_lt, not, length, false, IfOk, slice_index_or};
-ghost use Rattle.pim_blocking.specs.Bounds.{IsBound, blocking, can_block, capped, longest_in, longest_of_number, number_of, sum_below};
+ghost use Rattle.std.specs.Prelude.{◌≡◌, ℕ, ◌<◌, length, IfOk, slice_index_or};
+ghost use Rattle.pim_blocking.specs.Bounds.{IsBound, blocking, blocks, capped, is_used, longest_in, longest_of_number, number_of, sum_below};
+ghost use Rattle.pim_blocking.specs.Reached.{inner_in, is_in};
 
 use crate::blocked::{Blocked, blocked_by_thread};
+use crate::nested::Nested;
 use crate::section::Section;
 use crate::sections::Sections;
 use pim_course::{Course, Sources};
 use pim_facts::Fact;
+use pim_orders::Order;
 use std::alloc::{AllocError, Global};
 use std::cmp::Reverse;
 
@@ -67,12 +70,7 @@ impl Blocking {
     /// # Errors
     ///
     /// Returns `AllocError` if out of memory.
-    pub fn look(
-        &mut self,
-        course: &Course,
-        fact: &Fact,
-        time: u64,
-    ) -> Result<(), AllocError> {
+    pub fn look(&mut self, course: &Course, fact: &Fact, time: u64) -> Result<(), AllocError> {
         let thread = fact.thread as usize;
         if thread < self.threads.len() {
             self.threads[thread].look(course, fact, time);
@@ -81,22 +79,29 @@ impl Blocking {
     }
 
     /// Returns the bounds of the threads of real-time priority that others can block, at the end of
-    /// the log, which has this time: the [`BOUNDS`] greatest under INHERIT, the greatest first.
-    /// Each thread costs time in proportion to the users, the threads and the mutexes.
+    /// the log, which has this time, if threads took mutexes in these orders: the [`BOUNDS`] greatest
+    /// under INHERIT, the greatest first. Each thread costs time in proportion to the users, the
+    /// threads, the mutexes and the orders.
     ///
     /// # Errors
     ///
     /// Returns `AllocError` if out of memory.
-    pub fn end(&mut self, alloc: Global, time: u64) -> Result<Vec<Bound>, AllocError> {
+    pub fn end(
+        &mut self,
+        alloc: Global,
+        orders: &[Order],
+        time: u64,
+    ) -> Result<Vec<Bound>, AllocError> {
         self.sections.end(time)?;
         let seen = self.sections.seen(alloc)?;
+        let nested = Nested::of(alloc, orders, self.sections.mutexes())?;
         let mut bounds = Vec::new(alloc);
         for place in 0..self.threads.len() {
             let mut blocked = self.threads[place];
             blocked.end(time);
             if blocked.level >= LOWEST && blocked.level <= HIGHEST {
                 let thread = place.min(u32::MAX as usize) as u32;
-                let bound = self.bound_of(alloc, &seen, thread, &blocked)?;
+                let bound = self.bound_of(alloc, &seen, &nested, thread, &blocked)?;
                 keep(&mut bounds, bound)?;
             }
         }
@@ -115,15 +120,19 @@ impl Blocking {
         &self,
         alloc: Global,
         seen: &[Section],
+        nested: &Nested,
         thread: u32,
         blocked: &Blocked,
     ) -> Result<Bound, AllocError>
-        ensures { IfOk result (IsBound (length self.now.threads.items) (length self.now.sections.open.items) seen.now) }
+        ensures { IfOk result (IsBound (length self.now.threads.items) (length self.now.sections.open.items) seen.now (inner_in nested.now)) }
     {
         let level = blocked.level;
         let threads = self.thread_count();
         let mutexes = self.sections.mutexes();
-        let blocking = blocking_of(alloc, seen, mutexes, thread, level)?;
+        let used = used_mutexes(alloc, seen, mutexes, thread, level)?;
+        let at_used = blocking_of(alloc, seen, &used, thread, level)?;
+        let reached = nested.reached(alloc, used)?;
+        let blocking = blocking_of(alloc, seen, &reached, thread, level)?;
         let of_threads = longest_per(alloc, &blocking, Per::Thread, threads)?;
         let of_mutexes = longest_per(alloc, &blocking, Per::Mutex, mutexes)?;
         let (by_thread, by_mutex) = (sum_of(&of_threads), sum_of(&of_mutexes));
@@ -136,7 +145,7 @@ impl Blocking {
             thread,
             level,
             under_inherit: by_thread.min(by_mutex),
-            under_protect: longest_of(&blocking),
+            under_protect: longest_of(&at_used),
             sections,
             waited: blocked.waited,
         })
@@ -178,58 +187,54 @@ fn place_of(bounds: &[Bound], under_inherit: u64) -> usize {
     bounds.len()
 }
 
-/// Returns by mutex whether it can block a thread of this level: the thread uses it, or one does at
-/// this level or above.
-fn blockers(
+/// Returns by mutex whether this thread uses it, or one does at this level or above.
+fn used_mutexes(
     alloc: Global,
     seen: &[Section],
     mutexes: usize,
     thread: u32,
     level: u8,
 ) -> Result<Vec<bool>, AllocError>
-    ensures len { IfOk result (λ blocks. length blocks.items ≡ mutexes) }
-    ensures each { IfOk result (λ blocks. (m : ℕ) → m < mutexes →
-        slice_index_or blocks.items m false ≡ can_block seen.now thread level m) }
+    ensures len { IfOk result (λ used. length used.items ≡ mutexes) }
+    ensures each { IfOk result (λ used. (m : ℕ) → m < mutexes → is_in used.items m ≡ is_used seen.now thread level m) }
 {
-    let mut can_block = vec![in alloc; false; mutexes]?;
+    let mut used = vec![in alloc; false; mutexes]?;
     for section in seen {
         let mutex = section.user.mutex as usize;
         let is_used = section.user.thread == thread || section.user.level >= level;
-        if is_used && mutex < can_block.len() {
-            can_block[mutex] = true;
+        if is_used && mutex < used.len() {
+            used[mutex] = true;
         }
     }
-    Ok(can_block)
+    Ok(used)
 }
 
-/// Returns the sections that can block a thread of this level.
+/// Returns the sections that can block a thread of this level at one of these mutexes.
 fn blocking_of(
     alloc: Global,
     seen: &[Section],
-    mutexes: usize,
+    at: &[bool],
     thread: u32,
     level: u8,
 ) -> Result<Vec<Section>, AllocError>
-    ensures { IfOk result (λ sections. sections.items ≡ blocking mutexes seen.now thread level) }
+    ensures { IfOk result (λ sections. sections.items ≡ blocking (is_in at.now) seen.now thread level) }
 {
-    let can_block = blockers(alloc, seen, mutexes, thread, level)?;
     let mut blocking = Vec::new(alloc);
     for section in seen {
-        if blocks(&can_block, section, thread, level) {
+        if blocks(at, section, thread, level) {
             blocking.push(*section)?;
         }
     }
     Ok(blocking)
 }
 
-/// Returns whether a section can block a thread of this level, where these mutexes can.
-fn blocks(can_block: &[bool], section: &Section, thread: u32, level: u8) -> bool
-    ensures { result ≡ ((not (section.now.user.thread == thread) && nat_lt section.now.user.level level)
-        && slice_index_or can_block.now section.now.user.mutex false) }
+/// Returns whether a section can block a thread of this level at one of these mutexes.
+fn blocks(at: &[bool], section: &Section, thread: u32, level: u8) -> bool
+    ensures { result ≡ blocks (is_in at.now) thread level section.now }
 {
     let is_lower = section.user.thread != thread && section.user.level < level;
     let mutex = section.user.mutex as usize;
-    is_lower && can_block.get(mutex).copied().unwrap_or(false)
+    is_lower && at.get(mutex).copied().unwrap_or(false)
 }
 
 /// Returns how long the longest of some sections lasted. 0 if there is none.

@@ -3,18 +3,21 @@
 //!
 //! [`Blocking`] learns from each [`Fact`](pim_facts::Fact) of a log, in order, beside the
 //! [`Course`](pim_course::Course) of the program: of each user of a mutex it keeps the longest
-//! [`Section`]. From these it computes a [`Bound`] for each thread, under INHERIT and under PROTECT. It
-//! is proved that a bound is that of specs/Bounds.antt for these sections.
+//! [`Section`]. From these and from the orders in which threads took mutexes it computes a [`Bound`] for
+//! each thread, under INHERIT and under PROTECT. It is proved that a bound is that of specs/Bounds.antt
+//! for these sections and orders.
 //!
 //! ```text
 //! let mut blocking = Blocking::new(alloc, &sources)?;
 //! blocking.look(&walk.course, &fact, time)?;
-//! blocking.end(alloc, ended)?.first(); // Some: the greatest bound
+//! blocking.end(alloc, &orders, ended)?.first(); // Some: the greatest bound
 //! ```
 #![tactic(auto)]
 
 mod blocked;
 mod bounds;
+mod nested;
+mod search;
 mod section;
 mod sections;
 

@@ -205,7 +205,7 @@ impl Findings {
             self.end_wait(thread, time, true)?;
         }
         self.deadlocks = deadlocks_of(alloc, course)?;
-        self.bounds = self.blocking.end(alloc, time)?;
+        self.bounds = self.blocking.end(alloc, &self.orders.all(alloc)?, time)?;
         self.opposites = self.orders.opposites(alloc)?;
         Ok(())
     }

@@ -1,5 +1,5 @@
 -- The opposite orders that are found are those of the nestings.
-use Rattle.std.proofs.Common.{◌≡◌, ◌≢◌, ◌⊎◌, ◌<◌, ◌==◌, nat_lt, Bool, true, false, cond, not, List, [], ◌∷◌, Option, Some, None, Contains, refl, sym, ap, ◌∙◌, subst, inl, inr, is_eq, arith, eq-eqb}
+use Rattle.std.proofs.Common.{◌≡◌, ◌≢◌, ◌⊎◌, ◌<◌, ◌==◌, nat_lt, Bool, true, false, cond, not, List, [], ◌∷◌, Option, Some, None, Contains, refl, sym, ap, ◌∙◌, subst, inl, inr, is_eq, arith, eq-eqb, true≢false}
 use Rattle.std.specs.List.{cons_option, filter_map}
 use Rattle.std.specs.Map.{keys_of, lookup}
 use Rattle.std.specs.Option.{option_map}
@@ -13,7 +13,7 @@ use Rattle.pim_orders.specs.declared.nesting.Order.{Order}
 use Rattle.pim_orders.specs.declared.opposite.Opposite.{Opposite}
 use Rattle.pim_orders.specs.declared.orders.Seen.{Seen}
 use Rattle.pim_orders.specs.Opposites.{AreOpposites, IsOfMutexes, IsOpposite, IsReal, back, opposite_at, opposite_of, opposite_with, other_of}
-use Rattle.pim_orders.specs.Seen.{AreSeen, by_mutexes, earliest, is_of, is_of_other, seen_in}
+use Rattle.pim_orders.specs.Seen.{AreOrders, AreSeen, by_mutexes, earliest, is_of, is_of_other, seen_in}
 use Rattle.pim_orders.proofs.Seeing.{earliest-on, key-same, same-order}
 
 -- ---- elements
@@ -232,6 +232,37 @@ has-key seen order these is =
     let found = key-of (λ q. is_eq (by_mutexes order q)) seen.entries these is in
     let parts = and_parts (order.outer == found.0.outer) (order.inner == found.0.inner) (sym (key-same order found.0) ∙ found.2) in
     subst (Contains (tree.keys seen)) (sym (same-order order found.0 (eqb-true _ _ parts.0) (eqb-true _ _ parts.1))) found.1
+
+-- and at a key a value is found
+at-key : (test : Order → Bool) (es : List (Order × Seen)) (order : Order) → test order ≡ true → Contains (keys_of es) order →
+    (these : Seen) × (lookup test es ≡ Some these)
+at-key test [] order passes h = absurd (omega (arith, h.1))
+at-key test (e ∷ es) order passes h = go (test e.0) refl (contains-cases e.0 order (keys_of es) h) (at-key test es order passes)
+  where
+    go : (b : Bool) → test e.0 ≡ b → (e.0 ≡ order) ⊎ Contains (keys_of es) order →
+        (Contains (keys_of es) order → (these : Seen) × (lookup test es ≡ Some these)) → (these : Seen) × (lookup test (e ∷ es) ≡ Some these)
+    go true test_is cases rest = (e.1, ap (λ b. cond b (Some e.1) (lookup test es)) test_is)
+    go false test_is (inl same) rest = absurd (true≢false (sym (ap test same ∙ passes) ∙ test_is))
+    go false test_is (inr behind) rest =
+        let found = rest behind in
+        (found.0, ap (λ b. cond b (Some e.1) (lookup test es)) test_is ∙ found.1)
+
+-- the keys are the orders of the nestings
+pub orders-are : (all : List Nesting) (seen : BTreeMap Order Seen) (orders : List Order) → AreSeen all seen →
+    orders ≡ tree.keys seen → AreOrders all orders
+orders-are all seen orders known is = subst (AreOrders all) (sym is) (λ order. (from order, to order))
+  where
+    from : (order : Order) → Contains (tree.keys seen) order → (n : Nesting) × Contains all n × (n.order ≡ order)
+    from order h =
+        let same = key-same order order ∙ and_from _ _ (eq-eqb order.outer order.outer refl) (eq-eqb order.inner order.inner refl) in
+        let found = at-key (λ q. is_eq (by_mutexes order q)) seen.entries order same h in
+        let these = are-of all order found.0 (sym (known order) ∙ found.1) in
+        (found.0.first, these.first, order-of order found.0.first these.first_of)
+
+    to : (order : Order) → ((n : Nesting) × Contains all n × (n.order ≡ order)) → Contains (tree.keys seen) order
+    to order n =
+        let these = is-seen all order n.0 n.1 (is-of order n.0 n.2) in
+        has-key seen order these.0 (known order ∙ these.1)
 
 -- ---- all of them
 

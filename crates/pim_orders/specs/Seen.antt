@@ -1,5 +1,5 @@
 -- What is known of nestings: who nested which mutexes first, and which other thread did.
-use Rattle.std.specs.Prelude.{◌≡◌, ℕ, ◌<◌, ◌==◌, ◌&&◌, nat_lt, not, Bool, List, [], ◌∷◌, length, slice_get, if◌then◌else◌, Option, None, Some}
+use Rattle.std.specs.Prelude.{◌≡◌, ◌↔◌, Contains, ℕ, ◌<◌, ◌==◌, ◌&&◌, nat_lt, not, Bool, List, [], ◌∷◌, length, slice_get, if◌then◌else◌, Option, None, Some}
 use Rattle.std.specs.Option.{option_map, option_map_or}
 use Rattle.std.specs.declared.cmp.Ordering.{Ordering}
 use Rattle.std.specs.BTreeMap as tree
@@ -46,6 +46,10 @@ seen_with (Some seen) n = record { first = seen.first; other = other_with seen.f
 -- exactly these nestings are known
 abbrev pub AreSeen : List Nesting → BTreeMap Order Seen → Type 0
 AreSeen all seen = (order : Order) → tree.get by_mutexes seen order ≡ seen_in all order
+
+-- these are the orders of the nestings, none more and none less
+abbrev pub AreOrders : List Nesting → List Order → Type 0
+AreOrders all orders = (order : Order) → Contains orders order ↔ ((n : Nesting) × Contains all n × (n.order ≡ order))
 
 -- the mutexes that a thread is known to own
 abbrev pub owned_in : Orders → ℕ → List ℕ

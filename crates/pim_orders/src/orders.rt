@@ -2,7 +2,7 @@
 ghost use Rattle.std.specs.Prelude.{◌≡◌, ℕ, List, [], ◌∷◌, Option, Some, IfOk, IfSome, IfNone};
 ghost use Rattle.pim_orders.specs.Nestings.{Moment, and_nested, and_outer, nestings};
 ghost use Rattle.pim_orders.specs.Opposites.{AreOpposites};
-ghost use Rattle.pim_orders.specs.Seen.{AreSeen, Knows, and_fact, seen_with};
+ghost use Rattle.pim_orders.specs.Seen.{AreOrders, AreSeen, Knows, and_fact, seen_with};
 
 use crate::nesting::{Nesting, Order, is_asked};
 use crate::opposite::{Opposite, opposite_in};
@@ -76,6 +76,22 @@ impl Orders {
             }
             What::Waits | What::GaveUp | What::Level(_) | What::Ceiling(_) => Ok(()),
         }
+    }
+
+    /// Returns the orders in which threads took two mutexes, each once: ascending.
+    ///
+    /// # Errors
+    ///
+    /// Returns `AllocError` if out of memory.
+    pub fn all(&self, alloc: Global) -> Result<Vec<Order>, AllocError>
+        ensures { IfOk result (λ orders. (n : ℕ) (facts : List Moment) →
+            Knows n facts self.now → AreOrders (nestings facts) orders.items) }
+    {
+        let mut orders = Vec::new(alloc);
+        for order in self.seen.keys() {
+            orders.push(*order)?;
+        }
+        Ok(orders)
     }
 
     /// Returns the mutexes that two threads took in opposite orders, each pair of mutexes once.
