@@ -1,7 +1,7 @@
 //! The waits that the kernel's events show.
 
-use pim_course::Wait;
 use pim_kernel_events::{Recording, Track, Tracks, What};
+use pim_requests::Wait;
 use std::alloc::{AllocError, Global};
 use std::collections::HashMap;
 

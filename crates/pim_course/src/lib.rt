@@ -1,8 +1,7 @@
 //! The course of a recorded program: who owns and awaits what after each record of its log.
 //!
 //! [`Sources`] is what is found in a log first: whom each record is about; in [`NextOwners`] who
-//! owns a mutex after a release; in [`Requests`] the requests that the log lacks. `requests.rt`
-//! has those that it shows itself, and `waits.rt` those that the kernel's events show.
+//! owns a mutex after a release; in [`Requests`] the requests that the log lacks, which `pim_requests` finds.
 //!
 //! A [`Walk`] then goes along the log. After each record its [`Course`] has the owners and the
 //! waits, and [`Walk::shown`] returns what the record shows.
@@ -16,14 +15,12 @@
 #![tactic(auto)]
 
 mod course;
-mod lists;
+pub mod lists;
 mod next_owners;
 mod requests;
-mod waits;
 mod walk;
 
 pub use course::{Course, CourseMutex, CourseThread, Sources, family_of};
 pub use next_owners::NextOwners;
 pub use requests::{Request, Requests};
-pub use waits::Wait;
 pub use walk::{Moment, Walk};

@@ -1,6 +1,6 @@
 //! Who owns a mutex next, and whose it is when a thread asks for it.
 
-use crate::lists::{get, put, set};
+use crate::lists::{get, set};
 use pim_facts::Ids;
 use pim_log::{Call, Event, Log, Record};
 use std::alloc::{AllocError, Global};
@@ -202,7 +202,9 @@ fn named_owners(alloc: Global, log: &Log, ids: &Ids) -> Result<Vec<u32>, AllocEr
             continue;
         };
         match record.event {
-            Event::Thread { .. } => put(&mut threads, record.task, record.thread)?,
+            Event::Thread { .. } => {
+                threads.insert(record.task, record.thread)?;
+            }
             Event::Request {
                 owner: Some(task),
                 ..

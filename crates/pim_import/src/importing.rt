@@ -13,11 +13,12 @@ use crate::left_out::may_be_left_out;
 use crate::numbering::Numbering;
 use crate::participants::Participants;
 use crate::tally::Tally;
-use pim_course::{Course, NextOwners, Requests, Sources, Wait, Walk};
+use pim_course::{Course, NextOwners, Requests, Sources, Walk};
 use pim_facts::{Fact, Ids, IdsFault};
 use pim_findings::Findings;
 use pim_log::Log;
 use pim_replay::{Piece, Priorities};
+use pim_requests::{Wait, requests_of};
 use std::alloc::Global;
 
 /// What is asked of an import. The default is neither.
@@ -133,7 +134,7 @@ fn sources_of(alloc: Global, log: &Log, waits: &[Wait]) -> Result<Sources, Impor
         next_owners,
         requests: Requests::none(alloc),
     };
-    sources.requests = Requests::of(alloc, log, &sources, waits)?;
+    sources.requests = requests_of(alloc, log, &sources, waits)?;
     Ok(sources)
 }
 

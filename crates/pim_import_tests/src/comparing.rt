@@ -3,10 +3,10 @@
 use crate::inversion::{KERNEL, log_bytes};
 use pim_base::{MutexNo, Reason, TaskNo};
 use pim_comparison::{Compared, Difference, Found, Lengthened, compare, waits_of};
-use pim_course::Wait;
 use pim_import::{ImportOptions, import_log};
 use pim_kernel_events::{Recording, Tracks};
 use pim_log::Log;
+use pim_requests::Wait;
 use std::alloc::Global;
 use std::test::*;
 

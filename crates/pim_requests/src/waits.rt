@@ -10,10 +10,8 @@
 //!
 //! If none of that holds, the request isn't added.
 
-use crate::course::{Course, Sources};
-use crate::lists::{get, push, put, set};
-use crate::requests::Request;
-use crate::walk::Walk;
+use pim_course::lists::{get, set};
+use pim_course::{Course, Request, Sources, Walk};
 use pim_log::{Event, Log, Record};
 use std::alloc::{AllocError, Global};
 use std::collections::HashMap;
@@ -116,7 +114,7 @@ impl Search {
         let threads = sources.ids.threads.len();
         let mut sorted = Vec::new(alloc);
         for wait in waits {
-            push(&mut sorted, *wait)?;
+            sorted.push(*wait)?;
         }
         sorted.sort_unstable();
         Ok(Search {
@@ -184,14 +182,12 @@ impl Search {
         let release = get(&self.released, mutex);
         let is_since = release > get(&self.last, thread);
         let release = if is_since { release } else { 0 };
-        push(
-            &mut self.pending,
-            Pending {
-                request,
-                from: wait.from,
-                release,
-            },
-        )
+        self.pending.push(Pending {
+            request,
+            from: wait.from,
+            release,
+        })?;
+        Ok(())
     }
 
     /// Returns the mutex that is at an address in the process of a thread, or 0.
@@ -217,7 +213,8 @@ impl Search {
     fn add(&mut self, request: Request) -> Result<(), AllocError> {
         let place = self.found.list.len();
         set(&mut self.asked, request.thread, Some(place));
-        push(&mut self.found.list, request)
+        self.found.list.push(request)?;
+        Ok(())
     }
 
     /// Goes past a record, by which the way went on last.
@@ -247,13 +244,14 @@ impl Search {
         if place < self.found.list.len() {
             self.found.list[place].place = record.place;
         }
-        push(&mut self.found.ends, record.number)
+        self.found.ends.push(record.number)?;
+        Ok(())
     }
 
     /// Learns who has the number of a thread, and which mutex is at an address.
     fn learn(&mut self, sources: &Sources, record: &Record, id: u32) -> Result<(), AllocError> {
         if get(&self.last, record.thread) == 0 {
-            put(&mut self.threads, record.task, record.thread)?;
+            self.threads.insert(record.task, record.thread)?;
         }
         if record.event.mutex().is_none() || id <= self.named {
             return Ok(());
@@ -265,7 +263,8 @@ impl Search {
         if is.process == 0 {
             let _before = self.mutexes.remove(&(record.process, is.address));
         }
-        put(&mut self.mutexes, (is.process, is.address), id)
+        self.mutexes.insert((is.process, is.address), id)?;
+        Ok(())
     }
 
     /// Adds the requests whose place a record shows, and drops those whose place isn't known by the end of the wait.
@@ -290,7 +289,7 @@ impl Search {
                     }
                     self.add(Request { after, ..request })?;
                 }
-                None => push(&mut self.pending, *one)?,
+                None => self.pending.push(*one)?,
             }
         }
         Ok(())
@@ -301,13 +300,10 @@ impl Search {
         for one in &self.pending {
             if one.release > 0 {
                 let after = one.release - 1;
-                push(
-                    &mut self.found.list,
-                    Request {
-                        after,
-                        ..one.request
-                    },
-                )?;
+                self.found.list.push(Request {
+                    after,
+                    ..one.request
+                })?;
             }
         }
         Ok(self.found)

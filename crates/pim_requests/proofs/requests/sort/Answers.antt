@@ -1,7 +1,7 @@
 use Rattle.std.proofs.Common.{rules}
 use Rattle.std.proofs.lemmas.List.Sorted.{IsNonDecreasingBy-from_sort_by_key}
 use Rattle.pim_course.specs.Requests.{place_of}
-use Rattle.pim_course.proofs.requests.sort.Goals as goal
+use Rattle.pim_requests.proofs.requests.sort.Goals as goal
 
 pub returns : goal.returns
 returns c = IsNonDecreasingBy-from_sort_by_key place_of _ c.in_ok-sort_by_key.ensures.sorted (λ a r q k. search rules)
