@@ -1,8 +1,10 @@
 -- The tables after a field was written, and what the calls on the queues ask for.
-use Rattle.std.proofs.Common.{◌≡◌, ℕ, ◌≤◌, ◌<◌, true, false, sym, ◌∙◌, ap, subst, arith, Option, Some, None, List, [], ◌∷◌, length, unwrap_or}
+use Rattle.std.proofs.Common.{◌≡◌, ℕ, ◌≤◌, ◌<◌, true, false, refl, sym, ◌∙◌, ap, subst, arith, Option, Some, None, List, [], ◌∷◌, length, unwrap_or}
 use Rattle.pim_base.proofs.Places.{nth_within}
 use Rattle.pim_chain.proofs.Waiting.{room_for, waiting_known}
 use Rattle.std.specs.List.{list_any, find, AllByRecursion}
+use Rattle.std.specs.Option.{option_map}
+use Rattle.std.proofs.lemmas.Option.{none-some, same_Some}
 use Rattle.std.proofs.lemmas.Bool.{false_from_ne_true, eqb-true}
 use Rattle.pim_base.specs.Lists.{nth, put}
 use Rattle.pim_base.specs.State.{IsTask, IsMutex, wait_of, first_count, with_owner}
@@ -11,6 +13,7 @@ use Rattle.pim_base.specs.declared.steps.Waiter.{Waiter}
 use Rattle.pim_queue.specs.QueueView.{QueueView}
 use Rattle.pim_queue.specs.Waiters.{is_of, has_ticket, repositioned}
 use Rattle.pim_queue.proofs.Order.{Found, found}
+use Rattle.pim_chain.specs.Rooms.{total}
 use Rattle.pim_chain.specs.Views.{View, Ready, Shows, IsQueue, with_state, stored_at, queue_at, queue_in, view_in, put_queue, waiter_at}
 use Rattle.pim_chain.specs.Settled.{SettledBut, restored}
 use Rattle.pim_chain.proofs.Local.{waits_for_from}
@@ -87,11 +90,11 @@ pub join_room :
     → IsMutex u.state m
     → wait_of u.state t ≡ None
     → Ready v
-    → length (queue_at v m) < (view_in v.queues m).room
+    → total v.queues < (view_in v.queues m).room
 join_room v u t m same known mutex idle ready =
     let there : Ready u = subst Ready same ready in
-    let short : length (queue_at u m) < length u.state.base =
-    room_for u.state (stored_at u) m t (queue_at u m) there.sound.lists known (not_waiting (wait_of u.state) m t idle) (there.queues m mutex) in
+    let short : total u.queues < length u.state.base =
+    room_for u.state (stored_at u) t u.queues there.sound.lists known idle (λ k low high. there.queues k (low, rw there.queues_len at high)) in
     rw same (omega (arith, short, there.room m mutex))
 
 pub stands_in :
@@ -149,18 +152,23 @@ ticket_not_here v u m k same mutex fresh ready =
 
 -- a queue has the ticket exactly if a task waits with it
 pub ticket_told :
-    (v : View) (m k : ℕ) (q : QueueView)
+    (v : View) (m k : ℕ) (ws : List Waiter)
     → Ready v
-    → nth v.queues m ≡ Some q
-    → (list_any (has_ticket k) q.waiters ≡ true → (t : ℕ) × (wait_of v.state t ≡ Some (record { mutex = m; ticket = k })))
-    × (((t : ℕ) × (wait_of v.state t ≡ Some (record { mutex = m; ticket = k }))) → list_any (has_ticket k) q.waiters ≡ true)
-ticket_told v m k q ready at = (
-  ticket_waits (wait_of v.state) (stored_at v) m k q.waiters here.sound,
-  λ h. ticket_there (wait_of v.state) (stored_at v) m k h.0 q.waiters h.1 here.sound (here.complete h.0 (waits_for_from (wait_of v.state) h.0 _ h.1)),
+    → Some ws ≡ option_map (λ (q : QueueView). q.waiters) (nth v.queues m)
+    → (list_any (has_ticket k) ws ≡ true → (t : ℕ) × (wait_of v.state t ≡ Some (record { mutex = m; ticket = k })))
+    × (((t : ℕ) × (wait_of v.state t ≡ Some (record { mutex = m; ticket = k }))) → list_any (has_ticket k) ws ≡ true)
+ticket_told v m k ws ready at = (
+  ticket_waits (wait_of v.state) (stored_at v) m k ws here.sound,
+  λ h. ticket_there (wait_of v.state) (stored_at v) m k h.0 ws h.1 here.sound (here.complete h.0 (waits_for_from (wait_of v.state) h.0 _ h.1)),
 )
   where
-    isk : IsMutex v.state m
-    isk = omega (arith, nth_within v.queues m q at, ready.queues_len)
+    -- an unknown mutex has no queue
+    its : (o : Option QueueView) → nth v.queues m ≡ o → Some ws ≡ option_map (λ (q : QueueView). q.waiters) o → IsQueue (wait_of v.state) (stored_at v) m ws
+    its None e none = absurd (none-some ws (sym none))
+    its (Some q) e some =
+        let isk : IsMutex v.state m = omega (arith, nth_within v.queues m q e, ready.queues_len) in
+        subst (IsQueue (wait_of v.state) (stored_at v) m)
+        (ap (λ o. (unwrap_or {T = QueueView} o (record { waiters = []; room = 0 })).waiters) e ∙ sym (same_Some ws q.waiters some)) (ready.queues m isk)
 
-    here : IsQueue (wait_of v.state) (stored_at v) m q.waiters
-    here = subst (λ o. IsQueue (wait_of v.state) (stored_at v) m (unwrap_or {T = QueueView} o (record { waiters = []; room = 0 })).waiters) at (ready.queues m isk)
+    here : IsQueue (wait_of v.state) (stored_at v) m ws
+    here = its (nth v.queues m) refl at

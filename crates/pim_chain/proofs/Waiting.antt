@@ -1,9 +1,9 @@
 -- The queues: who is first, and how a change of one task changes them.
-use Rattle.std.proofs.Common.{◌≡◌, ℕ, eqb, suc, ◌<◌, ◌≤◌, max, true, false, inl, inr, refl, sym, ◌∙◌, ap, subst, arith, le_antisymm, Option, Some, List, [], ◌∷◌, length, map}
+use Rattle.std.proofs.Common.{◌≡◌, ℕ, eqb, suc, ◌<◌, ◌≤◌, max, true, false, inl, inr, refl, sym, ◌∙◌, ap, subst, arith, le_antisymm, Option, Some, None, List, [], ◌∷◌, ◌++◌, ◌+◌, length, length-append, map}
 use Rattle.std.specs.List.{list_any, AllByRecursion, IsDistinct}
 use Rattle.std.proofs.lemmas.Bool.{both_ways, cases_eq, eqb-true, eq-eqb, ne_eqb, cond_both}
 use Rattle.std.proofs.lemmas.List.{length-map}
-use Rattle.std.proofs.lemmas.Option.{same_Some}
+use Rattle.std.proofs.lemmas.Option.{none-some, same_Some}
 use Rattle.std.proofs.lemmas.Map.Steps.{length-le_from_distinct_below}
 use Rattle.std.proofs.Math.Nat.{le-max_left, max-le}
 use Rattle.pim_base.specs.Lists.{holds, insert_by}
@@ -16,9 +16,11 @@ use Rattle.pim_base.specs.declared.steps.Waiter.{Waiter}
 use Rattle.pim_base.proofs.Greatest.{greatest_of, greatest_of-le, le-greatest_of}
 use Rattle.pim_base.proofs.Places.{nth_within}
 use Rattle.pim_base.proofs.Stored.{own_priority-le-local_priority, stored-le-local_priority, local_priority-le, holds_from, from_holds}
+use Rattle.pim_queue.specs.QueueView.{QueueView}
 use Rattle.pim_queue.specs.Waiters.{is_of, without, IsOrdered}
 use Rattle.pim_queue.proofs.Order.{found, all_both, all_each, before_prio, before_itself, all_without, ordered_without, any_without, all_place, ordered_place, any_place_new, any_place}
-use Rattle.pim_chain.specs.Views.{first_prio, waits_for, Shows, IsQueue, WaitsFit}
+use Rattle.pim_chain.specs.Rooms.{total}
+use Rattle.pim_chain.specs.Views.{first_prio, queue_in, waits_for, Shows, IsQueue, WaitsFit}
 use Rattle.pim_chain.proofs.Local.{top, through, heir_at, waits_for_from}
 
 pub waiting_known : (S : State) → IsState S → (t : ℕ) (w : Wait) → wait_of S t ≡ Some w → IsTask S t
@@ -173,7 +175,7 @@ queue_joined wait wait' old new x w ws waits others away now fresh q = record {
     other : (v : Waiter) → Shows wait old w.mutex v → v.task ≡ x → ⊥
     other v k e = away (rw e at (waits_for_from wait v.task _ k.waits))
 
--- ---- there is room for one who isn't in it
+-- ---- there is room for one who waits nowhere
 all_tasks : (P : ℕ → Type 0) (ws : List Waiter) → AllByRecursion (λ w. P w.task) ws → AllByRecursion P (map (λ (w : Waiter). w.task) ws)
 all_tasks P [] h = tt
 all_tasks P (w ∷ ws) h = (h.0, all_tasks P ws h.1)
@@ -191,31 +193,113 @@ distinct_tasks wait stored m (v ∷ vs) ordered shows = (
   distinct_tasks wait stored m vs ordered.1 shows.1,
 )
 
+-- the tasks that wait, queue by queue
+tasks_of : List QueueView → List ℕ
+tasks_of [] = []
+tasks_of (q ∷ qs) = map (λ (w : Waiter). w.task) q.waiters ++ tasks_of qs
+
+length-tasks_of : (qs : List QueueView) → length (tasks_of qs) ≡ total qs
+unfolding tasks_of
+length-tasks_of [] = refl
+length-tasks_of (q ∷ qs) =
+    omega (
+      arith,
+      length-append (map (λ (w : Waiter). w.task) q.waiters) (tasks_of qs),
+      length-map q.waiters (λ (w : Waiter). w.task),
+      length-tasks_of qs,
+    )
+
+all_append : (P : ℕ → Type 0) (xs ys : List ℕ) → AllByRecursion P xs → AllByRecursion P ys → AllByRecursion P (xs ++ ys)
+all_append P [] ys h k = k
+all_append P (x ∷ xs) ys h k = (h.0, all_append P xs ys h.1 k)
+
+distinct_both :
+    (xs ys : List ℕ)
+    → IsDistinct eqb xs
+    → IsDistinct eqb ys
+    → AllByRecursion (λ x. AllByRecursion (λ y. eqb x y ≡ false) ys) xs
+    → IsDistinct eqb (xs ++ ys)
+unfolding IsDistinct
+distinct_both [] ys dx dy apart = dy
+distinct_both (x ∷ xs) ys dx dy apart = (all_append (λ y. eqb x y ≡ false) xs ys dx.0 apart.0, distinct_both xs ys dx.1 dy apart.1)
+
+module _ (wait : ℕ → Option Wait) (stored : ℕ → ℕ) where
+  -- each is the queue of its mutex, the first that of mutex k
+  AreQueues : ℕ → List QueueView → Type 0
+  AreQueues k [] = Unit {0}
+  AreQueues k (q ∷ qs) = IsQueue wait stored k q.waiters × AreQueues (suc k) qs
+
+  queues_from :
+      (k : ℕ) (qs : List QueueView)
+      → ((i : ℕ) → i < length qs → IsQueue wait stored (k + i) (queue_in qs (suc i)))
+      → AreQueues k qs
+  unfolding AreQueues
+  queues_from k [] h = tt
+  queues_from k (q ∷ qs) h =
+      let here : k + 0 ≡ k = omega arith in (
+        rw here at (h 0 (omega arith)),
+        queues_from (suc k) qs (λ i low.
+            let next : k + suc i ≡ suc k + i = omega arith in
+            rw next at (h (suc i) (omega arith))),
+      )
+
+  -- the task waits for mutex k or a later one
+  record WaitsFrom (k t : ℕ) : Type 0 where
+    for : Wait
+    waits : wait t ≡ Some for
+    late : k ≤ for.mutex
+
+  all_wait : (k : ℕ) (qs : List QueueView) → AreQueues k qs → AllByRecursion (WaitsFrom k) (tasks_of qs)
+  unfolding AreQueues tasks_of
+  all_wait k [] h = tt
+  all_wait k (q ∷ qs) h =
+      all_append (WaitsFrom k) _ (tasks_of qs)
+      (all_tasks (WaitsFrom k) q.waiters (all_each (Shows wait stored k) (λ w. WaitsFrom k w.task)
+      (λ w shows. record { for = record { mutex = k; ticket = w.ticket }; waits = shows.waits; late = omega arith }) q.waiters h.0.sound))
+      (all_each (WaitsFrom (suc k)) (WaitsFrom k) (λ t it. record { for = it.for; waits = it.waits; late = omega (arith, it.late) }) (tasks_of qs)
+      (all_wait (suc k) qs h.1))
+
+  -- a task waits for one mutex only
+  all_distinct : (k : ℕ) (qs : List QueueView) → AreQueues k qs → IsDistinct eqb (tasks_of qs)
+  unfolding AreQueues tasks_of IsDistinct
+  all_distinct k [] h = tt
+  all_distinct k (q ∷ qs) h =
+      distinct_both _ (tasks_of qs) (distinct_tasks wait stored k q.waiters h.0.ordered h.0.sound) (all_distinct (suc k) qs h.1)
+      (all_tasks (λ t. AllByRecursion (λ u. eqb t u ≡ false) (tasks_of qs)) q.waiters
+      (all_each (Shows wait stored k) (λ w. AllByRecursion (λ u. eqb w.task u ≡ false) (tasks_of qs)) (λ w shows.
+      all_each (WaitsFrom (suc k)) (λ u. eqb w.task u ≡ false) (λ u it. ne_eqb w.task u (λ e.
+      let same : k ≡ it.for.mutex = ap (λ (x : Wait). x.mutex) (same_Some _ _ (sym shows.waits ∙ ap wait e ∙ it.waits)) in
+      absurd (omega (arith, it.late, same)))) (tasks_of qs) (all_wait (suc k) qs h.1)) q.waiters h.0.sound))
+
+-- all that wait and one that doesn't are at most all tasks
 pub room_for :
-    (S : State) (stored : ℕ → ℕ) (m x : ℕ) (ws : List Waiter)
+    (S : State) (stored : ℕ → ℕ) (x : ℕ) (qs : List QueueView)
     → IsState S
     → IsTask S x
-    → (waits_for (wait_of S) m x ≡ true → ⊥)
-    → IsQueue (wait_of S) stored m ws
-    → length ws < length S.base
+    → wait_of S x ≡ None
+    → ((m : ℕ) → 1 ≤ m → m ≤ length qs → IsQueue (wait_of S) stored m (queue_in qs m))
+    → total qs < length S.base
 unfolding IsDistinct
-room_for S stored m x ws lists known away q =
-    let all : length (0 ∷ x ∷ map (λ (w : Waiter). w.task) ws) ≤ suc (length S.base) =
-    length-le_from_distinct_below (0 ∷ x ∷ map (λ (w : Waiter). w.task) ws) (suc (length S.base)) (
-      (ne_eqb 0 x (λ e. absurd (omega (arith, e, known.0))), each (λ t. eqb 0 t ≡ false) (λ u task _. ne_eqb 0 u.task (λ e. absurd (omega (arith, e, task.0))))),
+room_for S stored x qs lists known idle queues =
+    let all : length (0 ∷ x ∷ tasks_of qs) ≤ suc (length S.base) =
+    length-le_from_distinct_below (0 ∷ x ∷ tasks_of qs) (suc (length S.base)) (
+      (ne_eqb 0 x (λ e. absurd (omega (arith, e, known.0))), each (λ t. eqb 0 t ≡ false) (λ t task _. ne_eqb 0 t (λ e. absurd (omega (arith, e, task.0))))),
       (
-        each (λ t. eqb x t ≡ false) (λ u _ k. ne_eqb x u.task (λ e. away (rw (sym e) at (waits_for_from (wait_of S) u.task _ k.waits)))),
-        distinct_tasks (wait_of S) stored m ws q.ordered q.sound,
+        each (λ t. eqb x t ≡ false) (λ t _ it. ne_eqb x t (λ e. none-some it.for (sym idle ∙ ap (wait_of S) e ∙ it.waits))),
+        all_distinct (wait_of S) stored 1 qs are,
       ),
     )
     (λ k h.
-    let it = found (eqb k) (λ t. t < suc (length S.base)) (0 ∷ x ∷ map (λ (w : Waiter). w.task) ws) h
-    (omega arith, (omega (arith, known.1), each (λ t. t < suc (length S.base)) (λ u task _. omega (arith, task.1)))) in
+    let it = found (eqb k) (λ t. t < suc (length S.base)) (0 ∷ x ∷ tasks_of qs) h
+    (omega arith, (omega (arith, known.1), each (λ t. t < suc (length S.base)) (λ t task _. omega (arith, task.1)))) in
     rw (eqb-true k it.one it.passes) it.holds) in
-    omega (arith, all, length-map ws (λ (w : Waiter). w.task))
+    omega (arith, all, length-tasks_of qs)
   where
-    each :
-        (P : ℕ → Type 0)
-        → ((u : Waiter) → IsTask S u.task → Shows (wait_of S) stored m u → P u.task)
-        → AllByRecursion P (map (λ (w : Waiter). w.task) ws)
-    each P h = all_tasks P ws (all_each _ _ (λ u k. h u (waiting_known S lists u.task _ k.waits) k) ws q.sound)
+    are : AreQueues (wait_of S) stored 1 qs
+    are = queues_from (wait_of S) stored 1 qs (λ i low.
+        let e : suc i ≡ 1 + i = omega arith in
+        subst (λ n. IsQueue (wait_of S) stored n (queue_in qs (suc i))) e (queues (suc i) (omega arith) (omega arith)))
+
+    each : (P : ℕ → Type 0) → ((t : ℕ) → IsTask S t → WaitsFrom (wait_of S) stored 1 t → P t) → AllByRecursion P (tasks_of qs)
+    each P h =
+        all_each (WaitsFrom (wait_of S) stored 1) P (λ t it. h t (waiting_known S lists t it.for it.waits) it) (tasks_of qs) (all_wait (wait_of S) stored 1 qs are)

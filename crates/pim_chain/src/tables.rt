@@ -1,7 +1,8 @@
 //! What is owned and waited for, with the stored priorities and the queues.
 
 ghost use Rattle.std.specs.Prelude.{◌≡◌, ◌≢◌, ◌≤◌, ◌<◌, ◌+◌, ◌-◌, ◌↔◌, IsTrue, length, IfOk, None, Some, true, false, ℕ};
-ghost use Rattle.std.specs.Option.{option_copied};
+ghost use Rattle.std.specs.Option.{option_copied, option_map};
+ghost use Rattle.pim_queue.specs.QueueView.{QueueView};
 ghost use Rattle.pim_base.specs.declared.limits.TheConstants.{MAX_TASKS, MAX_MUTEXES, MAX_COUNT};
 ghost use Rattle.pim_base.specs.Lists.{nth, first_item, put};
 ghost use Rattle.pim_base.specs.State.{IsTask, IsMutex, base_of, protocol_of, owner_of, count_of, first_count, owned, wait_of, is_recursive, with_owner, with_count, with_base, with_protocol, with_ceiling};
@@ -240,9 +241,9 @@ impl Tables {
         nth(&self.stored, task.get())
     }
 
-    /// Returns the queue of the mutex, `None` for an unknown one.
+    /// Returns the queue of the mutex, `None` for an unknown one. Its waiters are promised, and not its room.
     pub fn queue(&self, mutex: MutexNo) -> Option<&Queue>
-        ensures { option_copied result ≡ nth self.now.queues mutex }
+        ensures { option_map (λ (q : QueueView). q.waiters) (option_copied result) ≡ option_map (λ (q : QueueView). q.waiters) (nth self.now.queues mutex) }
     {
         self.queues.get(mutex)
     }

@@ -230,8 +230,8 @@ impl Manager {
     /// The visits count the priorities that were computed. There are at least as many as tasks whose effective
     /// priority differs then, and at most one more and two for each mutex whose owner differs. The other work is
     /// bounded, too: a visit reads each mutex of its task once, a task whose priority is stored or that joins or
-    /// leaves a queue shifts at most the waiters of that queue, and the deadlock test of a lock makes at most as many
-    /// hops as there are tasks.
+    /// leaves a queue shifts at most the waiters of that queue, one that joins a queue without room looks at each queue
+    /// twice at most and copies the waiters of two, and the deadlock test makes at most as many hops as there are tasks.
     pub fn step(&mut self, step: Step) -> Done
         ensures reply { result.reply ≡ reply_of self.old step }
         ensures state { self.new ≡ after self.old step }

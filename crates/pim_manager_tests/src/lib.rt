@@ -24,6 +24,8 @@ mod priorities;
 #[cfg(test)]
 mod queue;
 #[cfg(test)]
+mod rooms;
+#[cfg(test)]
 mod sets;
 #[cfg(test)]
 mod sizes;

@@ -1,8 +1,6 @@
 use Rattle.std.proofs.Common.{◌∙◌, ap, Some}
-use Rattle.std.specs.Option.{option_map}
 use Rattle.pim_base.specs.State.{State}
 use Rattle.pim_base.specs.Queues.{queue_of}
-use Rattle.pim_queue.specs.QueueView.{QueueView}
 use Rattle.pim_manager.specs.Known.{of_mutex}
 use Rattle.pim_manager.proofs.Shown.{queue_shown, queue_in_order}
 use Rattle.pim_manager.proofs.manager.Manager.waiters.Goals as goal
@@ -11,7 +9,7 @@ pub returns-in-Some : goal.returns-in-Some
 returns-in-Some c =
     let queue =
     ap Some c.as_slice.ensures.waiters
-    ∙ ap (option_map (λ (q : QueueView). q.waiters)) c.in-Some.ensures
+    ∙ c.in-Some.ensures
     ∙ queue_shown c.self.inside.tables c.args.mutex c.self.invariant.calm
     ∙ ap (λ (S : State). of_mutex S c.args.mutex (queue_of S c.args.mutex)) c.self.view_is in
     let in_order =
