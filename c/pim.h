@@ -97,7 +97,9 @@
  *
  *   pim_make             640   allocates some m blocks, and fills them
  *   pim_drop             192   gives them back
- *   pim_lock             512   n hops at most for the test of deadlock, a queue, and the walk
+ *   pim_lock             512   n hops at most for the test of deadlock, a queue, and the walk. If
+ *                              the queue has no room: looks at each queue, twice at most, and the
+ *                              waiters of two are copied
  *   pim_try              512   the walk
  *   pim_unlock           512   a queue, and at most 2 priorities
  *   pim_release_all      576   a queue and a priority for each mutex that the task owns, and 1 more
@@ -182,8 +184,34 @@ extern "C" {
 
 /* The most bytes that a manager takes from heap/static.c or heap/given.c, where the memory is
  * aligned to 16. */
-#define PIM_MEMORY(tasks, mutexes) \
-    (1152u + 88u * (tasks) + 64u * (mutexes) + 16u * (tasks) * (mutexes))
+#define PIM_MEMORY(tasks, mutexes) PIM_MEMORY_((tasks), (mutexes))
+#define PIM_MEMORY_(n, m)                                                                          \
+    (912u + 16u * (2u * PIM_UNITS_(2u * (n)) + PIM_UNITS_(2u * PIM_GROWN_(n)) +                    \
+                   PIM_UNITS_(72u * ((n) < 4u ? 4u : (n))) + 2u * PIM_UNITS_(4u * (m)) +           \
+                   PIM_UNITS_(4u * PIM_GROWN_(m)) + PIM_UNITS_(1u * (m)) + 2u * (m) +              \
+                   PIM_WAITERS_(n, m)))
+/* The room of a list that grew to n items: pim_make reads the bases and the protocols into such. */
+#define PIM_GROWN_(n)                                                                              \
+    ((n) < 5u ? 4u : (n) < 9u ? 8u : (n) < 17u ? 16u : (n) < 33u ? 32u : (n) < 65u ? 64u :         \
+     (n) < 129u ? 128u : 256u)
+#define PIM_UNITS_(bytes) (((bytes) + 15u) / 16u)
+
+/* For how many waiters there is room: in the queue of the mutex k for tasks / k of them, but for
+ * tasks / 32 at least, and in those behind the queue number `tasks` for none. */
+#define PIM_WAITERS_(n, m) (1u * (n) * (m) < PIM_MOST_(n) ? 1u * (n) * (m) : PIM_MOST_(n))
+#define PIM_MOST_(n)                                                                               \
+    (PIM_SUM_(n) + PIM_MORE_(n, 2u) + PIM_MORE_(n, 3u) + PIM_MORE_(n, 4u) + PIM_MORE_(n, 5u) +     \
+     PIM_MORE_(n, 6u) + PIM_MORE_(n, 7u) + PIM_MORE_(n, 8u))
+/* How many queues have room for j only because that is tasks / 32. */
+#define PIM_MORE_(n, j) ((n) < 32u * (j) ? 0u : (n) - (n) / (j))
+/* The sum of n / k for all k up to n: each point under the hyperbola is counted at one of its
+ * coordinates up to the root of n, which is 16 at most. */
+#define PIM_SUM_(n)                                                                                \
+    (PIM_AT_(n, 1u) + PIM_AT_(n, 2u) + PIM_AT_(n, 3u) + PIM_AT_(n, 4u) + PIM_AT_(n, 5u) +          \
+     PIM_AT_(n, 6u) + PIM_AT_(n, 7u) + PIM_AT_(n, 8u) + PIM_AT_(n, 9u) + PIM_AT_(n, 10u) +         \
+     PIM_AT_(n, 11u) + PIM_AT_(n, 12u) + PIM_AT_(n, 13u) + PIM_AT_(n, 14u) + PIM_AT_(n, 15u) +     \
+     PIM_AT_(n, 16u))
+#define PIM_AT_(n, k) ((n) < (k) * (k) ? 0u : 2u * ((n) / (k)) + 1u - 2u * (k))
 
 /* ---- the handle ------------------------------------------------------------------------------ */
 

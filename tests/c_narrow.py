@@ -81,16 +81,16 @@ def symbols(exports):
 
 
 def small(folder):
-    """16 tasks and 32 mutexes in 20 KB, without a C library."""
+    """16 tasks and 32 mutexes in 8 KB, without a C library."""
     made, script = f"{folder}/small", f"{folder}/smaller.ld"
     status, out = linked(made, NARROW / "small.ld")
     if status:
-        return check("16 tasks and 32 mutexes in 20 KB are linked", said(out))
-    expect("16 tasks and 32 mutexes in 20 KB", CORTEX_M3.run(made))
+        return check("16 tasks and 32 mutexes in 8 KB are linked", said(out))
+    expect("16 tasks and 32 mutexes in 8 KB", CORTEX_M3.run(made))
     with open(script, "w") as file:
-        file.write((NARROW / "small.ld").read_text().replace("LENGTH = 20K", "LENGTH = 12K"))
+        file.write((NARROW / "small.ld").read_text().replace("LENGTH = 8K", "LENGTH = 4K"))
     status, out = linked(made, script)
-    check("12 KB aren't enough", None if status and b"overflowed" in out else f"status {status}")
+    check("4 KB aren't enough", None if status and b"overflowed" in out else f"status {status}")
 
 
 def linked(made, script):

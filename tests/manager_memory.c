@@ -9,7 +9,11 @@
 _Static_assert(PIM_MEMORY(1 + 2, 4 + 1) == PIM_MEMORY(3, 5), "sums as arguments");
 _Static_assert(PIM_MEMORY(1 ? 3 : 4, 1 ? 5 : 6) == PIM_MEMORY(3, 5), "conditions as arguments");
 _Static_assert(2 * PIM_MEMORY(3, 5) == PIM_MEMORY(3, 5) + PIM_MEMORY(3, 5), "a part of a product");
-_Static_assert(PIM_MEMORY(3, 5) == 1152 + 88 * 3 + 64 * 5 + 16 * 15, "the sum by hand");
+_Static_assert(PIM_MEMORY(3, 5) == 912 + 16 * (3 + 18 + 2 * 2 + 2 + 1 + 10 + 5), "3, 1 and 1 waiters");
+_Static_assert(PIM_MEMORY(256, 1) == 912 + 16 * (3 * 32 + 1152 + 3 + 1 + 2 + 256), "all tasks");
+_Static_assert(PIM_MEMORY(12, 20) == 912 + 16 * (3 * 2 + 54 + 2 * 5 + 8 + 2 + 40 + 35), "12 queues");
+_Static_assert(PIM_MEMORY(96, 96) == 912 + 16 * (2 * 12 + 16 + 432 + 2 * 24 + 32 + 6 + 192 + 571), "3");
+_Static_assert(PIM_MEMORY(32, 64) <= 8192, "a small kernel's");
 
 static _Alignas(16) unsigned char memory[PIM_MEMORY(256, 256)];
 

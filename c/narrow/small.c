@@ -1,4 +1,4 @@
-/* 16 tasks and 32 mutexes on a Cortex-M3 that has 20 KB of memory, without a C library. It ends with
+/* 16 tasks and 32 mutexes on a Cortex-M3 that has 8 KB of memory, without a C library. It ends with
  * status 0 where each answer is the right one, else with the number of the first that isn't. */
 #include "pim_heap_given.h"
 

@@ -1,9 +1,9 @@
-/* 64 KB of flash at 0 and 20 KB of memory at 0x20000000, of which the stack has what is left. */
+/* 64 KB of flash at 0 and 8 KB of memory at 0x20000000, of which the stack has what is left. */
 ENTRY(start)
 MEMORY
 {
     flash (rx) : ORIGIN = 0, LENGTH = 64K
-    memory (rwx) : ORIGIN = 0x20000000, LENGTH = 20K
+    memory (rwx) : ORIGIN = 0x20000000, LENGTH = 8K
 }
 SECTIONS
 {
