@@ -29,6 +29,7 @@ static struct slot slots[SLOTS];
 static int taken;        /* slots */
 static size_t units;     /* that are used: of the model's room */
 static size_t room;      /* in units */
+static unsigned char *last; /* taken last, which grows in its place; malloc.c has none */
 static unsigned long calls;
 static unsigned char next_seed = 1;
 
@@ -83,9 +84,17 @@ static void check_memory(void) {
 
 static void emptied(void) {
 }
+
+static void took(unsigned char *at) {
+    (void)at;
+}
 #else
 static int fits(size_t bytes) {
     return units_of(bytes) <= room - units;
+}
+
+static void took(unsigned char *at) {
+    last = at;
 }
 
 static void check_memory(void) {
@@ -167,6 +176,7 @@ static void take(size_t bytes, size_t align) {
     check_block(block, align, is_there);
     if (is_there) {
         units += units_of(bytes);
+        took(block.p);
         slots[taken++] = (struct slot){ block.p, bytes, 0 };
         fill(&slots[taken - 1]);
     }
@@ -176,16 +186,22 @@ static void take(size_t bytes, size_t align) {
 static void resize(int s, size_t kept, size_t bytes, size_t align) {
     if (s >= taken) return;
     calls++;
-    int is_there = fits(bytes);
     struct slot was = slots[s];
+    size_t own = was.at == last ? units_of(was.bytes) : 0;
+    units -= own;
+    int is_there = fits(bytes);
     if (kept > was.bytes) kept = was.bytes;
     struct pim_block block = rattle_realloc(was.at, kept, bytes, align);
     check_block(block, align, is_there);
     if (is_there) {
+        must(own == 0 || block.p == was.at, "the block that was taken last moved");
+        took(block.p);
         slots[s] = (struct slot){ block.p, bytes, was.seed };
         must(holds(&slots[s], kept < bytes ? kept : bytes), "a block lost bytes as it was resized");
         units += units_of(bytes);
         fill(&slots[s]);
+    } else {
+        units += own;
     }
     check_all();
 }
