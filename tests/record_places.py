@@ -131,6 +131,48 @@ GUARDED = {1: ["granted GUARD", "release GUARDED", "granted LOCK", "release UNLO
 BUILDS = [("g++", "-O0"), ("g++", "-Og"), ("g++", "-O1"), ("g++", "-O2"), ("clang++", "-O0"),
           ("clang++", "-O2", "-gdwarf-aranges"), ("g++", "-O0", "-static-libstdc++", "-static-libgcc")]
 LIBCXX = "clang++", "-O0", "-stdlib=libc++"  # its timed and shared mutexes are of a mutex and a condition variable
+# Each predicate is a part of std::condition_variable::wait. The frame of the inner one is shorter in each second call. So
+# where it returned to in the call before, there is in one of these calls to which place the outer one returns.
+PREDICATES = """#include <alloca.h>
+#include <condition_variable>
+#include <mutex>
+static std::mutex map_lock, route_lock;
+static pthread_mutex_t flag = PTHREAD_MUTEX_INITIALIZER;
+static std::condition_variable moved;
+struct Ready {
+    int bytes;
+    __attribute__((always_inline)) bool operator()() const {
+        volatile char *array = (volatile char *)alloca(bytes);
+        array[0] = 1;
+        pthread_mutex_lock(&flag);
+        pthread_mutex_unlock(&flag);
+        return true;
+    }
+};
+static void wait_for(int bytes) {
+    std::unique_lock<std::mutex> lock(route_lock); // ENTER
+    moved.wait(lock, Ready{bytes}); // WAIT
+} // LEAVE
+struct Arrived {
+    __attribute__((always_inline)) bool operator()() const {
+        pthread_mutex_lock(&flag);
+        pthread_mutex_unlock(&flag);
+        for (int less = 0; less < 1024; less += 16) {
+            wait_for(2048);
+            wait_for(2048 - less);
+        }
+        wait_for(3000000);
+        return true;
+    }
+};
+static void arrive() {
+    std::unique_lock<std::mutex> lock(map_lock); // BEGIN
+    moved.wait(lock, Arrived{}); // ARRIVE
+} // END
+int main() {
+    arrive();
+}
+"""
 FORKS = """#include <dlfcn.h>
 #include <pthread.h>
 #include <sys/wait.h>
@@ -324,6 +366,18 @@ def guarded(broken, folder):
         joins = told(path, ("guards.cpp", GUARDS.read_text()), but=[*CALLS_OF_MUTEXES, reader.GIVE]).get(1, ())
         is_named = all(words.split()[1] == "JOIN" for words in joins)  # there is none if the thread has ended
         check(f"the place of a join by {name}", None if is_named else f"{joins}")
+
+
+def in_predicates(broken, folder):
+    """A predicate that locks, in a wait of C++ whose frame it makes longer, has the place of the wait."""
+    program = compiled(folder, "predicates.cpp", PREDICATES, "-O0", compiler="g++")
+    if not program:
+        return skip("the places of locks in predicates", "there is no g++")
+    done, path = recorded(folder, program)
+    inner = ["granted ENTER", "granted WAIT", "release WAIT", "release LEAVE"] * (1024 // 16 * 2 + 1)
+    wanted = {1: ["granted BEGIN", "granted ARRIVE", "release ARRIVE", *inner, "release END"]}
+    return check("the places of locks in predicates", difference((done.returncode,), (0,)) or broken(read(reader, path)) or
+                 same(told(path, ("predicates.cpp", PREDICATES)), wanted, False))
 
 
 def of_main(got):
@@ -579,7 +633,7 @@ def files(folder):
 
 def places(attempt, broken, folder):
     """Each part in a folder of its own."""
-    of_logs = (lines, inlined, guarded, forked, full, latest, facts, named)
+    of_logs = (lines, inlined, guarded, in_predicates, forked, full, latest, facts, named)
     if not any(map(shutil.which, places_text.SYMBOLIZERS)):
         skip("the lines of places", "there is no addr2line")
         of_logs = (full,)

@@ -243,7 +243,8 @@ EXPORT int pthread_mutex_init(pthread_mutex_t *mutex, const pthread_mutexattr_t 
     if (error || !is_told) return error;
     struct record init = of_address(EVENT_INIT, 0, mutex);
     init.detail = inner_detail_of_attributes(attributes);
-    log_put_both(init, (struct record){ .event = EVENT_PLACE, .object = places_caller(CALLER) });
+    uint64_t place = places_caller(CALLER);
+    log_put_both(init, (struct record){ .event = EVENT_PLACE, .object = place ? place : *CALLER });
     return 0;
 }
 

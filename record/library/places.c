@@ -8,16 +8,17 @@ static uint64_t known_number(uint64_t place) {
     uint64_t slot = places_slot(place);
     for (int i = 0; i < PLACE_PROBES; i++, slot = (slot + 1) % PLACE_SLOTS) {
         uint64_t there = atomic_load_explicit(&log_header->places[slot], memory_order_relaxed);
-        if (there == place) return slot + 1;
         if (there == 0) break;
+        if (there == place) return slot + 1;
     }
     return 0;
 }
 
-/* Returns the number of a place, which is added where it is new; or 0 where there is no room. */
+/* Returns the number of a place, which is added where it is new; or 0 where there is no room, or the
+ * place is 0. */
 static uint64_t number_of(uint64_t place) {
     uint64_t slot = places_slot(place);
-    for (int i = 0; i < PLACE_PROBES; i++, slot = (slot + 1) % PLACE_SLOTS) {
+    for (int i = 0; place && i < PLACE_PROBES; i++, slot = (slot + 1) % PLACE_SLOTS) {
         _Atomic uint64_t *at = &log_header->places[slot];
         uint64_t there = atomic_load_explicit(at, memory_order_relaxed);
         if (there == 0 && atomic_compare_exchange_strong(at, &there, place)) there = place;

@@ -3,8 +3,8 @@
  * read and filled without a lock, by all threads and processes of the log.
  *
  * A call that a function of the C++ library makes for its caller has the place of the caller:
- * wrappers.h. The table has no place in such a function, unless its caller can't be found. So what
- * is in the first slot of its hash needs no further look. */
+ * wrappers.h. The table has no place in such a function. So what is in the first slot of its hash
+ * needs no further look. */
 #ifndef PIM_PLACES_H
 #define PIM_PLACES_H
 
@@ -25,7 +25,8 @@ enum {
 
 _Static_assert(PLACE_SLOTS == 1 << (32 - PLACE_HASH_SHIFT), "the upper bits of a hash are a slot");
 
-/* Returns the place of a call, by the slot of the stack where it is said. */
+/* Returns the place of a call, by the slot of the stack where it is said. It is 0 in a function of
+ * the C++ library whose caller isn't found. */
 uint64_t places_caller(const uintptr_t *caller);
 
 /* Returns the object of a record: an address, with the number of a place in the bits above. Where

@@ -66,10 +66,11 @@ void stacks_put(uint64_t place, uint64_t time) {
     while (at < count && wrappers_have((uintptr_t)found[at])) at++;
     bool is_whole = count < MOST_FRAMES;
     while (is_whole && count > at && is_of_start((uintptr_t)found[count - 1])) count--;
-    for (uint32_t index = 1; index <= MOST_CALLERS && ++at < count; index++) {
+    for (uint32_t index = 1; index <= MOST_CALLERS && ++at < count;) {
+        if (wrappers_have((uintptr_t)found[at])) continue;
         uint64_t object = places_numbered(0, (uintptr_t)found[at]);
         log_write((struct record){
-            .event = EVENT_FRAME, .object = object, .value = index, .time = time });
+            .event = EVENT_FRAME, .object = object, .value = index++, .time = time });
     }
     errno = error;
 }

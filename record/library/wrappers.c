@@ -17,6 +17,7 @@ enum {
     STEPS = 1024,
     STEP_SHIFT = 22,
     STEP_PROBES = 8,
+    MOST_STEP = 4096, /* bytes */
     MOST_FRAMES = 8 + MOST_WRAPPERS, /* of this library there are fewer than 8 */
 };
 
@@ -28,6 +29,7 @@ bool wrappers_are_known;
 
 struct range {
     uintptr_t begin, end;
+    bool has_fixed_frame;
 };
 
 static struct range *ranges; /* in ascending order once all are found */
@@ -74,6 +76,62 @@ static bool is_wrapper(const char *name) {
     return strncmp(name, "_Z", 2) == 0 && locks_for_caller(name + 2);
 }
 
+/* Passes "St", or what stands for a part of the name before, as "S_" or "S1_". Returns NULL where
+ * it is neither. */
+static const char *pass_prefix(const char *name) {
+    if (*name++ != 'S') return NULL;
+    if (*name == 't') return name + 1;
+    name += strspn(name, "0123456789ABCDEFGHIJKLMNOPQRSTUVWXYZ");
+    return *name == '_' ? name + 1 : NULL;
+}
+
+/* Passes as many identifiers as there are. Returns NULL where the name ends within one. */
+static const char *pass_identifiers(const char *name) {
+    while (*name >= '0' && *name <= '9') {
+        char *text;
+        size_t length = strtoul(name, &text, 10);
+        if (strnlen(text, length) < length) return NULL;
+        name = text + length;
+    }
+    return name;
+}
+
+/* Passes the arguments of a template, up to their E, if all are of namespace std. Returns NULL
+ * where they aren't, or it isn't sure. */
+static const char *pass_standard(const char *name) {
+    while (name && *name != 'E') {
+        bool is_nested = *name == 'N', is_pack = *name == 'J';
+        name = is_pack ? pass_standard(name + 1) : pass_prefix(name + is_nested);
+        if (name && !is_pack) name = pass_identifiers(name);
+        if (name && is_nested) name = *name == 'E' ? name + 1 : NULL;
+    }
+    return name ? name + 1 : NULL;
+}
+
+/* Passes a part of a nested name: identifiers, also of a static function or with a tag, the
+ * arguments of a template, the number of a constructor or destructor. Returns NULL where it is
+ * something else, or has an argument of the program. */
+static const char *pass_part(const char *name) {
+    if (*name == 'S') return pass_prefix(name);
+    if (*name == 'I') return pass_standard(name + 1);
+    if ((*name == 'C' || *name == 'D') && name[1]) return name + 2;
+    name += *name == 'L' || *name == 'B';
+    return *name >= '0' && *name <= '9' ? pass_identifiers(name) : NULL;
+}
+
+/* Returns whether the frame of such a function has a fixed size, by its mangled name: it can't have
+ * code of the program inlined, as a predicate with an array of a size of its own, since none of its
+ * arguments is of the program. */
+static bool has_fixed_frame(const char *name) {
+    size_t qualifiers = 2 + strspn(name + 2, "ZNKVROL");
+    bool is_nested = memchr(name, 'N', qualifiers) != NULL;
+    name += qualifiers;
+    while (is_nested && name && *name != 'E') name = pass_part(name);
+    if (is_nested) return name != NULL;
+    name = pass_identifiers(strncmp(name, "St", 2) == 0 ? name + 2 : name);
+    return name && (*name != 'I' || pass_standard(name + 1));
+}
+
 /* Makes room for further ranges. malloc may be the program's own. */
 static bool make_room(void) {
     size_t room = range_room ? 2 * range_room : FIRST_RANGES;
@@ -87,9 +145,9 @@ static bool make_room(void) {
     return true;
 }
 
-static void add_range(uintptr_t begin, size_t bytes) {
+static void add_range(uintptr_t begin, size_t bytes, const char *name) {
     if (range_count == range_room && !make_room()) return;
-    ranges[range_count++] = (struct range){ begin, begin + bytes };
+    ranges[range_count++] = (struct range){ begin, begin + bytes, has_fixed_frame(name) };
 }
 
 /* Adds the functions of a file that is loaded. One that is stripped has those that it exports. The
@@ -104,8 +162,9 @@ static int add_file(struct dl_phdr_info *info, size_t size, void *is_other) {
     for (size_t at = 0; at < read.count; at++) {
         const ElfW(Sym) *symbol = &read.its[at];
         bool is_function = ELF64_ST_TYPE(symbol->st_info) == STT_FUNC && symbol->st_size;
-        if (is_function && symbol->st_shndx != SHN_UNDEF && is_wrapper(symbols_name(&read, at)))
-            add_range(info->dlpi_addr + symbol->st_value, symbol->st_size);
+        const char *name = symbols_name(&read, at);
+        if (is_function && symbol->st_shndx != SHN_UNDEF && is_wrapper(name))
+            add_range(info->dlpi_addr + symbol->st_value, symbol->st_size, name);
     }
     symbols_forget(&read);
     return 0;
@@ -117,16 +176,22 @@ static int by_begin(const void *one, const void *other) {
     return (begin > its) - (begin < its);
 }
 
-bool wrappers_have(uintptr_t place) {
-    size_t from = 0, to = wrappers_are_known ? range_count : 0;
-    while (from < to) { /* those before `from` begin before the place */
+/* Returns the function in which a call is made that returns to this address, or NULL. */
+static const struct range *range_of(uintptr_t place) {
+    size_t from = 0, to = range_count; /* those before `from` begin before the place */
+    while (from < to) {
         size_t middle = from + (to - from) / 2;
         if (ranges[middle].begin < place)
             from = middle + 1;
         else
             to = middle;
     }
-    return from > 0 && place <= ranges[from - 1].end; /* a call may be a function's last one */
+    /* A call may be a function's last instruction. */
+    return from > 0 && place <= ranges[from - 1].end ? &ranges[from - 1] : NULL;
+}
+
+bool wrappers_have(uintptr_t place) {
+    return range_of(place) != NULL;
 }
 
 /* ---- the unwinder ---- */
@@ -153,8 +218,8 @@ static bool load_unwinder(void) {
 
 /* ---- from a function to its caller ---- */
 
-/* A place in such a function, and how many bytes further on the stack it is where it says to which
- * place the function returns: always as many, since these functions have frames of a fixed size. */
+/* A place in such a function whose frame has a fixed size, and how many bytes further on the stack
+ * it is where it says to which place the function returns. */
 struct step {
     _Atomic uintptr_t place;
     _Atomic uint32_t bytes; /* 0: it isn't known */
@@ -172,13 +237,16 @@ static struct step *step_of(uintptr_t place) {
     return NULL;
 }
 
-/* Keeps a step, unless there is no room, or another thread has just taken it. */
-static void keep(uintptr_t place, uint32_t bytes) {
+/* Keeps a step, unless there is no room, another thread has just taken it, or it isn't one that a
+ * fixed frame makes. */
+static void keep(uintptr_t place, ptrdiff_t bytes) {
     uintptr_t none = 0;
+    const struct range *function = range_of(place);
+    if (!function || !function->has_fixed_frame || bytes <= 0 || bytes > MOST_STEP) return;
     struct step *step = step_of(place);
     if (!step) return;
     if (atomic_compare_exchange_strong(&step->place, &none, place) || none == place)
-        atomic_store_explicit(&step->bytes, bytes, memory_order_relaxed);
+        atomic_store_explicit(&step->bytes, (uint32_t)bytes, memory_order_relaxed);
 }
 
 uintptr_t wrappers_pass(const uintptr_t *at) {
@@ -217,7 +285,7 @@ static _Unwind_Reason_Code look(struct _Unwind_Context *frame, void *of) {
     if (++walk->frames > MOST_FRAMES) return _URC_END_OF_STACK;
     if (!walk->before && place != walk->call) return _URC_NO_REASON;
     const uintptr_t *at = slot_of(frame);
-    if (walk->at && at) keep(walk->before, (uint32_t)(at - walk->at) * sizeof *at);
+    if (walk->at && at) keep(walk->before, (const char *)at - (const char *)walk->at);
     walk->before = place;
     walk->at = at;
     if (wrappers_have(place)) return _URC_NO_REASON;
@@ -230,7 +298,7 @@ uintptr_t wrappers_unwind(const uintptr_t *at) {
     int error = errno;
     unwind(look, &walk);
     errno = error;
-    return walk.caller ? walk.caller : walk.call;
+    return walk.caller;
 }
 
 void wrappers_find(void) {

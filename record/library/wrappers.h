@@ -21,11 +21,11 @@ void wrappers_find(void);
 bool wrappers_have(uintptr_t place);
 
 /* Returns to which place the outermost of these functions returns in which the call is made, by the
- * unwinder; or the call's own place where it finds no other. `at` is where that is on the stack. */
+ * unwinder; or 0 where it finds none. `at` is where the call's own place is on the stack. */
 uintptr_t wrappers_unwind(const uintptr_t *at);
 
-/* Returns the same without it, if it has passed these functions before. What it never returned may
- * be wrong. */
+/* Returns the same without it, if it has passed these functions before and their frames have a fixed
+ * size; or a place in one of them. */
 uintptr_t wrappers_pass(const uintptr_t *at);
 
 #endif
