@@ -4,7 +4,6 @@ use crate::arguments::Arguments;
 use crate::fault::Fault;
 use crate::files::{is_file, read_file};
 use pim_comparison::{compare, waits_of};
-use pim_findings::FoundWait;
 use pim_futex_waits::{FutexWait, futex_waits_of, longest_first};
 use pim_import::Imported;
 use pim_kernel_events::{Recording, TextFault, Tracks};
@@ -123,17 +122,10 @@ fn futexes_in(
     }
     let found = futex_waits_of(alloc, recording)?;
     let ids = &imported.sources.ids;
-    let mut waits = unlogged(alloc, log, ids, waits_listed(imported), &found.waits)?;
+    let mutex_waits = &imported.built.findings.waits;
+    let mut waits = unlogged(alloc, log, ids, mutex_waits, &found.waits)?;
     longest_first(&mut waits)?;
     Ok(Some(waits))
-}
-
-/// Returns the waits for mutexes, which are all listed where the events have waits for futexes.
-fn waits_listed(imported: &Imported) -> &[FoundWait] {
-    match &imported.built.findings.waits.all {
-        Some(waits) => waits.as_slice(),
-        None => &[],
-    }
 }
 
 /// Returns whether the form of the events has waits for futexes.

@@ -1,13 +1,18 @@
 -- Which waits for futexes a log doesn't have.
-use Rattle.std.specs.Prelude.{◌≡◌, ℕ, ◌+◌, min, Bool, List, ◌++◌, if◌then◌else◌, Option, is_none, slice_get, filter_map}
-use Rattle.std.specs.Option.{option_map}
+use Rattle.std.specs.Prelude.{◌≡◌, ℕ, ◌+◌, min, Bool, List, [], ◌++◌, if◌then◌else◌, Option, is_none, slice_get, filter_map}
+use Rattle.std.specs.Option.{option_map, option_map_or}
 use Rattle.pim_facts.specs.declared.ids.Ids.{Ids}
 use Rattle.pim_findings.specs.declared.found_wait.FoundWait.{FoundWait}
+use Rattle.pim_findings.specs.declared.found_waits.FoundWaits.{FoundWaits}
 use Rattle.pim_other_waits.specs.declared.wait.OtherWait.{OtherWait}
 use Rattle.pim_other_waits.specs.Records.{AreOtherWaits}
 use Rattle.pim_futex_waits.specs.declared.spans.Span.{Span}
 use Rattle.pim_futex_waits.specs.declared.wait.FutexWait.{FutexWait}
 use Rattle.pim_futex_waits.specs.Outside.{outside}
+
+-- the waits for mutexes that are listed: all, if that was asked for
+abbrev pub listed : FoundWaits → List FoundWait
+listed waits = option_map_or (λ all. all.items) waits.all []
 
 -- the end of a wait: one that lasts at the end of the log goes on for ever
 abbrev pub until_of : ℕ → ℕ → Bool → ℕ

@@ -1,17 +1,17 @@
 //! When threads waited, by a log.
 ghost use Rattle.std.specs.Prelude.{◌≡◌, ◌++◌, IfOk};
 ghost use Rattle.std.specs.Option.{option_to_list};
-ghost use Rattle.pim_unlogged.specs.Logged.{AreUnlogged, logged_spans, span_of, span_of_found, span_of_other};
+ghost use Rattle.pim_unlogged.specs.Logged.{AreUnlogged, listed, logged_spans, span_of, span_of_found, span_of_other};
 
 use pim_facts::Ids;
-use pim_findings::FoundWait;
+use pim_findings::{FoundWait, FoundWaits};
 use pim_futex_waits::{FutexWait, Span, outside};
 use pim_log::Log;
 use pim_other_waits::{OtherWait, other_waits_of};
 use std::alloc::{AllocError, Global};
 
 /// Returns those of the waits for futexes that have no time in common with a wait of their threads in the log: with one of
-/// these waits for mutexes, or with one of a real-time thread for anything else.
+/// the waits for mutexes that are listed, or with one of a real-time thread for anything else.
 ///
 /// # Errors
 ///
@@ -20,14 +20,24 @@ pub fn unlogged(
     alloc: Global,
     log: &Log,
     ids: &Ids,
-    mutex_waits: &[FoundWait],
+    mutex_waits: &FoundWaits,
     waits: &[FutexWait],
 ) -> Result<Vec<FutexWait>, AllocError>
-    ensures { IfOk result (λ kept. AreUnlogged log.now ids.now mutex_waits.now waits.now kept.items) }
+    ensures { IfOk result (λ kept. AreUnlogged log.now ids.now (listed mutex_waits.now) waits.now kept.items) }
 {
     let others = other_waits_of(alloc, log, ids)?;
-    let spans = logged_spans(alloc, ids, mutex_waits, &others)?;
+    let spans = logged_spans(alloc, ids, listed(mutex_waits), &others)?;
     outside(alloc, waits, &spans)
+}
+
+/// Returns the waits for mutexes that are listed.
+fn listed(waits: &FoundWaits) -> &[FoundWait]
+    ensures { result.now ≡ listed waits.now }
+{
+    match &waits.all {
+        Some(all) => all.as_slice(),
+        None => &[],
+    }
 }
 
 /// Returns when threads waited for mutexes, and for anything else.
