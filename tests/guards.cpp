@@ -2,6 +2,7 @@
 #include <chrono>
 #include <condition_variable>
 #include <mutex>
+#include <random>
 #include <shared_mutex>
 #include <thread>
 
@@ -40,6 +41,23 @@ static void again() {
     log_lock.unlock(); // LEAVE
 } // RETURN
 
+struct Noise {
+    using result_type = unsigned;
+    static constexpr unsigned min() { return 0; }
+    static constexpr unsigned max() { return 1; }
+    void discard(unsigned long long) {}
+    [[gnu::always_inline]] unsigned operator()() {
+        std::lock_guard<std::mutex> guard(map_lock); // GENERATE
+        return steps & 1;
+    } // GENERATED
+};
+
+// The function of the library that has this operator inlined locks for nobody, though its class says "lock".
+static void generate() {
+    std::discard_block_engine<Noise, 1, 1> noise;
+    steps = steps + noise();
+}
+
 static void timed() {
     std::unique_lock<std::timed_mutex> lock(sensor, std::chrono::seconds(1)); // TIMED
     steps = steps + 1;
@@ -73,6 +91,7 @@ int main() {
     by_hand();
     both();
     again();
+    generate();
     timed();
     shared();
     wait();

@@ -124,8 +124,9 @@ GUARDS = pathlib.Path(__file__).parent / "guards.cpp"
 WAITED = ["condition", "release", "granted"]
 GUARDED = {1: ["granted GUARD", "release GUARDED", "granted LOCK", "release UNLOCK", "granted TRY", "release TRIED",
                "granted OWN", "release OWNED", *["granted BOTH"] * 2, *["release LEFT"] * 2,
-               "granted OUTER", "granted INNER", "release LEAVE", "release RETURN", "granted TIMED", "release READ",
-               "give FREE", "granted ENTER", *[f"{event} WAIT_FOR" for event in WAITED],
+               "granted OUTER", "granted INNER", "release LEAVE", "release RETURN", "granted GENERATE",
+               "release GENERATED", "granted TIMED", "release READ", "give FREE", "granted ENTER",
+               *[f"{event} WAIT_FOR" for event in WAITED],
                *[f"{event} WAIT" for event in WAITED], "release LEAVE_IT"],
            2: ["granted MOVE", "give NOTIFY", "release MOVED"]}
 BUILDS = [("g++", "-O0"), ("g++", "-Og"), ("g++", "-O1"), ("g++", "-O2"), ("clang++", "-O0"),
@@ -171,6 +172,22 @@ static void arrive() {
 } // END
 int main() {
     arrive();
+}
+"""
+# Mangled names: of functions that lock or wait for their callers, and of others whose names are alike.
+LOCKING = ["_ZNSt5mutex4lockEv", "_ZNSt10lock_guardISt5mutexED2Ev", "_ZSt4lockISt5mutexS0_JEEvRT_RT0_DpRT1_",
+           "_ZN9__gnu_cxx13__scoped_lockD2Ev", "_ZL20__gthread_mutex_lockP15pthread_mutex_t",
+           "_ZNSt3_V222condition_variable_any10notify_oneEv", "_ZNSt3__119__shared_mutex_base4lockEv",
+           "_ZNSt3__18__unlockINS_5mutexES1_EEvRT_RT0_", "_ZNSt6thread4joinEv"]
+OTHERS = ["_ZNSt20discard_block_engineI5NoiseLm1ELm1EEclEv", "_ZNSt10lock_errorD2Ev", "_ZSt6uniqueIPiET_S1_S1_",
+          "_ZN9__gnu_cxx24__concurrence_lock_errorD2Ev", "_ZNSt6thread6detachEv", "_ZNKSt6thread8joinableEv",
+          "_ZSt5clockv", "_ZN5fleet5mutex4lockEv", "_ZN5fleet10lock_guardISt5mutexED2Ev"]
+PRINT_LOCKING = """#include "wrappers.c"
+#include <stdio.h>
+int main(int count, char **names) {
+    for (int i = 1; i < count; i++)
+        if (is_wrapper(names[i])) puts(names[i]);
+    return 0;
 }
 """
 FORKS = """#include <dlfcn.h>
@@ -357,7 +374,7 @@ def guarded(broken, folder):
         got = told(path, ("guards.cpp", GUARDS.read_text()), but=(reader.REQUEST, reader.WAIT, reader.WAITED))
         got, wanted = of_main(got), GUARDED
         if (compiler, *options) == LIBCXX:
-            alike = GUARDED[1].index("release RETURN") + 1
+            alike = GUARDED[1].index("release GENERATED") + 1
             its = [words for words in got[2] if "libc++" not in words]  # what begins the thread locks, too
             got, wanted = {1: got[1][:alike], 2: its}, {**GUARDED, 1: GUARDED[1][:alike]}
         check(f"the places of locks by {name}", broken(read(reader, path)) or
@@ -366,6 +383,15 @@ def guarded(broken, folder):
         joins = told(path, ("guards.cpp", GUARDS.read_text()), but=[*CALLS_OF_MUTEXES, reader.GIVE]).get(1, ())
         is_named = all(words.split()[1] == "JOIN" for words in joins)  # there is none if the thread has ended
         check(f"the place of a join by {name}", None if is_named else f"{joins}")
+
+
+def locking(folder):
+    """A function of the standard library locks for its caller if its class, or it, is one of some whole names."""
+    source, program = pathlib.Path(folder, "locking.c"), pathlib.Path(folder, "locking")
+    source.write_text(PRINT_LOCKING)
+    built = run("cc", "-I", RECORD / "library", source, RECORD / "library/symbols.c", "-o", program, "-ldl")
+    got = built.stderr.split() if built.returncode else run(program, *LOCKING, *OTHERS).stdout.split()
+    check("the functions of C++ that lock for their callers", difference(got, LOCKING))
 
 
 def in_predicates(broken, folder):
@@ -637,7 +663,7 @@ def places(attempt, broken, folder):
     if not any(map(shutil.which, places_text.SYMBOLIZERS)):
         skip("the lines of places", "there is no addr2line")
         of_logs = (full,)
-    others = (probes, by_hand, words)
+    others = (probes, locking, by_hand, words)
     if len(of_logs) > 1:
         others = (*others, killed, symbolizers, stripped, files)
     for part in (*of_logs, *others):

@@ -35,20 +35,43 @@ struct range {
 static struct range *ranges; /* in ascending order once all are found */
 static size_t range_count, range_room;
 
-/* Returns whether an identifier is that of a class or a function that locks or waits. What calls a
+/* Returns whether an identifier is one of some names, as a whole. */
+static bool is_one_of(const char *const *names, size_t count, const char *name, size_t length) {
+    for (size_t i = 0; i < count; i++)
+        if (strncmp(names[i], name, length) == 0 && !names[i][length]) return true;
+    return false;
+}
+
+/* Returns whether an identifier of namespace std or __gnu_cxx is that of a class or a function that
+ * locks or waits. A part of a name says nothing: std::discard_block_engine has "lock". What calls a
  * function of the program may have it inlined, and isn't: of std::thread there is join alone. */
 static bool is_of_lock(const char *name, size_t length) {
-    static const char *const parts[] = { "mutex", "lock", "condition_variable", "condvar" };
-    for (size_t i = 0; i < sizeof parts / sizeof *parts; i++)
-        if (memmem(name, length, parts[i], strlen(parts[i]))) return true;
-    return strncmp(name, "thread4join", strlen("thread4join")) == 0;
+    static const char *const names[] = {
+        "mutex", "recursive_mutex", "timed_mutex", "recursive_timed_mutex",
+        "shared_mutex", "shared_timed_mutex", "condition_variable", "condition_variable_any",
+        "lock_guard", "unique_lock", "scoped_lock", "shared_lock", "lock", "try_lock",
+        /* of libstdc++ */
+        "__mutex_base", "__recursive_mutex_base", "__timed_mutex_impl", "__shared_mutex_cv",
+        "__shared_mutex_pthread", "__condvar", "_Sp_locker", "__lock_impl", "__try_lock_impl",
+        "__try_to_lock", "__mutex", "__recursive_mutex", "__scoped_lock",
+        "__glibcxx_rwlock_rdlock", "__glibcxx_rwlock_tryrdlock", "__glibcxx_rwlock_timedrdlock",
+        "__glibcxx_rwlock_wrlock", "__glibcxx_rwlock_trywrlock", "__glibcxx_rwlock_timedwrlock",
+        "__glibcxx_rwlock_unlock",
+        /* of libc++ */
+        "__shared_mutex_base", "__lock_first", "__lock_external", "__unlock",
+        "__libcpp_mutex_lock", "__libcpp_mutex_trylock", "__libcpp_mutex_unlock",
+        "__libcpp_recursive_mutex_init", "__libcpp_recursive_mutex_lock",
+        "__libcpp_recursive_mutex_trylock", "__libcpp_recursive_mutex_unlock",
+        "__libcpp_condvar_wait", "__libcpp_condvar_timedwait", "__libcpp_condvar_signal",
+        "__libcpp_condvar_broadcast",
+    };
+    if (is_one_of(names, sizeof names / sizeof *names, name, length)) return true;
+    return length == strlen("thread") && strncmp(name, "thread4join", strlen("thread4join")) == 0;
 }
 
 static bool is_namespace(const char *name, size_t length) {
     static const char *const names[] = { "__gnu_cxx", "__detail", "_V2", "__1" };
-    for (size_t i = 0; i < sizeof names / sizeof *names; i++)
-        if (length == strlen(names[i]) && memcmp(name, names[i], length) == 0) return true;
-    return false;
+    return is_one_of(names, sizeof names / sizeof *names, name, length);
 }
 
 /* Returns whether a function locks or waits for its caller, by its mangled name without "_Z": one
