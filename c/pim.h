@@ -31,11 +31,12 @@
  *
  * A mutex of the kind PIM_INHERIT_RECURSIVE is an INHERIT mutex of the type
  * PTHREAD_MUTEX_RECURSIVE: its owner may lock it again, by pim_lock or pim_try, up to PIM_MAX_COUNT
- * times in all, and has it until it has unlocked it as often. pim_lock_count tells how often that is.
- * Each further lock is PIM_GRANTED at once, whoever waits. Each unlock but the last is PIM_KEPT: the
- * task goes on and owns the mutex still, nobody is to run on, and no priority changed, so a
- * scheduler has nothing to queue anew. The last one is PIM_HANDED or PIM_FREED, as of any mutex. A
- * mutex that is handed over counts 1, and pim_release_all unlocks one wholly, whatever its count.
+ * times in all, and has it until it has unlocked it as often. pim_lock_count tells how often that
+ * is. Each further lock is PIM_GRANTED at once, whoever waits. Each unlock but the last is
+ * PIM_KEPT: the task goes on and owns the mutex still, nobody is to run on, and no priority
+ * changed, so a scheduler has nothing to queue anew. The last one is PIM_HANDED or PIM_FREED, as of
+ * any mutex. A mutex that is handed over counts 1, and pim_release_all unlocks one wholly, whatever
+ * its count.
  *
  *
  * In which order an answer is done
@@ -45,19 +46,20 @@
  *
  *   1. It wakes each task that was handed a mutex or was withdrawn: PIM_HANDED, PIM_RELEASED (the
  *      tasks of pim_handed), PIM_WITHDRAWN.
- *   2. It gives each task of pim_changed_prios its new priority, except the task that made the step.
+ *   2. It gives each task of pim_changed_prios its new priority,
+ *      except the task that made the step.
  *   3. It gives the task that made the step its own new priority.
  *   4. It blocks the task that made the step, if the answer is PIM_QUEUED.
  *
  * The reason: in a thread library a new priority takes effect immediately, and a task that lowers
  * itself may be preempted at that moment. If it has not woken the new owner yet, a task of medium
- * priority runs as long as it likes, and the new owner, of high priority, stays blocked. That is the
- * inversion that the mutex was to prevent.
+ * priority runs as long as it likes, and the new owner, of high priority, stays blocked. That is
+ * the inversion that the mutex was to prevent.
  *
- * The order alone is not enough, since the new owner needs the lock that orders the calls. That lock
- * has to inherit priorities (PTHREAD_PRIO_INHERIT) or have the highest ceiling: then a task that is
- * preempted while it holds the lock goes on. A kernel that can't be preempted between the step and
- * the end of 4 is safe in any order.
+ * The order alone is not enough, since the new owner needs the lock that orders the calls. That
+ * lock has to inherit priorities (PTHREAD_PRIO_INHERIT) or have the highest ceiling: then a task
+ * that is preempted while it holds the lock goes on. A kernel that can't be preempted between the
+ * step and the end of 4 is safe in any order.
  *
  *
  * What the caller must keep
@@ -81,8 +83,8 @@
  *   - There are PIM_STACK bytes of stack.
  *   - rattle_alloc, rattle_realloc and rattle_dealloc keep what pim_heap.h says. memmove and memset
  *     are the C library's, or do the same.
- *   - A manager that isn't dropped keeps its memory. pim_make refuses a handle that has one. GCC and
- *     Clang drop it at the end of a scope by __attribute__((cleanup(pim_drop))).
+ *   - A manager that isn't dropped keeps its memory. pim_make refuses a handle that has one. GCC
+ *     and Clang drop it at the end of a scope by __attribute__((cleanup(pim_drop))).
  *   - The floating-point and vector registers may be used: a kernel that keeps them from its own
  *     code saves them around the calls. `make general` builds a library for 64-bit ARM that uses
  *     none of them.
@@ -127,10 +129,10 @@
  * The walk goes from the task whose priority the call may change along the chain of tasks that wait
  * for one another, as far as priorities change. The answer's `visits` says how many priorities the
  * call computed: at least one for each task whose priority changed; at most that, 1 more, and 2 for
- * each mutex whose owner changed. That is proved. To compute a priority, a call looks at the mutexes
- * that the task owns. Where a look at one mutex, or at the task that leaves its queue, shows that the
- * priority stays, none is computed. To find a place in a queue is a binary search, and moves the
- * waiters behind it.
+ * each mutex whose owner changed. That is proved. To compute a priority, a call looks at the
+ * mutexes that the task owns. Where a look at one mutex, or at the task that leaves its queue,
+ * shows that the priority stays, none is computed. To find a place in a queue is a binary search,
+ * and moves the waiters behind it.
  *
  *
  * What grows
@@ -170,8 +172,8 @@ extern "C" {
 /* How often a recursive mutex may be locked at the same time. */
 #define PIM_MAX_COUNT 255u
 
-/* Stands for the task that asks, in pim_cancel, pim_set_base and pim_set_ceiling alone, where no task
- * does: in an interrupt, a shell or the idle thread. */
+/* Stands for the task that asks, in pim_cancel, pim_set_base and pim_set_ceiling alone, where no
+ * task does: in an interrupt, a shell or the idle thread. */
 #define PIM_KERNEL 0u
 
 /* What stands for the owner, the count and the protocol of an unknown mutex, and for what an
@@ -252,7 +254,8 @@ enum pim_fault {
     PIM_FAULT_TOO_MANY_TASKS = 2,   /* more than PIM_MAX_TASKS */
     PIM_FAULT_TOO_MANY_MUTEXES = 3, /* more than PIM_MAX_MUTEXES */
     PIM_FAULT_BAD_BASE = 4,         /* a base priority isn't 1 to 99 */
-    PIM_FAULT_BAD_PROTOCOL = 5,     /* a kind is unknown, or the ceiling of a PROTECT mutex isn't 1 to 99 */
+    PIM_FAULT_BAD_PROTOCOL = 5,     /* a kind is unknown,
+                                     * or the ceiling of a PROTECT mutex isn't 1 to 99 */
     PIM_FAULT_NO_MEMORY = 6         /* out of memory: nothing was made, and nothing is kept */
 };
 
@@ -262,10 +265,12 @@ enum pim_reply {
     PIM_GRANTED = 1,    /* the task owns the mutex */
     PIM_QUEUED = 2,     /* the task waits for the mutex: it is to block */
     PIM_FREED = 3,      /* the mutex had no waiter, and is free */
-    PIM_HANDED = 4,     /* task `number` was the first waiter, and owns the mutex: it is to run on */
+    PIM_HANDED = 4,     /* task `number` was the first waiter, and owns the mutex:
+                         * it is to run on */
     PIM_RELEASED = 5,   /* `number` mutexes were unlocked; the tasks of pim_handed are to run on */
     PIM_WITHDRAWN = 6,  /* the target waits no more: it is to run on, without the mutex */
-    PIM_SET = 7,        /* the target has the new base priority, or the mutex the new ceiling or protocol */
+    PIM_SET = 7,        /* the target has the new base priority,
+                         * or the mutex the new ceiling or protocol */
     PIM_REFUSED = 8,    /* nothing changed at all; `refusal` says why */
     PIM_KEPT = 9        /* the task locked the mutex more often, and owns it still */
 };
@@ -276,22 +281,23 @@ enum pim_refusal {
     PIM_REFUSED_NO_TASK = 1,      /* the task or the target is unknown (ESRCH) */
     PIM_REFUSED_WAITING = 2,      /* the task waits, and the step isn't the withdrawal of itself */
     PIM_REFUSED_NO_MUTEX = 3,     /* the mutex is unknown (EINVAL) */
-    PIM_REFUSED_DEADLOCK = 4,     /* the request would close a cycle of waits, its own mutex included,
-                                   * unless that is recursive (EDEADLK) */
-    PIM_REFUSED_CEILING = 5,      /* the task's base priority is above the ceiling of a PROTECT mutex
-                                   * (EINVAL) */
-    PIM_REFUSED_BUSY = 6,         /* a try on an owned mutex, its own recursive one excepted (EBUSY); a
-                                   * new ceiling of one that another owns; a new protocol of an owned one,
-                                   * or its adoption */
+    PIM_REFUSED_DEADLOCK = 4,     /* the request would close a cycle of waits, its own mutex
+                                   * included, unless that is recursive (EDEADLK) */
+    PIM_REFUSED_CEILING = 5,      /* the task's base priority is above the ceiling of a PROTECT
+                                   * mutex (EINVAL) */
+    PIM_REFUSED_BUSY = 6,         /* a try on an owned mutex, its own recursive one excepted
+                                   * (EBUSY); a new ceiling of one that another owns; a new protocol
+                                   * of an owned one, or its adoption */
     PIM_REFUSED_NOT_OWNER = 7,    /* the task doesn't own the mutex (EPERM) */
     PIM_REFUSED_NOT_WAITING = 8,  /* the target of a cancel doesn't wait */
-    PIM_REFUSED_PRIORITY = 9,     /* the new base priority or the new ceiling isn't 1 to 99 (EINVAL) */
+    PIM_REFUSED_PRIORITY = 9,     /* the new base priority or the new ceiling isn't 1 to 99
+                                   * (EINVAL) */
     PIM_REFUSED_TICKETS = 10,     /* 2^64 - 2 waits were queued (EAGAIN) */
     PIM_REFUSED_NOT_PROTECT = 11, /* a new ceiling of a mutex that isn't a PROTECT one (EINVAL) */
     PIM_REFUSED_AGAIN = 12,       /* the task has locked the recursive mutex PIM_MAX_COUNT times
                                    * (EAGAIN) */
-    PIM_REFUSED_NO_PROTOCOL = 13, /* the kind of a new protocol is unknown, or its ceiling isn't 1 to 99
-                                   * (EINVAL) */
+    PIM_REFUSED_NO_PROTOCOL = 13, /* the kind of a new protocol is unknown,
+                                   * or its ceiling isn't 1 to 99 (EINVAL) */
     PIM_REFUSED_PROTECT = 14      /* a PROTECT mutex is to be adopted */
 };
 
@@ -299,8 +305,10 @@ enum pim_refusal {
 enum pim_reason_kind {
     PIM_OF_NOTHING = 0, /* the task is unknown */
     PIM_OF_BASE = 1,    /* it is its base priority */
-    PIM_OF_CEILING = 2, /* it is the ceiling of `mutex`, the least such PROTECT mutex that it owns */
-    PIM_OF_WAITER = 3   /* `task` waits at it, first in the queue of `mutex`, the least such INHERIT mutex */
+    PIM_OF_CEILING = 2, /* it is the ceiling of `mutex`,
+                         * the least such PROTECT mutex that it owns */
+    PIM_OF_WAITER = 3   /* `task` waits at it, first in the queue of `mutex`,
+                         * the least such INHERIT mutex */
 };
 
 /* ---- what is passed -------------------------------------------------------------------------- */
@@ -314,9 +322,11 @@ struct pim_protocol {
 struct pim_answer {
     uint8_t kind;    /* PIM_NO_MANAGER .. PIM_KEPT */
     uint8_t refusal; /* PIM_REFUSED_NO_TASK .. PIM_REFUSED_PROTECT, or 0 */
-    uint16_t number; /* the task that was handed the mutex, or how many mutexes were released, or 0 */
+    uint16_t number; /* the task that was handed the mutex, or how many mutexes were released,
+                      * or 0 */
     uint16_t visits; /* how many priorities the step computed */
-    uint16_t changed; /* how many tasks have another effective priority then: 0 where `visits` is 0 */
+    uint16_t changed; /* how many tasks have another effective priority then:
+                       * 0 where `visits` is 0 */
 };
 
 struct pim_reason {
@@ -351,7 +361,8 @@ struct pim_handed {
     uint16_t task; /* its new owner */
 };
 
-/* Returns the PIM_VERSION_NUMBER of the library: libpim.so may be another version than this file. */
+/* Returns the PIM_VERSION_NUMBER of the library:
+ * libpim.so may be another version than this file. */
 uint32_t pim_version(void);
 
 /* ---- making and dropping --------------------------------------------------------------------- */
@@ -390,35 +401,37 @@ struct pim_answer pim_unlock(struct pim_handle *h, uint16_t task, uint16_t mutex
 struct pim_answer pim_release_all(struct pim_handle *h, uint16_t task);
 
 /* The next three may also be asked for by the kernel itself, with PIM_KERNEL as the task. It is
- * answered as a task is that doesn't wait and owns no mutex: never NO_TASK for itself, nor WAITING. */
+ * answered as a task is that doesn't wait and owns no mutex: never NO_TASK for itself, nor
+ * WAITING. */
 
 /* Withdraws the target, which waits, from its queue (PIM_WITHDRAWN), as where a time is out or a
- * thread is cancelled. Any task may ask that does not wait, and the target itself. Refused: NO_TASK,
- * WAITING, NOT_WAITING. */
+ * thread is cancelled. Any task may ask that does not wait, and the target itself. Refused:
+ * NO_TASK, WAITING, NOT_WAITING. */
 struct pim_answer pim_cancel(struct pim_handle *h, uint16_t task, uint16_t target);
 
 /* pthread_setschedprio: sets the base priority of the target (PIM_SET). Refused: NO_TASK, WAITING,
  * PRIORITY. */
 struct pim_answer pim_set_base(struct pim_handle *h, uint16_t task, uint16_t target, uint16_t prio);
 
-/* pthread_mutex_setprioceiling: sets the ceiling of the PROTECT mutex (PIM_SET). Unlike that call it
- * locks nothing: the mutex is free, or the task that asks owns it, and then executes at the new
+/* pthread_mutex_setprioceiling: sets the ceiling of the PROTECT mutex (PIM_SET). Unlike that call
+ * it locks nothing: the mutex is free, or the task that asks owns it, and then executes at the new
  * ceiling at once. No base priority is compared, the owner's neither, so a ceiling may be below it.
  * Refused: NO_TASK, WAITING, NO_MUTEX, NOT_PROTECT, PRIORITY, BUSY. */
 struct pim_answer pim_set_ceiling(struct pim_handle *h, uint16_t task, uint16_t mutex, uint16_t ceiling);
 
 /* ---- changes that are no steps --------------------------------------------------------------- */
 
-/* pthread_mutex_destroy and pthread_mutex_init: gives a free mutex another protocol (PIM_SET), so that
- * its number can be lent to another mutex. The ceiling is read where the kind is PIM_PROTECT. No
- * priority changes, pim_changed lists no task and pim_handed no mutex then. A trace has no line for it. Refused:
- * NO_PROTOCOL, NO_MUTEX, BUSY. */
+/* pthread_mutex_destroy and pthread_mutex_init: gives a free mutex another protocol (PIM_SET), so
+ * that its number can be lent to another mutex. The ceiling is read where the kind is PIM_PROTECT.
+ * No priority changes, pim_changed lists no task and pim_handed no mutex then. A trace has no line
+ * for it. Refused: NO_PROTOCOL, NO_MUTEX, BUSY. */
 struct pim_answer pim_set_protocol(struct pim_handle *h, uint16_t mutex, uint16_t kind, uint16_t ceiling);
 
-/* Makes the task the owner of a free NONE or INHERIT mutex (PIM_GRANTED), also where the task waits: as
- * where a lock that nobody contends is taken without a call, and its owner is told here once somebody
- * comes to wait. No priority and no queue changes, and pim_changed lists no task then. A recursive
- * mutex counts 1. A trace has no line for it. Refused: NO_TASK, NO_MUTEX, PROTECT, BUSY. */
+/* Makes the task the owner of a free NONE or INHERIT mutex (PIM_GRANTED), also where the task
+ * waits: as where a lock that nobody contends is taken without a call, and its owner is told here
+ * once somebody comes to wait. No priority and no queue changes, and pim_changed lists no task
+ * then. A recursive mutex counts 1. A trace has no line for it. Refused: NO_TASK, NO_MUTEX,
+ * PROTECT, BUSY. */
 struct pim_answer pim_adopt(struct pim_handle *h, uint16_t task, uint16_t mutex);
 #endif
 
@@ -426,19 +439,20 @@ struct pim_answer pim_adopt(struct pim_handle *h, uint16_t task, uint16_t mutex)
 
 /* Copies the tasks whose effective priority the last step changed, in ascending order, at most
  * `room` of them, and returns how many there are. They are the tasks that a scheduler has to queue
- * anew: all of them, and no others. None where no step was made yet, where the last one was refused,
- * and where pim_set_protocol was answered PIM_SET since, or pim_adopt PIM_GRANTED. The answer's
- * `changed` is how many there are: 0 where `visits` is 0. */
+ * anew: all of them, and no others. None where no step was made yet, where the last one was
+ * refused, and where pim_set_protocol was answered PIM_SET since, or pim_adopt PIM_GRANTED. The
+ * answer's `changed` is how many there are: 0 where `visits` is 0. */
 uint64_t pim_changed(const struct pim_handle *h, struct pim_changed_task *to, uint64_t room);
 
-/* Copies the tasks of pim_changed, in the same order, without the reasons, at most `room` of them, and
- * returns how many there are. It reads no mutex. */
+/* Copies the tasks of pim_changed, in the same order, without the reasons, at most `room` of them,
+ * and returns how many there are. It reads no mutex. */
 uint64_t pim_changed_prios(const struct pim_handle *h, struct pim_changed_prio *to, uint64_t room);
 
-/* Copies the mutexes that the last step handed to waiters, in ascending order, with their new owners, at
- * most `room` of them, and returns how many there are. Each of these tasks is to run on: after
- * PIM_RELEASED as after PIM_HANDED. None where no step was made yet, where the last one handed none
- * over, and where pim_set_protocol was answered PIM_SET since, or pim_adopt PIM_GRANTED. */
+/* Copies the mutexes that the last step handed to waiters, in ascending order, with their new
+ * owners, at most `room` of them, and returns how many there are. Each of these tasks is to run on:
+ * after PIM_RELEASED as after PIM_HANDED. None where no step was made yet, where the last one
+ * handed none over, and where pim_set_protocol was answered PIM_SET since, or pim_adopt
+ * PIM_GRANTED. */
 uint64_t pim_handed(const struct pim_handle *h, struct pim_handed *to, uint64_t room);
 
 /* ---- what stands ----------------------------------------------------------------------------- */
@@ -485,8 +499,8 @@ struct pim_protocol pim_mutex_protocol(const struct pim_handle *h, uint16_t mute
 
 /* ---- 32 bits --------------------------------------------------------------------------------- */
 
-/* How a small struct is returned differs between CPUs of 32 bits, and a pointer is passed in one way.
- * So libpim has functions for them that write the struct to `to`, and those above are made of
+/* How a small struct is returned differs between CPUs of 32 bits, and a pointer is passed in one
+ * way. So libpim has functions for them that write the struct to `to`, and those above are made of
  * these. */
 #ifdef PIM_32_BITS
 void pim_lock_to(struct pim_handle *h, uint16_t task, uint16_t mutex, struct pim_answer *to);

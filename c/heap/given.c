@@ -7,8 +7,9 @@
  *     pim_drop(&locks);            // from here on the memory is the program's again
  *
  * Blocks are taken from the front of the memory, in whole units of 16 aligned bytes, one at least,
- * and none is used twice: it comes back as a whole. The block that was taken last grows in its place.
- * Nothing is kept from one manager to the next but where the memory ends that was handed over last.
+ * and none is used twice: it comes back as a whole. The block that was taken last grows in its
+ * place. Nothing is kept from one manager to the next but where the memory ends that was handed
+ * over last.
  */
 #include "pim_heap.h"
 #include "pim_heap_given.h"

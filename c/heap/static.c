@@ -3,8 +3,8 @@
  * Blocks are taken from its front, in whole units of 16 bytes, one at least. The block that was
  * taken last grows in its place. The array is empty again once all are given back. That suits
  * managers that are made at the start.
- * -DPIM_HEAP_BYTES=n sets its size: the sum of PIM_MEMORY(tasks, mutexes) of the managers that exist
- * at the same time. */
+ * -DPIM_HEAP_BYTES=n sets its size: the sum of PIM_MEMORY(tasks, mutexes) of the managers that
+ * exist at the same time. */
 #include "pim_heap.h"
 
 #ifndef PIM_HEAP_BYTES

@@ -26,7 +26,8 @@ void __aeabi_memclr8(void *to, size_t n) { __aeabi_memclr(to, n); }
 
 /* ---- the program ---- */
 
-/* Task t owns mutex t, and waits for mutex t - 1. So all execute at the priority of the last one. */
+/* Task t owns mutex t, and waits for mutex t - 1.
+ * So all execute at the priority of the last one. */
 static int chain(struct pim_handle *locks) {
     static struct pim_changed_task changed[TASKS];
     static struct pim_changed_prio prios[TASKS];
@@ -36,13 +37,15 @@ static int chain(struct pim_handle *locks) {
         if (t > 1 && pim_lock(locks, t, t - 1).kind != PIM_QUEUED) return 3;
     }
     if (pim_changed(locks, changed, TASKS) != TASKS - 1) return 4;
-    if (pim_changed_prios(locks, prios, TASKS) != TASKS - 1 || prios[TASKS - 2].prio != 10 + TASKS) return 4;
+    if (pim_changed_prios(locks, prios, TASKS) != TASKS - 1) return 4;
+    if (prios[TASKS - 2].prio != 10 + TASKS) return 4;
     for (uint16_t t = 1; t < TASKS; t++)
         if (changed[t - 1].task != t || changed[t - 1].prio != 10 + TASKS) return 5;
     if (pim_lock(locks, 1, TASKS).refusal != PIM_REFUSED_DEADLOCK) return 6;
     for (uint16_t t = 1; t < TASKS; t++)
         if (pim_release_all(locks, t).kind != PIM_RELEASED || pim_owner(locks, t) != t + 1 ||
-            pim_handed(locks, &handed, 1) != 1 || handed.mutex != t || handed.task != t + 1) return 7;
+            pim_handed(locks, &handed, 1) != 1 || handed.mutex != t || handed.task != t + 1)
+            return 7;
     return pim_effective_prio(locks, 1) == 11 ? 0 : 8;
 }
 
@@ -53,7 +56,8 @@ static int run(void) {
     struct pim_handle locks = PIM_HANDLE_INIT;
     for (uint16_t t = 0; t < TASKS; t++) bases[t] = 11 + t;
     for (uint16_t m = 0; m < MUTEXES; m++) protocols[m].kind = PIM_INHERIT;
-    if (pim_make_in(&locks, memory, sizeof memory, bases, TASKS, protocols, MUTEXES) != PIM_MADE) return 1;
+    if (pim_make_in(&locks, memory, sizeof memory, bases, TASKS, protocols, MUTEXES) != PIM_MADE)
+        return 1;
     int wrong = chain(&locks);
     pim_drop(&locks);
     return wrong;
@@ -64,7 +68,8 @@ static int run(void) {
 extern char stack_top[];
 void start(void);
 
-__attribute__((section(".vectors"), used)) static const void *const vectors[16] = { stack_top, start };
+__attribute__((section(".vectors"), used))
+static const void *const vectors[16] = { stack_top, start };
 
 /* Ends qemu with this status, by semihosting. */
 void start(void) {

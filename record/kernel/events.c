@@ -102,8 +102,8 @@ static struct event *queue_event(struct queue *queue) {
 
 /* ---- a page of the kernel's buffer: events/header_page and events/header_event ---- */
 
-/* Behind the time of a page: the length of its data, and whether events are missing before it. Their
- * count follows the data if there was room. */
+/* Behind the time of a page: the length of its data, and whether events are missing before it.
+ * Their count follows the data if there was room. */
 static const unsigned long LENGTH = (1UL << 27) - 1, MISSED_STORED = 1UL << 30, MISSED = 1UL << 31;
 
 struct head {

@@ -16,8 +16,8 @@ void begin_kernel(enum program program, const char *path, const char *kilobytes,
                   struct guard *guard);
 
 /* Begins the recording of a program, with all threads that it has, or those that are found until
- * `is_over`, which may be NULL, returns true. The file has its head once it has begun. Returns NULL,
- * or the name of what is missing. */
+ * `is_over`, which may be NULL, returns true. The file has its head once it has begun. Returns
+ * NULL, or the name of what is missing. */
 const char *turn_on_kernel(pid_t program, bool (*is_over)(void));
 
 /* Ends what was begun, and the process, with a line that says what is missing. */

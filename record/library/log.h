@@ -222,8 +222,9 @@ static inline void log_leave_out(void) {
 }
 
 /* Begins what no signal's handler may see half done: until log_end, one that interrupts it changes
- * nothing of the cursor, or of the grants that aren't put. Returns false in such a handler. What the
- * thread keeps is read and changed in between alone: before, a handler may still put the grants. */
+ * nothing of the cursor, or of the grants that aren't put. Returns false in such a handler. What
+ * the thread keeps is read and changed in between alone: before, a handler may still put the
+ * grants. */
 static inline bool log_enter(void) {
     if (__builtin_expect(log_cursor.is_writing, 0)) return false;
     log_cursor.is_writing = true;

@@ -14,8 +14,8 @@ static uint64_t known_number(uint64_t place) {
     return 0;
 }
 
-/* Returns the number of a place, which is added where it is new; or 0 where there is no room, or the
- * place is 0. */
+/* Returns the number of a place, which is added where it is new; or 0 where there is no room, or
+ * the place is 0. */
 static uint64_t number_of(uint64_t place) {
     uint64_t slot = places_slot(place);
     for (int i = 0; place && i < PLACE_PROBES; i++, slot = (slot + 1) % PLACE_SLOTS) {

@@ -24,8 +24,8 @@ bool wrappers_have(uintptr_t place);
  * unwinder; or 0 where it finds none. `at` is where the call's own place is on the stack. */
 uintptr_t wrappers_unwind(const uintptr_t *at);
 
-/* Returns the same without it, if it has passed these functions before and their frames have a fixed
- * size; or a place in one of them. */
+/* Returns the same without it, if it has passed these functions before and their frames have a
+ * fixed size; or a place in one of them. */
 uintptr_t wrappers_pass(const uintptr_t *at);
 
 #endif

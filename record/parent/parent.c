@@ -58,10 +58,10 @@ static bool goes_on(pid_t program, int *status) {
     return true;
 }
 
-/* Waits until each signal that is being sent to this process' group has come to all of it: the kernel
- * holds the lock of all process groups meanwhile, and setpgid takes it, also where it changes
- * nothing. A group whose first process is outside of the PID namespace has no number here: by 0 this
- * process would get a group of its own. */
+/* Waits until each signal that is being sent to this process' group has come to all of it: the
+ * kernel holds the lock of all process groups meanwhile, and setpgid takes it, also where it
+ * changes nothing. A group whose first process is outside of the PID namespace has no number here:
+ * by 0 this process would get a group of its own. */
 static void wait_for_senders(void) {
     pid_t group = getpgrp();
     if (group > 0) setpgid(0, group);

@@ -45,8 +45,8 @@ static bool is_ignored(int number) {
     return sigaction(number, NULL, &action) == 0 && action.sa_handler == SIG_IGN;
 }
 
-/* Returns a descriptor that says when a signal has come that ends the recording. SIGTERM does in any
- * case. */
+/* Returns a descriptor that says when a signal has come that ends the recording. SIGTERM does in
+ * any case. */
 static int watch_signals(pid_t process) {
     static const int numbers[] = { SIGINT, SIGTERM, SIGHUP };
     sigset_t signals;

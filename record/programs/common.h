@@ -66,7 +66,8 @@ static inline struct timespec after(clockid_t clock, long milliseconds) {
     return time;
 }
 
-/* Stores the calling thread. From then on it sleeps in no call but the one that until_waits is for. */
+/* Stores the calling thread.
+ * From then on it sleeps in no call but the one that until_waits is for. */
 static inline void comes(_Atomic pid_t *thread) {
     *thread = (pid_t)syscall(SYS_gettid);
 }

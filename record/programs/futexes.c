@@ -3,9 +3,9 @@
  * returned, and the task that woke the waiter: 'any' by an interrupt, and 'none' where it didn't
  * sleep.
  *
- * futexes attach FILE: waits so while a recording is attached, at any priority. It reads a line from
- * its input before it goes on and one before it ends, and says what it wants from outside: 'ready', a
- * line; 'outside', a wake of the first word of FILE; 'done', a line. */
+ * futexes attach FILE: waits so while a recording is attached, at any priority. It reads a line
+ * from its input before it goes on and one before it ends, and says what it wants from outside:
+ * 'ready', a line; 'outside', a wake of the first word of FILE; 'done', a line. */
 #define _GNU_SOURCE
 #include "common.h"
 

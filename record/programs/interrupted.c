@@ -1,6 +1,6 @@
-/* A handler of a signal that comes every tenth of a millisecond posts a semaphore, while the program
- * locks mutexes, of which it owns up to three, and tries to lock them once more. Nobody waits. It
- * prints how many calls got a mutex, how many got none, and how many posts there were. */
+/* A handler of a signal that comes every tenth of a millisecond posts a semaphore, while the
+ * program locks mutexes, of which it owns up to three, and tries to lock them once more. Nobody
+ * waits. It prints how many calls got a mutex, how many got none, and how many posts there were. */
 #define _GNU_SOURCE
 #include "common.h"
 

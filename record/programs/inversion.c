@@ -1,7 +1,7 @@
 /* inversion [none|inherit [MILLISECONDS]]: the classic priority inversion, on one CPU. A thread low
  * (10) owns a mutex, high (30) waits for it, and medium (20) computes meanwhile, for 100 ms unless
- * told. With NONE, medium keeps low from its unlock, and so holds up high; with INHERIT, low runs at
- * 30 until it has unlocked. */
+ * told. With NONE, medium keeps low from its unlock, and so holds up high; with INHERIT, low runs
+ * at 30 until it has unlocked. */
 #define _GNU_SOURCE
 #include "common.h"
 

@@ -1,9 +1,9 @@
-/* missed [ROUNDS]: each wait of a thread high (80) is for a thread low (10), and nothing bounds it. They have
- * a CPU each. In each round high wakes low at a condition variable, and low computes for 300 us with the NONE
- * mutex. Meanwhile high locks and unlocks the mutex over and over, so that it waits for low once in most
- * rounds. Low's relock has its GRANTED when the wait at the condition variable returns. The REQUEST of high,
- * which names low, may have come before that: then the last owner in the log is high itself. Prints how often
- * high was kept for more than 20 us. */
+/* missed [ROUNDS]: each wait of a thread high (80) is for a thread low (10), and nothing bounds it.
+ * They have a CPU each. In each round high wakes low at a condition variable, and low computes for
+ * 300 us with the NONE mutex. Meanwhile high locks and unlocks the mutex over and over, so that it
+ * waits for low once in most rounds. Low's relock has its GRANTED when the wait at the condition
+ * variable returns. The REQUEST of high, which names low, may have come before that: then the last
+ * owner in the log is high itself. Prints how often high was kept for more than 20 us. */
 #define _GNU_SOURCE
 #include "common.h"
 

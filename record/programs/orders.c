@@ -1,5 +1,5 @@
-/* Two threads, one after the other, that lock two NONE mutexes in opposite orders: they could wait for
- * each other, but don't. Each gets a third one by a trylock, at last and at first. */
+/* Two threads, one after the other, that lock two NONE mutexes in opposite orders: they could wait
+ * for each other, but don't. Each gets a third one by a trylock, at last and at first. */
 #define _GNU_SOURCE
 #include "common.h"
 

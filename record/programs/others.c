@@ -1,8 +1,8 @@
-/* others CASE: waits for what isn't a mutex. 'waits': a thread waits by each call, and sleeps before
- * the first one ends that. 'at-once': nothing has to be waited for. 'errors': calls that fail.
- * 'cancel': threads that are cancelled. 'handler': a post in a handler of a thread that waits.
- * 'storm': posts, and posts in handlers that interrupt them. It prints where each object is, and
- * what calls returned. A comment at the end of a line names the line. */
+/* others CASE: waits for what isn't a mutex. 'waits': a thread waits by each call, and sleeps
+ * before the first one ends that. 'at-once': nothing has to be waited for. 'errors': calls that
+ * fail. 'cancel': threads that are cancelled. 'handler': a post in a handler of a thread that
+ * waits. 'storm': posts, and posts in handlers that interrupt them. It prints where each object is,
+ * and what calls returned. A comment at the end of a line names the line. */
 #define _GNU_SOURCE
 #include "common.h"
 

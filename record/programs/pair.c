@@ -1,7 +1,7 @@
 /* pair [PAIRS] [THREADS]: nanoseconds of a lock and an unlock, each thread with a mutex of its own.
  * Prints a line for PTHREAD_PRIO_NONE, and one for PTHREAD_PRIO_INHERIT. pair PAIRS THREADS others:
- * a line for a post and a wait of a semaphore, and one for a read-write lock that is locked to write
- * and unlocked. */
+ * a line for a post and a wait of a semaphore, and one for a read-write lock that is locked to
+ * write and unlocked. */
 #define _GNU_SOURCE
 #include "common.h"
 

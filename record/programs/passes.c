@@ -1,6 +1,6 @@
-/* A thread passes over one that waits: on one CPU, a thread at 50 releases a NONE mutex for which one
- * at 10 waits, and locks it three times more before that one runs. It also locks a PROTECT mutex, for
- * which nobody waits. */
+/* A thread passes over one that waits: on one CPU, a thread at 50 releases a NONE mutex for which
+ * one at 10 waits, and locks it three times more before that one runs. It also locks a PROTECT
+ * mutex, for which nobody waits. */
 #define _GNU_SOURCE
 #include "common.h"
 

@@ -1,6 +1,7 @@
-/* relock: a boost by a waiter at the end of a condition wait, on one CPU. A thread high (30) waits at a
- * condition variable with an INHERIT mutex. A thread low (10) owns the mutex, signals, and computes for
- * 20 ms before it unlocks. So high waits for the mutex of low meanwhile, and low runs at 30. */
+/* relock: a boost by a waiter at the end of a condition wait, on one CPU. A thread high (30) waits
+ * at a condition variable with an INHERIT mutex. A thread low (10) owns the mutex, signals, and
+ * computes for 20 ms before it unlocks. So high waits for the mutex of low meanwhile, and low runs
+ * at 30. */
 #define _GNU_SOURCE
 #include "common.h"
 
