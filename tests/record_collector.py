@@ -485,6 +485,17 @@ def not_executed(folder):
     check("a program that can't be executed", difference(got, (126, "", True, 1, ["busy"])))
 
 
+def allocating(reader, broken, folder):
+    """An allocator that calls prctl under a lock of its own, before any constructor, doesn't wait for itself: the lock
+    and the unlock that follow are there."""
+    path = pathlib.Path(folder, "run")
+    done = run(RECORD / "pim-record", "-o", path, "timeout", "10", PROGRAMS / "allocates")
+    logs = [read(reader, its) for its in sorted(path.parent.glob("run.[0-9]*")) if its.suffix != ".places"]
+    counts = [[counted(reader, log, event) for event in (reader.GRANTED, reader.RELEASE)] for log in logs]
+    check("an allocator that calls prctl", next(filter(None, map(broken, logs)), None) or difference(
+        (done.returncode, counts), (0, [[1, 1]])))
+
+
 def adopted(folder):
     """A recording that has ended leaves no process, dead or alive, to the one that adopts orphans."""
     got = orphan_of(RECORD / "pim-record", "-o", f"{folder}/run", PROGRAMS / "pair", "10")
@@ -494,7 +505,7 @@ def adopted(folder):
 def collector(attempt, reader, broken, folder):
     """Each part in a folder of its own."""
     of_logs = (rounds, flood, held_up, short_threads, late, killed_recorder, removed_meanwhile, daemon, other_network,
-               other_root)
+               other_root, allocating)
     others = (locked_memory, priorities, killed_collector, other_users, no_collector, no_file, left_sockets,
               not_executed, adopted)
     for part in (*of_logs, *others):

@@ -53,7 +53,6 @@ static const struct symbol SYMBOLS[] = {
     { "pthread_clockjoin_np", offsetof(struct real, clockjoin), NULL },
     { "pthread_create", offsetof(struct real, create), NULL },
     { "pthread_setname_np", offsetof(struct real, setname), NULL },
-    { "prctl", offsetof(struct real, prctl), NULL },
     { "pthread_setschedparam", offsetof(struct real, setschedparam), NULL },
     { "pthread_setschedprio", offsetof(struct real, setschedprio), NULL },
     { "sched_setscheduler", offsetof(struct real, sched_setscheduler), NULL },

@@ -45,7 +45,6 @@ struct real {
     int (*clockjoin)(pthread_t, void **, clockid_t, const struct timespec *);
     int (*create)(pthread_t *, const pthread_attr_t *, void *(*)(void *), void *);
     int (*setname)(pthread_t, const char *);
-    int (*prctl)(int, ...);
     int (*setschedparam)(pthread_t, int, const struct sched_param *);
     int (*setschedprio)(pthread_t, int);
     int (*sched_setscheduler)(pid_t, int, const struct sched_param *);

@@ -97,15 +97,18 @@ EXPORT int pthread_setname_np(pthread_t thread, const char *name) {
     return error;
 }
 
-/* The arguments that a call doesn't have are read and handed on, as glibc does itself. */
+/* The arguments that a call doesn't have are read and handed on, as glibc does itself. Only a name
+ * is told: an allocator may make another such call within malloc, and the recorder's start may
+ * allocate. So the kernel is called without it. */
 EXPORT int prctl(int option, ...) {
     unsigned long arguments[4];
     va_list list;
     va_start(list, option);
     for (size_t i = 0; i < 4; i++) arguments[i] = va_arg(list, unsigned long);
     va_end(list);
-    bool is_told = is_recorded() && option == PR_SET_NAME;
-    int result = real.prctl(option, arguments[0], arguments[1], arguments[2], arguments[3]);
+    bool is_told = option == PR_SET_NAME && is_recorded();
+    int result =
+        (int)syscall(SYS_prctl, option, arguments[0], arguments[1], arguments[2], arguments[3]);
     int error = errno;
     if (result == 0 && is_told)
         log_put_text(EVENT_NAME, (uint64_t)pthread_self(), (const char *)arguments[0],
