@@ -128,7 +128,7 @@ def unannounced(reader, broken, folder):
 def laws(reader, broken, folder):
     """Threads that race, handlers, dead owners, ceilings, forks: the log keeps the laws."""
     for command in ("random 3 300", "random 4 300 ordinary", "signals", "robust", "recursive", "ceiling", "condition",
-                    "calls", "forks", "many", "passes"):
+                    "calls", "forks", "rawforks", "many", "passes"):
         path, protected = pathlib.Path(folder, "run"), []
         for options in ([], [CONTENDED]):
             done = run(RECORD / "pim-record", "-o", path, "--last", "16M", *options, PROGRAMS / command.split()[0],

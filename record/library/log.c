@@ -19,7 +19,8 @@
 #define MADV_POPULATE_WRITE 23
 #endif
 
-struct header *log_header;
+_Alignas(sizeof(union own_page)) union own_page log_own;
+static struct header *made; /* also in a forked process */
 __thread struct cursor log_cursor;
 uint64_t log_step = 1;
 
@@ -185,6 +186,8 @@ void log_prepare(void) {
 
 /* Pages that are mapped stay so in a forked process, but each has to be touched there anew. */
 void log_is_forked(void) {
+    log_header = made;
+    if (!made) return;
     atomic_store(&touched, 0);
     madvise(shared, sizeof *shared, MADV_POPULATE_WRITE);
 }
@@ -205,6 +208,13 @@ static uint64_t realtime(void) {
     struct timespec now;
     clock_gettime(CLOCK_REALTIME, &now);
     return (uint64_t)now.tv_sec * 1000000000u + (uint64_t)now.tv_nsec;
+}
+
+/* Has a forked process begin without the log. Only memory without a file can be had so. */
+static void wipe_on_fork(void) {
+    const int rights = PROT_READ | PROT_WRITE, how = MAP_PRIVATE | MAP_ANONYMOUS | MAP_FIXED;
+    if (mmap(&log_own, sizeof log_own, rights, how, -1, 0) == MAP_FAILED) return;
+    madvise(&log_own, sizeof log_own, MADV_WIPEONFORK);
 }
 
 void log_make(void) {
@@ -228,7 +238,8 @@ void log_make(void) {
     atomic_store(&header->next_thread, 1);
     /* Last: the collector takes the header from now on. */
     atomic_store(&header->next_number, log_step);
-    log_header = header;
+    wipe_on_fork();
+    log_header = made = header;
 }
 
 void log_has_begun(void) {

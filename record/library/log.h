@@ -173,7 +173,15 @@ struct cursor {
     volatile bool is_writing;
 };
 
-extern HIDDEN struct header *log_header; /* NULL: nothing is recorded */
+/* A page of its own, which the kernel clears in a forked process: one that doesn't run in_child of
+ * processes.c, or hasn't yet, would put its records over those of its parent. */
+union own_page {
+    struct header *header; /* NULL: nothing is recorded */
+    char bytes[65536];     /* the largest page that Linux has */
+};
+extern HIDDEN union own_page log_own;
+#define log_header log_own.header
+
 extern HIDDEN __thread struct cursor log_cursor;
 extern HIDDEN uint64_t log_step; /* from one number to the next */
 

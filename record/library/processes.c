@@ -25,9 +25,9 @@ static void before_fork(void) {
 /* The child goes on in the same file, in chunks of its own. */
 static void in_child(void) {
     process = getpid();
-    if (!log_header) return;
     log_cursor = (struct cursor){ .next = NULL };
     log_is_forked();
+    if (!log_header) return;
     thread_introduce();
     log_put((struct record){ .event = EVENT_CHILD,
                              .object = fork_number,
