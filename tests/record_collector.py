@@ -489,7 +489,7 @@ def allocating(reader, broken, folder):
     """An allocator that calls prctl under a lock of its own, before any constructor, doesn't wait for itself: the lock
     and the unlock that follow are there."""
     path = pathlib.Path(folder, "run")
-    done = run(RECORD / "pim-record", "-o", path, "timeout", "10", PROGRAMS / "allocates")
+    done = run(RECORD / "pim-record", "-o", path, "timeout", "200", PROGRAMS / "allocates")
     logs = [read(reader, its) for its in sorted(path.parent.glob("run.[0-9]*")) if its.suffix != ".places"]
     counts = [[counted(reader, log, event) for event in (reader.GRANTED, reader.RELEASE)] for log in logs]
     check("an allocator that calls prctl", next(filter(None, map(broken, logs)), None) or difference(

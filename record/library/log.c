@@ -187,7 +187,6 @@ void log_prepare(void) {
 /* Pages that are mapped stay so in a forked process, but each has to be touched there anew. */
 void log_is_forked(void) {
     log_header = made;
-    if (!made) return;
     atomic_store(&touched, 0);
     madvise(shared, sizeof *shared, MADV_POPULATE_WRITE);
 }

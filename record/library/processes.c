@@ -10,24 +10,27 @@ extern char **environ;
 static pid_t process;         /* whose memory this is: not that of a vfork child, which shares it */
 static uint64_t fork_number;  /* of the FORK record that a child is told of */
 static uint32_t fork_thread;
+static bool has_log; /* whether the process that forks is recorded */
 
 /* ---- fork ---- */
 
 /* Runs after the program's own handlers, so what the thread owns by then the child owns, too. */
 static void before_fork(void) {
     fork_number = 0;
-    if (!is_recorded() || !log_begin()) return;
+    bool is_told = is_recorded() && log_begin();
+    has_log = log_header;
+    if (!is_told) return;
     fork_number = log_write((struct record){ .event = EVENT_FORK, .time = clock_time() });
     fork_thread = log_cursor.thread;
     log_end();
 }
 
-/* The child goes on in the same file, in chunks of its own. */
+/* The child of a process that is recorded goes on in the same file, in chunks of its own. */
 static void in_child(void) {
     process = getpid();
+    if (!has_log) return;
     log_cursor = (struct cursor){ .next = NULL };
     log_is_forked();
-    if (!log_header) return;
     thread_introduce();
     log_put((struct record){ .event = EVENT_CHILD,
                              .object = fork_number,

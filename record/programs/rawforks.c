@@ -1,4 +1,5 @@
-/* A program whose child by _Fork, which runs no handlers, locks while the parent does, too. */
+/* A program whose child by _Fork, which runs no handlers, locks while the parent does, too. That
+ * child forks one that locks. */
 #define _GNU_SOURCE
 #include "common.h"
 
@@ -14,6 +15,12 @@ int main(void) {
         lock(&mutex);
         unlock(&mutex);
     }
-    if (child == 0) _exit(0);
+    if (child == 0) {
+        pid_t grandchild = fork();
+        lock(&mutex);
+        unlock(&mutex);
+        if (grandchild > 0) waitpid(grandchild, &status, 0);
+        _exit(grandchild < 0);
+    }
     return waitpid(child, &status, 0) == child ? status : 1;
 }
