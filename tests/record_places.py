@@ -254,7 +254,7 @@ SITES, SLOTS, PROBES = 10000, 8192, 16
 PROBED = """#include "places.h"
 #include <inttypes.h>
 #include <stdio.h>
-struct header *log_header;
+union own_page log_own;
 static struct header header;
 static uint64_t next_of(uint64_t slot, uint64_t place) {
     while (places_slot(++place) != slot) continue;
