@@ -56,6 +56,10 @@ class Places:
         """Returns the path of a file and the offset there of the last byte of a call, or None."""
         return self.module_of(address - 1)
 
+    def files_of_objects(self):
+        """Returns the paths of the files in which objects may lie."""
+        return {where[0] for where in map(self.module_of, self.objects) if where}
+
     def unnumbered(self, texts, symbols):
         """Returns the texts of addresses that have no number, by address: of the static mutexes,
         and of the calls that initialised others."""
@@ -261,7 +265,8 @@ def write_places(reader, paths):
     for path, its in offsets.items():
         texts |= named(programs, path, sorted(its))
     if shutil.which("nm"):
-        symbols = {path: symbols_of(path) for path in {it[1] for log in logs for it in log.modules}}
+        files = set().union(*(log.files_of_objects() for log in logs))
+        symbols = {path: symbols_of(path) for path in files}
     for log in logs:
         if log.addresses:
             log.write(texts, symbols)
