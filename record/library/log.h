@@ -177,7 +177,7 @@ struct cursor {
  * processes.c, or hasn't yet, would put its records over those of its parent. */
 union own_page {
     struct header *header; /* NULL: nothing is recorded */
-    char bytes[65536];     /* the largest page that Linux has */
+    char bytes[65536];     /* the largest page of ARM64 */
 };
 extern HIDDEN union own_page log_own;
 #define log_header log_own.header
