@@ -58,14 +58,14 @@ impl Grants {
     }
 
     /// Goes past a record of a mutex, which had the first owner before it and has the second one behind it.
-    pub fn pass(&mut self, record: &Record, mutex: u32, before: u32, owner: u32) {
+    pub fn pass(&mut self, record: &Record, mutex: u32, before: Option<u32>, owner: Option<u32>) {
         let place = get(&self.passed, mutex);
         let last = place.saturating_sub(1);
-        if before != 0 && before != owner {
+        if before.is_some() && before != owner {
             set(&mut self.ends, last, record.time.unwrap_or(LASTING));
         }
         if is_grant(record) {
-            let is_again = before == record.thread;
+            let is_again = before == Some(record.thread);
             let first = if is_again {
                 get(&self.firsts, last)
             } else {

@@ -9,6 +9,7 @@
 #![tactic(auto)]
 
 mod grants;
+mod ids;
 mod requests;
 mod waits;
 

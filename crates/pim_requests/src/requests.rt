@@ -6,6 +6,7 @@ ghost use Rattle.std.specs.Prelude.{◌≡◌, IfOk};
 ghost use Rattle.pim_course.specs.Requests.{IsInOrder};
 
 use crate::grants::Grants;
+use crate::ids::unless_zero;
 use crate::waits::{Asked, Wait, asked_in};
 use pim_course::lists::{get, set};
 use pim_course::{Request, Requests, Sources, Walk};
@@ -60,8 +61,8 @@ fn add_silent(
     let ids = &sources.ids;
     let mut grants = Grants::of(alloc, log, ids)?;
     let mut walk = Walk::new(alloc, ids)?;
-    let mut asked = vec![in alloc; 0; ids.threads.len()]?;
-    let mut last = vec![in alloc; 0u64; ids.threads.len()]?;
+    let mut asked = vec![in alloc; None; ids.threads.len()]?;
+    let mut last = vec![in alloc; None; ids.threads.len()]?;
     for number in 1..log.header().end() {
         let Some(record) = log.record(number) else {
             continue;
@@ -70,8 +71,9 @@ fn add_silent(
         let is_missing = misses_request(&mut asked, &record, mutex);
         if is_missing && to.ends.binary_search(&number).is_err() {
             if let Some(grant) = grants.first_since(log, &record, mutex) {
+                let own = get(&last, thread).unwrap_or(grant);
                 let request = Request {
-                    after: grant.max(get(&last, thread)),
+                    after: grant.max(own),
                     time: None,
                     thread,
                     mutex,
@@ -80,11 +82,12 @@ fn add_silent(
                 to.list.push(request)?;
             }
         }
-        let owner = walk.course.mutex(mutex).owner;
+        let before = unless_zero(walk.course.mutex(mutex).owner);
         let _moment = walk.read(log, sources, number);
-        grants.pass(&record, mutex, owner, walk.course.mutex(mutex).owner);
+        let owner = unless_zero(walk.course.mutex(mutex).owner);
+        grants.pass(&record, mutex, before, owner);
         if record.time.is_some() {
-            set(&mut last, thread, number);
+            set(&mut last, thread, Some(number));
         }
     }
     Ok(())
@@ -92,8 +95,8 @@ fn add_silent(
 
 /// Returns whether a call that put no REQUEST lasted while its mutex was granted, or may have.
 fn misses_some(alloc: Global, log: &Log, ids: &Ids) -> Result<bool, AllocError> {
-    let mut asked = vec![in alloc; 0; ids.threads.len()]?;
-    let mut latest = vec![in alloc; 0u64; ids.mutexes.len()]?;
+    let mut asked = vec![in alloc; None; ids.threads.len()]?;
+    let mut latest = vec![in alloc; None; ids.mutexes.len()]?;
     for number in 1..log.header().end() {
         if let Some(record) = log.record(number) {
             let mutex = ids.of_record(number);
@@ -101,29 +104,30 @@ fn misses_some(alloc: Global, log: &Log, ids: &Ids) -> Result<bool, AllocError> 
             if is_missing && may_have_lasted(&record, get(&latest, mutex)) {
                 return Ok(true);
             }
-            if let (Event::Granted { .. }, Some(time)) = (record.event, record.time) {
+            if matches!(record.event, Event::Granted { .. }) {
                 let before = get(&latest, mutex);
-                set(&mut latest, mutex, time.max(before));
+                set(&mut latest, mutex, before.max(record.time));
             }
         }
     }
     Ok(false)
 }
 
-/// Returns whether the call that ends with this record may have lasted at this time.
-fn may_have_lasted(record: &Record, time: u64) -> bool {
+/// Returns whether the call that ends with this record may have lasted at this time, if there is one. A call whose
+/// begin isn't known may have lasted anyway.
+fn may_have_lasted(record: &Record, time: Option<u64>) -> bool {
     match record.began() {
-        Some(began) => time > began,
+        Some(began) => time > Some(began),
         None => true,
     }
 }
 
 /// Returns whether a call ends with this record that may have waited, and put no REQUEST.
-fn misses_request(asked: &mut Vec<u32>, record: &Record, mutex: u32) -> bool {
+fn misses_request(asked: &mut Vec<Option<u32>>, record: &Record, mutex: u32) -> bool {
     let thread = record.thread;
     let may_have_waited = match record.event {
         Event::Request { .. } => {
-            set(asked, thread, mutex);
+            set(asked, thread, Some(mutex));
             return false;
         }
         Event::Granted { took, call, .. } => call == Call::Lock && took != Some(0),
@@ -134,7 +138,7 @@ fn misses_request(asked: &mut Vec<u32>, record: &Record, mutex: u32) -> bool {
         } => is_timeout && took != Some(0),
         _ => return false,
     };
-    let has_asked = get(asked, thread) == mutex;
-    set(asked, thread, 0);
+    let has_asked = get(asked, thread) == Some(mutex);
+    set(asked, thread, None);
     may_have_waited && !has_asked
 }

@@ -10,6 +10,7 @@
 //!
 //! If none of that holds, the request isn't added.
 
+use crate::ids::unless_zero;
 use pim_course::lists::{get, set};
 use pim_course::{Course, Request, Sources, Walk};
 use pim_log::{Event, Log, Record};
@@ -41,8 +42,19 @@ struct Pending {
     request: Request,
     /// When the wait began.
     from: u64,
-    /// The number of the RELEASE of the mutex since the thread's last record, or 0.
-    release: u64,
+    /// The number of the record before the RELEASE of the mutex, if that is since the thread's last record.
+    before: Option<u64>,
+}
+
+/// What is known of where the request of a wait belongs.
+#[derive(Clone, Copy, PartialEq, Eq)]
+enum Place {
+    /// Behind the record with this number.
+    Behind(u64),
+    /// It will not be known.
+    Never,
+    /// A later record may say it.
+    Later,
 }
 
 /// What is known on the way through a log.
@@ -55,14 +67,14 @@ struct Search {
     begun: usize,
     /// By the kernel's number the thread that has it.
     threads: HashMap<u32, u32>,
-    /// By process and address the mutex that is there.
-    mutexes: HashMap<(u32, u64), u32>,
-    /// The highest number of a mutex so far.
+    /// By process and address the mutex that is there. One that processes share is of no process.
+    mutexes: HashMap<(Option<u32>, u64), u32>,
+    /// How many mutexes were named so far. They have the numbers from 1 on in this order.
     named: u32,
-    /// By thread the number of its last record, or 0.
-    last: Vec<u64>,
-    /// By mutex the number of its last RELEASE, or 0.
-    released: Vec<u64>,
+    /// By thread the number of its last record, if it has one.
+    last: Vec<Option<u64>>,
+    /// By mutex the number of its last RELEASE, if it has one.
+    released: Vec<Option<u64>>,
     pending: Vec<Pending>,
     /// By thread where in the list the request is that was found since its last record.
     asked: Vec<Option<usize>>,
@@ -124,8 +136,8 @@ impl Search {
             threads: HashMap::new(alloc),
             mutexes: HashMap::new(alloc),
             named: 0,
-            last: vec![in alloc; 0; threads]?,
-            released: vec![in alloc; 0; sources.ids.mutexes.len()]?,
+            last: vec![in alloc; None; threads]?,
+            released: vec![in alloc; None; sources.ids.mutexes.len()]?,
             pending: Vec::new(alloc),
             asked: vec![in alloc; None; threads]?,
             found: Asked::none(alloc),
@@ -161,11 +173,12 @@ impl Search {
         wait: &Wait,
         after: u64,
     ) -> Result<(), AllocError> {
-        let thread = self.threads.get(&wait.task).copied().unwrap_or(0);
-        let mutex = self.mutex_at(sources, thread, wait.address);
-        let owner = course.mutex(mutex).owner;
-        let is_waiting = course.thread(thread).awaits != 0 || self.is_pending(thread);
-        if thread == 0 || mutex == 0 || owner == thread || is_waiting {
+        let Some((thread, mutex)) = self.find(sources, wait) else {
+            return Ok(());
+        };
+        let owner = unless_zero(course.mutex(mutex).owner);
+        let awaits = unless_zero(course.thread(thread).awaits);
+        if owner == Some(thread) || awaits.is_some() || self.is_pending(thread) {
             return Ok(());
         }
         let request = Request {
@@ -175,30 +188,37 @@ impl Search {
             mutex,
             place: None,
         };
-        if owner != 0 {
+        if owner.is_some() {
             course.add_request(sources, &request);
             return self.add(request);
         }
-        let release = get(&self.released, mutex);
-        let is_since = release > get(&self.last, thread);
-        let release = if is_since { release } else { 0 };
+        let before = self.before_release(thread, mutex);
         self.pending.push(Pending {
             request,
             from: wait.from,
-            release,
+            before,
         })?;
         Ok(())
     }
 
-    /// Returns the mutex that is at an address in the process of a thread, or 0.
-    fn mutex_at(&self, sources: &Sources, thread: u32, address: u64) -> u32 {
-        let Some(is) = sources.ids.threads.get(thread as usize) else {
-            return 0;
+    /// Returns the thread of a wait and the mutex that it is for, if the records so far name them.
+    fn find(&self, sources: &Sources, wait: &Wait) -> Option<(u32, u32)> {
+        let thread = *self.threads.get(&wait.task)?;
+        let process = sources.ids.threads.get(thread as usize)?.process;
+        let mutex = match self.mutexes.get(&(Some(process), wait.address)) {
+            Some(own) => own,
+            None => self.mutexes.get(&(None, wait.address))?,
         };
-        match self.mutexes.get(&(is.process, address)) {
-            Some(own) => *own,
-            None => self.mutexes.get(&(0, address)).copied().unwrap_or(0),
+        Some((thread, *mutex))
+    }
+
+    /// Returns the number of the record before the last RELEASE of a mutex, if that is since the thread's last record.
+    fn before_release(&self, thread: u32, mutex: u32) -> Option<u64> {
+        let release = get(&self.released, mutex)?;
+        if Some(release) <= get(&self.last, thread) {
+            return None;
         }
+        release.checked_sub(1)
     }
 
     fn is_pending(&self, thread: u32) -> bool {
@@ -228,9 +248,9 @@ impl Search {
         self.learn(sources, record, id)?;
         self.settle(sources, &mut walk.course, record, id)?;
         self.end_wait(record)?;
-        set(&mut self.last, record.thread, record.number);
+        set(&mut self.last, record.thread, Some(record.number));
         if matches!(record.event, Event::Release { .. }) {
-            set(&mut self.released, id, record.number);
+            set(&mut self.released, id, Some(record.number));
         }
         Ok(())
     }
@@ -250,7 +270,7 @@ impl Search {
 
     /// Learns who has the number of a thread, and which mutex is at an address.
     fn learn(&mut self, sources: &Sources, record: &Record, id: u32) -> Result<(), AllocError> {
-        if get(&self.last, record.thread) == 0 {
+        if get(&self.last, record.thread).is_none() {
             self.threads.insert(record.task, record.thread)?;
         }
         if record.event.mutex().is_none() || id <= self.named {
@@ -260,10 +280,11 @@ impl Search {
         let Some(is) = sources.ids.mutex(id) else {
             return Ok(());
         };
-        if is.process == 0 {
-            let _before = self.mutexes.remove(&(record.process, is.address));
+        let process = unless_zero(is.process);
+        if process.is_none() {
+            let _before = self.mutexes.remove(&(Some(record.process), is.address));
         }
-        self.mutexes.insert((is.process, is.address), id)?;
+        self.mutexes.insert((process, is.address), id)?;
         Ok(())
     }
 
@@ -282,14 +303,14 @@ impl Search {
         for one in &pending {
             let request = one.request;
             match one.place(record, id) {
-                Some(0) => {}
-                Some(after) => {
+                Place::Behind(after) => {
                     if request.thread != record.thread {
                         course.add_request(sources, &request);
                     }
                     self.add(Request { after, ..request })?;
                 }
-                None => self.pending.push(*one)?,
+                Place::Never => {}
+                Place::Later => self.pending.push(*one)?,
             }
         }
         Ok(())
@@ -298,8 +319,7 @@ impl Search {
     /// Adds the requests of the waits that last at the end, and returns all.
     fn end(mut self) -> Result<Asked, AllocError> {
         for one in &self.pending {
-            if one.release > 0 {
-                let after = one.release - 1;
+            if let Some(after) = one.before {
                 self.found.list.push(Request {
                     after,
                     ..one.request
@@ -311,23 +331,30 @@ impl Search {
 }
 
 impl Pending {
-    /// Returns the number of the record behind which the request belongs, 0 if that will not be known, or `None` as long
-    /// as a later record may say it.
-    fn place(&self, record: &Record, id: u32) -> Option<u64> {
-        let before = self.release.saturating_sub(1);
+    /// Returns where the request belongs, as far as this record and those before it say.
+    fn place(&self, record: &Record, id: u32) -> Place {
         if record.thread == self.request.thread {
-            return Some(before);
+            return self.before_or(Place::Never);
         }
         if !matches!(record.event, Event::Granted { .. }) || id != self.request.mutex {
-            return None;
+            return Place::Later;
         }
         let has_begun = match record.began() {
             Some(began) => began <= self.from,
             None => true,
         };
         if has_begun {
-            return Some(record.number);
+            Place::Behind(record.number)
+        } else {
+            self.before_or(Place::Later)
         }
-        if before > 0 { Some(before) } else { None }
+    }
+
+    /// Returns the place before the RELEASE of the mutex since the thread's last record, or this one if there is none.
+    fn before_or(&self, otherwise: Place) -> Place {
+        match self.before {
+            Some(before) => Place::Behind(before),
+            None => otherwise,
+        }
     }
 }
