@@ -75,7 +75,7 @@ waiting-to facts t wait w =
 
 -- ---- the waits that ended
 
-contains-cases : (x y : FoundWait) (xs : List FoundWait) → Contains (x ∷ xs) y → (x ≡ y) ⊎ Contains xs y
+pub contains-cases : {X : Type 0} (x y : X) (xs : List X) → Contains (x ∷ xs) y → (x ≡ y) ⊎ Contains xs y
 contains-cases x y xs h = elim (Contains-append_cases (x ∷ []) xs y h) [
   | inl first ↦ elim (Contains-push_cases [] x y first) [
     | inl none ↦ absurd (omega (arith, none.1))
@@ -134,7 +134,7 @@ contains-more m facts wait h = go (ends_wait m.fact.what)
     go true = contains-until m.time (wait_of facts m.fact.thread) (ended_waits facts) wait h
     go false = h
 
-contains-first : (x : FoundWait) (xs : List FoundWait) → Contains (x ∷ xs) x
+pub contains-first : {X : Type 0} (x : X) (xs : List X) → Contains (x ∷ xs) x
 contains-first x xs = (0, omega arith, refl)
 
 ended-at : (later : List Moment) (m : Moment) (earlier : List Moment) (v : FoundWait) → ends_wait m.fact.what ≡ true →

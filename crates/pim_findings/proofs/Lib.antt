@@ -8,3 +8,5 @@ pub mod Lasting
 pub mod Walking
 pub mod Cycling
 pub mod Blockers
+pub mod Owning
+pub mod Granting

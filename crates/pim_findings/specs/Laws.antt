@@ -1,10 +1,12 @@
--- What the definitions of waits come to.
-use Rattle.std.specs.Prelude.{◌≡◌, ◌≢◌, ◌↔◌, ℕ, ◌≤◌, false, List, ◌∷◌, ◌++◌, Some, IsTrue, IfSome, All, AllPairs, Contains, IsPermutation}
+-- What the definitions of waits and ownerships come to.
+use Rattle.std.specs.Prelude.{◌≡◌, ◌≢◌, ◌↔◌, ℕ, ◌-◌, ◌≤◌, false, List, ◌∷◌, ◌++◌, Option, Some, IsTrue, IfSome, All, AllPairs, Contains, IsPermutation}
 use Rattle.pim_facts.specs.declared.fact.What.{What}
 use Rattle.pim_facts.specs.declared.fact.What.TheVariants.{Granted, Waits, GaveUp, Released, Level, Ceiling}
+use Rattle.pim_findings.specs.declared.found_mutex.FoundOwnership.{FoundOwnership}
 use Rattle.pim_findings.specs.declared.found_wait.FoundWait.{FoundWait}
 use Rattle.pim_findings.specs.Waits.{Moment, all_waits, begun_wait, ended_waits, ends_wait, lasting_until, wait_of}
 use Rattle.pim_findings.specs.Longest.{longest_first}
+use Rattle.pim_findings.specs.Ownerships.{IsLongest, grants, last_granted, ownerships_of, releases}
 
 -- what happened neither begins a wait of its thread nor ends one
 abbrev pub IsStill : What → Type 0
@@ -62,3 +64,31 @@ IsNoShorter a b = b.lasted ≤ a.lasted
 pub record LongestLaw : Type 0 where
   pub same : (waits : List FoundWait) → IsPermutation waits (longest_first waits)
   pub ordered : (waits : List FoundWait) → AllPairs IsNoShorter (longest_first waits)
+
+-- a mutex was last granted at this time: one of these facts grants it, and no later one does
+pub record WasGranted (facts : List Moment) (mutex since : ℕ) : Type 0 where
+  pub later : List Moment
+  pub granting : Moment
+  pub earlier : List Moment
+  pub these : facts ≡ later ++ granting ∷ earlier
+  pub grant : IsTrue (grants mutex granting)
+  pub no_other : All (λ m. grants mutex m ≡ false) later
+  pub is : since ≡ granting.time
+
+-- a thread owned a mutex: one of these facts releases it, and it was granted before
+pub record HasOwned (facts : List Moment) (mutex : ℕ) (one : FoundOwnership) : Type 0 where
+  pub later : List Moment
+  pub ending : Moment
+  pub earlier : List Moment
+  pub these : facts ≡ later ++ ending ∷ earlier
+  pub ends : IsTrue (releases mutex ending)
+  pub since : ℕ
+  pub granted : WasGranted earlier mutex since
+  pub is : one ≡ record { thread = ending.fact.thread; lasted = ending.time - since }
+
+-- the ownerships are those from a grant to a release: none is invented, and none is missing; and only one is the longest
+pub record OwnershipsLaw : Type 0 where
+  pub ended : (facts : List Moment) (mutex : ℕ) (one : FoundOwnership) → Contains (ownerships_of facts mutex) one ↔ HasOwned facts mutex one
+  pub granted : (facts : List Moment) (mutex since : ℕ) → (last_granted facts mutex ≡ Some since) ↔ WasGranted facts mutex since
+  pub longest : (ownerships : List FoundOwnership) (one other : Option FoundOwnership) →
+      IsLongest ownerships one → IsLongest ownerships other → one ≡ other

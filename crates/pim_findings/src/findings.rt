@@ -1,17 +1,18 @@
 //! What is found in a recording.
-ghost use Rattle.std.specs.Prelude.{◌≡◌, ℕ, ◌<◌, ◌==◌, ◌↔◌, ◌⊎◌, List, [], length, is_some, Any, IfOk, IsTrue, if◌then◌else◌, vec_len};
+ghost use Rattle.std.specs.Prelude.{◌≡◌, ℕ, ◌<◌, ◌==◌, ◌↔◌, ◌⊎◌, List, [], ◌∷◌, length, is_some, Any, IfOk, IsTrue, if◌then◌else◌, vec_len};
 ghost use Rattle.pim_findings.specs.Cycles.{AreCycles};
 ghost use Rattle.pim_findings.specs.Deadlocks.{blocker_of, threads_of};
 ghost use Rattle.pim_findings.specs.Waits.{Moment, all_waits, and_fact, and_until};
 ghost use Rattle.pim_findings.specs.Longest.{AreReported};
 ghost use Rattle.pim_findings.specs.Found.{Finds, KeepsWaits, wait_at};
+ghost use Rattle.pim_findings.specs.Ownerships.{IsLongest, Owns, and_since, mutex_at};
 ghost use Rattle.pim_orders.specs.Nestings as nesting;
 ghost use Rattle.pim_orders.specs.Opposites.{AreOpposites};
 ghost use Rattle.pim_orders.specs.Seen as nested;
 
 use crate::deadlock::Deadlock;
 use crate::deadlocks::deadlocks_of;
-use crate::found_mutex::{FoundMutex, Left};
+use crate::found_mutex::{FoundMutex, FoundOwnership, Left};
 use crate::found_wait::FoundWait;
 use crate::found_waits::FoundWaits;
 use crate::waiting::Waiting;
@@ -49,6 +50,7 @@ impl Findings {
         ensures lists { IfOk result (λ found. is_some found.waits.all ≡ lists_waits) }
         ensures waits { IfOk result (λ found. Finds (length sources.now.ids.threads.items) (length sources.now.ids.mutexes.items) [] found) }
         ensures orders { IfOk result (λ found. nested.Knows (length sources.now.ids.threads.items) [] found.orders) }
+        ensures owns { IfOk result (λ found. Owns (length sources.now.ids.mutexes.items) [] found) }
     {
         let mutexes = sources.ids.mutexes.len();
         Ok(Findings {
@@ -64,7 +66,9 @@ impl Findings {
     }
 
     /// Returns what is found of a mutex, but for the waits.
-    pub fn mutex(&self, mutex: u32) -> FoundMutex {
+    pub fn mutex(&self, mutex: u32) -> FoundMutex
+        ensures { result ≡ mutex_at self.now.mutexes.items mutex }
+    {
         match self.mutexes.get(mutex as usize) {
             Some(found) => *found,
             None => FoundMutex::UNSEEN,
@@ -87,6 +91,7 @@ impl Findings {
     /// Returns `AllocError` if out of memory.
     pub fn observe(&mut self, course: &Course, fact: &Fact, time: u64) -> Result<(), AllocError>
         ensures waits { KeepsWaits self.old self.new }
+        ensures mutexes { self.new.mutexes ≡ self.old.mutexes }
         ensures orders { IfOk result (λ _. (n : ℕ) (facts : List nesting.Moment) → nested.Knows n facts self.old.orders →
             nested.Knows n (nested.and_fact n (record { fact = fact.now; course = course.now }) facts) self.new.orders) }
     {
@@ -115,6 +120,13 @@ impl Findings {
               course = course.now;
               sources = sources.now;
             }) facts) self.new) }
+        ensures owns { IfOk result (λ _. (k : ℕ) (facts : List Moment) → Owns k facts self.old →
+            Owns k (record {
+              fact = fact.now;
+              time = time;
+              course = course.now;
+              sources = sources.now;
+            } ∷ facts) self.new) }
     {
         match fact.what {
             What::Waits => self
@@ -140,6 +152,7 @@ impl Findings {
         ensures lists { is_some self.new.waits.all ≡ is_some self.old.waits.all }
         ensures len { length self.new.waiting.open.items ≡ length self.old.waiting.open.items }
         ensures orders { self.new.orders ≡ self.old.orders }
+        ensures mutexes { self.new.mutexes ≡ self.old.mutexes }
         ensures others { (t : ℕ) → wait_at self.new.waiting t ≡ (if t == thread then None else wait_at self.old.waiting t) }
     {
         match self.waiting.end(thread) {
@@ -152,6 +165,12 @@ impl Findings {
     fn own(&mut self, sources: &Sources, fact: &Fact, time: u64) -> Result<(), AllocError>
         ensures orders { self.new.orders ≡ self.old.orders }
         ensures waits { KeepsWaits self.old self.new }
+        ensures len { length self.new.mutexes.items ≡ length self.old.mutexes.items }
+        ensures since { (mutex : ℕ) → mutex < length self.old.mutexes.items →
+            (mutex_at self.new.mutexes.items mutex).owned_since ≡
+            (if mutex == fact.now.mutex then Some time else (mutex_at self.old.mutexes.items mutex).owned_since) }
+        ensures longest { (mutex : ℕ) → mutex < length self.old.mutexes.items →
+            (mutex_at self.new.mutexes.items mutex).longest ≡ (mutex_at self.old.mutexes.items mutex).longest }
     {
         let mut found = self.mutex(fact.mutex);
         if let Some(left) = found.left() {
@@ -172,6 +191,13 @@ impl Findings {
     fn release(&mut self, sources: &Sources, course: &Course, fact: &Fact, time: u64)
         ensures orders { self.new.orders ≡ self.old.orders }
         ensures waits { KeepsWaits self.old self.new }
+        ensures len { length self.new.mutexes.items ≡ length self.old.mutexes.items }
+        ensures since { (mutex : ℕ) → mutex < length self.old.mutexes.items →
+            (mutex_at self.new.mutexes.items mutex).owned_since ≡ (mutex_at self.old.mutexes.items mutex).owned_since }
+        ensures longest { (mutex : ℕ) (ownerships : List FoundOwnership) → mutex < length self.old.mutexes.items →
+            let before = mutex_at self.old.mutexes.items mutex in IsLongest ownerships before.longest →
+            IsLongest (if mutex == fact.now.mutex then and_since before.owned_since fact.now.thread time ownerships else ownerships)
+            (mutex_at self.new.mutexes.items mutex).longest }
     {
         let mut found = self.mutex(fact.mutex);
         let left = match self.waiting.first(sources, course, fact) {
@@ -195,6 +221,7 @@ impl Findings {
     /// Returns `AllocError` if out of memory.
     pub fn end(&mut self, alloc: Global, course: &Course, time: u64) -> Result<(), AllocError>
         ensures lists { is_some self.new.waits.all ≡ is_some self.old.waits.all }
+        ensures mutexes { self.new.mutexes ≡ self.old.mutexes }
         ensures waits { IfOk result (λ _. (n k : ℕ) (facts : List Moment) → Finds n k facts self.old →
             AreReported k (all_waits facts time n) self.new.waits) }
         ensures deadlocks { IfOk result (λ _. AreCycles (blocker_of course.now) (threads_of self.new.deadlocks.items)) }
@@ -211,7 +238,12 @@ impl Findings {
     }
 }
 
-fn put(mutexes: &mut Vec<FoundMutex>, mutex: u32, found: FoundMutex) {
+/// Puts what is found of a mutex, if there is such a one.
+fn put(mutexes: &mut Vec<FoundMutex>, mutex: u32, found: FoundMutex)
+    ensures len { length mutexes.new.items ≡ length mutexes.old.items }
+    ensures each { (one : ℕ) → one < length mutexes.old.items → mutex_at mutexes.new.items one ≡
+        (if one == mutex then found else mutex_at mutexes.old.items one) }
+{
     if (mutex as usize) < mutexes.len() {
         mutexes[mutex as usize] = found;
     }

@@ -1,4 +1,6 @@
 //! Who owned a mutex, and to whom it went.
+ghost use Rattle.std.specs.Prelude.{◌≡◌, ℕ, List, is_some};
+ghost use Rattle.pim_findings.specs.Ownerships.{IsLongest, and_since};
 
 /// To whom a mutex went for which threads waited.
 #[derive(Clone, Copy, PartialEq, Eq)]
@@ -25,7 +27,7 @@ pub struct FoundOwnership {
 #[derive(Clone, Copy, PartialEq, Eq)]
 pub struct FoundMutex {
     pub hand_overs: HandOvers,
-    /// The longest ownership that ended. `None` if none took any time.
+    /// The longest ownership that ended, of equally long ones the first. `None` if none took any time.
     pub longest: Option<FoundOwnership>,
     /// From when on its last owner has it, or had it.
     owned_since: Option<u64>,
@@ -79,7 +81,9 @@ impl FoundMutex {
     };
 
     /// Returns whether some thread owned it while it was in the trace.
-    pub fn was_owned(&self) -> bool {
+    pub fn was_owned(&self) -> bool
+        ensures { result ≡ is_some self.now.owned_since }
+    {
         self.owned_since.is_some()
     }
 
@@ -89,18 +93,28 @@ impl FoundMutex {
     }
 
     /// Counts a hand-over to a thread, whose wait for the mutex has this number if it waits.
-    pub(crate) fn hand_over(&mut self, left: &Left, thread: u32, number: Option<u64>) {
+    pub(crate) fn hand_over(&mut self, left: &Left, thread: u32, number: Option<u64>)
+        ensures since { self.new.owned_since ≡ self.old.owned_since }
+        ensures longest { self.new.longest ≡ self.old.longest }
+    {
         self.hand_overs.count(left, thread, number);
     }
 
     /// A thread owns the mutex from this time on.
-    pub(crate) fn own(&mut self, time: u64) {
+    pub(crate) fn own(&mut self, time: u64)
+        ensures since { self.new.owned_since ≡ Some time }
+        ensures longest { self.new.longest ≡ self.old.longest }
+    {
         self.owned_since = Some(time);
         self.left = None;
     }
 
     /// Its owner has it no more from this time on.
-    pub(crate) fn release(&mut self, thread: u32, time: u64, left: Option<Left>) {
+    pub(crate) fn release(&mut self, thread: u32, time: u64, left: Option<Left>)
+        ensures since { self.new.owned_since ≡ self.old.owned_since }
+        ensures longest { (ownerships : List FoundOwnership) → IsLongest ownerships self.old.longest →
+            IsLongest (and_since self.old.owned_since thread time ownerships) self.new.longest }
+    {
         let lasted = time.saturating_sub(self.owned_since.unwrap_or(time));
         let longest = match self.longest {
             Some(longest) => longest.lasted,

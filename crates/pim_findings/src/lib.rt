@@ -3,9 +3,10 @@
 //!
 //! [`Findings`] learns from each [`Fact`](pim_facts::Fact) of a log, in order, beside the
 //! [`Course`](pim_course::Course) of the program. It is proved that the waits it reports are those
-//! of these facts, with the owner and the levels that the course has as each begins, and that the
-//! deadlocks are the cycles of threads that the course has at the end: `specs/` says what they are,
-//! and [`waits_law`] what that comes to for waits. Hand-overs and ownerships are tested.
+//! of these facts, with the owner and the levels that the course has as each begins, that the
+//! longest ownership of each mutex is that by these facts, and that the deadlocks are the cycles of
+//! threads that the course has at the end: `specs/` says what they are, and [`waits_law`] and
+//! [`ownerships_law`] what that comes to. Hand-overs are tested.
 //!
 //! ```text
 //! let mut findings = Findings::new(alloc, &sources)?;
@@ -31,4 +32,4 @@ pub use findings::Findings;
 pub use found_mutex::{FoundMutex, FoundOwnership, HandOvers};
 pub use found_wait::{FoundOwner, FoundWait};
 pub use found_waits::{FoundWaits, LONGEST, MutexWaits};
-pub use laws::{longest_law, others_law, waits_law};
+pub use laws::{longest_law, others_law, ownerships_law, waits_law};

@@ -4,12 +4,13 @@ use Rattle.pim_findings.proofs.Following.{ending-none, ending-more, ending-all}
 use Rattle.pim_findings.proofs.findings.Findings.end.Goals as goal
 
 pub loop-thread-init : goal.loop-thread-init
-loop-thread-init c = record { lists = refl; orders = refl; waits = λ n k facts f. ending-none n k facts c.args.time c.args.self.now f }
+loop-thread-init c = record { lists = refl; orders = refl; mutexes = refl; waits = λ n k facts f. ending-none n k facts c.args.time c.args.self.now f }
 
 pub loop-thread-preserved : goal.loop-thread-preserved
 loop-thread-preserved c = record {
   lists = c.in_ok-end_wait.ensures.lists ∙ c.loop-thread.invariant.lists;
   orders = c.in_ok-end_wait.ensures.orders ∙ c.loop-thread.invariant.orders;
+  mutexes = c.in_ok-end_wait.ensures.mutexes ∙ c.loop-thread.invariant.mutexes;
   waits = λ n k facts f.
       let inside : c.loop-thread.thread < n = omega (arith, f.threads, c.threads-thread-end.ensures, c.loop-thread-test.true) in
       ending-more n k facts c.args.time c.loop-thread.thread c.loop-thread.self c.end_wait.new.self inside
