@@ -241,10 +241,10 @@ class World:
         return record.chunk.thread, mutex, self.owner.get(mutex)
 
     def other_ceiling(self, record):
-        """A record says another ceiling than was known."""
+        """A record says another ceiling of a PROTECT mutex than was known."""
         thread, mutex, _ = self.of(record)
-        ceiling = ceiling_of(record)
-        if ceiling is None or self.ceiling.get(mutex) == ceiling:
+        ceiling, known = ceiling_of(record), self.ceiling.get(mutex)
+        if None in (ceiling, known) or known == ceiling:
             return []
         self.ceiling[mutex] = ceiling
         return [Fact(None, thread, CEILING, mutex, ceiling)]

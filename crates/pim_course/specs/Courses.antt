@@ -1,18 +1,32 @@
--- What is known of a mutex in the course of a program.
+-- What is known of a mutex and of a thread in the course of a program.
 use Rattle.std.specs.Prelude.{ℕ, slice_index_or, false, None}
+use Rattle.std.specs.Option.{unwrap_or}
 use Rattle.pim_facts.specs.declared.family.Family.{Family}
 use Rattle.pim_course.specs.declared.course.Course.{Course}
 use Rattle.pim_course.specs.declared.course.CourseMutex.{CourseMutex}
+use Rattle.pim_course.specs.declared.course.CourseThread.{CourseThread}
 use Rattle.pim_course.specs.declared.course.Sources.{Sources}
+
+-- what is known of a free mutex
+abbrev pub free : CourseMutex
+free =
+    record { owner = 0; last_owner = 0; next_owner = 0; taken_at = None; was_tried = false; depth = 0; waiting = 0; section = 0; ceiling = 0 }
+
+-- a thread that does nothing
+abbrev pub idle : CourseThread
+idle =
+    record { awaits = 0; awaited_owner = 0; owner_at = None; asked_at = None; section = 0; was_above = false; awaits_own = 0; level = 0 }
 
 -- who owns and awaits a mutex in the course of a program; one that there isn't is free
 abbrev pub mutex_in : Course → ℕ → CourseMutex
-mutex_in course m =
-    slice_index_or course.mutexes.items m
-    (record { owner = 0; last_owner = 0; next_owner = 0; taken_at = None; was_tried = false; depth = 0; waiting = 0; section = 0; ceiling = 0 })
+mutex_in course m = slice_index_or course.mutexes.items m free
 
--- the protocol of a mutex
+-- what a thread does in the course of a program; one that there isn't does nothing
+abbrev pub thread_in : Course → ℕ → CourseThread
+thread_in course t = slice_index_or course.threads.items t idle
+
+-- the protocol of a mutex; that of a NONE one where no record says it
 abbrev pub family_in : Sources → ℕ → Family
 family_in sources m =
-    (slice_index_or sources.ids.mutexes.items m
-    (record { process = 0; address = 0; family = Family.None; ceiling = 0; is_recursive = false })).family
+    unwrap_or (slice_index_or sources.ids.mutexes.items m
+    (record { process = 0; address = 0; family = None; ceiling = 0; is_recursive = false })).family Family.None

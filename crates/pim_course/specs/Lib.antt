@@ -1,2 +1,5 @@
 pub mod Courses
+pub mod Going
+pub mod Reading
 pub mod Requests
+pub mod World

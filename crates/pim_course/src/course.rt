@@ -1,6 +1,11 @@
 //! The course of a recorded program: who owns and awaits what, record by record.
-ghost use Rattle.std.specs.Prelude.{◌≡◌, ◌≢◌, ◌⊎◌};
-ghost use Rattle.pim_course.specs.Courses.{family_in, mutex_in};
+ghost use Rattle.std.specs.Prelude.{◌≡◌, ◌≢◌, ◌⊎◌, ◌<◌, ℕ, [], length, slice_set, IfOk};
+ghost use Rattle.pim_facts.specs.Levels.{id_of, level_by};
+ghost use Rattle.pim_facts.specs.Shown.{shown_in};
+ghost use Rattle.pim_course.specs.Courses.{family_in, mutex_in, thread_in};
+ghost use Rattle.pim_course.specs.Going.{GoesOn, HasSameSize, IsStill};
+ghost use Rattle.pim_course.specs.Reading.{Begins, HasRequest, HasThoseOf, world_at};
+ghost use Rattle.pim_course.specs.World.{CanHappen, Lead, but_for, if_any, world_of};
 
 use crate::next_owners::NextOwners;
 use crate::requests::{Request, Requests};
@@ -112,7 +117,9 @@ impl Course {
     /// # Errors
     ///
     /// Returns `AllocError` if out of memory.
-    pub fn new(alloc: Global, ids: &Ids) -> Result<Course, AllocError> {
+    pub fn new(alloc: Global, ids: &Ids) -> Result<Course, AllocError>
+        ensures { IfOk result (Begins ids.now) }
+    {
         let mut mutexes = vec![in alloc; FREE; ids.mutexes.len()]?;
         for place in 0..mutexes.len() {
             if place < ids.mutexes.len() {
@@ -142,17 +149,25 @@ impl Course {
     }
 
     /// Returns a thread. One that there isn't does nothing.
-    pub fn thread(&self, thread: u32) -> CourseThread {
+    pub fn thread(&self, thread: u32) -> CourseThread
+        ensures { result ≡ thread_in self.now thread }
+    {
         self.threads.get(thread as usize).copied().unwrap_or(IDLE)
     }
 
-    fn put_mutex(&mut self, mutex: u32, is: CourseMutex) {
+    fn put_mutex(&mut self, mutex: u32, is: CourseMutex)
+        ensures mutexes { self.new.mutexes.items ≡ slice_set self.old.mutexes.items mutex is }
+        ensures rest { self.new ≡ record self.old { mutexes = self.new.mutexes } }
+    {
         if (mutex as usize) < self.mutexes.len() {
             self.mutexes[mutex as usize] = is;
         }
     }
 
-    fn put_thread(&mut self, thread: u32, is: CourseThread) {
+    fn put_thread(&mut self, thread: u32, is: CourseThread)
+        ensures threads { self.new.threads.items ≡ slice_set self.old.threads.items thread is }
+        ensures rest { self.new ≡ record self.old { threads = self.new.threads } }
+    {
         if (thread as usize) < self.threads.len() {
             self.threads[thread as usize] = is;
         }
@@ -160,13 +175,18 @@ impl Course {
 
     /// Goes on by a record. Adds what it shows to `shown`, notes whether it is a contradiction, and returns why the record
     /// is left out if none of what it shows is in the trace.
-    pub fn advance(&mut self, sources: &Sources, record: &Record) -> LeftOut {
+    pub fn advance(&mut self, sources: &Sources, record: &Record) -> LeftOut
+        ensures size { HasSameSize self.old self.new }
+        ensures shown { HasThoseOf self.old «record».now (id_of sources.now.ids «record».now.number) →
+            shown_in self.old.shown ≡ [] →
+            Lead (shown_in self.new.shown) (world_at self.old «record».now) (world_of self.new) }
+    {
         let id = sources.ids.of_record(record.number);
         self.is_contradiction = false;
         match record.event {
             Event::Thread { priority, .. } => self.begin(record.thread, priority),
             Event::Priority { priority, .. } => self.set_level(id, priority),
-            Event::Ceiling(mutex) => self.set_ceiling(record.thread, &mutex, id),
+            Event::Ceiling(mutex) => self.set_ceiling(sources, record.thread, &mutex, id),
             Event::Request { mutex, owner } => self.request(sources, record, &mutex, owner, id),
             Event::Granted { mutex, .. } => self.grant(sources, record, &mutex, id),
             Event::Failed { .. } => self.fail(record.thread, id),
@@ -176,7 +196,11 @@ impl Course {
     }
 
     /// Goes on by a request that the log lacks: the thread waits for the mutex.
-    pub fn add_request(&mut self, sources: &Sources, request: &Request) {
+    pub fn add_request(&mut self, sources: &Sources, request: &Request)
+        ensures size { HasSameSize self.old self.new }
+        ensures shown { HasRequest self.old request.now → shown_in self.old.shown ≡ [] →
+            Lead (shown_in self.new.shown) (world_of self.old) (world_of self.new) }
+    {
         let (thread, mutex) = (request.thread, request.mutex);
         let is = self.mutex(mutex);
         if self.thread(thread).awaits == 0 && is.owner != thread {
@@ -187,21 +211,33 @@ impl Course {
     }
 
     /// A thread asks for a mutex at a place in the code.
-    fn ask_at(&mut self, thread: u32, place: Option<u16>) {
+    fn ask_at(&mut self, thread: u32, place: Option<u16>)
+        ensures size { HasSameSize self.old self.new }
+        ensures still { IsStill self.old self.new }
+    {
         let mut is = self.thread(thread);
         is.asked_at = place;
         self.put_thread(thread, is);
     }
 
     /// A thread has its first record, which tells its level.
-    fn begin(&mut self, thread: u32, priority: Priority) -> LeftOut {
+    fn begin(&mut self, thread: u32, priority: Priority) -> LeftOut
+        ensures size { HasSameSize self.old self.new }
+        ensures shown { self.new.shown ≡ self.old.shown }
+        ensures level { thread < length self.old.threads.items →
+            world_of self.new ≡
+            record (world_of self.old) { level = but_for thread (level_by priority 0) (world_of self.old).level } }
+    {
         let mut is = self.thread(thread);
         is.level = level_of(priority, 0);
         self.put_thread(thread, is);
         LeftOut::Remark
     }
 
-    fn set_level(&mut self, thread: u32, priority: Priority) -> LeftOut {
+    fn set_level(&mut self, thread: u32, priority: Priority) -> LeftOut
+        ensures size { HasSameSize self.old self.new }
+        ensures goes { thread < length self.old.threads.items → GoesOn 1 self.old self.new }
+    {
         let mut is = self.thread(thread);
         let level = level_of(priority, is.level);
         if thread == 0 || level == is.level {
@@ -213,8 +249,11 @@ impl Course {
         LeftOut::Absentee
     }
 
-    fn set_ceiling(&mut self, thread: u32, said: &Mutex, mutex: u32) -> LeftOut {
-        if self.correct_ceiling(thread, said, mutex) {
+    fn set_ceiling(&mut self, sources: &Sources, thread: u32, said: &Mutex, mutex: u32) -> LeftOut
+        ensures size { HasSameSize self.old self.new }
+        ensures goes { mutex < length self.old.mutexes.items → GoesOn 1 self.old self.new }
+    {
+        if self.correct_ceiling(sources, thread, said, mutex) {
             LeftOut::Uncontended
         } else {
             LeftOut::Unchanged
@@ -222,8 +261,13 @@ impl Course {
     }
 
     /// Learns the ceiling of a PROTECT mutex, and returns whether a record of the thread says another than was known.
-    fn correct_ceiling(&mut self, thread: u32, said: &Mutex, mutex: u32) -> bool {
-        let Some(ceiling) = ceiling_in(said) else {
+    fn correct_ceiling(&mut self, sources: &Sources, thread: u32, said: &Mutex, mutex: u32) -> bool
+        ensures size { HasSameSize self.old self.new }
+        ensures owner { (world_of self.new).owner ≡ (world_of self.old).owner }
+        ensures awaits { (world_of self.new).awaits ≡ (world_of self.old).awaits }
+        ensures goes { mutex < length self.old.mutexes.items → GoesOn 1 self.old self.new }
+    {
+        let Some(ceiling) = ceiling_of(sources, said, mutex) else {
             return false;
         };
         let mut is = self.mutex(mutex);
@@ -238,7 +282,13 @@ impl Course {
     }
 
     /// Lets a thread stop waiting whose record shows that it doesn't wait any more, unless it waits for this mutex.
-    fn correct_wait(&mut self, thread: u32, but: u32) {
+    fn correct_wait(&mut self, thread: u32, but: u32)
+        ensures size { HasSameSize self.old self.new }
+        ensures owner { (world_of self.new).owner ≡ (world_of self.old).owner }
+        ensures awaits { ((world_of self.new).awaits thread ≡ None) ⊎
+            (((world_of self.new).awaits thread ≡ Some but) × ((world_of self.old).awaits thread ≡ Some but)) }
+        ensures goes { GoesOn 1 self.old self.new }
+    {
         let awaits = self.thread(thread).awaits;
         if awaits != 0 && awaits != but {
             self.stop_waiting(thread);
@@ -246,7 +296,12 @@ impl Course {
     }
 
     /// A thread stops waiting without the mutex.
-    fn stop_waiting(&mut self, thread: u32) {
+    fn stop_waiting(&mut self, thread: u32)
+        ensures size { HasSameSize self.old self.new }
+        ensures owner { (world_of self.new).owner ≡ (world_of self.old).owner }
+        ensures awaits { (world_of self.new).awaits thread ≡ None }
+        ensures goes { (thread_in self.old thread).awaits ≢ 0 → GoesOn 1 self.old self.new }
+    {
         let mut is = self.thread(thread);
         let (mutex, section) = (is.awaits, is.section);
         is.awaits = 0;
@@ -265,7 +320,11 @@ impl Course {
         said: &Mutex,
         task: Option<u32>,
         mutex: u32,
-    ) -> LeftOut {
+    ) -> LeftOut
+        ensures size { HasSameSize self.old self.new }
+        ensures goes { «record».now.thread < length self.old.threads.items → mutex < length self.old.mutexes.items →
+            GoesOn 3 self.old self.new }
+    {
         let thread = record.thread;
         let is = self.mutex(mutex);
         if is.owner == thread {
@@ -275,7 +334,7 @@ impl Course {
         if mutex == 0 || self.thread(thread).awaits == mutex {
             return LeftOut::Again;
         }
-        self.correct_ceiling(thread, said, mutex);
+        self.correct_ceiling(sources, thread, said, mutex);
         self.correct_wait(thread, mutex);
         let owner = owner_asked(sources, record, task.is_some(), &is);
         self.ask_at(thread, record.place);
@@ -284,7 +343,10 @@ impl Course {
     }
 
     /// A thread asks for the mutex that it owns: unless that is recursive, it waits for itself.
-    fn request_own(&mut self, sources: &Sources, record: &Record, mutex: u32) {
+    fn request_own(&mut self, sources: &Sources, record: &Record, mutex: u32)
+        ensures size { HasSameSize self.old self.new }
+        ensures still { IsStill self.old self.new }
+    {
         let mut own = self.thread(record.thread);
         own.awaits_own = 0;
         if !is_recursive(&sources.ids, mutex) {
@@ -296,7 +358,11 @@ impl Course {
 
     /// A thread waits for a mutex of this owner. If the mutex is free in the log and has no next
     /// owner, the wait belongs to its next critical section.
-    fn wait(&mut self, sources: &Sources, thread: u32, mutex: u32, owner: u32) {
+    fn wait(&mut self, sources: &Sources, thread: u32, mutex: u32, owner: u32)
+        ensures size { HasSameSize self.old self.new }
+        ensures goes { thread < length self.old.threads.items → 0 < mutex →
+            CanHappen (world_of self.old) What.Waits thread mutex → GoesOn 1 self.old self.new }
+    {
         let section = self.section_of(mutex);
         let was_above = self.is_above(sources, thread, mutex);
         let owner_at = self.owner_at(owner, mutex);
@@ -336,7 +402,10 @@ impl Course {
     }
 
     /// Returns the critical section of a mutex that lasts, or else the next one.
-    fn section_of(&mut self, mutex: u32) -> u32 {
+    fn section_of(&mut self, mutex: u32) -> u32
+        ensures size { HasSameSize self.old self.new }
+        ensures still { IsStill self.old self.new }
+    {
         let mut is = self.mutex(mutex);
         if is.section == 0 {
             self.sections = self.sections.saturating_add(1);
@@ -347,33 +416,54 @@ impl Course {
     }
 
     /// A thread has a mutex. Its level isn't above the ceiling, unless it rose, or the ceiling fell, while it waited.
-    fn grant(&mut self, sources: &Sources, record: &Record, said: &Mutex, mutex: u32) -> LeftOut {
+    fn grant(&mut self, sources: &Sources, record: &Record, said: &Mutex, mutex: u32) -> LeftOut
+        ensures size { HasSameSize self.old self.new }
+        ensures goes { 0 < «record».now.thread → «record».now.thread < length self.old.threads.items →
+            mutex < length self.old.mutexes.items → GoesOn 4 self.old self.new }
+    {
         let thread = record.thread;
         let owner = self.mutex(mutex).owner;
         self.forget_own(thread);
         if mutex == 0 || owner == thread {
             return self.grant_again(&sources.ids, thread, mutex);
         }
-        self.correct_ceiling(thread, said, mutex);
+        self.correct_ceiling(sources, thread, said, mutex);
         self.correct_wait(thread, mutex);
         let is = self.thread(thread);
         let may_be_above = is.awaits == mutex && !is.was_above;
         self.is_contradiction = !may_be_above && self.is_above(sources, thread, mutex);
-        if owner != 0 {
-            self.hand_over(owner, mutex, thread);
-        }
+        self.free(owner, mutex, thread);
         self.take(record, mutex);
         LeftOut::Uncontended
     }
 
-    fn forget_own(&mut self, thread: u32) {
+    /// The owner of a mutex, if it has one, released it before another thread has it.
+    fn free(&mut self, owner: u32, mutex: u32, next: u32)
+        ensures size { HasSameSize self.old self.new }
+        ensures owner { if_any owner ≡ (world_of self.old).owner mutex → mutex < length self.old.mutexes.items →
+            (world_of self.new).owner mutex ≡ None }
+        ensures awaits { (world_of self.new).awaits ≡ (world_of self.old).awaits }
+        ensures goes { if_any owner ≡ (world_of self.old).owner mutex → GoesOn 1 self.old self.new }
+    {
+        if owner != 0 {
+            self.hand_over(owner, mutex, next);
+        }
+    }
+
+    fn forget_own(&mut self, thread: u32)
+        ensures size { HasSameSize self.old self.new }
+        ensures still { IsStill self.old self.new }
+    {
         let mut is = self.thread(thread);
         is.awaits_own = 0;
         self.put_thread(thread, is);
     }
 
     /// A thread has once more what it owns. Only of a recursive mutex are the locks counted.
-    fn grant_again(&mut self, ids: &Ids, thread: u32, mutex: u32) -> LeftOut {
+    fn grant_again(&mut self, ids: &Ids, thread: u32, mutex: u32) -> LeftOut
+        ensures size { HasSameSize self.old self.new }
+        ensures still { IsStill self.old self.new }
+    {
         let mut is = self.mutex(mutex);
         if is_recursive(ids, mutex) && thread != 0 {
             is.depth = is.depth.saturating_add(1);
@@ -383,7 +473,12 @@ impl Course {
     }
 
     /// The thread of a record owns a mutex that is free, from the call on that the record ends.
-    fn take(&mut self, record: &Record, mutex: u32) {
+    fn take(&mut self, record: &Record, mutex: u32)
+        ensures size { HasSameSize self.old self.new }
+        ensures goes { 0 < «record».now.thread → «record».now.thread < length self.old.threads.items →
+            mutex < length self.old.mutexes.items → 0 < mutex →
+            CanHappen (world_of self.old) What.Granted «record».now.thread mutex → GoesOn 1 self.old self.new }
+    {
         let thread = record.thread;
         let section = self.section_of(mutex);
         let mut owner = self.thread(thread);
@@ -406,7 +501,10 @@ impl Course {
     }
 
     /// A call of a thread wasn't granted the mutex.
-    fn fail(&mut self, thread: u32, mutex: u32) -> LeftOut {
+    fn fail(&mut self, thread: u32, mutex: u32) -> LeftOut
+        ensures size { HasSameSize self.old self.new }
+        ensures goes { GoesOn 1 self.old self.new }
+    {
         self.forget_own(thread);
         if mutex == 0 || self.thread(thread).awaits != mutex {
             return LeftOut::Refused;
@@ -416,7 +514,10 @@ impl Course {
     }
 
     /// A thread releases a mutex.
-    fn release(&mut self, sources: &Sources, record: &Record, mutex: u32) -> LeftOut {
+    fn release(&mut self, sources: &Sources, record: &Record, mutex: u32) -> LeftOut
+        ensures size { HasSameSize self.old self.new }
+        ensures goes { 0 < «record».now.thread → GoesOn 2 self.old self.new }
+    {
         let thread = record.thread;
         let mut is = self.mutex(mutex);
         if mutex == 0 || is.owner != thread {
@@ -432,12 +533,17 @@ impl Course {
         }
         self.correct_wait(thread, 0);
         let next = sources.next_owners.next_owner(record.number);
-        self.hand_over(thread, mutex, next);
+        self.hand_over(thread, mutex, next.unwrap_or(0));
         LeftOut::Uncontended
     }
 
     /// A mutex is free, and goes to the next owner if that waits for it.
-    fn hand_over(&mut self, thread: u32, mutex: u32, next: u32) {
+    fn hand_over(&mut self, thread: u32, mutex: u32, next: u32)
+        ensures size { HasSameSize self.old self.new }
+        ensures owner { mutex < length self.old.mutexes.items → (world_of self.new).owner mutex ≡ None }
+        ensures awaits { (world_of self.new).awaits ≡ (world_of self.old).awaits }
+        ensures goes { (world_of self.old).owner mutex ≡ Some thread → GoesOn 1 self.old self.new }
+    {
         let mut is = self.mutex(mutex);
         let section = is.section;
         is.owner = 0;
@@ -459,11 +565,11 @@ impl Course {
 fn owner_asked(sources: &Sources, record: &Record, is_named: bool, mutex: &CourseMutex) -> u32
     ensures { (result ≡ 0) ⊎ (result ≢ «record».now.thread) }
 {
-    let asked = sources.next_owners.asked_owner(record.number);
+    let asked = sources.next_owners.asked_owner(record.number).unwrap_or(0);
     if is_named {
         first_other(record.thread, [asked, mutex.owner, 0, 0])
     } else {
-        let next = sources.next_owners.next_granted(record.number);
+        let next = sources.next_owners.next_granted(record.number).unwrap_or(0);
         first_other(record.thread, [mutex.owner, asked, mutex.last_owner, next])
     }
 }
@@ -485,7 +591,7 @@ pub fn family_of(sources: &Sources, mutex: u32) -> Family
     ensures { result ≡ family_in sources.now mutex }
 {
     match sources.ids.mutexes.get(mutex as usize) {
-        Some(is) => is.family,
+        Some(is) => is.family.unwrap_or(Family::None),
         None => Family::None,
     }
 }
@@ -498,6 +604,14 @@ fn is_trylock(event: &Event) -> bool {
     }
 }
 
+/// Returns the ceiling that a record says of its mutex, if that is a PROTECT one by the log.
+fn ceiling_of(sources: &Sources, said: &Mutex, mutex: u32) -> Option<u8> {
+    match family_of(sources, mutex) {
+        Family::Protect => ceiling_in(said),
+        _ => None,
+    }
+}
+
 fn is_recursive(ids: &Ids, mutex: u32) -> bool {
     match ids.mutex(mutex) {
         Some(is) => is.is_recursive,
@@ -505,7 +619,9 @@ fn is_recursive(ids: &Ids, mutex: u32) -> bool {
     }
 }
 
-fn fact(what: What, thread: u32, mutex: u32, section: u32) -> Fact {
+fn fact(what: What, thread: u32, mutex: u32, section: u32) -> Fact
+    ensures { result ≡ record { what = what; thread = thread; mutex = mutex; section = section; since = 0 } }
+{
     Fact {
         what,
         thread,

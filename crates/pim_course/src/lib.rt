@@ -4,7 +4,9 @@
 //! owns a mutex after a release; in [`Requests`] the requests that the log lacks, which `pim_requests` finds.
 //!
 //! A [`Walk`] then goes along the log. After each record its [`Course`] has the owners and the
-//! waits, and [`Walk::shown`] returns what the record shows.
+//! waits, and [`Walk::shown`] returns what the record shows. It is proved that these facts lead from the one to the other:
+//! only a free mutex is granted, only its owner releases it, a thread awaits one mutex at a time, and nothing changes but
+//! what the facts say (specs/World.antt; [`reading_law`] says it of each record of a log).
 //!
 //! ```text
 //! let mut walk = Walk::new(alloc, &sources.ids)?;
@@ -15,12 +17,14 @@
 #![tactic(auto)]
 
 mod course;
+mod laws;
 pub mod lists;
 mod next_owners;
 mod requests;
 mod walk;
 
 pub use course::{Course, CourseMutex, CourseThread, Sources, family_of};
+pub use laws::reading_law;
 pub use next_owners::NextOwners;
 pub use requests::{Request, Requests};
 pub use walk::{Moment, Walk};

@@ -1,6 +1,9 @@
 //! The way through a log, record by record.
-ghost use Rattle.std.specs.Prelude.{◌≡◌};
+ghost use Rattle.std.specs.Prelude.{◌≡◌, ◌⊎◌, [], IfOk, IfSome, slice_get};
 ghost use Rattle.pim_facts.specs.Shown.{shown_in};
+ghost use Rattle.pim_course.specs.Going.{HasSameSize};
+ghost use Rattle.pim_course.specs.Reading.{Begins, GoesBy, HasRequest, LacksRecord};
+ghost use Rattle.pim_course.specs.World.{Lead, world_of};
 
 use crate::course::{Course, Sources};
 use pim_facts::{Fact, Ids, LeftOut};
@@ -31,7 +34,9 @@ impl Walk {
     /// # Errors
     ///
     /// Returns `AllocError` if out of memory.
-    pub fn new(alloc: Global, ids: &Ids) -> Result<Walk, AllocError> {
+    pub fn new(alloc: Global, ids: &Ids) -> Result<Walk, AllocError>
+        ensures { IfOk result (λ walk. Begins ids.now walk.course) }
+    {
         Ok(Walk {
             course: Course::new(alloc, ids)?,
             added: 0,
@@ -46,7 +51,12 @@ impl Walk {
     }
 
     /// Goes on by the record with this number.
-    pub fn read(&mut self, log: &Log, sources: &Sources, number: u64) -> Moment {
+    pub fn read(&mut self, log: &Log, sources: &Sources, number: u64) -> Moment
+        ensures size { HasSameSize self.old.course self.new.course }
+        ensures shown { (LacksRecord log.now number × (shown_in self.new.course.shown ≡ [])
+            × (world_of self.new.course ≡ world_of self.old.course))
+            ⊎ GoesBy log.now sources.now.ids number self.old.course self.new.course }
+    {
         self.course.shown.clear();
         match log.record(number) {
             Some(record) => Moment {
@@ -72,7 +82,11 @@ impl Walk {
     }
 
     /// Goes on by the next request that the log lacks. Returns when it was made, if a wait shows it.
-    pub fn add(&mut self, sources: &Sources) -> Option<u64> {
+    pub fn add(&mut self, sources: &Sources) -> Option<u64>
+        ensures size { HasSameSize self.old.course self.new.course }
+        ensures shown { IfSome (slice_get sources.now.requests.list.items self.old.added) (HasRequest self.old.course) →
+            Lead (shown_in self.new.course.shown) (world_of self.old.course) (world_of self.new.course) }
+    {
         self.course.shown.clear();
         let request = sources.requests.list.get(self.added)?;
         self.added = self.added.saturating_add(1);

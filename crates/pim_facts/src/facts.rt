@@ -1,5 +1,5 @@
 //! What a record shows, in order.
-ghost use Rattle.std.specs.Prelude.{◌≡◌};
+ghost use Rattle.std.specs.Prelude.{◌≡◌, ◌<◌, ◌≤◌, ◌∷◌, ◌++◌, [], length};
 ghost use Rattle.pim_facts.specs.Shown.{shown_in};
 
 use crate::fact::{Fact, What};
@@ -26,7 +26,9 @@ const NO_FACT: Fact = Fact {
 
 impl Facts {
     /// Returns that nothing is shown.
-    pub fn none() -> Facts {
+    pub fn none() -> Facts
+        ensures { shown_in result ≡ [] }
+    {
         Facts {
             list: [NO_FACT; MOST_FACTS],
             count: 0,
@@ -34,12 +36,17 @@ impl Facts {
     }
 
     /// Shows nothing from now on.
-    pub fn clear(&mut self) {
+    pub fn clear(&mut self)
+        ensures { shown_in self.new ≡ [] }
+    {
         self.count = 0;
     }
 
-    /// Shows this behind the others.
-    pub fn add(&mut self, fact: Fact) {
+    /// Shows this behind the others, if there is room for it.
+    pub fn add(&mut self, fact: Fact)
+        ensures shown { length (shown_in self.old) < 4 → shown_in self.new ≡ shown_in self.old ++ (fact ∷ []) }
+        ensures full { 4 ≤ length (shown_in self.old) → shown_in self.new ≡ shown_in self.old }
+    {
         if self.count < MOST_FACTS {
             self.list[self.count] = fact;
             self.count += 1;

@@ -1,6 +1,8 @@
 //! Whom each record of a log is about.
-ghost use Rattle.std.specs.Prelude.{◌≡◌, IfErr};
+ghost use Rattle.std.specs.Prelude.{◌≡◌, ◌+◌, ◌<◌, IfErr, IfOk, length, slice_set};
 ghost use Rattle.pim_log.specs.Headers.{header_of, end_of};
+ghost use Rattle.pim_log.specs.Logs.{IsLog};
+ghost use Rattle.pim_facts.specs.Covering.{Covers, Grows, HasMutex, HasNumber, HasRead, HasThread};
 ghost use Rattle.pim_facts.specs.Levels.{id_of, first_level};
 ghost use Rattle.pim_facts.specs.Faults.{NamesOneOf, NamesOnly};
 
@@ -32,9 +34,9 @@ pub struct LoggedMutex {
     pub process: u32,
     /// Where it is in the memory of the process.
     pub address: u64,
-    /// Its protocol.
-    pub family: Family,
-    /// The ceiling of a PROTECT mutex in its first record, else 0.
+    /// Its protocol, if a record says it.
+    pub family: Option<Family>,
+    /// The ceiling of a PROTECT mutex in its first record that says its protocol, else 0.
     pub ceiling: u8,
     /// Whether its owner may lock it again.
     pub is_recursive: bool,
@@ -76,7 +78,8 @@ impl Ids {
     ///
     /// Returns `TooManyThreads` if a thread's number is above [`MAX_THREADS`], and `Memory` if out of memory.
     pub fn of(alloc: Global, log: &Log) -> Result<Ids, IdsFault>
-        ensures { IfErr result (NamesOneOf (end_of (header_of log.now))) }
+        ensures fault { IfErr result (NamesOneOf (end_of (header_of log.now))) }
+        ensures covers { IsLog log.now → IfOk result (λ ids. Covers ids log.now) }
     {
         let mut ids = Ids::new(alloc, log)?;
         let mut places = Places {
@@ -85,23 +88,22 @@ impl Ids {
             tasks: HashMap::new(alloc),
         };
         for number in 1..log.header().end() {
-            if let Some(record) = log.record(number) {
-                let id = ids.read(&mut places, &record)?;
-                ids.put(number, id);
-            }
+            ids.read_record(&mut places, log, number)?;
         }
         Ok(ids)
     }
 
     /// Returns that nothing is known yet.
-    fn new(alloc: Global, log: &Log) -> Result<Ids, AllocError> {
+    fn new(alloc: Global, log: &Log) -> Result<Ids, AllocError>
+        ensures { IfOk result (HasRead log.now 1) }
+    {
         let mut threads = Vec::new(alloc);
         threads.push(NO_THREAD)?;
         let mut mutexes = Vec::new(alloc);
         mutexes.push(LoggedMutex {
             process: 0,
             address: 0,
-            family: Family::None,
+            family: None,
             ceiling: 0,
             is_recursive: false,
         })?;
@@ -132,7 +134,10 @@ impl Ids {
         }
     }
 
-    fn put(&mut self, number: u64, id: u32) {
+    fn put(&mut self, number: u64, id: u32)
+        ensures about { self.new.of_record.items ≡ slice_set self.old.of_record.items number id }
+        ensures rest { self.new ≡ record self.old { of_record = self.new.of_record } }
+    {
         if (number as usize) < self.of_record.len() {
             self.of_record[number as usize] = id;
         }
@@ -143,46 +148,123 @@ impl Ids {
         self.mutexes.get(mutex as usize)
     }
 
+    /// Learns what the record with this number says, and keeps whom it is about.
+    fn read_record(&mut self, places: &mut Places, log: &Log, number: u64) -> Result<(), IdsFault>
+        ensures fault { IfErr result (NamesOneOf (end_of (header_of log.now))) }
+        ensures read { HasRead log.now number self.old → IfOk result (λ _. HasRead log.now (number + 1) self.new) }
+    {
+        let record = match log.record(number) {
+            Some(record) => record,
+            None => return Ok(()),
+        };
+        let id = self.read(places, &record)?;
+        self.put(number, id);
+        Ok(())
+    }
+
     /// Learns what a record says, and returns whom it is about.
     fn read(&mut self, places: &mut Places, record: &Record) -> Result<u32, IdsFault>
-        ensures { IfErr result (NamesOnly «record».now.number) }
+        ensures fault { IfErr result (NamesOnly «record».now.number) }
+        ensures grown { Grows self.old self.new }
+        ensures thread { IfOk result (λ _. HasThread self.new «record».now.thread) }
+        ensures about { 0 < length self.old.mutexes.items → IfOk result (HasNumber self.new «record».now.event) }
     {
         self.read_thread(record)?;
-        if let Some(time) = record.time {
+        self.read_time(record.time);
+        match record.event.mutex() {
+            Some(mutex) => Ok(self.read_mutex(places, record, &mutex)?),
+            None => self.read_other(places, record),
+        }
+    }
+
+    fn read_time(&mut self, time: Option<u64>)
+        ensures { Grows self.old self.new }
+    {
+        if let Some(time) = time {
             self.ended = self.ended.max(time);
         }
+    }
+
+    /// Learns what a record of a mutex says, and returns the mutex.
+    fn read_mutex(
+        &mut self,
+        places: &mut Places,
+        record: &Record,
+        mutex: &Mutex,
+    ) -> Result<u32, AllocError>
+        ensures grown { Grows self.old self.new }
+        ensures mutex { 0 < length self.old.mutexes.items → IfOk result (HasMutex self.new) }
+    {
+        if matches!(record.event, Event::Init(_)) {
+            self.begin_mutex(places, record, mutex)
+        } else {
+            self.find_mutex(places, record, mutex)
+        }
+    }
+
+    /// Learns what a record says that isn't of a mutex, and returns the thread that it is about, or 0.
+    fn read_other(&mut self, places: &mut Places, record: &Record) -> Result<u32, IdsFault>
+        ensures fault { IfErr result (NamesOnly «record».now.number) }
+        ensures grown { Grows self.old self.new }
+        ensures thread { HasThread self.old «record».now.thread → IfOk result (HasThread self.new) }
+    {
         match record.event {
             Event::Thread { pthread, priority } => {
                 self.begin_thread(places, record, pthread, priority)
             }
             Event::Name { pthread } => {
-                Ok(places.thread(record.process, ThreadKey::Pthread(pthread)))
+                Ok(self.named_thread(places, record.process, ThreadKey::Pthread(pthread)))
             }
             Event::Priority { of, priority } => {
                 self.keep_level(level_of(priority, 1));
-                Ok(places.thread(record.process, of))
+                Ok(self.named_thread(places, record.process, of))
             }
-            Event::Init(mutex) => Ok(self.begin_mutex(places, record, &mutex)?),
-            _ => match record.event.mutex() {
-                Some(mutex) => Ok(self.find_mutex(places, record, &mutex)?),
-                None => Ok(0),
-            },
+            _ => Ok(0),
+        }
+    }
+
+    /// Returns the thread that a record of this process names, or 0 where the log doesn't know it.
+    fn named_thread(&self, places: &Places, process: u32, key: ThreadKey) -> u32
+        ensures { 0 < length self.now.threads.items → HasThread self.now result }
+    {
+        // The map has only numbers of threads, which isn't proved of it.
+        let thread = places.thread(process, key);
+        if (thread as usize) < self.threads.len() {
+            thread
+        } else {
+            0
         }
     }
 
     /// Makes room for the thread of a record.
     fn read_thread(&mut self, record: &Record) -> Result<(), IdsFault>
-        ensures { IfErr result (NamesOnly «record».now.number) }
+        ensures fault { IfErr result (NamesOnly «record».now.number) }
+        ensures grown { Grows self.old self.new }
+        ensures thread { IfOk result (λ _. HasThread self.new «record».now.thread) }
     {
         if record.thread > MAX_THREADS {
             return Err(IdsFault::TooManyThreads(record.number));
         }
-        let missing = (record.thread as usize + 1).saturating_sub(self.threads.len());
-        for _thread in 0..missing {
-            if self.threads.push(NO_THREAD).is_err() {
-                return Err(IdsFault::Memory);
-            }
+        self.make_room(record.thread)?;
+        self.learn_thread(record);
+        Ok(())
+    }
+
+    fn make_room(&mut self, thread: u32) -> Result<(), AllocError>
+        ensures grown { Grows self.old self.new }
+        ensures thread { IfOk result (λ _. HasThread self.new thread) }
+    {
+        let count = thread as usize + 1;
+        if count <= self.threads.len() {
+            return Ok(());
         }
+        self.threads.resize(count, NO_THREAD)?;
+        Ok(())
+    }
+
+    fn learn_thread(&mut self, record: &Record)
+        ensures { Grows self.old self.new }
+    {
         let thread = record.thread as usize;
         if thread < self.threads.len() {
             let is_new = self.threads[thread].task == 0;
@@ -192,7 +274,6 @@ impl Ids {
                 self.keep_level(0);
             }
         }
-        Ok(())
     }
 
     /// Keeps where a thread is found that begins.
@@ -203,12 +284,12 @@ impl Ids {
         pthread: u64,
         priority: Priority,
     ) -> Result<u32, IdsFault>
-        ensures { IfErr result (NamesOnly «record».now.number) }
+        ensures fault { IfErr result (NamesOnly «record».now.number) }
+        ensures grown { Grows self.old self.new }
+        ensures thread { IfOk result (λ thread. thread ≡ «record».now.thread) }
     {
         self.keep_level(level_of(priority, 1));
-        if (record.thread as usize) < self.threads.len() {
-            self.threads[record.thread as usize].level = level_of(priority, 0);
-        }
+        self.begin_level(record.thread, level_of(priority, 0));
         put(
             &mut places.threads,
             (record.process, pthread),
@@ -218,11 +299,23 @@ impl Ids {
         Ok(record.thread)
     }
 
-    fn keep_level(&mut self, level: u8) {
+    fn begin_level(&mut self, thread: u32, level: u8)
+        ensures { Grows self.old self.new }
+    {
+        if (thread as usize) < self.threads.len() {
+            self.threads[thread as usize].level = level;
+        }
+    }
+
+    fn keep_level(&mut self, level: u8)
+        ensures { Grows self.old self.new }
+    {
         self.levels[level.min(MAX_LEVEL) as usize] = true;
     }
 
-    fn keep_ceiling(&mut self, ceiling: Option<u8>) {
+    fn keep_ceiling(&mut self, ceiling: Option<u8>)
+        ensures { Grows self.old self.new }
+    {
         if let Some(ceiling) = ceiling {
             self.keep_level(ceiling);
         }
@@ -234,18 +327,17 @@ impl Ids {
         places: &mut Places,
         record: &Record,
         mutex: &Mutex,
-    ) -> Result<u32, AllocError> {
-        let found = match places.mutexes.get(&(record.process, mutex.address)) {
-            Some(found) => Some(*found),
-            None => places.mutexes.get(&(0, mutex.address)).copied(),
-        };
-        match found {
-            Some(number) => {
-                self.learn(number, mutex);
-                Ok(number)
-            }
-            None => self.begin_mutex(places, record, mutex),
+    ) -> Result<u32, AllocError>
+        ensures grown { Grows self.old self.new }
+        ensures mutex { 0 < length self.old.mutexes.items → IfOk result (HasMutex self.new) }
+    {
+        // The map has only numbers of mutexes, which isn't proved of it.
+        let number = places.mutex(record.process, mutex.address);
+        if number == 0 || number as usize >= self.mutexes.len() {
+            return self.begin_mutex(places, record, mutex);
         }
+        self.learn(number, mutex);
+        Ok(number)
     }
 
     /// Adds a mutex, which is the one at its address from now on.
@@ -254,7 +346,10 @@ impl Ids {
         places: &mut Places,
         record: &Record,
         mutex: &Mutex,
-    ) -> Result<u32, AllocError> {
+    ) -> Result<u32, AllocError>
+        ensures grown { Grows self.old self.new }
+        ensures mutex { 0 < length self.old.mutexes.items → IfOk result (HasMutex self.new) }
+    {
         let count = self.mutexes.len();
         if count > u32::MAX as usize {
             return Err(AllocError);
@@ -266,7 +361,7 @@ impl Ids {
         self.mutexes.push(LoggedMutex {
             process,
             address: mutex.address,
-            family: family_in(mutex).unwrap_or(Family::None),
+            family: family_in(mutex),
             ceiling: ceiling.unwrap_or(0),
             is_recursive: is_recursive(mutex),
         })?;
@@ -274,16 +369,15 @@ impl Ids {
         Ok(number)
     }
 
-    /// Learns of a mutex what its records say, if its first one didn't say it.
-    fn learn(&mut self, number: u32, mutex: &Mutex) {
+    /// Learns of a mutex what a record says, if none before said it.
+    fn learn(&mut self, number: u32, mutex: &Mutex)
+        ensures { Grows self.old self.new }
+    {
         let place = number as usize;
         let ceiling = ceiling_in(mutex);
         self.keep_ceiling(ceiling);
-        let Some(family) = family_in(mutex) else {
-            return;
-        };
-        if place < self.mutexes.len() && self.mutexes[place].family == Family::None {
-            self.mutexes[place].family = family;
+        if place < self.mutexes.len() && self.mutexes[place].family.is_none() {
+            self.mutexes[place].family = family_in(mutex);
             self.mutexes[place].ceiling = ceiling.unwrap_or(0);
             self.mutexes[place].is_recursive = is_recursive(mutex);
         }
@@ -291,6 +385,14 @@ impl Ids {
 }
 
 impl Places {
+    /// Returns the mutex at an address of this process, or 0 where the log doesn't know it.
+    fn mutex(&self, process: u32, address: u64) -> u32 {
+        match self.mutexes.get(&(process, address)) {
+            Some(found) => *found,
+            None => self.mutexes.get(&(0, address)).copied().unwrap_or(0),
+        }
+    }
+
     /// Returns the thread that a record of this process names, or 0 where the log doesn't know it.
     fn thread(&self, process: u32, key: ThreadKey) -> u32 {
         let found = match key {

@@ -1,0 +1,4 @@
+pub mod Beginning
+pub mod Worlds
+pub mod Leading
+pub mod Covered

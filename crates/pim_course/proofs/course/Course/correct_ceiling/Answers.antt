@@ -1,0 +1,16 @@
+use Rattle.std.proofs.Common.{ap, ◌∙◌}
+use Rattle.pim_course.proofs.Worlds.{owner-same, world-ceiling}
+use Rattle.pim_course.proofs.Leading.{goes-added}
+use Rattle.pim_course.proofs.course.Course.correct_ceiling.Goals as goal
+
+pub returns-clause-owner : goal.returns-clause-owner
+returns-clause-owner c =
+    owner-same c.args.self.now c.put_mutex.new.self _ _ c.put_mutex.ensures.mutexes (ap (λ z. z.owner) c.mutex-is.ensures)
+
+pub returns-clause-goes : goal.returns-clause-goes
+returns-clause-goes c below =
+    goes-added c.args.self.now c.put_mutex.new.self _ _ _ c.fact-corrected.ensures
+    (ap (λ d. d.shown) c.put_mutex.ensures.rest) c.add.ensures.shown c.add.ensures.full
+    (λ e. c.if-is-ceiling.false (ap (λ z. z.ceiling) c.mutex-is.ensures ∙ e))
+    (world-ceiling c.args.self.now c.put_mutex.new.self _ _ (ap (λ d. d.threads.items) c.put_mutex.ensures.rest)
+    c.put_mutex.ensures.mutexes below (ap (λ z. z.owner) c.mutex-is.ensures))

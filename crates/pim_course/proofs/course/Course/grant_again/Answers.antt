@@ -1,0 +1,9 @@
+use Rattle.std.proofs.Common.{ap}
+use Rattle.pim_course.proofs.Worlds.{still-mutex}
+use Rattle.pim_course.proofs.course.Course.grant_again.Goals as goal
+
+pub returns-then-thread-ne0-clause-still : goal.returns-then-thread-ne0-clause-still
+returns-then-thread-ne0-clause-still c =
+    still-mutex _ _ _ _ c.put_mutex.ensures.mutexes
+    (ap (λ d. d.threads) c.put_mutex.ensures.rest) (ap (λ d. d.shown) c.put_mutex.ensures.rest)
+    (ap (λ z. z.owner) c.mutex-is.ensures) (ap (λ z. z.ceiling) c.mutex-is.ensures)

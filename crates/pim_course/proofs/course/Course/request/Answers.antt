@@ -1,0 +1,33 @@
+use Rattle.std.proofs.Common.{◌≡◌, None, inl, inr, ap, sym, subst, ◌∙◌, arith}
+use Rattle.pim_facts.specs.declared.fact.What.TheVariants.{Waits}
+use Rattle.pim_course.specs.Going.{IsStill}
+use Rattle.pim_course.specs.World.{CanHappen, world_of}
+use Rattle.pim_course.specs.declared.course.Course.{Course}
+use Rattle.pim_course.proofs.Worlds.{some_is}
+use Rattle.pim_course.proofs.Leading.{goes-still, goes-then}
+use Rattle.pim_course.proofs.course.Course.request.Goals as goal
+
+pub returns-clause-goes : goal.returns-clause-goes
+returns-clause-goes c lt below =
+    let t = c.args.record.now.thread in
+    let a : Course = c.correct_ceiling.new.self in
+    let b : Course = c.correct_wait.new.self in
+    let d : Course = c.ask_at.new.self in
+    let still : IsStill b d = c.ask_at.ensures.still in
+    let awaits : (world_of b).awaits t ≡ None =
+    elim c.correct_wait.ensures.awaits [
+      | inl none ↦ none
+      | inr it ↦
+          absurd (c.if-thread-mutex.false (ap (λ y. y.awaits) c.thread.ensures
+          ∙ some_is _ _ (sym (ap (λ f. f t) c.correct_ceiling.ensures.awaits) ∙ it.1)))
+    ] in
+    let owner : (world_of b).owner c.args.mutex ≡ (world_of c.args.self.now).owner c.args.mutex =
+    ap (λ f. f c.args.mutex) (c.correct_wait.ensures.owner ∙ c.correct_ceiling.ensures.owner) in
+    goes-then 1 2 c.args.self.now a c.wait.new.self (c.correct_ceiling.ensures.goes below)
+    (goes-then 1 1 a b c.wait.new.self c.correct_wait.ensures.goes
+    (goes-then 0 1 b d c.wait.new.self (goes-still b d still)
+    (c.wait.ensures.goes
+    (omega (arith, c.correct_ceiling.ensures.size.threads, c.correct_wait.ensures.size.threads, c.ask_at.ensures.size.threads))
+    (omega (arith, c.if-mutex-eq0.false))
+    (subst (λ w. CanHappen w Waits t c.args.mutex) (sym still.world)
+    (awaits, λ e. c.if-is-thread.false (ap (λ z. z.owner) c.mutex-is.ensures ∙ some_is _ _ (sym owner ∙ e)))))))

@@ -1,0 +1,12 @@
+use Rattle.std.proofs.Common.{ap, sym, ◌∙◌}
+use Rattle.pim_course.proofs.Worlds.{world-level}
+use Rattle.pim_course.proofs.Leading.{goes-added}
+use Rattle.pim_course.proofs.course.Course.set_level.Goals as goal
+
+pub returns-clause-goes : goal.returns-clause-goes
+returns-clause-goes c lt =
+    goes-added c.args.self.now c.put_thread.new.self _ _ _ c.fact.ensures (ap (λ d. d.shown) c.put_thread.ensures.rest)
+    c.add.ensures.shown c.add.ensures.full
+    (λ e. c.if-level-is.false (sym e ∙ sym (ap (λ y. y.level) c.thread-is.ensures)))
+    (world-level c.args.self.now c.put_thread.new.self _ _ c.put_thread.ensures.threads
+    (ap (λ d. d.mutexes.items) c.put_thread.ensures.rest) lt (ap (λ y. y.awaits) c.thread-is.ensures))

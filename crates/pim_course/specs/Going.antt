@@ -1,0 +1,21 @@
+-- How a course goes on by a part of a record.
+use Rattle.std.specs.Prelude.{◌≡◌, ℕ, ◌+◌, ◌≤◌, length}
+use Rattle.pim_facts.specs.Shown.{shown_in}
+use Rattle.pim_course.specs.World.{World, Lead, world_of}
+use Rattle.pim_course.specs.declared.course.Course.{Course}
+
+-- two courses have as many threads and mutexes
+pub record HasSameSize (old new : Course) : Type 0 where
+  pub threads : length new.threads.items ≡ length old.threads.items
+  pub mutexes : length new.mutexes.items ≡ length old.mutexes.items
+
+-- nothing happens that a fact would say
+pub record IsStill (old new : Course) : Type 0 where
+  pub world : world_of new ≡ world_of old
+  pub shown : new.shown ≡ old.shown
+
+-- a course goes on, and shows this: at most so many facts
+pub record GoesOn (most : ℕ) (old new : Course) : Type 0 where
+  pub led : (from : World) → Lead (shown_in old.shown) from (world_of old) →
+      length (shown_in old.shown) + most ≤ 4 → Lead (shown_in new.shown) from (world_of new)
+  pub few : length (shown_in new.shown) ≤ length (shown_in old.shown) + most

@@ -1,0 +1,83 @@
+-- How the record of a log changes the world.
+use Rattle.std.specs.Prelude.{◌≡◌, ◌<◌, ℕ, List, [], length, slice_get, None}
+use Rattle.std.specs.Option.{option_map_or}
+use Rattle.pim_log.specs.Headers.{header_of, end_of}
+use Rattle.pim_log.specs.Logs.{IsNumbered, IsRecord}
+use Rattle.pim_log.specs.declared.event.Event.{Event}
+use Rattle.pim_log.specs.declared.event.Event.TheVariants as event
+use Rattle.pim_log.specs.declared.record.Record.{Record}
+use Rattle.pim_facts.specs.Covering.{Covers}
+use Rattle.pim_facts.specs.Levels.{first_level, id_of, level_by}
+use Rattle.pim_facts.specs.Shown.{shown_in}
+use Rattle.pim_facts.specs.declared.ids.Ids.{Ids}
+use Rattle.pim_course.specs.World.{Lead, World, but_for, world_of}
+use Rattle.pim_course.specs.declared.course.Course.{Course}
+use Rattle.pim_course.specs.declared.requests.Request.{Request}
+
+-- the ceiling that the first record of a mutex says; 0 of a mutex that there isn't
+abbrev pub first_ceiling : Ids → ℕ → ℕ
+first_ceiling ids m = option_map_or (λ mutex. mutex.ceiling) (slice_get ids.mutexes.items m) 0
+
+-- the world as a log begins: nobody owns or awaits anything, and levels and ceilings are those of the first records
+abbrev pub world_before : Ids → World
+world_before ids = record { owner = λ m. None; awaits = λ t. None; level = first_level ids; ceiling = first_ceiling ids }
+
+-- a course begins: it has the threads and mutexes of a log, and nothing is shown yet
+pub record Begins (ids : Ids) (course : Course) : Type 0 where
+  pub world : world_of course ≡ world_before ids
+  pub threads : length course.threads.items ≡ length ids.threads.items
+  pub mutexes : length course.mutexes.items ≡ length ids.mutexes.items
+  pub shown : shown_in course.shown ≡ []
+
+-- the world in which an event of a thread happens: the thread's first record tells the level that it has, which is no fact
+abbrev pub as_told : World → ℕ → Event → World
+as_told world t (event.Thread _ priority) = record world { level = but_for t (level_by priority 0) world.level }
+as_told world _ _ = world
+
+-- the world in which a record is read
+abbrev pub world_at : Course → Record → World
+world_at course r = as_told (world_of course) r.thread r.event
+
+-- a course has whom an event is about: the thread whose priority it sets, or the mutex that it may change
+abbrev pub HasNumber : Course → Event → ℕ → Type 0
+HasNumber course (event.Priority _ _) number = number < length course.threads.items
+HasNumber course (event.Ceiling _) number = number < length course.mutexes.items
+HasNumber course (event.Request _ _) number = number < length course.mutexes.items
+HasNumber course (event.Granted _ _ _) number = number < length course.mutexes.items
+HasNumber course _ number = Unit {0}
+
+-- a course has the thread of a record, and whom the record is about
+pub record HasThoseOf (course : Course) (r : Record) (number : ℕ) : Type 0 where
+  pub above : 0 < r.thread
+  pub thread : r.thread < length course.threads.items
+  pub about : HasNumber course r.event number
+
+-- a course has the thread of a request, which is for a mutex
+pub record HasRequest (course : Course) (request : Request) : Type 0 where
+  pub thread : request.thread < length course.threads.items
+  pub mutex : 0 < request.mutex
+
+-- no record of a log has this number
+abbrev pub LacksRecord : List ℕ → ℕ → Type 0
+LacksRecord bytes number = (slot : ℕ) → IsNumbered bytes slot number → ⊥
+
+-- a course goes on by the record of a log with this number: what it shows then leads from the world in which the record is
+-- read to the one behind it, if the course has those of the record
+pub record GoesBy (bytes : List ℕ) (ids : Ids) (number : ℕ) (old new : Course) : Type 0 where
+  pub slot : ℕ
+  pub found : Record
+  pub numbered : IsNumbered bytes slot number
+  pub is : IsRecord bytes slot found
+  pub led : HasThoseOf old found (id_of ids number) → Lead (shown_in new.shown) (world_at old found) (world_of new)
+
+-- a course has the threads and mutexes of a log
+pub record HasAllOf (ids : Ids) (course : Course) : Type 0 where
+  pub threads : length course.threads.items ≡ length ids.threads.items
+  pub mutexes : length course.mutexes.items ≡ length ids.mutexes.items
+
+-- what a record of a log shows leads from the world in which it is read to the one behind it, in a course that has the
+-- threads and mutexes of the log
+abbrev pub ReadingLaw : Type 0
+ReadingLaw = (bytes : List ℕ) (ids : Ids) (number : ℕ) (old new : Course) → Covers ids bytes → HasAllOf ids old →
+    number < end_of (header_of bytes) → (goes : GoesBy bytes ids number old new) →
+    Lead (shown_in new.shown) (world_at old goes.found) (world_of new)

@@ -1,0 +1,49 @@
+-- Whom the records of a log are about is there.
+use Rattle.std.specs.Prelude.{◌≡◌, ◌<◌, ◌≤◌, ℕ, List, length, MatchOption}
+use Rattle.pim_log.specs.Events.{mutex_of}
+use Rattle.pim_log.specs.Headers.{header_of, end_of}
+use Rattle.pim_log.specs.Logs.{IsLog, IsNumbered, IsRecord}
+use Rattle.pim_log.specs.declared.event.Event.{Event}
+use Rattle.pim_log.specs.declared.record.Record.{Record}
+use Rattle.pim_facts.specs.Levels.{id_of}
+use Rattle.pim_facts.specs.declared.ids.Ids.{Ids}
+
+-- there is a thread with a number; the one with number 0 is nobody
+abbrev pub HasThread : Ids → ℕ → Type 0
+HasThread ids t = t < length ids.threads.items
+
+-- there is a mutex with a number, which is above 0
+abbrev pub HasMutex : Ids → ℕ → Type 0
+HasMutex ids m = (0 < m) × (m < length ids.mutexes.items)
+
+-- whom an event is about is there: a mutex if the event is of one, else a thread or nobody
+abbrev pub HasNumber : Ids → Event → ℕ → Type 0
+HasNumber ids event number = MatchOption (mutex_of event) (HasThread ids number) (λ _. HasMutex ids number)
+
+-- the thread of a record is there, above 0, and so is whom the record is about
+pub record HasThoseOf (ids : Ids) (r : Record) (number : ℕ) : Type 0 where
+  pub above : 0 < r.thread
+  pub thread : HasThread ids r.thread
+  pub about : HasNumber ids r.event number
+
+-- those of each record of a log are there that has a number below one
+abbrev pub CoversBelow : ℕ → Ids → List ℕ → Type 0
+CoversBelow end ids bytes =
+    (slot number : ℕ) (r : Record) → number < end → IsNumbered bytes slot number → IsRecord bytes slot r →
+    HasThoseOf ids r (id_of ids number)
+
+-- those of each record of a log are there
+abbrev pub Covers : Ids → List ℕ → Type 0
+Covers ids bytes = CoversBelow (end_of (header_of bytes)) ids bytes
+
+-- nobody is lost, and whom the records are about stays
+pub record Grows (old new : Ids) : Type 0 where
+  pub threads : length old.threads.items ≤ length new.threads.items
+  pub mutexes : length old.mutexes.items ≤ length new.mutexes.items
+  pub about : new.of_record ≡ old.of_record
+
+-- the records of a log with numbers below one were read
+pub record HasRead (bytes : List ℕ) (end : ℕ) (ids : Ids) : Type 0 where
+  pub room : length ids.of_record.items ≡ end_of (header_of bytes)
+  pub mutexes : 0 < length ids.mutexes.items
+  pub covers : IsLog bytes → CoversBelow end ids bytes
