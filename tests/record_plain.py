@@ -96,9 +96,9 @@ class Said:
                 section["lasted"])
 
     def mutex(self, mutex):
-        keys = ("waits", "time_waited", "longest_wait", "waits_not_bounded", "time_not_bounded",
-                "longest_ownership")
-        return self.mutexes[mutex["number"]], *(mutex[key] for key in keys)
+        keys = ("waits", "time_waited", "longest_wait", "waits_not_bounded", "time_not_bounded")
+        longest = mutex.get("longest_ownership", 0)
+        return self.mutexes[mutex["number"]], *(mutex[key] for key in keys), longest
 
     def hand_overs(self, mutex):
         return self.mutexes[mutex["number"]], *(mutex[kind] for kind in HAND_OVERS)

@@ -3,7 +3,7 @@
 use crate::mark::Mark;
 use crate::timing::Timing;
 use pim_base::{Op, Prio, Protocol, Reason, Step, TaskNo};
-use pim_import::{Appearance, Imported};
+use pim_import::{Imported, Who};
 use pim_manager::{Manager, TrackedManager};
 use pim_replay::Piece;
 use std::alloc::{AllocError, Global};
@@ -37,10 +37,10 @@ pub struct Course {
 struct Walk {
     /// By thread.
     courses: Vec<Course>,
-    /// By task the thread that has its number now, or 0.
-    threads: Vec<u32>,
-    /// By mutex of the trace that of the log which has its number now, or 0.
-    mutexes: Vec<u32>,
+    /// By task the thread that has its number now.
+    threads: Vec<Option<u32>>,
+    /// By mutex of the trace that of the log which has its number now.
+    mutexes: Vec<Option<u32>>,
     /// How many of those who appear have appeared.
     entered: usize,
     /// How many steps there were, without those that restore a state.
@@ -77,8 +77,8 @@ impl Walk {
         }
         Ok(Walk {
             courses,
-            threads: vec![in alloc; 0; 257]?,
-            mutexes: vec![in alloc; 0; 257]?,
+            threads: vec![in alloc; None; 257]?,
+            mutexes: vec![in alloc; None; 257]?,
             entered: 0,
             steps: 0,
             levels: levels_of(imported),
@@ -131,7 +131,7 @@ impl Walk {
                 break;
             }
             self.entered = place + 1;
-            self.appear(imported, manager, &appearance, bounds)?;
+            self.appear(imported, manager, appearance.who, bounds)?;
         }
         Ok(())
     }
@@ -141,20 +141,32 @@ impl Walk {
         &mut self,
         imported: &Imported,
         manager: &Manager,
-        appearance: &Appearance,
+        who: Who,
         bounds: (u64, u64),
     ) -> Result<(), AllocError> {
-        put(
-            &mut self.mutexes,
-            imported.numbering.mutexes.of(appearance.mutex),
-            appearance.mutex,
-        );
-        if appearance.thread == 0 {
-            return Ok(());
+        let numbering = &imported.numbering;
+        match who {
+            Who::Mutex(mutex) => {
+                put(&mut self.mutexes, numbering.mutexes.of(mutex), mutex);
+                Ok(())
+            }
+            Who::Thread(thread) => match numbering.threads.of(thread) {
+                Some(number) => self.appear_as(TaskNo(number), thread, manager, bounds),
+                None => Ok(()),
+            },
         }
-        let task = TaskNo(imported.numbering.threads.of(appearance.thread));
+    }
+
+    /// Lets a thread have the number of a task.
+    fn appear_as(
+        &mut self,
+        task: TaskNo,
+        thread: u32,
+        manager: &Manager,
+        bounds: (u64, u64),
+    ) -> Result<(), AllocError> {
         self.note(task, None, Reason::Base, bounds, false)?;
-        put(&mut self.threads, task.get(), appearance.thread);
+        put(&mut self.threads, Some(task.get()), thread);
         let reason = manager.reason(task).unwrap_or(Reason::Base);
         self.note(task, manager.effective(task), reason, bounds, false)
     }
@@ -168,8 +180,10 @@ impl Walk {
         bounds: (u64, u64),
         is_set: bool,
     ) -> Result<(), AllocError> {
-        let thread = get(&self.threads, task.get()) as usize;
-        if thread == 0 || thread >= self.courses.len() {
+        let Some(thread) = get(&self.threads, task.get()) else {
+            return Ok(());
+        };
+        if thread as usize >= self.courses.len() {
             return Ok(());
         }
         let level = match prio {
@@ -178,7 +192,7 @@ impl Walk {
         };
         let waiter = self.waiter_in(&reason);
         let next = make_turn(level, reason, waiter, bounds, is_set);
-        Ok(self.courses[thread].turns.push(next)?)
+        Ok(self.courses[thread as usize].turns.push(next)?)
     }
 
     /// Returns whose wait is the reason for a priority now.
@@ -186,24 +200,23 @@ impl Walk {
         let Reason::Waiter(task, mutex) = reason else {
             return None;
         };
-        let thread = get(&self.threads, task.get());
-        let mutex = get(&self.mutexes, mutex.get());
-        if thread != 0 && mutex != 0 {
-            Some(Waiter { thread, mutex })
-        } else {
-            None
-        }
+        let thread = get(&self.threads, task.get())?;
+        let mutex = get(&self.mutexes, mutex.get())?;
+        Some(Waiter { thread, mutex })
     }
 }
 
-/// Returns who has a number of the trace now, or 0.
-fn get(list: &[u32], number: u16) -> u32 {
-    list.get(number as usize).copied().unwrap_or(0)
+/// Returns who has a number of the trace now.
+fn get(list: &[Option<u32>], number: u16) -> Option<u32> {
+    *list.get(number as usize)?
 }
 
-fn put(list: &mut Vec<u32>, number: u16, one: u32) {
-    if (number as usize) < list.len() {
-        list[number as usize] = one;
+/// Gives a number of the trace, if there is one, to a thread or a mutex.
+fn put(list: &mut Vec<Option<u32>>, number: Option<u16>, one: u32) {
+    if let Some(number) = number {
+        if (number as usize) < list.len() {
+            list[number as usize] = Some(one);
+        }
     }
 }
 

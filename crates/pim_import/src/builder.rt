@@ -18,15 +18,19 @@ use std::alloc::{AllocError, Global};
 /// more, and there are at most 256 tasks.
 const ROOM: usize = 1024;
 
+/// A thread or a mutex of the log.
+#[derive(Clone, Copy, PartialEq, Eq)]
+pub enum Who {
+    Thread(u32),
+    Mutex(u32),
+}
+
 /// Who appears in the trace, and when.
 #[derive(Clone, Copy, PartialEq, Eq)]
 pub struct Appearance {
     /// The number of the step before which it appears, over all pieces, from 0 on.
     pub step: u64,
-    /// The thread, or 0.
-    pub thread: u32,
-    /// The mutex of the log, or 0.
-    pub mutex: u32,
+    pub who: Who,
 }
 
 /// The trace as it is made.
@@ -34,9 +38,9 @@ pub struct Appearance {
 pub struct TraceBuilder {
     alloc: Global,
     /// By task the thread that has its number now.
-    threads: Vec<u32>,
+    threads: Vec<Option<u32>>,
     /// By mutex the mutex of the log that has its number now.
-    mutexes: Vec<u32>,
+    mutexes: Vec<Option<u32>>,
     /// The piece that is being made.
     replay: Replay,
     times: Vec<u64>,
@@ -61,8 +65,8 @@ impl TraceBuilder {
         let protocols = protocols_of(alloc, context)?;
         Ok(TraceBuilder {
             alloc,
-            threads: vec![in alloc; 0; bases.len()]?,
-            mutexes: vec![in alloc; 0; protocols.len()]?,
+            threads: vec![in alloc; None; bases.len()]?,
+            mutexes: vec![in alloc; None; protocols.len()]?,
             replay: replay_of(alloc, bases, protocols)?,
             times: Vec::new(alloc),
             restoring: 0,
@@ -250,9 +254,8 @@ impl TraceBuilder {
 
     /// Returns the task that a thread is now.
     fn task_of(&self, context: &Context, thread: u32) -> Option<TaskNo> {
-        let number = context.numbering.threads.of(thread);
-        let place = (number as usize).checked_sub(1)?;
-        if self.threads.get(place) == Some(&thread) {
+        let number = context.numbering.threads.of(thread)?;
+        if holder(&self.threads, number) == Some(thread) {
             Some(TaskNo(number))
         } else {
             None
@@ -261,20 +264,11 @@ impl TraceBuilder {
 
     /// Returns the number in the trace of a mutex of the log, if it has it now.
     fn mutex_of(&self, context: &Context, mutex: u32) -> Option<MutexNo> {
-        let number = context.numbering.mutexes.of(mutex);
-        let place = (number as usize).checked_sub(1)?;
-        if self.mutexes.get(place) == Some(&mutex) {
+        let number = context.numbering.mutexes.of(mutex)?;
+        if holder(&self.mutexes, number) == Some(mutex) {
             Some(MutexNo(number))
         } else {
             None
-        }
-    }
-
-    /// Returns the thread that a task is now, or 0.
-    fn thread_at(&self, task: TaskNo) -> u32 {
-        match (task.get() as usize).checked_sub(1) {
-            Some(place) => self.threads.get(place).copied().unwrap_or(0),
-            None => 0,
         }
     }
 
@@ -290,12 +284,15 @@ impl TraceBuilder {
         if let Some(task) = self.task_of(context, thread) {
             return Ok(task);
         }
-        let task = TaskNo(context.numbering.threads.of(thread));
-        if self.thread_at(task) != 0 {
+        let Some(number) = context.numbering.threads.of(thread) else {
+            return Err(ImportFault::Contradiction(now.number));
+        };
+        let task = TaskNo(number);
+        if holder(&self.threads, number).is_some() {
             self.leave(task, now)?;
         }
-        self.appear(thread, 0)?;
-        put(&mut self.threads, task.get(), thread);
+        self.appear(Who::Thread(thread))?;
+        put(&mut self.threads, number, thread);
         let prio = context
             .priorities
             .of_level(level_of(&context.participants.threads, thread));
@@ -333,9 +330,12 @@ impl TraceBuilder {
         if let Some(number) = self.mutex_of(context, mutex) {
             return Ok(number);
         }
-        let number = MutexNo(context.numbering.mutexes.of(mutex));
+        let Some(number) = context.numbering.mutexes.of(mutex) else {
+            return Err(ImportFault::Contradiction(now.number));
+        };
+        let number = MutexNo(number);
         self.clear(number, now)?;
-        self.appear(0, mutex)?;
+        self.appear(Who::Mutex(mutex))?;
         put(&mut self.mutexes, number.get(), mutex);
         let ceiling = context
             .priorities
@@ -364,12 +364,11 @@ impl TraceBuilder {
     }
 
     /// Keeps who appears.
-    fn appear(&mut self, thread: u32, mutex: u32) -> Result<(), AllocError> {
+    fn appear(&mut self, who: Who) -> Result<(), AllocError> {
         let steps = self.times.len().saturating_sub(self.restoring) as u64;
         let appearance = Appearance {
             step: self.steps_before.saturating_add(steps),
-            thread,
-            mutex,
+            who,
         };
         push(&mut self.appearances, appearance)
     }
@@ -435,18 +434,26 @@ pub struct Now {
     pub time: u64,
 }
 
-fn put(list: &mut Vec<u32>, number: u16, one: u32) {
+/// Returns who has a number of the trace now.
+fn holder(list: &[Option<u32>], number: u16) -> Option<u32> {
+    let place = (number as usize).checked_sub(1)?;
+    *list.get(place)?
+}
+
+/// Gives a number of the trace to a thread or a mutex.
+fn put(list: &mut Vec<Option<u32>>, number: u16, one: u32) {
     if let Some(place) = (number as usize).checked_sub(1) {
         if place < list.len() {
-            list[place] = one;
+            list[place] = Some(one);
         }
     }
 }
 
-fn level_of(participants: &[Participant], one: u32) -> u8 {
+/// Returns the level that a thread or a ceiling has as it begins to take part. 0, the lowest, if it takes none.
+fn level_of(participants: &[Option<Participant>], one: u32) -> u8 {
     match participants.get(one as usize) {
-        Some(participant) => participant.level,
-        None => 0,
+        Some(Some(participant)) => participant.level,
+        _ => 0,
     }
 }
 

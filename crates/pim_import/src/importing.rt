@@ -105,18 +105,6 @@ pub fn import_log(
     })
 }
 
-/// Returns the mutex that a thread waits for at the end of the log, and its owner then. 0: none.
-pub fn blocker_of(imported: &Imported, thread: u32) -> (u32, u32) {
-    let course = &imported.built.course;
-    let is = course.thread(thread);
-    let mutex = if is.awaits_own == 0 {
-        is.awaits
-    } else {
-        is.awaits_own
-    };
-    (mutex, course.mutex(mutex).owner)
-}
-
 /// Returns what is known of a log before its course is followed.
 fn sources_of(alloc: Global, log: &Log, waits: &[Wait]) -> Result<Sources, ImportFault>
     ensures { IfErr result (NamesOneOf (end_of (header_of log.now))) }

@@ -26,8 +26,8 @@ mod numbering;
 mod participants;
 mod tally;
 
-pub use builder::Appearance;
+pub use builder::{Appearance, Who};
 pub use fault::ImportFault;
-pub use importing::{Built, ImportOptions, Imported, blocker_of, import_log};
+pub use importing::{Built, ImportOptions, Imported, import_log};
 pub use numbering::{Numbering, Numbers};
 pub use tally::Tally;

@@ -23,8 +23,8 @@ pub struct Numbering {
 /// The numbers that threads have in a trace, or mutexes, from 1 on.
 #[derive(Drop)]
 pub struct Numbers {
-    /// By thread or mutex of the log. 0: it takes no part.
-    of_each: Vec<u16>,
+    /// By thread or mutex of the log.
+    of_each: Vec<Option<u16>>,
     /// For each number from 1 on, the first that has it.
     pub firsts: Vec<u32>,
 }
@@ -64,21 +64,21 @@ impl Numbers {
     /// Returns that none has a number.
     fn new(alloc: Global, count: usize) -> Result<Numbers, AllocError> {
         Ok(Numbers {
-            of_each: vec![in alloc; 0; count]?,
+            of_each: vec![in alloc; None; count]?,
             firsts: Vec::new(alloc),
         })
     }
 
-    /// Returns the number in the trace of a thread or a mutex of the log. 0: it takes no part.
-    pub fn of(&self, one: u32) -> u16 {
-        self.of_each.get(one as usize).copied().unwrap_or(0)
+    /// Returns the number in the trace of a thread or a mutex of the log, if it takes part.
+    pub fn of(&self, one: u32) -> Option<u16> {
+        *self.of_each.get(one as usize)?
     }
 
     /// Returns how many threads or mutexes of the log have a number.
     pub fn count(&self) -> u64 {
         let mut count = 0u64;
         for number in &self.of_each {
-            count = count.saturating_add(u64::from(*number != 0));
+            count = count.saturating_add(u64::from(number.is_some()));
         }
         count
     }
@@ -88,7 +88,7 @@ impl Numbers {
         &mut self,
         alloc: Global,
         some: &[(u64, u32)],
-        participants: &[Participant],
+        participants: &[Option<Participant>],
         limit: usize,
     ) -> Result<(), ImportFault>
         ensures { IfErr result NamesNone }
@@ -106,7 +106,7 @@ impl Numbers {
                 push(&mut self.firsts, one)?;
             }
             if (one as usize) < self.of_each.len() {
-                self.of_each[one as usize] = number.min(65534) as u16 + 1;
+                self.of_each[one as usize] = Some(number.min(65534) as u16 + 1);
             }
         }
         Ok(())
@@ -118,7 +118,7 @@ impl Numbers {
 fn numbers_of(
     alloc: Global,
     some: &[(u64, u32)],
-    participants: &[Participant],
+    participants: &[Option<Participant>],
     room: usize,
 ) -> Result<Vec<usize>, ImportFault>
     ensures { IfErr result NamesNone }
@@ -132,7 +132,7 @@ fn numbers_of(
             last: u64::MAX,
         };
         let span = match participants.get(one as usize) {
-            Some(participant) if is_shared => participant.span,
+            Some(Some(participant)) if is_shared => participant.span,
             _ => own,
         };
         push(&mut spans, span)?;
@@ -145,13 +145,15 @@ fn numbers_of(
 }
 
 /// Returns those who take part, in the order in which they begin to, each with the record that shows it first.
-fn in_order(alloc: Global, participants: &[Participant]) -> Result<Vec<(u64, u32)>, AllocError> {
+fn in_order(
+    alloc: Global,
+    participants: &[Option<Participant>],
+) -> Result<Vec<(u64, u32)>, AllocError> {
     let mut some = Vec::new(alloc);
     let count = participants.len().min(u32::MAX as usize) as u32;
     for one in 0..count {
-        let first = participants[one as usize].span.first;
-        if first != 0 {
-            push(&mut some, (first, one))?;
+        if let Some(participant) = participants[one as usize] {
+            push(&mut some, (participant.span.first, one))?;
         }
     }
     some.sort_unstable();

@@ -10,7 +10,7 @@ use std::alloc::{AllocError, Global};
 /// When a thread or a mutex takes part, and what it has as it begins to.
 #[derive(Clone, Copy, PartialEq, Eq)]
 pub struct Participant {
-    /// The first and the last record in the trace that shows it. 0 to 0 if none does.
+    /// The first and the last record in the trace that shows it.
     pub span: Span,
     /// The level of the thread, or of the mutex's ceiling, at the first of them.
     pub level: u8,
@@ -20,15 +20,10 @@ pub struct Participant {
 #[derive(Drop)]
 pub struct Participants {
     /// By number, as in [`Ids`](pim_facts::Ids).
-    pub threads: Vec<Participant>,
+    pub threads: Vec<Option<Participant>>,
     /// By number, as in [`Ids`](pim_facts::Ids).
-    pub mutexes: Vec<Participant>,
+    pub mutexes: Vec<Option<Participant>>,
 }
-
-const NO_PARTICIPANT: Participant = Participant {
-    span: Span { first: 0, last: 0 },
-    level: 0,
-};
 
 impl Participants {
     /// Returns who takes part in the trace of these critical sections.
@@ -43,8 +38,8 @@ impl Participants {
         sections: &CriticalSections,
     ) -> Result<Participants, AllocError> {
         let mut participants = Participants {
-            threads: vec![in alloc; NO_PARTICIPANT; sources.ids.threads.len()]?,
-            mutexes: vec![in alloc; NO_PARTICIPANT; sources.ids.mutexes.len()]?,
+            threads: vec![in alloc; None; sources.ids.threads.len()]?,
+            mutexes: vec![in alloc; None; sources.ids.mutexes.len()]?,
         };
         let mut walk = Walk::new(alloc, &sources.ids)?;
         for number in 1..log.header().end() {
@@ -94,29 +89,26 @@ impl Participants {
     }
 }
 
-/// Lets a thread or a mutex take part to the end.
-fn last_to_the_end(participants: &mut Vec<Participant>, one: u32) {
-    if (one as usize) < participants.len() {
-        participants[one as usize].span.last = u64::MAX;
+/// Lets a thread or a mutex that takes part do so to the end.
+fn last_to_the_end(participants: &mut Vec<Option<Participant>>, one: u32) {
+    if let Some(Some(mut participant)) = participants.get(one as usize).copied() {
+        participant.span.last = u64::MAX;
+        participants[one as usize] = Some(participant);
     }
 }
 
 /// Notes that a record shows a thread or a mutex.
-fn note(participants: &mut Vec<Participant>, place: u32, number: u64, level: u8) {
+fn note(participants: &mut Vec<Option<Participant>>, place: u32, number: u64, level: u8) {
     if place as usize >= participants.len() {
         return;
     }
-    let participant = participants[place as usize];
-    let is_first = participant.span.first == 0;
-    participants[place as usize] = Participant {
-        span: Span {
-            first: if is_first {
-                number
-            } else {
-                participant.span.first
-            },
-            last: number,
-        },
-        level: if is_first { level } else { participant.level },
+    let (first, level) = match participants[place as usize] {
+        Some(before) => (before.span.first, before.level),
+        None => (number, level),
     };
+    let span = Span {
+        first,
+        last: number,
+    };
+    participants[place as usize] = Some(Participant { span, level });
 }

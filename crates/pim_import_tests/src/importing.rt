@@ -4,7 +4,7 @@ use crate::inversion::{FOURTH_PLACED, THIRD_PLACED, log_bytes, placed_bytes, wri
 use pim_base::{Entry, MutexNo, Op, Protocol, Reply, Step, TaskNo};
 use pim_course::family_of;
 use pim_facts::{Family, LeftOut};
-use pim_import::{ImportOptions, Imported, blocker_of, import_log};
+use pim_import::{ImportOptions, Imported, import_log};
 use pim_log::Log;
 use std::alloc::Global;
 use std::test::*;
@@ -64,11 +64,10 @@ fn log_has_findings(rt: HostRuntime) -> Result<(), Fail> {
     let waits = findings.waits.of_mutex(1).count;
     assert!(rt; (waits, longest.lasted, longest.thread) == (1, 700_000, 1));
     assert!(rt; !findings.is_bad() && family_of(&imported.sources, 1) == Family::Inherit);
-    assert!(rt; blocker_of(&imported, 2) == (0, 0));
     let tally = &imported.built.tally;
     assert!(rt; (tally.used, tally.left_out(LeftOut::Remark)) == (5, 3));
     let numbers = &imported.numbering.threads;
-    assert!(rt; (numbers.of(1), numbers.of(2), numbers.count()) == (1, 2, 2));
+    assert!(rt; (numbers.of(1), numbers.of(2), numbers.count()) == (Some(1), Some(2), 2));
     Ok(())
 }
 

@@ -1,7 +1,7 @@
 //! The table of names: which thread and which mutex has each number, and when each step happened.
 
 use pim_course::family_of;
-use pim_import::{Appearance, Imported};
+use pim_import::{Imported, Who};
 use pim_labels::Labels;
 use pim_out::Out;
 use pim_replay::Piece;
@@ -79,30 +79,25 @@ impl<'a> Table<'a> {
             if appearances[place].step > step {
                 break;
             }
-            self.write_appearance(out, &appearances[place])?;
+            self.write_appearance(out, appearances[place].who)?;
             self.entered = place.saturating_add(1);
         }
         Ok(())
     }
 
-    fn write_appearance<W: Write>(
-        &mut self,
-        out: &mut W,
-        appearance: &Appearance,
-    ) -> io::Result<()> {
+    fn write_appearance<W: Write>(&mut self, out: &mut W, who: Who) -> io::Result<()> {
         self.line.clear();
-        if appearance.thread != 0 {
-            self.put_task(appearance.thread);
-        }
-        if appearance.mutex != 0 {
-            self.put_mutex(appearance.mutex);
+        let numbering = &self.imported.numbering;
+        match who {
+            Who::Thread(thread) => self.put_task(thread, numbering.threads.of(thread)),
+            Who::Mutex(mutex) => self.put_mutex(mutex, numbering.mutexes.of(mutex)),
         }
         out.write_all(self.line.as_str()?.as_bytes())
     }
 
-    fn put_task(&mut self, thread: u32) {
-        if let Some(is) = self.imported.sources.ids.threads.get(thread as usize) {
-            let number = self.imported.numbering.threads.of(thread);
+    fn put_task(&mut self, thread: u32, number: Option<u16>) {
+        let is = self.imported.sources.ids.threads.get(thread as usize);
+        if let (Some(is), Some(number)) = (is, number) {
             self.line.put("task ");
             self.line.number(u64::from(number));
             self.line.put(" ");
@@ -115,9 +110,9 @@ impl<'a> Table<'a> {
         }
     }
 
-    fn put_mutex(&mut self, mutex: u32) {
-        if let Some(is) = self.imported.sources.ids.mutex(mutex) {
-            let number = self.imported.numbering.mutexes.of(mutex);
+    fn put_mutex(&mut self, mutex: u32, number: Option<u16>) {
+        let is = self.imported.sources.ids.mutex(mutex);
+        if let (Some(is), Some(number)) = (is, number) {
             self.line.put("mutex ");
             self.line.number(u64::from(number));
             self.line.put(" ");

@@ -9,7 +9,7 @@
 //! ```text
 //! let labels = Labels::of(alloc, &log, &imported.sources.ids)?;
 //! let told = Told { log: &log, imported: &imported, labels: &labels, began };
-//! put_thread(&mut out, &told, 0); // high[4711]
+//! put_thread(&mut out, &told, 1); // high[4711]
 //! ```
 //!
 //! No contract says what the texts are: they are tested.
@@ -27,6 +27,7 @@ pub use labels::{GivenNames, Labels};
 pub use place_texts::PlaceTexts;
 pub use task_names::{TaskNames, put_task, thread_of};
 pub use words::{
-    LISTED_WAITS, Told, callers_of, family_of, found_of, mutexes, put_caller, put_code, put_count,
-    put_duration, put_level, put_moment, put_mutex, put_place, put_since, put_thread, waits_of,
+    LISTED_WAITS, Told, awaited_at_the_end, callers_of, family_of, found_of, mutexes, number_of,
+    put_caller, put_code, put_count, put_duration, put_level, put_moment, put_mutex, put_number,
+    put_place, put_since, put_thread, waits_of,
 };

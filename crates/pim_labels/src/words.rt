@@ -72,13 +72,42 @@ pub fn put_thread(out: &mut Out, told: &Told, thread: u32) {
     }
 }
 
-/// Writes a mutex: its number in the trace and its protocol.
+/// Returns the number of a mutex in the trace, if it takes part in it.
+pub fn number_of(told: &Told, mutex: u32) -> Option<u16> {
+    told.imported.numbering.mutexes.of(mutex)
+}
+
+/// Writes a mutex by its number in the trace, or where it comes from if it isn't in the trace.
+pub fn put_number(out: &mut Out, told: &Told, mutex: u32) {
+    match number_of(told, mutex) {
+        Some(number) => {
+            out.put("mutex ");
+            out.number(u64::from(number));
+        }
+        None => put_place(out, told, mutex),
+    }
+}
+
+/// Writes a mutex as [`put_number`] does, and its protocol if it is in the trace.
 pub fn put_mutex(out: &mut Out, told: &Told, mutex: u32) {
-    out.put("mutex ");
-    out.number(u64::from(told.imported.numbering.mutexes.of(mutex)));
-    out.put(" (");
-    out.put(family_of(told, mutex).name());
-    out.put(")");
+    put_number(out, told, mutex);
+    if number_of(told, mutex).is_some() {
+        out.put(" (");
+        out.put(family_of(told, mutex).name());
+        out.put(")");
+    }
+}
+
+/// Returns the mutex that a thread waits for at the end, which may be its own.
+pub fn awaited_at_the_end(told: &Told, thread: u32) -> Option<u32> {
+    let is = told.imported.built.course.thread(thread);
+    if is.awaits_own != 0 {
+        Some(is.awaits_own)
+    } else if is.awaits != 0 {
+        Some(is.awaits)
+    } else {
+        None
+    }
 }
 
 /// Returns the protocol of a mutex.

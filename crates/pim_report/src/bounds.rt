@@ -1,7 +1,7 @@
 //! What threads can be blocked for, as lines of text.
 
 use pim_blocking::{Bound, Section};
-use pim_labels::{Told, put_count, put_duration, put_level, put_mutex, put_place, put_thread};
+use pim_labels::{Told, put_count, put_duration, put_level, put_mutex, put_thread};
 use pim_out::Out;
 
 /// What stands before the bounds.
@@ -61,16 +61,7 @@ fn put_sections(out: &mut Out, told: &Told, sections: &[Section]) {
 fn put_section(out: &mut Out, told: &Told, section: &Section) {
     put_thread(out, told, section.user.thread);
     out.put(" at ");
-    put_used(out, told, section.user.mutex);
+    put_mutex(out, told, section.user.mutex);
     out.put(" ");
     put_duration(out, section.lasted);
-}
-
-/// Writes a mutex by its number in the trace, or where it comes from if it isn't in the trace.
-pub fn put_used(out: &mut Out, told: &Told, mutex: u32) {
-    if told.imported.numbering.mutexes.of(mutex) > 0 {
-        put_mutex(out, told, mutex);
-    } else {
-        put_place(out, told, mutex);
-    }
 }

@@ -1,7 +1,6 @@
 //! Mutexes that were taken in opposite orders, as lines of text.
 
-use crate::bounds::put_used;
-use pim_labels::{Told, put_code, put_count, put_thread};
+use pim_labels::{Told, number_of, put_code, put_count, put_mutex, put_thread};
 use pim_orders::{Nesting, Opposite};
 use pim_out::Out;
 
@@ -50,9 +49,8 @@ fn put_nesting(out: &mut Out, told: &Told, nesting: &Nesting) {
 
 /// Writes a mutex as in the bounds, with its address if its number isn't known, nor where it is.
 fn put_nested(out: &mut Out, told: &Told, mutex: u32) {
-    put_used(out, told, mutex);
-    let is_numbered = told.imported.numbering.mutexes.of(mutex) > 0;
-    if is_numbered || !told.labels.is_named_by_a_call(mutex) {
+    put_mutex(out, told, mutex);
+    if number_of(told, mutex).is_some() || !told.labels.is_named_by_a_call(mutex) {
         return;
     }
     if let Some(is) = told.imported.sources.ids.mutex(mutex) {

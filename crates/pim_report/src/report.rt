@@ -10,10 +10,10 @@ use crate::orders::put_opposites;
 use crate::other_waits::put_other_waits;
 use pim_facts::{Family, LeftOut};
 use pim_findings::FoundWait;
-use pim_import::{Imported, blocker_of};
+use pim_import::Imported;
 use pim_labels::{
-    Kernel, Labels, TaskNames, Told, family_of, put_code, put_count, put_duration, put_level,
-    put_moment, put_mutex, put_place, put_thread,
+    Kernel, Labels, TaskNames, Told, awaited_at_the_end, family_of, put_code, put_count,
+    put_duration, put_level, put_moment, put_mutex, put_number, put_place, put_thread,
 };
 use pim_log::Log;
 use pim_out::Out;
@@ -142,8 +142,8 @@ fn put_wait(out: &mut Out, told: &Told, wait: &FoundWait) {
 /// Writes what bounds a wait.
 fn put_bound(out: &mut Out, told: &Told, wait: &FoundWait) {
     if wait.is_unbounded {
-        out.put(": not bounded: mutex ");
-        out.number(u64::from(told.imported.numbering.mutexes.of(wait.mutex)));
+        out.put(": not bounded: ");
+        put_number(out, told, wait.mutex);
         out.put(" is a NONE one");
         if wait.owner.is_none() {
             out.put(", whoever owned it");
@@ -266,15 +266,17 @@ fn put_deadlocks(out: &mut Out, told: &Told) {
 /// Writes what a thread waits for at the end.
 fn put_blocked(out: &mut Out, told: &Told, thread: u32) {
     let course = &told.imported.built.course;
-    let (mutex, owner) = blocker_of(told.imported, thread);
     put_thread(out, told, thread);
     out.put(" waits");
     put_code(out, told, " at ", thread, course.thread(thread).asked_at);
-    out.put(" for ");
-    put_mutex(out, told, mutex);
-    out.put(" of ");
-    put_thread(out, told, owner);
-    put_code(out, told, TOOK_AT, owner, course.mutex(mutex).taken_at);
+    if let Some(mutex) = awaited_at_the_end(told, thread) {
+        let is = course.mutex(mutex);
+        out.put(" for ");
+        put_mutex(out, told, mutex);
+        out.put(" of ");
+        put_thread(out, told, is.owner);
+        put_code(out, told, TOOK_AT, is.owner, is.taken_at);
+    }
 }
 
 /// Writes what was left out, and why.

@@ -1,6 +1,6 @@
 //! What threads can be blocked for, as JSON.
 
-use crate::report::put_thread;
+use crate::report::{put_number, put_thread};
 use pim_blocking::{Bound, Section};
 use pim_labels::{Told, family_of, put_place};
 use pim_out::{JsonOut, Out};
@@ -40,10 +40,7 @@ fn put_section(alloc: Global, out: &mut JsonOut, told: &Told, section: &Section)
     out.begin_object();
     put_thread(alloc, out, told, "thread", section.user.thread);
     out.number("priority", u64::from(section.user.level));
-    let number = told.imported.numbering.mutexes.of(mutex);
-    if number > 0 {
-        out.number("mutex", u64::from(number));
-    }
+    put_number(out, told, "mutex", mutex);
     out.string("protocol", family_of(told, mutex).name());
     out.text("place", &place);
     out.number("lasted", section.lasted);

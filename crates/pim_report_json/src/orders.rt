@@ -1,6 +1,6 @@
 //! Mutexes that were taken in opposite orders, as JSON.
 
-use crate::report::{put_at, put_thread};
+use crate::report::{put_at, put_number, put_thread};
 use pim_labels::{Told, family_of, put_place};
 use pim_orders::Nesting;
 use pim_out::{JsonOut, Out};
@@ -36,10 +36,7 @@ fn put_mutex(alloc: Global, out: &mut JsonOut, told: &Told, key: &str, mutex: u3
     put_place(&mut place, told, mutex);
     out.key(key);
     out.begin_object();
-    let number = told.imported.numbering.mutexes.of(mutex);
-    if number > 0 {
-        out.number("number", u64::from(number));
-    }
+    put_number(out, told, "number", mutex);
     out.string("protocol", family_of(told, mutex).name());
     out.text("place", &place);
     if let Some(is) = told.imported.sources.ids.mutex(mutex) {

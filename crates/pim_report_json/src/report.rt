@@ -9,10 +9,10 @@ use crate::other_waits::put_other_waits;
 use pim_comparison::{Found, Lengthened};
 use pim_facts::LeftOut;
 use pim_findings::{FoundMutex, FoundWait, MutexWaits};
-use pim_import::{Imported, blocker_of};
+use pim_import::Imported;
 use pim_labels::{
-    Kernel, Labels, TaskNames, Told, family_of, found_of, mutexes, put_code, put_place, put_reason,
-    waits_of,
+    Kernel, Labels, TaskNames, Told, awaited_at_the_end, family_of, found_of, mutexes, number_of,
+    put_code, put_place, put_reason, waits_of,
 };
 use pim_log::Log;
 use pim_out::{JsonOut, Out};
@@ -164,8 +164,9 @@ pub fn put_thread(alloc: Global, out: &mut JsonOut, told: &Told, key: &str, thre
         out.number("process", u64::from(is.process));
         out.number("task", u64::from(is.task));
     }
-    let number = told.imported.numbering.threads.of(thread);
-    out.number("number", u64::from(number));
+    if let Some(number) = told.imported.numbering.threads.of(thread) {
+        out.number("number", u64::from(number));
+    }
     out.end_object();
 }
 
@@ -199,10 +200,11 @@ pub fn put_at(
     }
 }
 
-/// Writes the number that a mutex has in the trace.
-fn put_number(out: &mut JsonOut, told: &Told, key: &str, mutex: u32) {
-    let number = told.imported.numbering.mutexes.of(mutex);
-    out.number(key, u64::from(number));
+/// Writes the number that a mutex has in the trace, if it takes part in it.
+pub fn put_number(out: &mut JsonOut, told: &Told, key: &str, mutex: u32) {
+    if let Some(number) = number_of(told, mutex) {
+        out.number(key, u64::from(number));
+    }
 }
 
 /// Writes the fields of a wait.
@@ -247,11 +249,9 @@ fn put_mutex(
     out.number("to_a_later_waiter", found.hand_overs.to_later);
     out.number("to_its_last_owner", found.hand_overs.to_last_owner);
     out.number("to_a_newcomer", found.hand_overs.to_newcomer);
-    let longest = match found.longest {
-        Some(longest) => longest.lasted,
-        None => 0,
-    };
-    out.number("longest_ownership", longest);
+    if let Some(longest) = found.longest {
+        out.number("longest_ownership", longest.lasted);
+    }
     out.end_object();
 }
 
@@ -262,24 +262,32 @@ fn put_deadlocks(alloc: Global, out: &mut JsonOut, told: &Told) {
     for deadlock in &told.imported.built.findings.deadlocks {
         out.begin_array();
         for thread in &deadlock.threads {
-            out.begin_object();
-            let (mutex, owner) = blocker_of(told.imported, *thread);
-            let (asked_at, taken_at) = places_of(told, *thread, mutex);
-            put_thread(alloc, out, told, "thread", *thread);
-            put_at(alloc, out, told, "at", *thread, asked_at);
-            put_number(out, told, "mutex", mutex);
-            put_at(alloc, out, told, "owner_at", owner, taken_at);
-            out.end_object();
+            put_blocked(alloc, out, told, *thread);
         }
         out.end_array();
     }
     out.end_array();
 }
 
-/// Returns where in the code a thread asked for a mutex at the end, and where the owner took it.
-fn places_of(told: &Told, thread: u32, mutex: u32) -> (Option<u16>, Option<u16>) {
+/// Writes a thread of a deadlock, and what it waits for.
+fn put_blocked(alloc: Global, out: &mut JsonOut, told: &Told, thread: u32) {
     let course = &told.imported.built.course;
-    (course.thread(thread).asked_at, course.mutex(mutex).taken_at)
+    out.begin_object();
+    put_thread(alloc, out, told, "thread", thread);
+    put_at(
+        alloc,
+        out,
+        told,
+        "at",
+        thread,
+        course.thread(thread).asked_at,
+    );
+    if let Some(mutex) = awaited_at_the_end(told, thread) {
+        let is = course.mutex(mutex);
+        put_number(out, told, "mutex", mutex);
+        put_at(alloc, out, told, "owner_at", is.owner, is.taken_at);
+    }
+    out.end_object();
 }
 
 fn put_left_out(out: &mut JsonOut, told: &Told, log: &Log) {
