@@ -122,12 +122,14 @@ static pid_t stop_by(int number) {
     return sigtimedwait(&continued, &info, &none) == SIGCONT ? info.si_pid : -1;
 }
 
-/* Continues the stopped program, unless whoever continued this process has continued it already, as
- * a shell's 'fg' does: a second SIGCONT might undo a stop that came in between. */
-static void continue_program(pid_t program) {
+/* Returns whether the program was continued, and maybe stopped again, since this process waited for
+ * its stop. The kernel looks whether it is stopped, and then whether it was continued: it finds
+ * neither if the program is stopped again in between, and the stop if it is asked once more. */
+static bool was_continued(pid_t program) {
     siginfo_t info = { .si_pid = 0 };
-    waitid(P_PID, (id_t)program, &info, WCONTINUED | WSTOPPED | WEXITED | WNOHANG | WNOWAIT);
-    if (info.si_pid == 0) kill(program, SIGCONT);
+    for (int i = 0; i < 2 && info.si_pid == 0; i++)
+        waitid(P_PID, (id_t)program, &info, WCONTINUED | WSTOPPED | WEXITED | WNOHANG | WNOWAIT);
+    return info.si_pid != 0;
 }
 
 static void watch(const struct guard *guard, pid_t program) {
@@ -141,5 +143,7 @@ void stop_as_program(const struct guard *guard, pid_t program, int number) {
         by = stop_by(number);
         watch(guard, 0);
     } while (by == guard->process && is_stopped(program));
-    if (by >= 0) continue_program(program);
+    /* Who continued this process may have continued the program, as a shell's 'fg' does: a second
+     * SIGCONT might undo a stop that came in between. */
+    if (by >= 0 && !was_continued(program)) kill(program, SIGCONT);
 }
