@@ -1,4 +1,7 @@
 //! Lists, read and changed at any place.
+ghost use Rattle.std.specs.Prelude.{◌≡◌, ◌++◌, ◌∷◌, [], OnOk};
+
+use std::alloc::AllocError;
 
 /// Returns the item at a place, or the default if there is none.
 pub fn get<T: Copy + Default>(list: &[T], place: u32) -> T {
@@ -9,5 +12,19 @@ pub fn get<T: Copy + Default>(list: &[T], place: u32) -> T {
 pub fn set<T: Copy>(list: &mut Vec<T>, place: u32, item: T) {
     if (place as usize) < list.len() {
         list[place as usize] = item;
+    }
+}
+
+/// Appends an item. Unlike [`Vec::push`], it doesn't give the item back where it fails.
+///
+/// # Errors
+///
+/// Returns `AllocError` if out of memory. The list is as it was.
+pub fn push<T: Drop>(list: &mut Vec<T>, item: T) -> Result<(), AllocError>
+    ensures { OnOk result (list.new.items ≡ list.old.items ++ item ∷ []) }
+{
+    match list.push(item) {
+        Ok(()) => Ok(()),
+        Err(_) => Err(AllocError),
     }
 }

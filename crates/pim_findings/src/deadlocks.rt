@@ -6,8 +6,8 @@ ghost use Rattle.pim_findings.specs.Walks.{next_in};
 
 use crate::cycles::cycles_of;
 use crate::deadlock::Deadlock;
-use crate::lists::push;
 use pim_course::Course;
+use pim_course::lists::push;
 use std::alloc::{AllocError, Global};
 
 /// Returns the cycles of waits of a course. Costs time in proportion to the threads.

@@ -24,7 +24,6 @@ mod found_mutex;
 mod found_wait;
 mod found_waits;
 mod laws;
-mod lists;
 mod waiting;
 
 pub use deadlock::Deadlock;

@@ -3,7 +3,7 @@ ghost use Rattle.std.specs.Prelude.{◌≡◌, ℕ, ◌==◌, ◌&&◌, nat_lt, 
 ghost use Rattle.pim_findings.specs.Found.{wait_at};
 
 use crate::found_wait::FoundWait;
-use crate::lists::push;
+use pim_course::lists::push;
 use pim_course::{Course, Sources, family_of};
 use pim_facts::{Fact, Family};
 use std::alloc::{AllocError, Global};

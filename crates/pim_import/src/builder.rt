@@ -4,10 +4,10 @@ ghost use Rattle.pim_import.specs.Faults.{NamesNone, NamesOnly};
 ghost use Rattle.pim_import.specs.LeftOut.{IsSetting};
 
 use crate::fault::ImportFault;
-use crate::lists::push;
 use crate::numbering::Numbering;
 use crate::participants::{Participant, Participants};
 use pim_base::{MAX_STEPS, MutexNo, Prio, Protocol, TaskNo};
+use pim_course::lists::push;
 use pim_course::{Sources, family_of};
 use pim_facts::{Fact, Family, What};
 use pim_manager::MakeFault;

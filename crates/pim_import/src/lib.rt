@@ -21,7 +21,6 @@ mod critical_sections;
 mod fault;
 mod importing;
 mod left_out;
-mod lists;
 mod numbering;
 mod participants;
 mod tally;

@@ -3,9 +3,9 @@ ghost use Rattle.std.specs.Prelude.{IfErr};
 ghost use Rattle.pim_import.specs.Faults.{NamesNone};
 
 use crate::fault::ImportFault;
-use crate::lists::push;
 use crate::participants::{Participant, Participants};
 use pim_base::{MAX_MUTEXES, MAX_TASKS};
+use pim_course::lists::push;
 use pim_course::{Sources, family_of};
 use pim_facts::Family;
 use pim_replay::{SharingFault, Span, share};
