@@ -52,5 +52,5 @@ has-those bytes ids course slot number r covers all below numbered is =
     }
 
 pub reading : ReadingLaw
-reading bytes ids number old new covers all below goes =
-    goes.led (has-those bytes ids old goes.slot number goes.found covers all below goes.numbered goes.is)
+reading bytes sources number old new covers all below goes =
+    goes.led (has-those bytes sources.ids old goes.slot number goes.found covers all below goes.numbered goes.is)

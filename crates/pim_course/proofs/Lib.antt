@@ -2,3 +2,4 @@ pub mod Beginning
 pub mod Worlds
 pub mod Leading
 pub mod Covered
+pub mod Telling

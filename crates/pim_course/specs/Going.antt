@@ -1,6 +1,7 @@
 -- How a course goes on by a part of a record.
-use Rattle.std.specs.Prelude.{◌≡◌, ℕ, ◌+◌, ◌≤◌, length}
+use Rattle.std.specs.Prelude.{◌≡◌, ℕ, ◌+◌, ◌≤◌, List, ◌++◌, length}
 use Rattle.pim_facts.specs.Shown.{shown_in}
+use Rattle.pim_course.specs.Told.{Happening, happened_in}
 use Rattle.pim_course.specs.World.{World, Lead, world_of}
 use Rattle.pim_course.specs.declared.course.Course.{Course}
 
@@ -19,3 +20,8 @@ pub record GoesOn (most : ℕ) (old new : Course) : Type 0 where
   pub led : (from : World) → Lead (shown_in old.shown) from (world_of old) →
       length (shown_in old.shown) + most ≤ 4 → Lead (shown_in new.shown) from (world_of new)
   pub few : length (shown_in new.shown) ≤ length (shown_in old.shown) + most
+
+-- a course goes on and shows that this happened: at most so many facts
+pub record Tells (most : ℕ) (told : List Happening) (old new : Course) : Type 0 where
+  pub few : length told ≤ most
+  pub shown : length (happened_in old) + most ≤ 4 → happened_in new ≡ happened_in old ++ told

@@ -1,5 +1,7 @@
 pub mod Courses
 pub mod Going
+pub mod Kept
 pub mod Reading
 pub mod Requests
+pub mod Told
 pub mod World

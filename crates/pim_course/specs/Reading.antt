@@ -10,8 +10,10 @@ use Rattle.pim_facts.specs.Covering.{Covers}
 use Rattle.pim_facts.specs.Levels.{first_level, id_of, level_by}
 use Rattle.pim_facts.specs.Shown.{shown_in}
 use Rattle.pim_facts.specs.declared.ids.Ids.{Ids}
+use Rattle.pim_course.specs.Told.{happened_in, told_by}
 use Rattle.pim_course.specs.World.{Lead, World, but_for, world_of}
 use Rattle.pim_course.specs.declared.course.Course.{Course}
+use Rattle.pim_course.specs.declared.course.Sources.{Sources}
 use Rattle.pim_course.specs.declared.requests.Request.{Request}
 
 -- the ceiling that the first record of a mutex says; 0 of a mutex that there isn't
@@ -61,14 +63,15 @@ pub record HasRequest (course : Course) (request : Request) : Type 0 where
 abbrev pub LacksRecord : List ℕ → ℕ → Type 0
 LacksRecord bytes number = (slot : ℕ) → IsNumbered bytes slot number → ⊥
 
--- a course goes on by the record of a log with this number: what it shows then leads from the world in which the record is
--- read to the one behind it, if the course has those of the record
-pub record GoesBy (bytes : List ℕ) (ids : Ids) (number : ℕ) (old new : Course) : Type 0 where
+-- a course goes on by the record of a log with this number: it shows then what the record tells, and that leads from the
+-- world in which the record is read to the one behind it, if the course has those of the record
+pub record GoesBy (bytes : List ℕ) (sources : Sources) (number : ℕ) (old new : Course) : Type 0 where
   pub slot : ℕ
   pub found : Record
   pub numbered : IsNumbered bytes slot number
   pub is : IsRecord bytes slot found
-  pub led : HasThoseOf old found (id_of ids number) → Lead (shown_in new.shown) (world_at old found) (world_of new)
+  pub told : happened_in new ≡ told_by sources old found
+  pub led : HasThoseOf old found (id_of sources.ids number) → Lead (shown_in new.shown) (world_at old found) (world_of new)
 
 -- a course has the threads and mutexes of a log
 pub record HasAllOf (ids : Ids) (course : Course) : Type 0 where
@@ -78,6 +81,6 @@ pub record HasAllOf (ids : Ids) (course : Course) : Type 0 where
 -- what a record of a log shows leads from the world in which it is read to the one behind it, in a course that has the
 -- threads and mutexes of the log
 abbrev pub ReadingLaw : Type 0
-ReadingLaw = (bytes : List ℕ) (ids : Ids) (number : ℕ) (old new : Course) → Covers ids bytes → HasAllOf ids old →
-    number < end_of (header_of bytes) → (goes : GoesBy bytes ids number old new) →
+ReadingLaw = (bytes : List ℕ) (sources : Sources) (number : ℕ) (old new : Course) → Covers sources.ids bytes →
+    HasAllOf sources.ids old → number < end_of (header_of bytes) → (goes : GoesBy bytes sources number old new) →
     Lead (shown_in new.shown) (world_at old goes.found) (world_of new)

@@ -1,10 +1,12 @@
 //! The course of a recorded program: who owns and awaits what, record by record.
 ghost use Rattle.std.specs.Prelude.{◌≡◌, ◌≢◌, ◌⊎◌, ◌<◌, ℕ, [], length, slice_set, IfOk};
+ghost use Rattle.std.specs.Option.{option_map_or};
 ghost use Rattle.pim_facts.specs.Levels.{id_of, level_by};
 ghost use Rattle.pim_facts.specs.Shown.{shown_in};
 ghost use Rattle.pim_course.specs.Courses.{family_in, mutex_in, thread_in};
-ghost use Rattle.pim_course.specs.Going.{GoesOn, HasSameSize, IsStill};
+ghost use Rattle.pim_course.specs.Going.{GoesOn, HasSameSize, IsStill, Tells};
 ghost use Rattle.pim_course.specs.Reading.{Begins, HasRequest, HasThoseOf, world_at};
+ghost use Rattle.pim_course.specs.Told.{added_told, ceiling_by_log, ceiling_told, depths_of, did, fail_told, gave_up_told, grant_told, happened_in, heir_in, is_it, level_told, release_told, released_told, request_told, told_by};
 ghost use Rattle.pim_course.specs.World.{CanHappen, Lead, but_for, if_any, world_of};
 
 use crate::next_owners::NextOwners;
@@ -180,6 +182,7 @@ impl Course {
         ensures shown { HasThoseOf self.old «record».now (id_of sources.now.ids «record».now.number) →
             shown_in self.old.shown ≡ [] →
             Lead (shown_in self.new.shown) (world_at self.old «record».now) (world_of self.new) }
+        ensures told { shown_in self.old.shown ≡ [] → happened_in self.new ≡ told_by sources.now self.old «record».now }
     {
         let id = sources.ids.of_record(record.number);
         self.is_contradiction = false;
@@ -200,6 +203,7 @@ impl Course {
         ensures size { HasSameSize self.old self.new }
         ensures shown { HasRequest self.old request.now → shown_in self.old.shown ≡ [] →
             Lead (shown_in self.new.shown) (world_of self.old) (world_of self.new) }
+        ensures told { shown_in self.old.shown ≡ [] → happened_in self.new ≡ added_told (world_of self.old) request.now }
     {
         let (thread, mutex) = (request.thread, request.mutex);
         let is = self.mutex(mutex);
@@ -237,6 +241,7 @@ impl Course {
     fn set_level(&mut self, thread: u32, priority: Priority) -> LeftOut
         ensures size { HasSameSize self.old self.new }
         ensures goes { thread < length self.old.threads.items → GoesOn 1 self.old self.new }
+        ensures told { Tells 1 (level_told (world_of self.old) thread priority) self.old self.new }
     {
         let mut is = self.thread(thread);
         let level = level_of(priority, is.level);
@@ -252,6 +257,7 @@ impl Course {
     fn set_ceiling(&mut self, sources: &Sources, thread: u32, said: &Mutex, mutex: u32) -> LeftOut
         ensures size { HasSameSize self.old self.new }
         ensures goes { mutex < length self.old.mutexes.items → GoesOn 1 self.old self.new }
+        ensures told { Tells 1 (ceiling_told sources.now (world_of self.old) thread mutex said.now) self.old self.new }
     {
         if self.correct_ceiling(sources, thread, said, mutex) {
             LeftOut::Uncontended
@@ -266,6 +272,7 @@ impl Course {
         ensures owner { (world_of self.new).owner ≡ (world_of self.old).owner }
         ensures awaits { (world_of self.new).awaits ≡ (world_of self.old).awaits }
         ensures goes { mutex < length self.old.mutexes.items → GoesOn 1 self.old self.new }
+        ensures told { Tells 1 (ceiling_told sources.now (world_of self.old) thread mutex said.now) self.old self.new }
     {
         let Some(ceiling) = ceiling_of(sources, said, mutex) else {
             return false;
@@ -288,6 +295,10 @@ impl Course {
         ensures awaits { ((world_of self.new).awaits thread ≡ None) ⊎
             (((world_of self.new).awaits thread ≡ Some but) × ((world_of self.old).awaits thread ≡ Some but)) }
         ensures goes { GoesOn 1 self.old self.new }
+        ensures same { 0 < but →
+            is_it ((world_of self.new).awaits thread) but ≡ is_it ((world_of self.old).awaits thread) but }
+        ensures others { (k : ℕ) → k ≢ thread → (world_of self.new).awaits k ≡ (world_of self.old).awaits k }
+        ensures told { Tells 1 (gave_up_told (world_of self.old) thread but) self.old self.new }
     {
         let awaits = self.thread(thread).awaits;
         if awaits != 0 && awaits != but {
@@ -301,6 +312,8 @@ impl Course {
         ensures owner { (world_of self.new).owner ≡ (world_of self.old).owner }
         ensures awaits { (world_of self.new).awaits thread ≡ None }
         ensures goes { (thread_in self.old thread).awaits ≢ 0 → GoesOn 1 self.old self.new }
+        ensures others { (k : ℕ) → k ≢ thread → (world_of self.new).awaits k ≡ (world_of self.old).awaits k }
+        ensures told { Tells 1 (did What.GaveUp thread (thread_in self.old thread).awaits) self.old self.new }
     {
         let mut is = self.thread(thread);
         let (mutex, section) = (is.awaits, is.section);
@@ -324,6 +337,7 @@ impl Course {
         ensures size { HasSameSize self.old self.new }
         ensures goes { «record».now.thread < length self.old.threads.items → mutex < length self.old.mutexes.items →
             GoesOn 3 self.old self.new }
+        ensures told { Tells 3 (request_told sources.now (world_of self.old) «record».now.thread mutex said.now) self.old self.new }
     {
         let thread = record.thread;
         let is = self.mutex(mutex);
@@ -362,6 +376,7 @@ impl Course {
         ensures size { HasSameSize self.old self.new }
         ensures goes { thread < length self.old.threads.items → 0 < mutex →
             CanHappen (world_of self.old) What.Waits thread mutex → GoesOn 1 self.old self.new }
+        ensures told { Tells 1 (did What.Waits thread mutex) self.old self.new }
     {
         let section = self.section_of(mutex);
         let was_above = self.is_above(sources, thread, mutex);
@@ -420,6 +435,7 @@ impl Course {
         ensures size { HasSameSize self.old self.new }
         ensures goes { 0 < «record».now.thread → «record».now.thread < length self.old.threads.items →
             mutex < length self.old.mutexes.items → GoesOn 4 self.old self.new }
+        ensures told { Tells 4 (grant_told sources.now (world_of self.old) «record».now.thread mutex said.now) self.old self.new }
     {
         let thread = record.thread;
         let owner = self.mutex(mutex).owner;
@@ -444,6 +460,8 @@ impl Course {
             (world_of self.new).owner mutex ≡ None }
         ensures awaits { (world_of self.new).awaits ≡ (world_of self.old).awaits }
         ensures goes { if_any owner ≡ (world_of self.old).owner mutex → GoesOn 1 self.old self.new }
+        ensures told { Tells 1 (option_map_or (λ t. released_told (world_of self.old) t mutex next) (if_any owner) [])
+            self.old self.new }
     {
         if owner != 0 {
             self.hand_over(owner, mutex, next);
@@ -478,6 +496,7 @@ impl Course {
         ensures goes { 0 < «record».now.thread → «record».now.thread < length self.old.threads.items →
             mutex < length self.old.mutexes.items → 0 < mutex →
             CanHappen (world_of self.old) What.Granted «record».now.thread mutex → GoesOn 1 self.old self.new }
+        ensures told { Tells 1 (did What.Granted «record».now.thread mutex) self.old self.new }
     {
         let thread = record.thread;
         let section = self.section_of(mutex);
@@ -504,6 +523,7 @@ impl Course {
     fn fail(&mut self, thread: u32, mutex: u32) -> LeftOut
         ensures size { HasSameSize self.old self.new }
         ensures goes { GoesOn 1 self.old self.new }
+        ensures told { Tells 1 (fail_told (world_of self.old) thread mutex) self.old self.new }
     {
         self.forget_own(thread);
         if mutex == 0 || self.thread(thread).awaits != mutex {
@@ -517,6 +537,8 @@ impl Course {
     fn release(&mut self, sources: &Sources, record: &Record, mutex: u32) -> LeftOut
         ensures size { HasSameSize self.old self.new }
         ensures goes { 0 < «record».now.thread → GoesOn 2 self.old self.new }
+        ensures told { Tells 2 (release_told sources.now (world_of self.old) (depths_of self.old) «record».now.number
+            «record».now.thread mutex) self.old self.new }
     {
         let thread = record.thread;
         let mut is = self.mutex(mutex);
@@ -543,19 +565,32 @@ impl Course {
         ensures owner { mutex < length self.old.mutexes.items → (world_of self.new).owner mutex ≡ None }
         ensures awaits { (world_of self.new).awaits ≡ (world_of self.old).awaits }
         ensures goes { (world_of self.old).owner mutex ≡ Some thread → GoesOn 1 self.old self.new }
+        ensures told { Tells 1 (released_told (world_of self.old) thread mutex next) self.old self.new }
     {
         let mut is = self.mutex(mutex);
         let section = is.section;
+        let heir = self.heir(mutex, next);
         is.owner = 0;
         is.last_owner = thread;
+        is.next_owner = heir;
         is.depth = 0;
-        if next != 0 && self.thread(next).awaits == mutex {
-            is.next_owner = next;
-        } else {
+        if heir == 0 {
             is.section = 0;
         }
         self.put_mutex(mutex, is);
-        self.shown.add(fact(What::Released(is.next_owner), thread, mutex, section));
+        self.shown
+            .add(fact(What::Released(heir), thread, mutex, section));
+    }
+
+    /// Returns the next owner of a mutex if it waits for it, or else 0.
+    fn heir(&self, mutex: u32, next: u32) -> u32
+        ensures { result ≡ heir_in (world_of self.now) mutex next }
+    {
+        if self.thread(next).awaits == mutex {
+            next
+        } else {
+            0
+        }
     }
 }
 
@@ -605,7 +640,9 @@ fn is_trylock(event: &Event) -> bool {
 }
 
 /// Returns the ceiling that a record says of its mutex, if that is a PROTECT one by the log.
-fn ceiling_of(sources: &Sources, said: &Mutex, mutex: u32) -> Option<u8> {
+fn ceiling_of(sources: &Sources, said: &Mutex, mutex: u32) -> Option<u8>
+    ensures { result ≡ ceiling_by_log (family_in sources.now mutex) said.now }
+{
     match family_of(sources, mutex) {
         Family::Protect => ceiling_in(said),
         _ => None,

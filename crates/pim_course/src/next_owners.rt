@@ -1,4 +1,6 @@
 //! Who owns a mutex next, and whose it is when a thread asks for it.
+ghost use Rattle.std.specs.Prelude.{◌≡◌};
+ghost use Rattle.pim_course.specs.Kept.{kept_by, kept_of, never_was, next_by};
 
 use crate::lists::{get, set};
 use pim_facts::Ids;
@@ -49,12 +51,14 @@ struct Coming {
 
 impl Kept {
     /// Returns what has this number.
-    fn of(number: u32) -> Kept {
+    fn of(number: u32) -> Kept
+        ensures { result ≡ kept_by number }
+    {
         match number {
             0 => Kept::Owner(None),
             REFUSED => Kept::Refused,
-            _ if number & LATER == 0 => Kept::Owner(Some(number)),
-            _ => Kept::Later(number & !LATER),
+            _ if number < LATER => Kept::Owner(Some(number)),
+            _ => Kept::Later(number - LATER),
         }
     }
 
@@ -132,7 +136,9 @@ impl NextOwners {
     }
 
     /// Returns what is kept of the record with this number.
-    fn kept(&self, number: u64) -> Kept {
+    fn kept(&self, number: u64) -> Kept
+        ensures { result ≡ kept_of self.now number }
+    {
         match self.kept.get(number as usize) {
             Some(kept) => Kept::of(*kept),
             None => Kept::Owner(None),
@@ -141,7 +147,9 @@ impl NextOwners {
 
     /// Returns the thread that is granted the mutex next after the RELEASE with this number, if it calls nothing between.
     /// So if it waits for the mutex then, it waits until the grant.
-    pub fn next_owner(&self, number: u64) -> Option<u32> {
+    pub fn next_owner(&self, number: u64) -> Option<u32>
+        ensures { result ≡ next_by (kept_of self.now number) }
+    {
         match self.kept(number) {
             Kept::Owner(next) => next,
             _ => None,
@@ -169,8 +177,10 @@ impl NextOwners {
     }
 
     /// Returns whether the RELEASE with this number never was.
-    pub fn is_refused(&self, number: u64) -> bool {
-        self.kept(number) == Kept::Refused
+    pub fn is_refused(&self, number: u64) -> bool
+        ensures { result ≡ never_was (kept_of self.now number) }
+    {
+        matches!(self.kept(number), Kept::Refused)
     }
 }
 

@@ -1,8 +1,10 @@
 //! The way through a log, record by record.
 ghost use Rattle.std.specs.Prelude.{◌≡◌, ◌⊎◌, [], IfOk, IfSome, slice_get};
+ghost use Rattle.std.specs.Option.{option_map_or};
 ghost use Rattle.pim_facts.specs.Shown.{shown_in};
 ghost use Rattle.pim_course.specs.Going.{HasSameSize};
 ghost use Rattle.pim_course.specs.Reading.{Begins, GoesBy, HasRequest, LacksRecord};
+ghost use Rattle.pim_course.specs.Told.{added_told, happened_in};
 ghost use Rattle.pim_course.specs.World.{Lead, world_of};
 
 use crate::course::{Course, Sources};
@@ -55,7 +57,7 @@ impl Walk {
         ensures size { HasSameSize self.old.course self.new.course }
         ensures shown { (LacksRecord log.now number × (shown_in self.new.course.shown ≡ [])
             × (world_of self.new.course ≡ world_of self.old.course))
-            ⊎ GoesBy log.now sources.now.ids number self.old.course self.new.course }
+            ⊎ GoesBy log.now sources.now number self.old.course self.new.course }
     {
         self.course.shown.clear();
         match log.record(number) {
@@ -86,6 +88,8 @@ impl Walk {
         ensures size { HasSameSize self.old.course self.new.course }
         ensures shown { IfSome (slice_get sources.now.requests.list.items self.old.added) (HasRequest self.old.course) →
             Lead (shown_in self.new.course.shown) (world_of self.old.course) (world_of self.new.course) }
+        ensures told { happened_in self.new.course ≡
+            option_map_or (added_told (world_of self.old.course)) (slice_get sources.now.requests.list.items self.old.added) [] }
     {
         self.course.shown.clear();
         let request = sources.requests.list.get(self.added)?;

@@ -1,6 +1,9 @@
 -- The levels of threads, and whom a record is about.
-use Rattle.std.specs.Prelude.{ℕ, nat_lt, ◌&&◌, min, if◌then◌else◌, slice_index_or, slice_get}
-use Rattle.std.specs.Option.{option_map_or}
+use Rattle.std.specs.Prelude.{ℕ, nat_lt, ◌&&◌, min, if◌then◌else◌, slice_index_or, slice_get, Option, Some, None}
+use Rattle.std.specs.Option.{option_and_then, option_map_or}
+use Rattle.pim_log.specs.declared.mutex.Mutex.{Mutex}
+use Rattle.pim_log.specs.declared.mutex.Protocol.{Protocol}
+use Rattle.pim_log.specs.declared.mutex.Protocol.TheVariants.{Protect}
 use Rattle.pim_log.specs.declared.priority.Priority.{Priority}
 use Rattle.pim_log.specs.declared.priority.Priority.TheVariants.{Other, RealTime, Deadline, Kept}
 use Rattle.pim_facts.specs.declared.ids.Ids.{Ids}
@@ -12,6 +15,15 @@ level_by Other before = 0
 level_by (RealTime level) before = min level 99
 level_by Deadline before = 100
 level_by (Kept level) before = if nat_lt 0 before && nat_lt before 100 then min level 99 else before
+
+-- the level of a ceiling; a protocol other than PROTECT has none
+abbrev pub ceiling_by : Protocol → Option ℕ
+ceiling_by (Protect ceiling) = Some (min ceiling 100)
+ceiling_by _ = None
+
+-- the level of the ceiling that a record says of its mutex, if it says one
+abbrev pub ceiling_said : Mutex → Option ℕ
+ceiling_said mutex = option_and_then (λ kind. ceiling_by kind.protocol) mutex.kind
 
 -- whom the record with a number is about; 0 if it is about nobody
 abbrev pub id_of : Ids → ℕ → ℕ

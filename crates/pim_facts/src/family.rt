@@ -1,4 +1,6 @@
 //! What a mutex of a log is.
+ghost use Rattle.std.specs.Prelude.{◌≡◌};
+ghost use Rattle.pim_facts.specs.Levels.{ceiling_said};
 
 use crate::level::MAX_LEVEL;
 use pim_log::{Mutex, Protocol};
@@ -35,7 +37,9 @@ pub fn family_in(mutex: &Mutex) -> Option<Family> {
 }
 
 /// Returns the level of the ceiling of the PROTECT mutex of a record, or `None` where it says none.
-pub fn ceiling_in(mutex: &Mutex) -> Option<u8> {
+pub fn ceiling_in(mutex: &Mutex) -> Option<u8>
+    ensures { result ≡ ceiling_said mutex.now }
+{
     match mutex.kind?.protocol {
         Protocol::Protect(ceiling) => Some(ceiling.min(MAX_LEVEL)),
         _ => None,

@@ -1,6 +1,13 @@
-use Rattle.std.proofs.Common.{◌≡◌, ◌⊎◌, ◌<◌, Some, None, length, inl, inr, ap, sym, ◌∙◌, arith}
+use Rattle.std.proofs.lemmas.Bool.{ne_eqb}
+use Rattle.std.specs.Option.{option_map_or}
+use Rattle.std.proofs.Common.{cond, [], ℕ, Option, ◌≡◌, ◌⊎◌, ◌<◌, Some, None, length, inl, inr, refl, ap, sym, ◌∙◌, arith}
+use Rattle.pim_facts.specs.declared.fact.What.TheVariants.{Granted, Released}
+use Rattle.pim_course.specs.Told.{ceiling_told, did, freed_told, gave_up_told, is_it, released_told}
+use Rattle.pim_course.specs.Going.{IsStill}
+use Rattle.pim_course.specs.declared.course.CourseMutex.{CourseMutex}
 use Rattle.pim_course.specs.World.{if_any, world_of}
 use Rattle.pim_course.specs.declared.course.Course.{Course}
+use Rattle.pim_course.proofs.Telling.{gave-up-same, if-not, it-isnt, neither, tells-behind, tells-same, tells-then}
 use Rattle.pim_course.proofs.Leading.{goes-marked, goes-still, goes-then}
 use Rattle.pim_course.proofs.course.Course.grant.Goals as goal
 
@@ -42,3 +49,36 @@ returns-clause-goes c above lt below =
     (omega (arith, c.free.ensures.size.mutexes))
     (omega (arith, c.if-mutex-eq0.false))
     (c.free.ensures.owner owned in_b, awaits))))))
+
+pub returns-clause-told : goal.returns-clause-told
+returns-clause-told c =
+    let t = c.args.record.now.thread in
+    let m = c.args.mutex in
+    let old : Course = c.args.self.now in
+    let f : Course = c.forget_own.new.self in
+    let a : Course = c.correct_ceiling.new.self in
+    let b : Course = c.correct_wait.new.self in
+    let g : Course = c.free.new.self in
+    let new : Course = c.take.new.self in
+    let still : IsStill old f = c.forget_own.ensures.still in
+    let said = ceiling_told c.args.sources.now (world_of old) t m c.args.said.now in
+    let gone = gave_up_told (world_of old) t m in
+    let freed = freed_told (world_of old) m t in
+    let awaits : (world_of a).awaits ≡ (world_of old).awaits = c.correct_ceiling.ensures.awaits ∙ ap (λ w. w.awaits) still.world in
+    let is : is_it ((world_of b).awaits t) m ≡ is_it ((world_of old).awaits t) m =
+    c.correct_wait.ensures.same (omega (arith, c.if-mutex-eq0.false)) ∙ ap (λ (h : ℕ → Option ℕ). is_it (h t) m) awaits in
+    tells-same 4 _ _ old new
+    (sym (if-not _ _ _ (neither _ _ (ne_eqb m 0 (λ e. omega (arith, e, c.if-mutex-eq0.false)))
+    (it-isnt _ _ (λ e. c.if-owner-thread.false (ap (λ z. z.owner) c.mutex-owner.ensures ∙ e))))))
+    (tells-then 3 1 _ (did Granted t m) old g new
+    (tells-then 2 1 _ freed old b g
+    (tells-then 1 1 said gone old a b
+    (tells-behind 1 said old f a still.shown
+    (tells-same 1 _ said f a (ap (λ w. ceiling_told c.args.sources.now w t m c.args.said.now) still.world)
+    c.correct_ceiling.ensures.told))
+    (tells-same 1 _ gone a b (gave-up-same (world_of old) (world_of a) t m awaits) c.correct_wait.ensures.told))
+    (tells-same 1 _ freed b g
+    (ap (λ so. option_map_or (λ o. did (Released (cond so t 0)) o m) (if_any c.mutex-owner.result.owner) []) is
+    ∙ ap (λ (z : CourseMutex). option_map_or (λ o. released_told (world_of old) o m t) (if_any z.owner) []) c.mutex-owner.ensures)
+    (tells-behind 1 _ b _ g refl c.free.ensures.told)))
+    c.take.ensures.told)

@@ -4,19 +4,19 @@ use Rattle.pim_course.specs.World.{if_any}
 use Rattle.pim_course.proofs.Worlds.{has_mutex, world-owner}
 use Rattle.pim_course.proofs.Leading.{goes-added}
 use Rattle.pim_course.proofs.course.Course.hand_over.Goals as goal
-use Rattle.pim_course.proofs.course.Course.hand_over.Goals.{then-next-ne0+then-thread-mutex, else-next-ne0}
+use Rattle.pim_course.proofs.course.Course.hand_over.Goals.{then-heir-eq0, else-heir-eq0}
 
 pub returns-clause-goes : goal.returns-clause-goes
 returns-clause-goes c owned =
-    let free : c.if-next-ne0.is.owner ≡ 0 =
-    elim c.if-next-ne0.branch [
-      | then-next-ne0+then-thread-mutex w ↦ ap (λ z. z.owner) w.is-is
-      | else-next-ne0 w ↦ ap (λ z. z.owner) w.is-is
+    let free : c.if-heir-eq0.is.owner ≡ 0 =
+    elim c.if-heir-eq0.branch [
+      | then-heir-eq0 w ↦ ap (λ z. z.owner) w.is-is
+      | else-heir-eq0 w ↦ ap (λ z. z.owner) w.is-is
     ] in
-    let ceiling : c.if-next-ne0.is.ceiling ≡ (mutex_in c.args.self.now c.args.mutex).ceiling =
-    elim c.if-next-ne0.branch [
-      | then-next-ne0+then-thread-mutex w ↦ ap (λ z. z.ceiling) w.is-is ∙ ap (λ z. z.ceiling) c.mutex-is.ensures
-      | else-next-ne0 w ↦ ap (λ z. z.ceiling) w.is-is ∙ ap (λ z. z.ceiling) c.mutex-is.ensures
+    let ceiling : c.if-heir-eq0.is.ceiling ≡ (mutex_in c.args.self.now c.args.mutex).ceiling =
+    elim c.if-heir-eq0.branch [
+      | then-heir-eq0 w ↦ ap (λ z. z.ceiling) w.is-is ∙ ap (λ z. z.ceiling) c.mutex-is.ensures
+      | else-heir-eq0 w ↦ ap (λ z. z.ceiling) w.is-is ∙ ap (λ z. z.ceiling) c.mutex-is.ensures
     ] in
     goes-added c.args.self.now c.put_mutex.new.self _ _ _ c.fact.ensures (ap (λ d. d.shown) c.put_mutex.ensures.rest)
     c.add.ensures.shown c.add.ensures.full owned

@@ -1,5 +1,12 @@
-use Rattle.std.proofs.Common.{◌≡◌, ap, sym, ◌∙◌, arith}
-use Rattle.pim_course.specs.World.{if_any}
+use Rattle.std.proofs.Common.{◌≡◌, ◌++◌, cond, ap, sym, ◌∙◌, arith}
+use Rattle.std.proofs.lemmas.Bool.{le-ltb, ne_eqb}
+use Rattle.std.specs.Option.{unwrap_or}
+use Rattle.pim_facts.specs.declared.fact.What.TheVariants.{GaveUp, Released}
+use Rattle.pim_course.specs.Courses.{mutex_in}
+use Rattle.pim_course.specs.Told.{did, gave_up_told, heir_in, is_it}
+use Rattle.pim_course.specs.World.{World, after, world_of, if_any}
+use Rattle.pim_course.specs.declared.course.Course.{Course}
+use Rattle.pim_course.proofs.Telling.{if-not, it-is, left-by, neither, never-zero, none-of, not-true, tells-same, tells-then}
 use Rattle.pim_course.proofs.Worlds.{is_any}
 use Rattle.pim_course.proofs.Leading.{goes-then}
 use Rattle.pim_course.proofs.course.Course.release.Goals as goal
@@ -12,3 +19,25 @@ returns-clause-goes c above =
     (ap (λ f. f c.args.mutex) c.correct_wait.ensures.owner
     ∙ ap (λ z. if_any z.owner) (sym c.mutex-is.ensures) ∙ ap if_any owner
     ∙ is_any c.args.record.now.thread (λ e. omega (arith, e))))
+
+pub returns-clause-told : goal.returns-clause-told
+returns-clause-told c =
+    let t = c.args.record.now.thread in
+    let m = c.args.mutex in
+    let old : Course = c.args.self.now in
+    let b : Course = c.correct_wait.new.self in
+    let new : Course = c.hand_over.new.self in
+    let gone : World = after (world_of old) GaveUp t m in
+    let n = c.unwrap_or.result in
+    let heir : heir_in (world_of b) m n ≡ heir_in gone m n =
+    ap (λ o. cond (is_it o m) n 0)
+    (left-by (world_of old) (world_of b) t c.correct_wait.ensures.awaits (never-zero _) c.correct_wait.ensures.others n) in
+    tells-same 2 _ _ old new
+    (ap (λ next. gave_up_told (world_of old) t 0 ++ did (Released next) t m) (heir
+    ∙ ap (heir_in gone m) (c.unwrap_or.ensures ∙ ap (λ o. unwrap_or o 0) c.next_owner-next.ensures))
+    ∙ sym (if-not _ _ _ (none-of _ _ _
+    (neither _ _ (ne_eqb m 0 (λ e. omega (arith, e, c.if-mutex-eq0.false)))
+    (not-true _ (it-is _ _ (ap (λ z. z.owner) (sym c.mutex-is.ensures) ∙ omega arith))))
+    (sym c.is_refused.ensures ∙ c.if-is_refused.false)
+    (le-ltb 1 (mutex_in old m).depth (omega (arith, ap (λ z. z.depth) c.mutex-is.ensures))))))
+    (tells-then 1 1 _ _ old b new c.correct_wait.ensures.told c.hand_over.ensures.told)

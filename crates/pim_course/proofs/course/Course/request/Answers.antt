@@ -1,8 +1,11 @@
+use Rattle.std.proofs.lemmas.Bool.{ne_eqb}
 use Rattle.std.proofs.Common.{◌≡◌, None, inl, inr, ap, sym, subst, ◌∙◌, arith}
 use Rattle.pim_facts.specs.declared.fact.What.TheVariants.{Waits}
+use Rattle.pim_course.specs.Told.{ceiling_told, gave_up_told}
 use Rattle.pim_course.specs.Going.{IsStill}
 use Rattle.pim_course.specs.World.{CanHappen, world_of}
 use Rattle.pim_course.specs.declared.course.Course.{Course}
+use Rattle.pim_course.proofs.Telling.{gave-up-same, if-not, it-isnt, none-of, tells-behind, tells-same, tells-then}
 use Rattle.pim_course.proofs.Worlds.{some_is}
 use Rattle.pim_course.proofs.Leading.{goes-still, goes-then}
 use Rattle.pim_course.proofs.course.Course.request.Goals as goal
@@ -31,3 +34,23 @@ returns-clause-goes c lt below =
     (omega (arith, c.if-mutex-eq0.false))
     (subst (λ w. CanHappen w Waits t c.args.mutex) (sym still.world)
     (awaits, λ e. c.if-is-thread.false (ap (λ z. z.owner) c.mutex-is.ensures ∙ some_is _ _ (sym owner ∙ e)))))))
+
+pub returns-clause-told : goal.returns-clause-told
+returns-clause-told c =
+    let t = c.args.record.now.thread in
+    let m = c.args.mutex in
+    let old : Course = c.args.self.now in
+    let a : Course = c.correct_ceiling.new.self in
+    let b : Course = c.correct_wait.new.self in
+    let d : Course = c.ask_at.new.self in
+    let new : Course = c.wait.new.self in
+    let said = ceiling_told c.args.sources.now (world_of old) t m c.args.said.now in
+    let gone = gave_up_told (world_of old) t m in
+    tells-same 3 _ _ old new
+    (sym (if-not _ _ _ (none-of _ _ _ (ne_eqb m 0 (λ e. omega (arith, e, c.if-mutex-eq0.false)))
+    (it-isnt _ _ (λ e. c.if-is-thread.false (ap (λ z. z.owner) c.mutex-is.ensures ∙ e)))
+    (it-isnt _ _ (λ e. c.if-thread-mutex.false (ap (λ y. y.awaits) c.thread.ensures ∙ e))))))
+    (tells-then 2 1 _ _ old b new
+    (tells-then 1 1 said gone old a b c.correct_ceiling.ensures.told
+    (tells-same 1 _ gone a b (gave-up-same (world_of old) (world_of a) t m c.correct_ceiling.ensures.awaits) c.correct_wait.ensures.told))
+    (tells-behind 1 _ b d new c.ask_at.ensures.still.shown c.wait.ensures.told))

@@ -1,0 +1,123 @@
+-- What a record tells that happened: the table of docs/FINDINGS.md, 'Facts'.
+use Rattle.std.specs.Prelude.{ℕ, ◌==◌, nat_lt, Bool, not, ◌||◌, if◌then◌else◌, List, [], ◌∷◌, ◌++◌, map, Option, None}
+use Rattle.std.specs.Option.{option_map_or, unwrap_or}
+use Rattle.pim_log.specs.declared.event.Event.{Event}
+use Rattle.pim_log.specs.declared.event.Event.TheVariants as event
+use Rattle.pim_log.specs.declared.mutex.Mutex.{Mutex}
+use Rattle.pim_log.specs.declared.priority.Priority.{Priority}
+use Rattle.pim_log.specs.declared.record.Record.{Record}
+use Rattle.pim_facts.specs.Levels.{ceiling_said, id_of, level_by}
+use Rattle.pim_facts.specs.Shown.{shown_in}
+use Rattle.pim_facts.specs.declared.fact.Fact.{Fact}
+use Rattle.pim_facts.specs.declared.fact.What.{What}
+use Rattle.pim_facts.specs.declared.fact.What.TheVariants.{Granted, Waits, GaveUp, Released, Level, Ceiling}
+use Rattle.pim_facts.specs.declared.family.Family.{Family}
+use Rattle.pim_facts.specs.declared.family.Family.TheVariants as families
+use Rattle.pim_course.specs.Courses.{family_in, mutex_in}
+use Rattle.pim_course.specs.Kept.{kept_of, never_was, next_by}
+use Rattle.pim_course.specs.World.{World, after, world_of}
+use Rattle.pim_course.specs.declared.course.Course.{Course}
+use Rattle.pim_course.specs.declared.course.Sources.{Sources}
+use Rattle.pim_course.specs.declared.requests.Request.{Request}
+
+-- what happened to a thread and a mutex
+pub record Happening : Type 0 where
+  pub what : What
+  pub thread : ℕ
+  pub mutex : ℕ
+
+-- what a fact says that happened: all but its critical sections
+abbrev pub happening : Fact → Happening
+happening fact = record { what = fact.what; thread = fact.thread; mutex = fact.mutex }
+
+-- what is shown that happened
+abbrev pub happened_in : Course → List Happening
+happened_in course = map happening (shown_in course.shown)
+
+-- this happened, and nothing else
+abbrev pub did : What → ℕ → ℕ → List Happening
+did what t m = record { what = what; thread = t; mutex = m } ∷ []
+
+-- whether a number is this one: 0 if there is none
+abbrev pub is_it : Option ℕ → ℕ → Bool
+is_it it n = unwrap_or it 0 == n
+
+-- the level that a priority gives to a thread, if it is another one; 0 is no thread
+abbrev pub level_told : World → ℕ → Priority → List Happening
+level_told world t priority =
+    if t == 0 || level_by priority (world.level t) == world.level t then [] else did (Level (level_by priority (world.level t))) t 0
+
+-- the ceiling that a record says of a mutex, if that is a PROTECT one by the log
+abbrev pub ceiling_by_log : Family → Mutex → Option ℕ
+ceiling_by_log families.Protect said = ceiling_said said
+ceiling_by_log _ said = None
+
+-- the ceiling that a record says, if it is another one
+abbrev pub ceiling_told : Sources → World → ℕ → ℕ → Mutex → List Happening
+ceiling_told sources world t m said =
+    option_map_or (λ ceiling. if world.ceiling m == ceiling then [] else did (Ceiling ceiling) t m)
+    (ceiling_by_log (family_in sources m) said) []
+
+-- a thread gave up what it waits for, unless it is this mutex
+abbrev pub gave_up_told : World → ℕ → ℕ → List Happening
+gave_up_told world t but = option_map_or (λ m. if m == but then [] else did GaveUp t m) (world.awaits t) []
+
+-- the next owner of a mutex, if it waits for it; else 0
+abbrev pub heir_in : World → ℕ → ℕ → ℕ
+heir_in world m next = if is_it (world.awaits next) m then next else 0
+
+-- a thread released a mutex, to the next owner if that waits for it
+abbrev pub released_told : World → ℕ → ℕ → ℕ → List Happening
+released_told world t m next = did (Released (heir_in world m next)) t m
+
+-- the owner of a mutex released it, if it has one
+abbrev pub freed_told : World → ℕ → ℕ → List Happening
+freed_told world m next = option_map_or (λ owner. released_told world owner m next) (world.owner m) []
+
+-- a REQUEST: its thread waits, unless it owns the mutex or waits for it
+abbrev pub request_told : Sources → World → ℕ → ℕ → Mutex → List Happening
+request_told sources world t m said =
+    if m == 0 || is_it (world.owner m) t || is_it (world.awaits t) m then []
+    else ceiling_told sources world t m said ++ gave_up_told world t m ++ did Waits t m
+
+-- a GRANTED: its thread is granted the mutex, unless it owns it
+abbrev pub grant_told : Sources → World → ℕ → ℕ → Mutex → List Happening
+grant_told sources world t m said =
+    if m == 0 || is_it (world.owner m) t then []
+    else ceiling_told sources world t m said ++ gave_up_told world t m ++ freed_told world m t ++ did Granted t m
+
+-- a FAILED: its thread gave up, if it waits for the mutex
+abbrev pub fail_told : World → ℕ → ℕ → List Happening
+fail_told world t m = if m == 0 || not (is_it (world.awaits t) m) then [] else did GaveUp t m
+
+-- a RELEASE: its thread released the mutex, if it owns it, locked it once, and isn't refused
+abbrev pub release_told : Sources → World → (ℕ → ℕ) → ℕ → ℕ → ℕ → List Happening
+release_told sources world depth number t m =
+    let kept = kept_of sources.next_owners number in
+    if m == 0 || not (is_it (world.owner m) t) || never_was kept || nat_lt 1 (depth m) then []
+    else gave_up_told world t 0 ++ released_told (after world GaveUp t m) t m (unwrap_or (next_by kept) 0)
+
+-- what an event of a thread tells, that is about a mutex or another thread
+abbrev pub event_told : Sources → World → (ℕ → ℕ) → ℕ → ℕ → ℕ → Event → List Happening
+event_told sources world depth number t id (event.Priority _ priority) = level_told world id priority
+event_told sources world depth number t id (event.Ceiling said) = ceiling_told sources world t id said
+event_told sources world depth number t id (event.Request said _) = request_told sources world t id said
+event_told sources world depth number t id (event.Granted said _ _) = grant_told sources world t id said
+event_told sources world depth number t id (event.Failed _ _ _) = fail_told world t id
+event_told sources world depth number t id (event.Release _ _) = release_told sources world depth number t id
+event_told sources world depth number t id _ = []
+
+-- how often each mutex is locked
+abbrev pub depths_of : Course → ℕ → ℕ
+depths_of course m = (mutex_in course m).depth
+
+-- what a record tells in the course of a program
+abbrev pub told_by : Sources → Course → Record → List Happening
+told_by sources course r =
+    event_told sources (world_of course) (depths_of course) r.number r.thread (id_of sources.ids r.number) r.event
+
+-- a request that the log lacks tells that its thread waits, if it waits for nothing and doesn't own the mutex
+abbrev pub added_told : World → Request → List Happening
+added_told world request =
+    if is_it (world.owner request.mutex) request.thread then []
+    else option_map_or (λ m. []) (world.awaits request.thread) (did Waits request.thread request.mutex)
