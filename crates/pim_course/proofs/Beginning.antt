@@ -21,6 +21,7 @@ use Rattle.pim_course.proofs.Worlds.{worlds}
 pub record AreFree (logged : List LoggedMutex) (place : ℕ) (mutexes : List CourseMutex) : Type 0 where
   pub len : length mutexes ≡ length logged
   pub owner : (m : ℕ) → (get_or mutexes m free).owner ≡ 0
+  pub depth : (m : ℕ) → (get_or mutexes m free).depth ≡ 0
   pub ceiling : (m : ℕ) → m < place → (get_or mutexes m free).ceiling ≡ option_map_or (λ is. is.ceiling) (slice_get logged m) 0
 
 -- the threads do nothing, and those below a place have their levels
@@ -51,5 +52,6 @@ begins ids course place mutexes threads end shown =
           ]));
       threads = threads.len;
       mutexes = mutexes.len;
+      depths = mutexes.depth;
       shown = shown;
     }

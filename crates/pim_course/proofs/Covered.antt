@@ -53,4 +53,5 @@ has-those bytes ids course slot number r covers all below numbered is =
 
 pub reading : ReadingLaw
 reading bytes sources number old new covers all below goes =
-    goes.led (has-those bytes sources.ids old goes.slot number goes.found covers all below goes.numbered goes.is)
+    let those = has-those bytes sources.ids old goes.slot number goes.found covers all below goes.numbered goes.is in
+    (goes.led those, goes.depths those)

@@ -1,7 +1,7 @@
 -- How a course goes on by a part of a record.
 use Rattle.std.specs.Prelude.{◌≡◌, ℕ, ◌+◌, ◌≤◌, List, ◌++◌, length}
 use Rattle.pim_facts.specs.Shown.{shown_in}
-use Rattle.pim_course.specs.Told.{Happening, happened_in}
+use Rattle.pim_course.specs.Told.{Happening, depths_of, happened_in}
 use Rattle.pim_course.specs.World.{World, Lead, world_of}
 use Rattle.pim_course.specs.declared.course.Course.{Course}
 
@@ -25,3 +25,7 @@ pub record GoesOn (most : ℕ) (old new : Course) : Type 0 where
 pub record Tells (most : ℕ) (told : List Happening) (old new : Course) : Type 0 where
   pub few : length told ≤ most
   pub shown : length (happened_in old) + most ≤ 4 → happened_in new ≡ happened_in old ++ told
+
+-- each mutex is locked as often as before
+abbrev pub KeepsDepths : Course → Course → Type 0
+KeepsDepths old new = (m : ℕ) → depths_of new m ≡ depths_of old m

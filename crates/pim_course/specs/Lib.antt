@@ -1,4 +1,5 @@
 pub mod Courses
+pub mod Depths
 pub mod Going
 pub mod Kept
 pub mod Reading

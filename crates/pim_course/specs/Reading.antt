@@ -10,7 +10,8 @@ use Rattle.pim_facts.specs.Covering.{Covers}
 use Rattle.pim_facts.specs.Levels.{first_level, id_of, level_by}
 use Rattle.pim_facts.specs.Shown.{shown_in}
 use Rattle.pim_facts.specs.declared.ids.Ids.{Ids}
-use Rattle.pim_course.specs.Told.{happened_in, told_by}
+use Rattle.pim_course.specs.Depths.{depths_after}
+use Rattle.pim_course.specs.Told.{depths_of, happened_in, told_by}
 use Rattle.pim_course.specs.World.{Lead, World, but_for, world_of}
 use Rattle.pim_course.specs.declared.course.Course.{Course}
 use Rattle.pim_course.specs.declared.course.Sources.{Sources}
@@ -24,11 +25,12 @@ first_ceiling ids m = option_map_or (λ mutex. mutex.ceiling) (slice_get ids.mut
 abbrev pub world_before : Ids → World
 world_before ids = record { owner = λ m. None; awaits = λ t. None; level = first_level ids; ceiling = first_ceiling ids }
 
--- a course begins: it has the threads and mutexes of a log, and nothing is shown yet
+-- a course begins: it has the threads and mutexes of a log, no mutex is locked, and nothing is shown yet
 pub record Begins (ids : Ids) (course : Course) : Type 0 where
   pub world : world_of course ≡ world_before ids
   pub threads : length course.threads.items ≡ length ids.threads.items
   pub mutexes : length course.mutexes.items ≡ length ids.mutexes.items
+  pub depths : (m : ℕ) → depths_of course m ≡ 0
   pub shown : shown_in course.shown ≡ []
 
 -- the world in which an event of a thread happens: the thread's first record tells the level that it has, which is no fact
@@ -63,14 +65,15 @@ pub record HasRequest (course : Course) (request : Request) : Type 0 where
 abbrev pub LacksRecord : List ℕ → ℕ → Type 0
 LacksRecord bytes number = (slot : ℕ) → IsNumbered bytes slot number → ⊥
 
--- a course goes on by the record of a log with this number: it shows then what the record tells, and that leads from the
--- world in which the record is read to the one behind it, if the course has those of the record
+-- a course goes on by the record of a log with this number: it shows then what the record tells. If the course has those of
+-- the record, that leads from the world in which it is read to the one behind it, and each mutex is locked as often as it says
 pub record GoesBy (bytes : List ℕ) (sources : Sources) (number : ℕ) (old new : Course) : Type 0 where
   pub slot : ℕ
   pub found : Record
   pub numbered : IsNumbered bytes slot number
   pub is : IsRecord bytes slot found
   pub told : happened_in new ≡ told_by sources old found
+  pub depths : HasThoseOf old found (id_of sources.ids number) → (m : ℕ) → depths_of new m ≡ depths_after sources old found m
   pub led : HasThoseOf old found (id_of sources.ids number) → Lead (shown_in new.shown) (world_at old found) (world_of new)
 
 -- a course has the threads and mutexes of a log
@@ -78,9 +81,10 @@ pub record HasAllOf (ids : Ids) (course : Course) : Type 0 where
   pub threads : length course.threads.items ≡ length ids.threads.items
   pub mutexes : length course.mutexes.items ≡ length ids.mutexes.items
 
--- what a record of a log shows leads from the world in which it is read to the one behind it, in a course that has the
--- threads and mutexes of the log
+-- what a record of a log shows leads from the world in which it is read to the one behind it, and each mutex is locked then
+-- as often as the record says, in a course that has the threads and mutexes of the log
 abbrev pub ReadingLaw : Type 0
 ReadingLaw = (bytes : List ℕ) (sources : Sources) (number : ℕ) (old new : Course) → Covers sources.ids bytes →
     HasAllOf sources.ids old → number < end_of (header_of bytes) → (goes : GoesBy bytes sources number old new) →
     Lead (shown_in new.shown) (world_at old goes.found) (world_of new)
+    × ((m : ℕ) → depths_of new m ≡ depths_after sources old goes.found m)

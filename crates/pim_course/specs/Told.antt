@@ -1,5 +1,5 @@
 -- What a record tells that happened: the table of docs/FINDINGS.md, 'Facts'.
-use Rattle.std.specs.Prelude.{ℕ, ◌==◌, nat_lt, Bool, not, ◌||◌, if◌then◌else◌, List, [], ◌∷◌, ◌++◌, map, Option, None}
+use Rattle.std.specs.Prelude.{ℕ, ◌==◌, nat_lt, Bool, not, ◌&&◌, ◌||◌, if◌then◌else◌, List, [], ◌∷◌, ◌++◌, map, Option, None, is_none}
 use Rattle.std.specs.Option.{option_map_or, unwrap_or}
 use Rattle.pim_log.specs.declared.event.Event.{Event}
 use Rattle.pim_log.specs.declared.event.Event.TheVariants as event
@@ -38,7 +38,7 @@ happened_in course = map happening (shown_in course.shown)
 abbrev pub did : What → ℕ → ℕ → List Happening
 did what t m = record { what = what; thread = t; mutex = m } ∷ []
 
--- whether a number is this one: 0 if there is none
+-- whether there is this number; 0 says that there is none
 abbrev pub is_it : Option ℕ → ℕ → Bool
 is_it it n = unwrap_or it 0 == n
 
@@ -119,5 +119,6 @@ told_by sources course r =
 -- a request that the log lacks tells that its thread waits, if it waits for nothing and doesn't own the mutex
 abbrev pub added_told : World → Request → List Happening
 added_told world request =
-    if is_it (world.owner request.mutex) request.thread then []
-    else option_map_or (λ m. []) (world.awaits request.thread) (did Waits request.thread request.mutex)
+    if is_none (world.awaits request.thread) && not (is_it (world.owner request.mutex) request.thread) then
+    did Waits request.thread request.mutex
+    else []

@@ -4,9 +4,11 @@ ghost use Rattle.std.specs.Option.{option_map_or};
 ghost use Rattle.pim_facts.specs.Levels.{id_of, level_by};
 ghost use Rattle.pim_facts.specs.Shown.{shown_in};
 ghost use Rattle.pim_course.specs.Courses.{family_in, mutex_in, thread_in};
-ghost use Rattle.pim_course.specs.Going.{GoesOn, HasSameSize, IsStill, Tells};
+ghost use Rattle.pim_course.specs.Depths.{depth_again, depth_granted, depth_released, depths_after, is_recursive_in};
+ghost use Rattle.pim_course.specs.Going.{GoesOn, HasSameSize, IsStill, KeepsDepths, Tells};
 ghost use Rattle.pim_course.specs.Reading.{Begins, HasRequest, HasThoseOf, world_at};
-ghost use Rattle.pim_course.specs.Told.{added_told, ceiling_by_log, ceiling_told, depths_of, did, fail_told, gave_up_told, grant_told, happened_in, heir_in, is_it, level_told, release_told, released_told, request_told, told_by};
+ghost use Rattle.pim_course.specs.Told.{added_told, ceiling_told, fail_told, gave_up_told, grant_told, level_told, release_told, released_told, request_told};
+ghost use Rattle.pim_course.specs.Told.{ceiling_by_log, depths_of, did, happened_in, heir_in, is_it, told_by};
 ghost use Rattle.pim_course.specs.World.{CanHappen, Lead, but_for, if_any, world_of};
 
 use crate::next_owners::NextOwners;
@@ -179,6 +181,8 @@ impl Course {
     /// is left out if none of what it shows is in the trace.
     pub fn advance(&mut self, sources: &Sources, record: &Record) -> LeftOut
         ensures size { HasSameSize self.old self.new }
+        ensures depths { HasThoseOf self.old «record».now (id_of sources.now.ids «record».now.number) →
+            (m : ℕ) → depths_of self.new m ≡ depths_after sources.now self.old «record».now m }
         ensures shown { HasThoseOf self.old «record».now (id_of sources.now.ids «record».now.number) →
             shown_in self.old.shown ≡ [] →
             Lead (shown_in self.new.shown) (world_at self.old «record».now) (world_of self.new) }
@@ -201,6 +205,7 @@ impl Course {
     /// Goes on by a request that the log lacks: the thread waits for the mutex.
     pub fn add_request(&mut self, sources: &Sources, request: &Request)
         ensures size { HasSameSize self.old self.new }
+        ensures depths { KeepsDepths self.old self.new }
         ensures shown { HasRequest self.old request.now → shown_in self.old.shown ≡ [] →
             Lead (shown_in self.new.shown) (world_of self.old) (world_of self.new) }
         ensures told { shown_in self.old.shown ≡ [] → happened_in self.new ≡ added_told (world_of self.old) request.now }
@@ -217,6 +222,7 @@ impl Course {
     /// A thread asks for a mutex at a place in the code.
     fn ask_at(&mut self, thread: u32, place: Option<u16>)
         ensures size { HasSameSize self.old self.new }
+        ensures depths { KeepsDepths self.old self.new }
         ensures still { IsStill self.old self.new }
     {
         let mut is = self.thread(thread);
@@ -227,6 +233,7 @@ impl Course {
     /// A thread has its first record, which tells its level.
     fn begin(&mut self, thread: u32, priority: Priority) -> LeftOut
         ensures size { HasSameSize self.old self.new }
+        ensures depths { KeepsDepths self.old self.new }
         ensures shown { self.new.shown ≡ self.old.shown }
         ensures level { thread < length self.old.threads.items →
             world_of self.new ≡
@@ -240,6 +247,7 @@ impl Course {
 
     fn set_level(&mut self, thread: u32, priority: Priority) -> LeftOut
         ensures size { HasSameSize self.old self.new }
+        ensures depths { KeepsDepths self.old self.new }
         ensures goes { thread < length self.old.threads.items → GoesOn 1 self.old self.new }
         ensures told { Tells 1 (level_told (world_of self.old) thread priority) self.old self.new }
     {
@@ -256,6 +264,7 @@ impl Course {
 
     fn set_ceiling(&mut self, sources: &Sources, thread: u32, said: &Mutex, mutex: u32) -> LeftOut
         ensures size { HasSameSize self.old self.new }
+        ensures depths { KeepsDepths self.old self.new }
         ensures goes { mutex < length self.old.mutexes.items → GoesOn 1 self.old self.new }
         ensures told { Tells 1 (ceiling_told sources.now (world_of self.old) thread mutex said.now) self.old self.new }
     {
@@ -269,6 +278,7 @@ impl Course {
     /// Learns the ceiling of a PROTECT mutex, and returns whether a record of the thread says another than was known.
     fn correct_ceiling(&mut self, sources: &Sources, thread: u32, said: &Mutex, mutex: u32) -> bool
         ensures size { HasSameSize self.old self.new }
+        ensures depths { KeepsDepths self.old self.new }
         ensures owner { (world_of self.new).owner ≡ (world_of self.old).owner }
         ensures awaits { (world_of self.new).awaits ≡ (world_of self.old).awaits }
         ensures goes { mutex < length self.old.mutexes.items → GoesOn 1 self.old self.new }
@@ -291,6 +301,7 @@ impl Course {
     /// Lets a thread stop waiting whose record shows that it doesn't wait any more, unless it waits for this mutex.
     fn correct_wait(&mut self, thread: u32, but: u32)
         ensures size { HasSameSize self.old self.new }
+        ensures depths { KeepsDepths self.old self.new }
         ensures owner { (world_of self.new).owner ≡ (world_of self.old).owner }
         ensures awaits { ((world_of self.new).awaits thread ≡ None) ⊎
             (((world_of self.new).awaits thread ≡ Some but) × ((world_of self.old).awaits thread ≡ Some but)) }
@@ -309,6 +320,7 @@ impl Course {
     /// A thread stops waiting without the mutex.
     fn stop_waiting(&mut self, thread: u32)
         ensures size { HasSameSize self.old self.new }
+        ensures depths { KeepsDepths self.old self.new }
         ensures owner { (world_of self.new).owner ≡ (world_of self.old).owner }
         ensures awaits { (world_of self.new).awaits thread ≡ None }
         ensures goes { (thread_in self.old thread).awaits ≢ 0 → GoesOn 1 self.old self.new }
@@ -335,6 +347,7 @@ impl Course {
         mutex: u32,
     ) -> LeftOut
         ensures size { HasSameSize self.old self.new }
+        ensures depths { KeepsDepths self.old self.new }
         ensures goes { «record».now.thread < length self.old.threads.items → mutex < length self.old.mutexes.items →
             GoesOn 3 self.old self.new }
         ensures told { Tells 3 (request_told sources.now (world_of self.old) «record».now.thread mutex said.now) self.old self.new }
@@ -359,6 +372,7 @@ impl Course {
     /// A thread asks for the mutex that it owns: unless that is recursive, it waits for itself.
     fn request_own(&mut self, sources: &Sources, record: &Record, mutex: u32)
         ensures size { HasSameSize self.old self.new }
+        ensures depths { KeepsDepths self.old self.new }
         ensures still { IsStill self.old self.new }
     {
         let mut own = self.thread(record.thread);
@@ -374,6 +388,7 @@ impl Course {
     /// owner, the wait belongs to its next critical section.
     fn wait(&mut self, sources: &Sources, thread: u32, mutex: u32, owner: u32)
         ensures size { HasSameSize self.old self.new }
+        ensures depths { KeepsDepths self.old self.new }
         ensures goes { thread < length self.old.threads.items → 0 < mutex →
             CanHappen (world_of self.old) What.Waits thread mutex → GoesOn 1 self.old self.new }
         ensures told { Tells 1 (did What.Waits thread mutex) self.old self.new }
@@ -419,6 +434,7 @@ impl Course {
     /// Returns the critical section of a mutex that lasts, or else the next one.
     fn section_of(&mut self, mutex: u32) -> u32
         ensures size { HasSameSize self.old self.new }
+        ensures depths { KeepsDepths self.old self.new }
         ensures still { IsStill self.old self.new }
     {
         let mut is = self.mutex(mutex);
@@ -433,6 +449,9 @@ impl Course {
     /// A thread has a mutex. Its level isn't above the ceiling, unless it rose, or the ceiling fell, while it waited.
     fn grant(&mut self, sources: &Sources, record: &Record, said: &Mutex, mutex: u32) -> LeftOut
         ensures size { HasSameSize self.old self.new }
+        ensures depths { mutex < length self.old.mutexes.items → 0 < «record».now.thread →
+            (m : ℕ) → depths_of self.new m ≡
+            depth_granted sources.now.ids (world_of self.old) (depths_of self.old) «record».now.thread mutex m }
         ensures goes { 0 < «record».now.thread → «record».now.thread < length self.old.threads.items →
             mutex < length self.old.mutexes.items → GoesOn 4 self.old self.new }
         ensures told { Tells 4 (grant_told sources.now (world_of self.old) «record».now.thread mutex said.now) self.old self.new }
@@ -456,6 +475,7 @@ impl Course {
     /// The owner of a mutex, if it has one, released it before another thread has it.
     fn free(&mut self, owner: u32, mutex: u32, next: u32)
         ensures size { HasSameSize self.old self.new }
+        ensures depths { (m : ℕ) → m ≢ mutex → depths_of self.new m ≡ depths_of self.old m }
         ensures owner { if_any owner ≡ (world_of self.old).owner mutex → mutex < length self.old.mutexes.items →
             (world_of self.new).owner mutex ≡ None }
         ensures awaits { (world_of self.new).awaits ≡ (world_of self.old).awaits }
@@ -470,6 +490,7 @@ impl Course {
 
     fn forget_own(&mut self, thread: u32)
         ensures size { HasSameSize self.old self.new }
+        ensures depths { KeepsDepths self.old self.new }
         ensures still { IsStill self.old self.new }
     {
         let mut is = self.thread(thread);
@@ -480,6 +501,8 @@ impl Course {
     /// A thread has once more what it owns. Only of a recursive mutex are the locks counted.
     fn grant_again(&mut self, ids: &Ids, thread: u32, mutex: u32) -> LeftOut
         ensures size { HasSameSize self.old self.new }
+        ensures depths { mutex < length self.old.mutexes.items → 0 < thread →
+            (m : ℕ) → depths_of self.new m ≡ depth_again ids.now (depths_of self.old) mutex m }
         ensures still { IsStill self.old self.new }
     {
         let mut is = self.mutex(mutex);
@@ -493,6 +516,8 @@ impl Course {
     /// The thread of a record owns a mutex that is free, from the call on that the record ends.
     fn take(&mut self, record: &Record, mutex: u32)
         ensures size { HasSameSize self.old self.new }
+        ensures depths { mutex < length self.old.mutexes.items →
+            (m : ℕ) → depths_of self.new m ≡ but_for mutex 1 (depths_of self.old) m }
         ensures goes { 0 < «record».now.thread → «record».now.thread < length self.old.threads.items →
             mutex < length self.old.mutexes.items → 0 < mutex →
             CanHappen (world_of self.old) What.Granted «record».now.thread mutex → GoesOn 1 self.old self.new }
@@ -522,6 +547,7 @@ impl Course {
     /// A call of a thread wasn't granted the mutex.
     fn fail(&mut self, thread: u32, mutex: u32) -> LeftOut
         ensures size { HasSameSize self.old self.new }
+        ensures depths { KeepsDepths self.old self.new }
         ensures goes { GoesOn 1 self.old self.new }
         ensures told { Tells 1 (fail_told (world_of self.old) thread mutex) self.old self.new }
     {
@@ -536,6 +562,8 @@ impl Course {
     /// A thread releases a mutex.
     fn release(&mut self, sources: &Sources, record: &Record, mutex: u32) -> LeftOut
         ensures size { HasSameSize self.old self.new }
+        ensures depths { 0 < «record».now.thread → (m : ℕ) → depths_of self.new m ≡
+            depth_released sources.now (world_of self.old) (depths_of self.old) «record».now.number «record».now.thread mutex m }
         ensures goes { 0 < «record».now.thread → GoesOn 2 self.old self.new }
         ensures told { Tells 2 (release_told sources.now (world_of self.old) (depths_of self.old) «record».now.number
             «record».now.thread mutex) self.old self.new }
@@ -562,6 +590,9 @@ impl Course {
     /// A mutex is free, and goes to the next owner if that waits for it.
     fn hand_over(&mut self, thread: u32, mutex: u32, next: u32)
         ensures size { HasSameSize self.old self.new }
+        ensures depths { mutex < length self.old.mutexes.items →
+            (m : ℕ) → depths_of self.new m ≡ but_for mutex 0 (depths_of self.old) m }
+        ensures others { (m : ℕ) → m ≢ mutex → depths_of self.new m ≡ depths_of self.old m }
         ensures owner { mutex < length self.old.mutexes.items → (world_of self.new).owner mutex ≡ None }
         ensures awaits { (world_of self.new).awaits ≡ (world_of self.old).awaits }
         ensures goes { (world_of self.old).owner mutex ≡ Some thread → GoesOn 1 self.old self.new }
@@ -649,8 +680,10 @@ fn ceiling_of(sources: &Sources, said: &Mutex, mutex: u32) -> Option<u8>
     }
 }
 
-fn is_recursive(ids: &Ids, mutex: u32) -> bool {
-    match ids.mutex(mutex) {
+fn is_recursive(ids: &Ids, mutex: u32) -> bool
+    ensures { result ≡ is_recursive_in ids.now mutex }
+{
+    match ids.mutexes.get(mutex as usize) {
         Some(is) => is.is_recursive,
         None => false,
     }

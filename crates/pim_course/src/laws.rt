@@ -3,7 +3,7 @@
 ghost use Rattle.pim_course.specs.Reading.{ReadingLaw};
 
 /// The facts of each record of a log are possible, one after the other, in the world that the records before it made, and
-/// make the next one.
+/// make the next one. Each mutex is locked then as often as the record says.
 pub fn reading_law()
     ensures { ReadingLaw }
 {}

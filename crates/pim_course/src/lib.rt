@@ -4,9 +4,10 @@
 //! owns a mutex after a release; in [`Requests`] the requests that the log lacks, which `pim_requests` finds.
 //!
 //! A [`Walk`] then goes along the log. After each record its [`Course`] has the owners and the
-//! waits, and [`Walk::shown`] returns what the record shows. It is proved that these facts lead from the one to the other:
-//! only a free mutex is granted, only its owner releases it, a thread awaits one mutex at a time, and nothing changes but
-//! what the facts say (specs/World.antt; [`reading_law`] says it of each record of a log).
+//! waits, and [`Walk::shown`] returns what the record shows. It is proved that these are the facts that the record tells
+//! (specs/Told.antt), and that they lead from the one to the other: only a free mutex is granted, only its owner releases
+//! it, a thread awaits one mutex at a time, and nothing changes but what the facts say (specs/World.antt;
+//! [`reading_law`] says it of each record of a log).
 //!
 //! ```text
 //! let mut walk = Walk::new(alloc, &sources.ids)?;

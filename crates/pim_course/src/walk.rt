@@ -2,7 +2,7 @@
 ghost use Rattle.std.specs.Prelude.{◌≡◌, ◌⊎◌, [], IfOk, IfSome, slice_get};
 ghost use Rattle.std.specs.Option.{option_map_or};
 ghost use Rattle.pim_facts.specs.Shown.{shown_in};
-ghost use Rattle.pim_course.specs.Going.{HasSameSize};
+ghost use Rattle.pim_course.specs.Going.{HasSameSize, KeepsDepths};
 ghost use Rattle.pim_course.specs.Reading.{Begins, GoesBy, HasRequest, LacksRecord};
 ghost use Rattle.pim_course.specs.Told.{added_told, happened_in};
 ghost use Rattle.pim_course.specs.World.{Lead, world_of};
@@ -56,7 +56,7 @@ impl Walk {
     pub fn read(&mut self, log: &Log, sources: &Sources, number: u64) -> Moment
         ensures size { HasSameSize self.old.course self.new.course }
         ensures shown { (LacksRecord log.now number × (shown_in self.new.course.shown ≡ [])
-            × (world_of self.new.course ≡ world_of self.old.course))
+            × (world_of self.new.course ≡ world_of self.old.course) × KeepsDepths self.old.course self.new.course)
             ⊎ GoesBy log.now sources.now number self.old.course self.new.course }
     {
         self.course.shown.clear();
@@ -86,6 +86,7 @@ impl Walk {
     /// Goes on by the next request that the log lacks. Returns when it was made, if a wait shows it.
     pub fn add(&mut self, sources: &Sources) -> Option<u64>
         ensures size { HasSameSize self.old.course self.new.course }
+        ensures depths { KeepsDepths self.old.course self.new.course }
         ensures shown { IfSome (slice_get sources.now.requests.list.items self.old.added) (HasRequest self.old.course) →
             Lead (shown_in self.new.course.shown) (world_of self.old.course) (world_of self.new.course) }
         ensures told { happened_in self.new.course ≡

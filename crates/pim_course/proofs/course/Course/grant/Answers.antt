@@ -2,12 +2,13 @@ use Rattle.std.proofs.lemmas.Bool.{ne_eqb}
 use Rattle.std.specs.Option.{option_map_or}
 use Rattle.std.proofs.Common.{cond, [], ℕ, Option, ◌≡◌, ◌⊎◌, ◌<◌, Some, None, length, inl, inr, refl, ap, sym, ◌∙◌, arith}
 use Rattle.pim_facts.specs.declared.fact.What.TheVariants.{Granted, Released}
-use Rattle.pim_course.specs.Told.{ceiling_told, did, freed_told, gave_up_told, is_it, released_told}
+use Rattle.pim_course.specs.Depths.{depth_again}
+use Rattle.pim_course.specs.Told.{depths_of, ceiling_told, did, freed_told, gave_up_told, is_it, released_told}
+use Rattle.pim_course.specs.World.{but_for, if_any, world_of}
 use Rattle.pim_course.specs.Going.{IsStill}
 use Rattle.pim_course.specs.declared.course.CourseMutex.{CourseMutex}
-use Rattle.pim_course.specs.World.{if_any, world_of}
 use Rattle.pim_course.specs.declared.course.Course.{Course}
-use Rattle.pim_course.proofs.Telling.{gave-up-same, if-not, it-isnt, neither, tells-behind, tells-same, tells-then}
+use Rattle.pim_course.proofs.Telling.{depth-put, gave-up-same, if-not, it-isnt, neither, tells-behind, tells-same, tells-then}
 use Rattle.pim_course.proofs.Leading.{goes-marked, goes-still, goes-then}
 use Rattle.pim_course.proofs.course.Course.grant.Goals as goal
 
@@ -82,3 +83,24 @@ returns-clause-told c =
     ∙ ap (λ (z : CourseMutex). option_map_or (λ o. released_told (world_of old) o m t) (if_any z.owner) []) c.mutex-owner.ensures)
     (tells-behind 1 _ b _ g refl c.free.ensures.told)))
     c.take.ensures.told)
+
+pub returns-clause-depths : goal.returns-clause-depths
+returns-clause-depths c below above k =
+    let t = c.args.record.now.thread in
+    let m = c.args.mutex in
+    let old : Course = c.args.self.now in
+    let g : Course = c.free.new.self in
+    let once : ℕ → ℕ = but_for m 1 (depths_of old) in
+    c.take.ensures.depths (omega (
+      arith,
+      c.correct_ceiling.ensures.size.mutexes,
+      c.correct_wait.ensures.size.mutexes,
+      c.forget_own.ensures.size.mutexes,
+      c.free.ensures.size.mutexes,
+    )) k
+    ∙ depth-put m 1 (depths_of old) (depths_of g)
+    (λ j other. c.free.ensures.depths j other ∙ c.correct_wait.ensures.depths j ∙ c.correct_ceiling.ensures.depths j
+    ∙ c.forget_own.ensures.depths j) k
+    ∙ sym (ap (λ is. cond is (depth_again c.args.sources.now.ids (depths_of old) m) once k)
+    (neither _ _ (ne_eqb m 0 (λ e. omega (arith, e, c.if-mutex-eq0.false)))
+    (it-isnt _ _ (λ e. c.if-owner-thread.false (ap (λ z. z.owner) c.mutex-owner.ensures ∙ e)))))
