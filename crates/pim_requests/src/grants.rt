@@ -1,4 +1,6 @@
 //! When the mutexes of a log were granted.
+ghost use Rattle.std.specs.Prelude.{IsTrue};
+ghost use Rattle.pim_requests.specs.Asked.{IsGrant};
 
 use pim_course::lists::{get, set};
 use pim_facts::Ids;
@@ -24,7 +26,9 @@ pub(crate) struct Grants {
 const LASTING: u64 = u64::MAX;
 
 /// Returns whether a call ends with this record that got its mutex.
-fn is_grant(record: &Record) -> bool {
+pub(crate) fn is_grant(record: &Record) -> bool
+    ensures { IsTrue result → IsGrant record.now.event }
+{
     matches!(record.event, Event::Granted { .. })
 }
 

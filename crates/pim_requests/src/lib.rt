@@ -1,7 +1,9 @@
 //! The requests that a log lacks, found before its course is followed.
 //!
 //! [`requests_of`] finds them: `requests.rt` those that the log shows itself, by calls that lasted while another thread was
-//! granted the mutex, and `waits.rt` those that [`Wait`]s of the kernel's events show.
+//! granted the mutex, and `waits.rt` those that [`Wait`]s of the kernel's events show. It is proved that each request has
+//! such a call or such a wait (specs/Asked.antt), and that the course of the log has its thread and mutex
+//! ([`requests_law`]).
 //!
 //! ```text
 //! sources.requests = requests_of(alloc, &log, &sources, &waits)?;
@@ -10,8 +12,10 @@
 
 mod grants;
 mod ids;
+mod laws;
 mod requests;
 mod waits;
 
+pub use laws::requests_law;
 pub use requests::requests_of;
 pub use waits::Wait;

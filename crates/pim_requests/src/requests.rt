@@ -2,10 +2,15 @@
 //!
 //! A call that finds its mutex free puts no REQUEST. Where another thread was quicker the call waits all the same, which
 //! shows as a call that lasts while another is granted the mutex. The kernel's events show more: see `waits.rt`.
-ghost use Rattle.std.specs.Prelude.{◌≡◌, IfOk};
+ghost use Rattle.std.specs.Prelude.{◌≡◌, ◌≢◌, ◌⊎◌, ◌<◌, All, IfOk, IfSome, IsTrue, List, None, OnOk, Some, length, slice_index_or, slice_set};
+ghost use Rattle.std.specs.List.Sorted.{IsPermutation};
 ghost use Rattle.pim_course.specs.Requests.{IsInOrder};
+ghost use Rattle.pim_log.specs.Logs.{IsLog, began_of};
+ghost use Rattle.pim_facts.specs.Levels.{id_of};
+ghost use Rattle.pim_requests.specs.Asked.{IsAfter, IsBetween, IsIn, IsOfCall, IsShown, LacksRequest, MayHaveWaited, ShowsWait};
+ghost use Rattle.pim_requests.specs.Asking.{KnowsAsked, asked_after};
 
-use crate::grants::Grants;
+use crate::grants::{Grants, is_grant};
 use crate::ids::unless_zero;
 use crate::waits::{Asked, Wait, asked_in};
 use pim_course::lists::{get, set};
@@ -28,16 +33,11 @@ pub fn requests_of(
     waits: &[Wait],
 ) -> Result<Requests, AllocError>
     ensures ordered { IfOk result (λ requests. IsInOrder requests.list.items) }
+    ensures shown { IsLog log.now → IfOk result (λ requests. All (IsShown log.now sources.now.ids waits.now) requests.list.items) }
 {
-    let mut asked = if waits.is_empty() {
-        Asked::none(alloc)
-    } else {
-        asked_in(alloc, log, sources, waits)?
-    };
+    let mut asked = asked_in(alloc, log, sources, waits)?;
     let of_waits = asked.list.len() as u64;
-    if misses_some(alloc, log, &sources.ids)? {
-        add_silent(alloc, log, sources, &mut asked)?;
-    }
+    add_silent(alloc, log, sources, &mut asked)?;
     let Asked { mut list, .. } = asked;
     sort(&mut list)?;
     Ok(Requests { list, of_waits })
@@ -45,20 +45,22 @@ pub fn requests_of(
 
 /// Puts the requests into the order of the records behind which they belong.
 fn sort(list: &mut Vec<Request>) -> Result<(), AllocError>
-    ensures { IfOk result (λ _. IsInOrder list.new.items) }
+    ensures ordered { IfOk result (λ _. IsInOrder list.new.items) }
+    ensures same { IsPermutation list.old.items list.new.items }
 {
     list.sort_by_key(|request| request.after)?;
     Ok(())
 }
 
 /// Adds the requests of calls that lasted while another was granted the mutex, but those that end where a wait does.
-fn add_silent(
-    alloc: Global,
-    log: &Log,
-    sources: &Sources,
-    to: &mut Asked,
-) -> Result<(), AllocError> {
+fn add_silent(alloc: Global, log: &Log, sources: &Sources, to: &mut Asked) -> Result<(), AllocError>
+    ensures { (waits : List Wait) → IsLog log.now → All (IsShown log.now sources.now.ids waits) to.old.list.items →
+        OnOk result (All (IsShown log.now sources.now.ids waits) to.new.list.items) }
+{
     let ids = &sources.ids;
+    if !misses_some(alloc, log, ids)? {
+        return Ok(());
+    }
     let mut grants = Grants::of(alloc, log, ids)?;
     let mut walk = Walk::new(alloc, ids)?;
     let mut asked = vec![in alloc; None; ids.threads.len()]?;
@@ -68,20 +70,8 @@ fn add_silent(
             continue;
         };
         let (thread, mutex) = (record.thread, ids.of_record(number));
-        let is_missing = misses_request(&mut asked, &record, mutex);
-        if is_missing && to.ends.binary_search(&number).is_err() {
-            if let Some(grant) = grants.first_since(log, &record, mutex) {
-                let own = get(&last, thread).unwrap_or(grant);
-                let request = Request {
-                    after: grant.max(own),
-                    time: None,
-                    thread,
-                    mutex,
-                    place: record.place,
-                };
-                to.list.push(request)?;
-            }
-        }
+        let own = get(&last, thread);
+        add_call(log, ids, &grants, &mut asked, &record, own, to)?;
         let before = unless_zero(walk.course.mutex(mutex).owner);
         let _moment = walk.read(log, sources, number);
         let owner = unless_zero(walk.course.mutex(mutex).owner);
@@ -91,6 +81,87 @@ fn add_silent(
         }
     }
     Ok(())
+}
+
+/// Adds the request of the call that ends with this record, if it put none, a grant shows that it waited, and no wait ends
+/// there. The number is that of its thread's last record before.
+fn add_call(
+    log: &Log,
+    ids: &Ids,
+    grants: &Grants,
+    asked: &mut Vec<Option<u32>>,
+    end: &Record,
+    own: Option<u64>,
+    to: &mut Asked,
+) -> Result<(), AllocError>
+    ensures asked { asked.new.items ≡ asked_after end.now.event end.now.thread (id_of ids.now end.now.number) asked.old.items }
+    ensures shown { (waits : List Wait) → IsIn log.now end.now → KnowsAsked log.now ids.now end.now.number asked.old.items →
+        All (IsShown log.now ids.now waits) to.old.list.items →
+        OnOk result (All (IsShown log.now ids.now waits) to.new.list.items) }
+{
+    let mutex = ids.of_record(end.number);
+    if !misses_request(asked, end, mutex) || to.ends.binary_search(&end.number).is_ok() {
+        return Ok(());
+    }
+    let Some(grant) = grants.first_since(log, end, mutex) else {
+        return Ok(());
+    };
+    let Some(request) = request_of(log, ids, end, grant, own) else {
+        return Ok(());
+    };
+    to.list.push(request)?;
+    Ok(())
+}
+
+/// Returns the request of the call that ends with this record. The grant with the first number shows that the call waited.
+fn request_of(log: &Log, ids: &Ids, end: &Record, grant: u64, own: Option<u64>) -> Option<Request>
+    ensures { IsIn log.now end.now → MayHaveWaited end.now.event → LacksRequest log.now ids.now end.now →
+        IfSome result (IsOfCall log.now ids.now) }
+{
+    let grant = log.record(grant)?;
+    // Each grant that is found shows it, which isn't proved of the search.
+    if !shows_wait(ids, end, &grant) {
+        return None;
+    }
+    Some(Request {
+        after: behind(log, end, grant.number, own),
+        time: None,
+        thread: end.thread,
+        mutex: ids.of_record(end.number),
+        place: end.place,
+    })
+}
+
+/// Returns the number of the record behind which the request of a call belongs: of the grant, or of the call's thread if
+/// its last record before is later.
+fn behind(log: &Log, end: &Record, grant: u64, own: Option<u64>) -> u64
+    ensures { (result ≡ grant) ⊎ IsBetween log.now grant end.now result }
+{
+    match own {
+        Some(own) if is_between(log, end, grant, own) => own,
+        _ => grant,
+    }
+}
+
+/// Returns whether the call waited that ends with this record, as the other one shows: its mutex was granted to another.
+fn shows_wait(ids: &Ids, end: &Record, grant: &Record) -> bool
+    ensures { IsTrue result → ShowsWait ids.now end.now grant.now }
+{
+    is_grant(grant)
+        && grant.number < end.number
+        && ids.of_record(grant.number) == ids.of_record(end.number)
+        && grant.thread != end.thread
+        && may_have_lasted(end, grant.time)
+}
+
+/// Returns whether a record with this number is of the thread of a call, later than a grant and before the call's end.
+fn is_between(log: &Log, end: &Record, grant: u64, number: u64) -> bool
+    ensures { IsTrue result → IsBetween log.now grant end.now number }
+{
+    match log.record(number) {
+        Some(own) => own.thread == end.thread && grant < number && number < end.number,
+        None => false,
+    }
 }
 
 /// Returns whether a call that put no REQUEST lasted while its mutex was granted, or may have.
@@ -115,30 +186,70 @@ fn misses_some(alloc: Global, log: &Log, ids: &Ids) -> Result<bool, AllocError> 
 
 /// Returns whether the call that ends with this record may have lasted at this time, if there is one. A call whose
 /// begin isn't known may have lasted anyway.
-fn may_have_lasted(record: &Record, time: Option<u64>) -> bool {
-    match record.began() {
-        Some(began) => time > Some(began),
-        None => true,
+fn may_have_lasted(record: &Record, time: Option<u64>) -> bool
+    ensures { IsTrue result → IsAfter (began_of record.now) time }
+{
+    match (record.began(), time) {
+        (Some(began), Some(time)) => began < time,
+        (Some(_), None) => false,
+        (None, _) => true,
     }
 }
 
-/// Returns whether a call ends with this record that may have waited, and put no REQUEST.
-fn misses_request(asked: &mut Vec<Option<u32>>, record: &Record, mutex: u32) -> bool {
-    let thread = record.thread;
-    let may_have_waited = match record.event {
-        Event::Request { .. } => {
-            set(asked, thread, Some(mutex));
-            return false;
-        }
+/// Returns whether a call ends with this record that may have waited, and put no REQUEST. The list has the mutex that each
+/// thread asked for at last, until a call of it ends.
+fn misses_request(asked: &mut Vec<Option<u32>>, record: &Record, mutex: u32) -> bool
+    ensures asked { asked.new.items ≡ asked_after record.now.event record.now.thread mutex asked.old.items }
+    ensures waited { IsTrue result → MayHaveWaited record.now.event }
+    ensures lacks { IsTrue result → (record.now.thread < length asked.old.items)
+        × (slice_index_or asked.old.items record.now.thread None ≢ Some mutex) }
+{
+    let is_other = is_other(asked, record.thread, mutex);
+    note(asked, record, mutex);
+    is_other && may_have_waited(&record.event)
+}
+
+/// Returns whether a call that ends with this event may have waited.
+fn may_have_waited(event: &Event) -> bool
+    ensures { IsTrue result → MayHaveWaited event.now }
+{
+    match *event {
         Event::Granted { took, call, .. } => call == Call::Lock && took != Some(0),
         Event::Failed {
             took,
             is_timeout,
             ..
         } => is_timeout && took != Some(0),
-        _ => return false,
-    };
-    let has_asked = get(asked, thread) == Some(mutex);
-    set(asked, thread, None);
-    may_have_waited && !has_asked
+        _ => false,
+    }
+}
+
+/// Returns whether there is a thread with this number, and it asked for no mutex at last or for another.
+fn is_other(asked: &[Option<u32>], thread: u32, mutex: u32) -> bool
+    ensures { IsTrue result → (thread < length asked.now) × (slice_index_or asked.now thread None ≢ Some mutex) }
+{
+    match asked.get(thread as usize) {
+        Some(is) => *is != Some(mutex),
+        None => false,
+    }
+}
+
+/// Keeps what the thread of a record asks for, until a call of it ends.
+fn note(asked: &mut Vec<Option<u32>>, record: &Record, mutex: u32)
+    ensures { asked.new.items ≡ asked_after record.now.event record.now.thread mutex asked.old.items }
+{
+    match record.event {
+        Event::Request { .. } => put(asked, record.thread, Some(mutex)),
+        Event::Granted { .. } | Event::Failed { .. } => put(asked, record.thread, None),
+        _ => {}
+    }
+}
+
+/// Puts an item at a place, if there is one.
+fn put(list: &mut Vec<Option<u32>>, place: u32, item: Option<u32>)
+    ensures { list.new.items ≡ slice_set list.old.items place item }
+{
+    if (place as usize) < list.len() {
+        list[place as usize] = item;
+    }
 }

@@ -9,10 +9,14 @@
 //!    request belongs before that record.
 //!
 //! If none of that holds, the request isn't added.
+ghost use Rattle.std.specs.Prelude.{◌≡◌, All, Contains, IfOk, IfSome, IsTrue, List, OnOk};
+ghost use Rattle.pim_requests.specs.Asked.{IsOfWait, IsWaitOf};
+ghost use Rattle.pim_requests.specs.Searching.{AreOfWaits, IsPendingOf};
 
 use crate::ids::unless_zero;
 use pim_course::lists::{get, set};
 use pim_course::{Course, Request, Sources, Walk};
+use pim_facts::Ids;
 use pim_log::{Event, Log, Record};
 use std::alloc::{AllocError, Global};
 use std::collections::HashMap;
@@ -91,43 +95,62 @@ pub fn asked_in(
     log: &Log,
     sources: &Sources,
     waits: &[Wait],
-) -> Result<Asked, AllocError> {
+) -> Result<Asked, AllocError>
+    ensures { IfOk result (λ asked. All (IsOfWait sources.now.ids waits.now) asked.list.items) }
+{
+    if waits.is_empty() {
+        return Ok(Asked::none(alloc));
+    }
     let mut search = Search::new(alloc, sources, waits)?;
     let mut walk = Walk::new(alloc, &sources.ids)?;
     let end = log.header().end();
     for number in 1..end {
-        if let Some(record) = log.record(number) {
-            if let Some(time) = record.time {
-                search.begin(sources, &mut walk.course, number, time)?;
-            }
-            let _moment = walk.read(log, sources, number);
-            search.pass(sources, &mut walk, &record)?;
-        }
+        let Some(record) = log.record(number) else {
+            continue;
+        };
+        search.begin(sources, &mut walk.course, number, record.time)?;
+        let _moment = walk.read(log, sources, number);
+        search.pass(sources, &mut walk, &record)?;
     }
     // If the log was full, what happened behind its end isn't known.
-    if log.header().lost == 0 {
-        search.begin(sources, &mut walk.course, end, u64::MAX)?;
-    }
+    let last = if log.header().lost == 0 {
+        Some(u64::MAX)
+    } else {
+        None
+    };
+    search.begin(sources, &mut walk.course, end, last)?;
     search.end()
 }
 
 impl Asked {
     /// Returns no request.
-    pub fn none(alloc: Global) -> Asked {
+    fn none(alloc: Global) -> Asked
+        ensures { (ids : Ids) (waits : List Wait) → All (IsOfWait ids waits) result.list.items }
+    {
         Asked {
             list: Vec::new(alloc),
             ends: Vec::new(alloc),
         }
     }
+
+    /// Sets the place in the code of the call of the request at an index.
+    fn set_place(&mut self, index: usize, place: Option<u16>)
+        ensures { (ids : Ids) (waits : List Wait) → All (IsOfWait ids waits) self.old.list.items →
+            All (IsOfWait ids waits) self.new.list.items }
+    {
+        if index >= self.list.len() {
+            return;
+        }
+        self.list[index].place = place;
+    }
 }
 
 impl Search {
-    fn new(alloc: Global, sources: &Sources, waits: &[Wait]) -> Result<Search, AllocError> {
+    fn new(alloc: Global, sources: &Sources, waits: &[Wait]) -> Result<Search, AllocError>
+        ensures { IfOk result (AreOfWaits sources.now.ids waits.now) }
+    {
         let threads = sources.ids.threads.len();
-        let mut sorted = Vec::new(alloc);
-        for wait in waits {
-            sorted.push(*wait)?;
-        }
+        let mut sorted = Vec::from_slice(alloc, waits)?;
         sorted.sort_unstable();
         Ok(Search {
             alloc,
@@ -144,14 +167,20 @@ impl Search {
         })
     }
 
-    /// Lets those waits begin that are earlier than this time, which the record with this number has.
+    /// Lets those waits begin that are earlier than this time, if the record with this number has it.
     fn begin(
         &mut self,
         sources: &Sources,
         course: &mut Course,
         number: u64,
-        time: u64,
-    ) -> Result<(), AllocError> {
+        time: Option<u64>,
+    ) -> Result<(), AllocError>
+        ensures { (waits : List Wait) → AreOfWaits sources.now.ids waits self.old →
+            OnOk result (AreOfWaits sources.now.ids waits self.new) }
+    {
+        let Some(time) = time else {
+            return Ok(());
+        };
         for place in self.begun..self.waits.len() {
             let Some(wait) = self.waits.get(place).copied() else {
                 break;
@@ -172,7 +201,10 @@ impl Search {
         course: &mut Course,
         wait: &Wait,
         after: u64,
-    ) -> Result<(), AllocError> {
+    ) -> Result<(), AllocError>
+        ensures { (waits : List Wait) → Contains waits wait.now → AreOfWaits sources.now.ids waits self.old →
+            OnOk result (AreOfWaits sources.now.ids waits self.new) }
+    {
         let Some((thread, mutex)) = self.find(sources, wait) else {
             return Ok(());
         };
@@ -202,14 +234,21 @@ impl Search {
     }
 
     /// Returns the thread of a wait and the mutex that it is for, if the records so far name them.
-    fn find(&self, sources: &Sources, wait: &Wait) -> Option<(u32, u32)> {
+    fn find(&self, sources: &Sources, wait: &Wait) -> Option<(u32, u32)>
+        ensures { IfSome result (λ found. IsWaitOf sources.now.ids wait.now found.0 found.1) }
+    {
         let thread = *self.threads.get(&wait.task)?;
         let process = sources.ids.threads.get(thread as usize)?.process;
         let mutex = match self.mutexes.get(&(Some(process), wait.address)) {
             Some(own) => own,
             None => self.mutexes.get(&(None, wait.address))?,
         };
-        Some((thread, *mutex))
+        // The maps have only those that a wait is of, which isn't proved of them.
+        if is_of(wait, &sources.ids, thread, *mutex) {
+            Some((thread, *mutex))
+        } else {
+            None
+        }
     }
 
     /// Returns the number of the record before the last RELEASE of a mutex, if that is since the thread's last record.
@@ -230,7 +269,10 @@ impl Search {
         false
     }
 
-    fn add(&mut self, request: Request) -> Result<(), AllocError> {
+    fn add(&mut self, request: Request) -> Result<(), AllocError>
+        ensures { (ids : Ids) (waits : List Wait) → IsOfWait ids waits request → AreOfWaits ids waits self.old →
+            OnOk result (AreOfWaits ids waits self.new) }
+    {
         let place = self.found.list.len();
         set(&mut self.asked, request.thread, Some(place));
         self.found.list.push(request)?;
@@ -243,7 +285,10 @@ impl Search {
         sources: &Sources,
         walk: &mut Walk,
         record: &Record,
-    ) -> Result<(), AllocError> {
+    ) -> Result<(), AllocError>
+        ensures { (waits : List Wait) → AreOfWaits sources.now.ids waits self.old →
+            OnOk result (AreOfWaits sources.now.ids waits self.new) }
+    {
         let id = sources.ids.of_record(record.number);
         self.learn(sources, record, id)?;
         self.settle(sources, &mut walk.course, record, id)?;
@@ -256,20 +301,24 @@ impl Search {
     }
 
     /// A record ends the wait of its thread, if one was found since the thread's last record: both are of one call.
-    fn end_wait(&mut self, record: &Record) -> Result<(), AllocError> {
+    fn end_wait(&mut self, record: &Record) -> Result<(), AllocError>
+        ensures { (ids : Ids) (waits : List Wait) → AreOfWaits ids waits self.old → OnOk result (AreOfWaits ids waits self.new) }
+    {
         let Some(place) = get(&self.asked, record.thread) else {
             return Ok(());
         };
         set(&mut self.asked, record.thread, None);
-        if place < self.found.list.len() {
-            self.found.list[place].place = record.place;
-        }
+        self.found.set_place(place, record.place);
         self.found.ends.push(record.number)?;
         Ok(())
     }
 
     /// Learns who has the number of a thread, and which mutex is at an address.
-    fn learn(&mut self, sources: &Sources, record: &Record, id: u32) -> Result<(), AllocError> {
+    fn learn(&mut self, sources: &Sources, record: &Record, id: u32) -> Result<(), AllocError>
+        ensures waits { self.new.waits ≡ self.old.waits }
+        ensures pending { self.new.pending ≡ self.old.pending }
+        ensures found { self.new.found ≡ self.old.found }
+    {
         if get(&self.last, record.thread).is_none() {
             self.threads.insert(record.task, record.thread)?;
         }
@@ -295,38 +344,68 @@ impl Search {
         course: &mut Course,
         record: &Record,
         id: u32,
-    ) -> Result<(), AllocError> {
+    ) -> Result<(), AllocError>
+        ensures { (waits : List Wait) → AreOfWaits sources.now.ids waits self.old →
+            OnOk result (AreOfWaits sources.now.ids waits self.new) }
+    {
         if self.pending.is_empty() {
             return Ok(());
         }
         let pending = std::mem::replace(&mut self.pending, Vec::new(self.alloc));
         for one in &pending {
-            let request = one.request;
-            match one.place(record, id) {
-                Place::Behind(after) => {
-                    if request.thread != record.thread {
-                        course.add_request(sources, &request);
-                    }
-                    self.add(Request { after, ..request })?;
-                }
-                Place::Never => {}
-                Place::Later => self.pending.push(*one)?,
-            }
+            self.settle_one(sources, course, record, id, one)?;
         }
         Ok(())
     }
 
-    /// Adds the requests of the waits that last at the end, and returns all.
-    fn end(mut self) -> Result<Asked, AllocError> {
-        for one in &self.pending {
-            if let Some(after) = one.before {
-                self.found.list.push(Request {
-                    after,
-                    ..one.request
-                })?;
+    /// Adds the request of a wait, drops it, or keeps the wait for a later record.
+    fn settle_one(
+        &mut self,
+        sources: &Sources,
+        course: &mut Course,
+        record: &Record,
+        id: u32,
+        one: &Pending,
+    ) -> Result<(), AllocError>
+        ensures { (waits : List Wait) → IsPendingOf sources.now.ids waits one.now →
+            AreOfWaits sources.now.ids waits self.old → OnOk result (AreOfWaits sources.now.ids waits self.new) }
+    {
+        let request = one.request;
+        match one.place(record, id) {
+            Place::Behind(after) => {
+                if request.thread != record.thread {
+                    course.add_request(sources, &request);
+                }
+                self.add(Request { after, ..request })
+            }
+            Place::Never => Ok(()),
+            Place::Later => {
+                self.pending.push(*one)?;
+                Ok(())
             }
         }
-        Ok(self.found)
+    }
+
+    /// Adds the requests of the waits that last at the end, and returns all.
+    fn end(self) -> Result<Asked, AllocError>
+        ensures { (ids : Ids) (waits : List Wait) → AreOfWaits ids waits self →
+            IfOk result (λ asked. All (IsOfWait ids waits) asked.list.items) }
+    {
+        let Search {
+            pending,
+            mut found,
+            ..
+        } = self;
+        for one in &pending {
+            let Some(after) = one.before else {
+                continue;
+            };
+            found.list.push(Request {
+                after,
+                ..one.request
+            })?;
+        }
+        Ok(found)
     }
 }
 
@@ -357,4 +436,20 @@ impl Pending {
             None => otherwise,
         }
     }
+}
+
+/// Returns whether a wait is of this thread and for this mutex.
+fn is_of(wait: &Wait, ids: &Ids, thread: u32, mutex: u32) -> bool
+    ensures { IsTrue result → IsWaitOf ids.now wait.now thread mutex }
+{
+    let (Some(of), Some(at)) = (
+        ids.threads.get(thread as usize),
+        ids.mutexes.get(mutex as usize),
+    ) else {
+        return false;
+    };
+    if thread == 0 || mutex == 0 || of.task != wait.task || at.address != wait.address {
+        return false;
+    }
+    at.process == of.process || at.process == 0
 }

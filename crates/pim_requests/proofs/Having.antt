@@ -1,0 +1,83 @@
+-- The course of a log has those of each request that the log lacks.
+use Rattle.std.proofs.Common.{ℕ, zero, suc, ◌<◌, List, [], ◌∷◌, length, sym, subst, inl, inr}
+use Rattle.std.specs.Prelude.{All, IfSome, slice_get}
+use Rattle.std.proofs.lemmas.List.Elements.{All-head, All-tail}
+use Rattle.std.proofs.lemmas.Option.{slice_get_within}
+use Rattle.pim_log.specs.declared.event.Event.{Event}
+use Rattle.pim_log.specs.declared.event.Event.TheVariants as event
+use Rattle.pim_facts.specs.Covering.{Covers, HasNumber, HasThoseOf}
+use Rattle.pim_facts.specs.Levels.{id_of}
+use Rattle.pim_facts.specs.declared.ids.Ids.{Ids}
+use Rattle.pim_course.specs.Reading.{HasAllOf, HasRequest}
+use Rattle.pim_course.specs.declared.course.Course.{Course}
+use Rattle.pim_course.specs.declared.requests.Request.{Request}
+use Rattle.pim_requests.specs.Asked.{IsOfCall, IsOfWait, IsShown, MayHaveWaited}
+use Rattle.pim_requests.specs.Laws.{RequestsLaw}
+use Rattle.pim_requests.specs.declared.waits.Wait.{Wait}
+
+named : (ids : Ids) (n : ℕ) (e : Event) → MayHaveWaited e → HasNumber ids e n → 0 < n
+named ids n (event.Thread _ _) waited about = absurd waited
+named ids n (event.Name _) waited about = absurd waited
+named ids n event.Create waited about = absurd waited
+named ids n event.Exit waited about = absurd waited
+named ids n (event.Priority _ _) waited about = absurd waited
+named ids n event.Fork waited about = absurd waited
+named ids n (event.Child _) waited about = absurd waited
+named ids n event.Exec waited about = absurd waited
+named ids n event.ExecFailed waited about = absurd waited
+named ids n event.End waited about = absurd waited
+named ids n (event.Module _) waited about = absurd waited
+named ids n (event.Place _) waited about = absurd waited
+named ids n (event.Text _) waited about = absurd waited
+named ids n (event.Init _) waited about = absurd waited
+named ids n (event.Destroy _) waited about = absurd waited
+named ids n (event.DestroyFailed _) waited about = absurd waited
+named ids n (event.Ceiling _) waited about = absurd waited
+named ids n (event.Request _ _) waited about = absurd waited
+named ids n (event.Granted _ _ _) waited about = about.0
+named ids n (event.Failed _ _ _) waited about = about.0
+named ids n (event.Release _ _) waited about = absurd waited
+named ids n (event.ReleaseFailed _) waited about = absurd waited
+named ids n (event.Condition _) waited about = absurd waited
+named ids n (event.Wait _) waited about = absurd waited
+named ids n (event.Waited _ _ _) waited about = absurd waited
+named ids n (event.Give _ _) waited about = absurd waited
+named ids n (event.Frame _) waited about = absurd waited
+
+of-call : (bytes : List ℕ) (ids : Ids) (course : Course) (r : Request) → Covers ids bytes → HasAllOf ids course →
+    IsOfCall bytes ids r → HasRequest course r
+of-call bytes ids course r covers all is =
+    let those : HasThoseOf ids is.end (id_of ids is.end.number) =
+    covers is.ends.slot is.end.number is.end is.ends.numbered.below is.ends.numbered is.ends.is in
+    let has : is.end.thread < length ids.threads.items = those.thread in
+    record {
+      thread = subst (λ t. t < length course.threads.items) (sym is.thread)
+          (subst (λ n. is.end.thread < n) (sym all.threads) has);
+      mutex = subst (λ m. 0 < m) (sym is.mutex) (named ids (id_of ids is.end.number) is.end.event is.lasted those.about);
+    }
+
+of-wait : (ids : Ids) (waits : List Wait) (course : Course) (r : Request) → HasAllOf ids course → IsOfWait ids waits r →
+    HasRequest course r
+of-wait ids waits course r all is =
+    record {
+      thread = subst (λ n. r.thread < n) (sym all.threads) (slice_get_within ids.threads.items r.thread is.of.thread is.of.has_thread);
+      mutex = is.of.named;
+    }
+
+each : {X : Type 0} (P Q : X → Type 0) → ((x : X) → P x → Q x) → (xs : List X) (k : ℕ) → All P xs → IfSome (slice_get xs k) Q
+each P Q so [] k all = tt
+each P Q so (x ∷ xs) zero all = so x (All-head P x xs all)
+each P Q so (x ∷ xs) (suc k) all = each P Q so xs k (All-tail P x xs all)
+
+shown-has : (bytes : List ℕ) (ids : Ids) (waits : List Wait) (course : Course) (r : Request) → Covers ids bytes →
+    HasAllOf ids course → IsShown bytes ids waits r → HasRequest course r
+shown-has bytes ids waits course r covers all shown =
+    elim shown [
+      | inl call ↦ of-call bytes ids course r covers all call
+      | inr wait ↦ of-wait ids waits course r all wait
+    ]
+
+pub has-requests : RequestsLaw
+has-requests bytes ids waits requests course place covers all shown =
+    each (IsShown bytes ids waits) (HasRequest course)
+    (λ r is. shown-has bytes ids waits course r covers all is) requests place shown

@@ -1,0 +1,4 @@
+pub mod Asking
+pub mod Having
+pub mod Searched
+pub mod Showing

@@ -1,0 +1,8 @@
+use Rattle.std.proofs.Common.{List}
+use Rattle.pim_requests.specs.Searching.{AreOfWaits}
+use Rattle.pim_requests.specs.declared.waits.Wait.{Wait}
+use Rattle.pim_requests.proofs.waits.Search.begin.Given as goal
+
+abbrev pub invariant-loop-place : goal.invariant-loop-place
+invariant-loop-place l =
+    (waits : List Wait) → AreOfWaits l.sources.ids waits l.fn.self → AreOfWaits l.sources.ids waits l.self

@@ -1,0 +1,30 @@
+use Rattle.std.proofs.Common.{arith, inl, inr, rules}
+use Rattle.std.proofs.lemmas.Grind.{common_steps}
+use Rattle.std.proofs.lemmas.Option.{gets}
+use Rattle.pim_requests.proofs.waits.is_of.Goals as goal
+
+pub returns-then-at-of : goal.returns-then-at-of
+returns-then-at-of c = λ is. record {
+  above = omega arith;
+  thread = c.in-Some-Some.of.now;
+  has_thread = grind (arith, common_steps, gets);
+  task = search rules;
+  named = omega arith;
+  mutex = c.in-Some-Some.at.now;
+  has_mutex = grind (arith, common_steps, gets);
+  address = search rules;
+  process = inl (search rules);
+}
+
+pub returns-else-at-of : goal.returns-else-at-of
+returns-else-at-of c = λ is. record {
+  above = omega arith;
+  thread = c.in-Some-Some.of.now;
+  has_thread = grind (arith, common_steps, gets);
+  task = search rules;
+  named = omega arith;
+  mutex = c.in-Some-Some.at.now;
+  has_mutex = grind (arith, common_steps, gets);
+  address = search rules;
+  process = inr (search rules);
+}

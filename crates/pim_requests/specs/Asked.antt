@@ -1,0 +1,122 @@
+-- What shows each request that a log lacks.
+use Rattle.std.specs.Prelude.{◌≡◌, ◌≢◌, ◌⊎◌, ◌<◌, ℕ, List, Contains, Option, Some, None, Bool, true, false, ◌||◌, IsTrue, slice_get}
+use Rattle.pim_log.specs.Logs.{IsNumbered, IsRecord, began_of}
+use Rattle.pim_log.specs.declared.event.Call.TheVariants as call
+use Rattle.pim_log.specs.declared.event.Event.{Event}
+use Rattle.pim_log.specs.declared.event.Event.TheVariants as event
+use Rattle.pim_log.specs.declared.record.Record.{Record}
+use Rattle.pim_facts.specs.Levels.{id_of}
+use Rattle.pim_facts.specs.declared.ids.Ids.{Ids}
+use Rattle.pim_facts.specs.declared.ids.LoggedMutex.{LoggedMutex}
+use Rattle.pim_facts.specs.declared.ids.LoggedThread.{LoggedThread}
+use Rattle.pim_course.specs.declared.requests.Request.{Request}
+use Rattle.pim_requests.specs.declared.waits.Wait.{Wait}
+
+-- a log has this record
+pub record IsIn (bytes : List ℕ) (r : Record) : Type 0 where
+  pub slot : ℕ
+  pub numbered : IsNumbered bytes slot r.number
+  pub is : IsRecord bytes slot r
+
+-- a call ends with this event that may have waited: a lock that got its mutex, or a call whose time ran out, after some time
+abbrev pub MayHaveWaited : Event → Type 0
+MayHaveWaited (event.Granted _ took by) = (by ≡ call.Lock) × (took ≢ Some 0)
+MayHaveWaited (event.Failed _ took is_timeout) = (is_timeout ≡ true) × (took ≢ Some 0)
+MayHaveWaited _ = ⊥
+
+-- a thread is granted a mutex by this event
+abbrev pub IsGrant : Event → Type 0
+IsGrant (event.Granted _ _ _) = Unit {0}
+IsGrant _ = ⊥
+
+-- a time is known and after a begin, if that is known
+abbrev pub IsAfter : Option ℕ → Option ℕ → Type 0
+IsAfter (Some began) (Some time) = began < time
+IsAfter (Some began) None = ⊥
+IsAfter None _ = Unit {0}
+
+-- a grant shows that the call waited that ends with a record: it is earlier, of the same mutex and by another thread, and
+-- its time is after the begin of the call, if that is known
+pub record ShowsWait (ids : Ids) (end grant : Record) : Type 0 where
+  pub granted : IsGrant grant.event
+  pub earlier : grant.number < end.number
+  pub mutex : id_of ids grant.number ≡ id_of ids end.number
+  pub another : grant.thread ≢ end.thread
+  pub later : IsAfter (began_of end) grant.time
+
+-- a record of the thread of a call has this number, which is later than a grant and before the end of the call
+pub record IsBetween (bytes : List ℕ) (grant : ℕ) (end : Record) (n : ℕ) : Type 0 where
+  pub own : Record
+  pub has : IsIn bytes own
+  pub number : own.number ≡ n
+  pub thread : own.thread ≡ end.thread
+  pub later : grant < n
+  pub before : n < end.number
+
+-- whether a thread asks for a mutex by an event
+abbrev pub is_request : Event → Bool
+is_request (event.Request _ _) = true
+is_request _ = false
+
+-- whether a call for a mutex ends with an event
+abbrev pub is_answer : Event → Bool
+is_answer (event.Granted _ _ _) = true
+is_answer (event.Failed _ _ _) = true
+is_answer _ = false
+
+-- between two records a thread asked for a mutex again, or a call of it ended
+pub record HasMovedOn (bytes : List ℕ) (t low high : ℕ) : Type 0 where
+  pub own : Record
+  pub has : IsIn bytes own
+  pub thread : own.thread ≡ t
+  pub asks : IsTrue (is_request own.event || is_answer own.event)
+  pub later : low < own.number
+  pub before : own.number < high
+
+-- the log lacks the request of the call that ends with a record: its thread moved on behind each earlier one for the mutex
+abbrev pub LacksRequest : List ℕ → Ids → Record → Type 0
+LacksRequest bytes ids end =
+    (asked : Record) → IsIn bytes asked → IsTrue (is_request asked.event) → asked.thread ≡ end.thread →
+    id_of ids asked.number ≡ id_of ids end.number → asked.number < end.number →
+    HasMovedOn bytes end.thread asked.number end.number
+
+-- a request of a call of the log that may have waited, and whose request the log lacks: it is of the thread, the mutex and
+-- the place of the record with which the call ends, and belongs behind a grant that shows that the call waited, or behind a
+-- later record of its thread
+pub record IsOfCall (bytes : List ℕ) (ids : Ids) (request : Request) : Type 0 where
+  pub end : Record
+  pub ends : IsIn bytes end
+  pub lasted : MayHaveWaited end.event
+  pub lacks : LacksRequest bytes ids end
+  pub grant : Record
+  pub granted : IsIn bytes grant
+  pub shown : ShowsWait ids end grant
+  pub thread : request.thread ≡ end.thread
+  pub mutex : request.mutex ≡ id_of ids end.number
+  pub place : request.place ≡ end.place
+  pub time : request.time ≡ None
+  pub after : (request.after ≡ grant.number) ⊎ IsBetween bytes grant.number end request.after
+
+-- a wait is of this thread and for this mutex: the thread has its task, and the mutex is at its address, in the thread's
+-- process or shared by processes
+pub record IsWaitOf (ids : Ids) (wait : Wait) (t m : ℕ) : Type 0 where
+  pub above : 0 < t
+  pub thread : LoggedThread
+  pub has_thread : slice_get ids.threads.items t ≡ Some thread
+  pub task : thread.task ≡ wait.task
+  pub named : 0 < m
+  pub mutex : LoggedMutex
+  pub has_mutex : slice_get ids.mutexes.items m ≡ Some mutex
+  pub address : mutex.address ≡ wait.address
+  pub process : (mutex.process ≡ thread.process) ⊎ (mutex.process ≡ 0)
+
+-- a request that one of the waits shows: it is of the wait's thread, for its mutex, and begins with it
+pub record IsOfWait (ids : Ids) (waits : List Wait) (request : Request) : Type 0 where
+  pub wait : Wait
+  pub shown : Contains waits wait
+  pub of : IsWaitOf ids wait request.thread request.mutex
+  pub time : request.time ≡ Some wait.from
+
+-- a call of the log shows a request, or a wait does
+abbrev pub IsShown : List ℕ → Ids → List Wait → Request → Type 0
+IsShown bytes ids waits request = IsOfCall bytes ids request ⊎ IsOfWait ids waits request

@@ -1,0 +1,4 @@
+pub mod Asked
+pub mod Asking
+pub mod Laws
+pub mod Searching
