@@ -132,8 +132,12 @@ impl Sections {
         ensures longest { OnOk result (KeepsLongest self.old self.new user lasted) }
         ensures open { self.new.open ≡ self.old.open }
     {
-        let before = self.longest.get(&user).copied().unwrap_or(0);
-        self.longest.insert(user, lasted.max(before))?;
+        match self.longest.get(&user).copied() {
+            Some(before) if lasted <= before => {}
+            _ => {
+                self.longest.insert(user, lasted)?;
+            }
+        }
         Ok(())
     }
 }
