@@ -3,6 +3,7 @@ ghost use Rattle.std.specs.Prelude.{◌↔◌, IsTrue};
 ghost use Rattle.pim_import.specs.LeftOut.{IsKept, Keeps};
 
 use crate::left_out::may_be_left_out;
+use crate::participants::{Participants, Seen};
 use pim_course::{Sources, Walk};
 use pim_facts::{Fact, What};
 use pim_log::Log;
@@ -18,7 +19,7 @@ pub struct CriticalSections {
 }
 
 impl CriticalSections {
-    /// Returns which critical sections of the log are in the trace.
+    /// Returns which critical sections of the log are in the trace, and who takes part in it.
     ///
     /// # Errors
     ///
@@ -28,23 +29,27 @@ impl CriticalSections {
         log: &Log,
         sources: &Sources,
         is_all: bool,
-    ) -> Result<CriticalSections, AllocError> {
+    ) -> Result<(CriticalSections, Participants), AllocError> {
         let end = log.header().end();
         let room = (end as usize).saturating_add(sources.requests.list.len());
         let mut sections = CriticalSections {
             is_kept: vec![in alloc; false; room]?,
             is_all,
         };
+        let mut seen = Seen::none(alloc, sources)?;
         let mut walk = Walk::new(alloc, &sources.ids)?;
         for number in 1..end {
             let _moment = walk.read(log, sources, number);
             sections.look(&walk, sources);
+            seen.look(&walk, &sections, number);
             for _request in 0..walk.missing(sources, number) {
                 let _time = walk.add(sources);
                 sections.look(&walk, sources);
+                seen.look(&walk, &sections, number);
             }
         }
-        Ok(sections)
+        let participants = seen.end(&walk.course, &sections);
+        Ok((sections, participants))
     }
 
     /// Keeps each critical section of which a fact may not be left out, or for which a thread

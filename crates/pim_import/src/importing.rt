@@ -11,7 +11,6 @@ use crate::critical_sections::CriticalSections;
 use crate::fault::ImportFault;
 use crate::left_out::may_be_left_out;
 use crate::numbering::Numbering;
-use crate::participants::Participants;
 use crate::tally::Tally;
 use pim_course::{Course, NextOwners, Requests, Sources, Walk};
 use pim_facts::{Fact, Ids, IdsFault};
@@ -81,11 +80,10 @@ pub fn import_log(
     ensures fault { IfErr result (NamesOneOf (end_of (header_of log.now))) }
 {
     let sources = sources_of(alloc, log, waits)?;
-    let sections = CriticalSections::of(alloc, log, &sources, options.keeps_all)?;
+    let (sections, participants) = CriticalSections::of(alloc, log, &sources, options.keeps_all)?;
     let Some(priorities) = Priorities::of(&sources.ids.levels) else {
         return Err(ImportFault::TooManyPriorities);
     };
-    let participants = Participants::of(alloc, log, &sources, &sections)?;
     let numbering = Numbering::of(alloc, &sources, &participants)?;
     let ended = sources.ids.ended;
     let context = Context {

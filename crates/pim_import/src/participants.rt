@@ -2,8 +2,7 @@
 
 use crate::critical_sections::CriticalSections;
 use pim_course::{Course, Sources, Walk};
-use pim_facts::What;
-use pim_log::Log;
+use pim_facts::{Fact, What};
 use pim_replay::Span;
 use std::alloc::{AllocError, Global};
 
@@ -25,35 +24,105 @@ pub struct Participants {
     pub mutexes: Vec<Option<Participant>>,
 }
 
-impl Participants {
-    /// Returns who takes part in the trace of these critical sections.
+/// What a record shows of a thread and a mutex.
+#[derive(Clone, Copy, PartialEq, Eq)]
+struct Appearing {
+    /// The number of the record.
+    number: u64,
+    /// The number of the critical section.
+    section: u32,
+    thread: u32,
+    /// The level of the thread then.
+    level: u8,
+    /// That of the mutex's ceiling.
+    ceiling: u8,
+}
+
+/// Who takes part up to a record, while it isn't known yet which critical sections are in the trace.
+///
+/// A critical section that isn't in the trace so far may come to be as long as it lasts. Nobody waited for its mutex, so
+/// its only fact so far is the grant. It ends with a release, after which nobody can wait in it.
+#[derive(Drop)]
+pub struct Seen {
+    participants: Participants,
+    /// By mutex the grant of its last critical section, if that wasn't in the trace then.
+    grants: Vec<Option<Appearing>>,
+}
+
+impl Seen {
+    /// Returns that nobody takes part yet.
     ///
     /// # Errors
     ///
     /// Returns `AllocError` if out of memory.
-    pub fn of(
-        alloc: Global,
-        log: &Log,
-        sources: &Sources,
-        sections: &CriticalSections,
-    ) -> Result<Participants, AllocError> {
-        let mut participants = Participants {
+    pub fn none(alloc: Global, sources: &Sources) -> Result<Seen, AllocError> {
+        let participants = Participants {
             threads: vec![in alloc; None; sources.ids.threads.len()]?,
             mutexes: vec![in alloc; None; sources.ids.mutexes.len()]?,
         };
-        let mut walk = Walk::new(alloc, &sources.ids)?;
-        for number in 1..log.header().end() {
-            let _moment = walk.read(log, sources, number);
-            participants.look(&walk, sections, number);
-            for _request in 0..walk.missing(sources, number) {
-                let _time = walk.add(sources);
-                participants.look(&walk, sections, number);
-            }
-        }
-        participants.stay(&walk.course, sections);
-        Ok(participants)
+        let grants = vec![in alloc; None; sources.ids.mutexes.len()]?;
+        Ok(Seen {
+            participants,
+            grants,
+        })
     }
 
+    /// Notes who is shown by the record with this number, or by a request behind it. The critical sections are those that
+    /// are in the trace as far as it is known by then.
+    pub fn look(&mut self, walk: &Walk, sections: &CriticalSections, number: u64) {
+        for fact in walk.shown() {
+            let is_ceiling = matches!(&fact.what, What::Ceiling(_));
+            if fact.mutex != 0 && !is_ceiling {
+                self.see(&walk.course, sections, fact, number);
+            }
+        }
+    }
+
+    /// Notes a thread and a mutex if the critical section is in the trace. Else the grant is kept until it is.
+    fn see(&mut self, course: &Course, sections: &CriticalSections, fact: &Fact, number: u64) {
+        let now = Appearing {
+            number,
+            section: fact.section,
+            thread: fact.thread,
+            level: course.thread(fact.thread).level,
+            ceiling: course.mutex(fact.mutex).ceiling,
+        };
+        if sections.has(fact) {
+            if let Some(grant) = self.grant_of(fact) {
+                self.keep(fact.mutex, None);
+                self.participants.note(fact.mutex, &grant);
+            }
+            self.participants.note(fact.mutex, &now);
+        } else if fact.what == What::Granted {
+            self.keep(fact.mutex, Some(now));
+        }
+    }
+
+    /// Returns the grant of the critical section of a fact, if it is kept.
+    fn grant_of(&self, fact: &Fact) -> Option<Appearing> {
+        match self.grants.get(fact.mutex as usize) {
+            Some(Some(grant)) if grant.section == fact.section => Some(*grant),
+            _ => None,
+        }
+    }
+
+    /// Keeps a grant of a mutex, or none.
+    fn keep(&mut self, mutex: u32, grant: Option<Appearing>) {
+        if (mutex as usize) < self.grants.len() {
+            self.grants[mutex as usize] = grant;
+        }
+    }
+
+    /// Returns who takes part in the trace of these critical sections. Those who own or await something in it at the end of
+    /// the log do so to the end, and the mutexes too.
+    pub fn end(self, course: &Course, sections: &CriticalSections) -> Participants {
+        let mut participants = self.participants;
+        participants.stay(course, sections);
+        participants
+    }
+}
+
+impl Participants {
     /// Lets those take part to the end who own or await something in the trace then, and the
     /// mutexes too.
     fn stay(&mut self, course: &Course, sections: &CriticalSections) {
@@ -75,17 +144,10 @@ impl Participants {
         }
     }
 
-    /// Notes who is shown by the record with this number, or by a request behind it.
-    fn look(&mut self, walk: &Walk, sections: &CriticalSections, number: u64) {
-        for fact in walk.shown() {
-            let is_ceiling = matches!(&fact.what, What::Ceiling(_));
-            if fact.mutex != 0 && !is_ceiling && sections.has(fact) {
-                let level = walk.course.thread(fact.thread).level;
-                let ceiling = walk.course.mutex(fact.mutex).ceiling;
-                note(&mut self.threads, fact.thread, number, level);
-                note(&mut self.mutexes, fact.mutex, number, ceiling);
-            }
-        }
+    /// Notes that a record shows a thread and this mutex.
+    fn note(&mut self, mutex: u32, now: &Appearing) {
+        note(&mut self.threads, now.thread, now.number, now.level);
+        note(&mut self.mutexes, mutex, now.number, now.ceiling);
     }
 }
 
@@ -97,18 +159,38 @@ fn last_to_the_end(participants: &mut Vec<Option<Participant>>, one: u32) {
     }
 }
 
-/// Notes that a record shows a thread or a mutex.
+/// Notes that a record shows a thread or a mutex. A later record may have been noted before.
 fn note(participants: &mut Vec<Option<Participant>>, place: u32, number: u64, level: u8) {
     if place as usize >= participants.len() {
         return;
     }
-    let (first, level) = match participants[place as usize] {
-        Some(before) => (before.span.first, before.level),
-        None => (number, level),
+    let noted = match participants[place as usize] {
+        Some(before) => before.and(number, level),
+        None => Participant {
+            span: Span {
+                first: number,
+                last: number,
+            },
+            level,
+        },
     };
-    let span = Span {
-        first,
-        last: number,
-    };
-    participants[place as usize] = Some(Participant { span, level });
+    participants[place as usize] = Some(noted);
+}
+
+impl Participant {
+    /// Returns when it takes part if the record with this number shows it, too, at this level.
+    fn and(self, number: u64, level: u8) -> Participant {
+        if number < self.span.first {
+            let span = Span {
+                first: number,
+                ..self.span
+            };
+            return Participant { span, level };
+        }
+        let span = Span {
+            last: self.span.last.max(number),
+            ..self.span
+        };
+        Participant { span, ..self }
+    }
 }
