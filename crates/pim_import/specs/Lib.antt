@@ -1,3 +1,4 @@
 pub mod Tallies
 pub mod Faults
 pub mod LeftOut
+pub mod Showing

@@ -1,12 +1,15 @@
 //! The trace as it is made: who has which number at a time, and the pieces.
-ghost use Rattle.std.specs.Prelude.{IfOk, IfErr, ◌≡◌, false};
+ghost use Rattle.std.specs.Prelude.{IfOk, IfErr, IsTrue, ◌≡◌, false};
+ghost use Rattle.pim_base.specs.Lists.{holds};
 ghost use Rattle.pim_import.specs.Faults.{NamesNone, NamesOnly};
 ghost use Rattle.pim_import.specs.LeftOut.{IsSetting};
+ghost use Rattle.pim_import.specs.Showing.{Shows, holder_in, mutex_now, task_now};
 
 use crate::fault::ImportFault;
 use crate::numbering::Numbering;
 use crate::participants::{Participant, Participants};
-use pim_base::{MAX_STEPS, MutexNo, Prio, Protocol, TaskNo};
+use crate::showing::{has_base, has_ceiling, is_awaited, is_done_waiting, is_granted, is_released};
+use pim_base::{MAX_STEPS, MutexNo, Prio, Protocol, TaskNo, nth};
 use pim_course::lists::push;
 use pim_course::{Sources, family_of};
 use pim_facts::{Fact, Family, What};
@@ -100,10 +103,45 @@ impl TraceBuilder {
     /// is in the trace: a new level or ceiling only is if the thread or the mutex takes part by
     /// then.
     ///
+    /// If it is, the trace shows it: who owns and who waits, the priority or the ceiling is looked up
+    /// after the steps, which takes a few lookups. Where the replay differed from the fact, the
+    /// import would end with `Contradiction`. It doesn't unless the log contradicts itself, since a
+    /// replay does what it observed.
+    ///
     /// # Errors
     ///
     /// Returns `Contradiction` if the log contradicts itself there, and `Memory` if out of memory.
     pub fn build(&mut self, context: &Context, fact: &Fact, now: &Now) -> Result<bool, ImportFault>
+        ensures unused { IfOk result (λ is_used. is_used ≡ false → IsSetting fact.now.what) }
+        ensures shows { IfOk result (λ is_used. IsTrue is_used → Shows context.now self.new fact.now) }
+        ensures fault { IfErr result (NamesOnly now.now.number) }
+    {
+        let is_used = self.make(context, fact, now)?;
+        if is_used && !self.shows(context, fact) {
+            return Err(ImportFault::Contradiction(now.number));
+        }
+        Ok(is_used)
+    }
+
+    /// Returns whether the trace shows a fact.
+    fn shows(&self, context: &Context, fact: &Fact) -> bool
+        ensures { IsTrue result → Shows context.now self.now fact.now }
+    {
+        let task = self.task_of(context, fact.thread);
+        let mutex = self.mutex_of(context, fact.mutex);
+        let priorities = context.priorities;
+        match fact.what {
+            What::Granted => is_granted(&self.replay, task, mutex),
+            What::Waits => is_awaited(&self.replay, task, mutex),
+            What::GaveUp => is_done_waiting(&self.replay, task),
+            What::Released(next) => is_released(&self.replay, self.task_of(context, next), mutex),
+            What::Level(level) => has_base(&self.replay, task, priorities.of_level(level)),
+            What::Ceiling(level) => has_ceiling(&self.replay, mutex, priorities.of_level(level)),
+        }
+    }
+
+    /// Makes the steps of a fact, and returns whether it is in the trace.
+    fn make(&mut self, context: &Context, fact: &Fact, now: &Now) -> Result<bool, ImportFault>
         ensures unused { IfOk result (λ is_used. is_used ≡ false → IsSetting fact.now.what) }
         ensures fault { IfErr result (NamesOnly now.now.number) }
     {
@@ -253,9 +291,11 @@ impl TraceBuilder {
     }
 
     /// Returns the task that a thread is now.
-    fn task_of(&self, context: &Context, thread: u32) -> Option<TaskNo> {
+    fn task_of(&self, context: &Context, thread: u32) -> Option<TaskNo>
+        ensures { result ≡ task_now context.now self.now thread }
+    {
         let number = context.numbering.threads.of(thread)?;
-        if holder(&self.threads, number) == Some(thread) {
+        if is_held(&self.threads, number, thread) {
             Some(TaskNo(number))
         } else {
             None
@@ -263,9 +303,11 @@ impl TraceBuilder {
     }
 
     /// Returns the number in the trace of a mutex of the log, if it has it now.
-    fn mutex_of(&self, context: &Context, mutex: u32) -> Option<MutexNo> {
+    fn mutex_of(&self, context: &Context, mutex: u32) -> Option<MutexNo>
+        ensures { result ≡ mutex_now context.now self.now mutex }
+    {
         let number = context.numbering.mutexes.of(mutex)?;
-        if holder(&self.mutexes, number) == Some(mutex) {
+        if is_held(&self.mutexes, number, mutex) {
             Some(MutexNo(number))
         } else {
             None
@@ -435,9 +477,20 @@ pub struct Now {
 }
 
 /// Returns who has a number of the trace now.
-fn holder(list: &[Option<u32>], number: u16) -> Option<u32> {
-    let place = (number as usize).checked_sub(1)?;
-    *list.get(place)?
+fn holder(list: &[Option<u32>], number: u16) -> Option<u32>
+    ensures { result ≡ holder_in list.now number }
+{
+    nth(list, number).flatten()
+}
+
+/// Returns whether a thread or a mutex has a number of the trace now.
+fn is_held(list: &[Option<u32>], number: u16, one: u32) -> bool
+    ensures { result ≡ holds (holder_in list.now number) one }
+{
+    match holder(list, number) {
+        Some(held) => held == one,
+        None => false,
+    }
 }
 
 /// Gives a number of the trace to a thread or a mutex.

@@ -1,9 +1,10 @@
 //! From a log to the pieces of a trace.
-ghost use Rattle.std.specs.Prelude.{◌≡◌, ◌⊎◌, ◌-◌, IfOk, IfErr, All, false};
+ghost use Rattle.std.specs.Prelude.{◌≡◌, ◌⊎◌, ◌-◌, IfOk, IfErr, IsTrue, All, false};
 ghost use Rattle.pim_log.specs.Headers.{header_of, end_of};
 ghost use Rattle.pim_import.specs.Faults.{NamesOneOf, NamesOnly};
 ghost use Rattle.pim_facts.specs.Shown.{shown_in};
 ghost use Rattle.pim_import.specs.LeftOut.{IsKept, IsSetting, MayBeLeftOut};
+ghost use Rattle.pim_import.specs.Showing.{Shows};
 ghost use Rattle.pim_import.specs.Tallies.{total};
 
 use crate::builder::{Appearance, Context, Now, TraceBuilder};
@@ -244,7 +245,7 @@ fn show(
 
 /// Makes the steps of a fact, and returns whether it is in the trace. One of a critical section
 /// that isn't kept may be left out: it changes no priority. One that is kept is in the trace, but
-/// for a level or a ceiling of those who take no part by then.
+/// for a level or a ceiling of those who take no part by then. The trace shows one that is in it.
 ///
 /// # Errors
 ///
@@ -263,6 +264,7 @@ fn show_fact(
         IsKept sections.now fact.now ⊎ MayBeLeftOut walk.now.course context.now.sources.now fact.now) }
     ensures unused { IfOk result (λ is_used. is_used ≡ false →
         IsSetting fact.now.what ⊎ MayBeLeftOut walk.now.course context.now.sources.now fact.now) }
+    ensures shows { IfOk result (λ is_used. IsTrue is_used → Shows context.now builder.new fact.now) }
     ensures fault { IfErr result (NamesOnly now.now.number) }
 {
     findings.observe(&walk.course, fact, now.time)?;

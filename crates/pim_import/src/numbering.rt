@@ -1,6 +1,7 @@
 //! The numbers that threads and mutexes have in a trace.
-ghost use Rattle.std.specs.Prelude.{IfErr};
+ghost use Rattle.std.specs.Prelude.{IfErr, ◌≡◌};
 ghost use Rattle.pim_import.specs.Faults.{NamesNone};
+ghost use Rattle.pim_import.specs.Showing.{number_in};
 
 use crate::fault::ImportFault;
 use crate::participants::{Participant, Participants};
@@ -70,7 +71,9 @@ impl Numbers {
     }
 
     /// Returns the number in the trace of a thread or a mutex of the log, if it takes part.
-    pub fn of(&self, one: u32) -> Option<u16> {
+    pub fn of(&self, one: u32) -> Option<u16>
+        ensures { result ≡ number_in self.now one }
+    {
         *self.of_each.get(one as usize)?
     }
 

@@ -1,0 +1,79 @@
+-- What a trace shows of a fact, by the numbers that threads and mutexes of the log have in it at a time.
+use Rattle.std.specs.Prelude.{◌≡◌, ◌≢◌, ◌⊎◌, ℕ, List, Option, None, Some, MatchOption, if◌then◌else◌}
+use Rattle.std.specs.Prelude.{slice_index_or, unwrap_or}
+use Rattle.pim_base.specs.Lists.{nth, holds}
+use Rattle.pim_base.specs.State.{IsTask, IsMutex, base_of, owner_of, protocol_of}
+use Rattle.pim_base.specs.declared.steps.Protocol.{Protocol}
+use Rattle.pim_facts.specs.declared.fact.Fact.{Fact}
+use Rattle.pim_facts.specs.declared.fact.What.{What}
+use Rattle.pim_facts.specs.declared.fact.What.TheVariants.{Granted, Waits, GaveUp, Released, Level, Ceiling}
+use Rattle.pim_replay.specs.Priorities.{priority_of}
+use Rattle.pim_replay.specs.Replays.{ReplayState, Has, program_of, awaited}
+use Rattle.pim_import.specs.declared.builder.Context.{Context}
+use Rattle.pim_import.specs.declared.builder.TraceBuilder.{TraceBuilder}
+use Rattle.pim_import.specs.declared.numbering.Numbers.{Numbers}
+
+-- the number in the trace of a thread or a mutex of the log, if it takes part
+abbrev pub number_in : Numbers → ℕ → Option ℕ
+number_in numbers one = slice_index_or numbers.of_each.items one None
+
+-- who has a number of the trace now
+abbrev pub holder_in : List (Option ℕ) → ℕ → Option ℕ
+holder_in holders number = unwrap_or (nth holders number) None
+
+-- the number, if there is one and this one has it now
+abbrev pub held : List (Option ℕ) → ℕ → Option ℕ → Option ℕ
+held holders one None = None
+held holders one (Some number) = if holds (holder_in holders number) one then Some number else None
+
+-- the task that a thread is now
+abbrev pub task_now : Context → TraceBuilder → ℕ → Option ℕ
+task_now context builder t = held builder.threads.items t (number_in context.numbering.now.threads t)
+
+-- the number that a mutex of the log has in the trace now
+abbrev pub mutex_now : Context → TraceBuilder → ℕ → Option ℕ
+mutex_now context builder m = held builder.mutexes.items m (number_in context.numbering.now.mutexes m)
+
+-- there is a number, and this holds of it
+abbrev pub HoldsOf : (ℕ → Type 0) → Option ℕ → Type 0
+HoldsOf P number = MatchOption number ⊥ P
+
+-- there is such a task, and this is its base
+abbrev pub HasBase : ReplayState → ℕ → ℕ → Type 0
+HasBase r priority k = IsTask r.state k × (base_of r.state k ≡ priority)
+
+-- there is such a mutex, and this is its ceiling
+abbrev pub HasCeiling : ReplayState → ℕ → ℕ → Type 0
+HasCeiling r priority n = IsMutex r.state n × (protocol_of r.state n ≡ Protocol.Protect priority)
+
+-- the next owner owns the mutex and waits for nothing; or it is free, and there is no next owner that waits for it
+abbrev pub IsPassedOn : ReplayState → Option ℕ → ℕ → Type 0
+IsPassedOn r None n = owner_of r.state n ≡ None
+IsPassedOn r (Some k) n = Has (program_of r) k n ⊎ ((owner_of r.state n ≡ None) × (awaited r k ≢ Some n))
+
+-- what a fact says is so of the task and the mutex; `tasks` has the tasks of threads
+abbrev pub ShowsWhat : ReplayState → (ℕ → ℕ) → (ℕ → Option ℕ) → What → Option ℕ → Option ℕ → Type 0
+ShowsWhat r priority tasks Granted task mutex = HoldsOf (λ k. HoldsOf (Has (program_of r) k) mutex) task
+ShowsWhat r priority tasks Waits task mutex = HoldsOf (λ k. HoldsOf (λ n. awaited r k ≡ Some n) mutex) task
+ShowsWhat r priority tasks GaveUp task mutex = HoldsOf (λ k. awaited r k ≡ None) task
+ShowsWhat r priority tasks (Released next) task mutex = HoldsOf (IsPassedOn r (tasks next)) mutex
+ShowsWhat r priority tasks (Level level) task mutex = HoldsOf (HasBase r (priority level)) task
+ShowsWhat r priority tasks (Ceiling level) task mutex = HoldsOf (HasCeiling r (priority level)) mutex
+
+-- the trace shows a fact, of those that its thread and its mutex are now
+abbrev pub Shows : Context → TraceBuilder → Fact → Type 0
+Shows context builder fact =
+    ShowsWhat builder.replay (priority_of context.priorities.now) (task_now context builder) fact.what
+    (task_now context builder fact.thread) (mutex_now context builder fact.mutex)
+
+-- no two threads have one number at a time
+abbrev pub TaskLaw : Type 0
+TaskLaw =
+    (context : Context) (builder : TraceBuilder) (t u k : ℕ) → task_now context builder t ≡ Some k →
+    task_now context builder u ≡ Some k → t ≡ u
+
+-- nor do two mutexes
+abbrev pub MutexLaw : Type 0
+MutexLaw =
+    (context : Context) (builder : TraceBuilder) (m l n : ℕ) → mutex_now context builder m ≡ Some n →
+    mutex_now context builder l ≡ Some n → m ≡ l
