@@ -63,7 +63,21 @@ struct Places {
     mutexes: HashMap<(u32, u64), u32>,
     threads: HashMap<(u32, u64), u32>,
     tasks: HashMap<u32, u32>,
+    /// By [`place_of`] an address the mutex that was found or began there last: most records find theirs here, without the
+    /// search of the map.
+    found: Vec<Option<Found>>,
 }
+
+/// The mutex that a record of this process means by an address.
+#[derive(Clone, Copy, PartialEq, Eq)]
+struct Found {
+    process: u32,
+    mutex: u32,
+    address: u64,
+}
+
+/// How many mutexes are kept beside the map: a prime number, so that those at equal distances are at different places.
+const FOUND: u64 = 1021;
 
 const NO_THREAD: LoggedThread = LoggedThread {
     process: 0,
@@ -86,6 +100,7 @@ impl Ids {
             mutexes: HashMap::new(alloc),
             threads: HashMap::new(alloc),
             tasks: HashMap::new(alloc),
+            found: vec![in alloc; None; FOUND as usize]?,
         };
         for number in 1..log.header().end() {
             ids.read_record(&mut places, log, number)?;
@@ -331,13 +346,14 @@ impl Ids {
         ensures grown { Grows self.old self.new }
         ensures mutex { 0 < length self.old.mutexes.items → IfOk result (HasMutex self.new) }
     {
-        // The map has only numbers of mutexes, which isn't proved of it.
-        let number = places.mutex(record.process, mutex.address);
-        if number == 0 || number as usize >= self.mutexes.len() {
-            return self.begin_mutex(places, record, mutex);
+        match places.mutex(record.process, mutex.address) {
+            // The map has only numbers of mutexes, which isn't proved of it.
+            Some(number) if number != 0 && (number as usize) < self.mutexes.len() => {
+                self.learn(number, mutex);
+                Ok(number)
+            }
+            _ => self.begin_mutex(places, record, mutex),
         }
-        self.learn(number, mutex);
-        Ok(number)
     }
 
     /// Adds a mutex, which is the one at its address from now on.
@@ -384,12 +400,43 @@ impl Ids {
     }
 }
 
+/// Returns the place beside the map of the mutexes at an address.
+fn place_of(address: u64) -> usize {
+    (address / 8 % FOUND) as usize
+}
+
 impl Places {
-    /// Returns the mutex at an address of this process, or 0 where the log doesn't know it.
-    fn mutex(&self, process: u32, address: u64) -> u32 {
+    /// Returns the mutex at an address of this process, if the log knows it.
+    fn mutex(&mut self, process: u32, address: u64) -> Option<u32> {
+        match self.found.get(place_of(address)) {
+            Some(Some(found)) if found.address == address && found.process == process => {
+                Some(found.mutex)
+            }
+            _ => {
+                let mutex = self.search(process, address)?;
+                self.keep_found(process, address, mutex);
+                Some(mutex)
+            }
+        }
+    }
+
+    /// Returns the mutex at an address of this process by the map.
+    fn search(&self, process: u32, address: u64) -> Option<u32> {
         match self.mutexes.get(&(process, address)) {
-            Some(found) => *found,
-            None => self.mutexes.get(&(0, address)).copied().unwrap_or(0),
+            Some(found) => Some(*found),
+            None => self.mutexes.get(&(0, address)).copied(),
+        }
+    }
+
+    /// Keeps a mutex beside the map, in place of what was found at its address.
+    fn keep_found(&mut self, process: u32, address: u64, mutex: u32) {
+        let place = place_of(address);
+        if place < self.found.len() {
+            self.found[place] = Some(Found {
+                process,
+                mutex,
+                address,
+            });
         }
     }
 
@@ -414,6 +461,7 @@ impl Places {
         if process == 0 {
             let _before = self.mutexes.remove(&(record.process, address));
         }
+        self.keep_found(record.process, address, mutex);
         put(&mut self.mutexes, (process, address), mutex)
     }
 }
