@@ -16,6 +16,15 @@ struct Open {
     wait: FoundWait,
 }
 
+/// A wait that lasts, as far as the first waiter is looked for by it.
+#[derive(Clone, Copy, PartialEq, Eq)]
+struct Queued {
+    /// That of the wait, from 1 on.
+    number: u64,
+    thread: u32,
+    mutex: u32,
+}
+
 /// The waits that last.
 #[derive(Drop)]
 pub(crate) struct Waiting {
@@ -23,8 +32,8 @@ pub(crate) struct Waiting {
     open: Vec<Option<Open>>,
     /// How many waits have begun.
     begun: u64,
-    /// The threads that wait, in the order in which they began to.
-    threads: Vec<u32>,
+    /// The waits in the order in which they began.
+    queue: Vec<Queued>,
     /// The PROTECT mutexes that have an owner.
     protecting: Vec<u32>,
     /// By thread its effective level, as far as it is computed.
@@ -44,7 +53,7 @@ impl Waiting {
         Ok(Waiting {
             open: vec![in alloc; None; threads]?,
             begun: 0,
-            threads: Vec::new(alloc),
+            queue: Vec::new(alloc),
             protecting: Vec::new(alloc),
             effective: vec![in alloc; 0; threads]?,
         })
@@ -71,8 +80,8 @@ impl Waiting {
 
     /// Returns the number of the wait of a thread for a mutex, if it waits for that.
     pub fn number(&self, thread: u32, mutex: u32) -> Option<u64> {
-        match self.of(thread as usize) {
-            Some(open) if open.wait.mutex == mutex => Some(open.number),
+        match self.open.get(thread as usize) {
+            Some(Some(open)) if open.wait.mutex == mutex => Some(open.number),
             _ => None,
         }
     }
@@ -89,9 +98,14 @@ impl Waiting {
     {
         let place = wait.thread as usize;
         if place < self.open.len() {
-            push(&mut self.threads, wait.thread)?;
             self.begun = self.begun.saturating_add(1);
             let number = self.begun;
+            let queued = Queued {
+                number,
+                thread: wait.thread,
+                mutex: wait.mutex,
+            };
+            push(&mut self.queue, queued)?;
             self.open[place] = Some(Open { number, wait });
         }
         Ok(())
@@ -106,7 +120,7 @@ impl Waiting {
         let open = self.of(thread)?;
         if thread < self.open.len() {
             self.open[thread] = None;
-            remove(&mut self.threads, open.wait.thread);
+            leave_queue(&mut self.queue, open.wait.thread);
         }
         Some(open.wait)
     }
@@ -131,11 +145,9 @@ impl Waiting {
 
     /// Returns whether a wait for a mutex lasts that was among the first so many to begin.
     pub fn has_early(&self, mutex: u32, begun: u64) -> bool {
-        for thread in &self.threads {
-            if let Some(number) = self.number(*thread, mutex) {
-                if number <= begun {
-                    return true;
-                }
+        for queued in &self.queue {
+            if queued.mutex == mutex && queued.number <= begun {
+                return true;
             }
         }
         false
@@ -151,11 +163,11 @@ impl Waiting {
         }
         let mut first = None;
         let mut highest = 0;
-        for thread in &self.threads {
-            if let Some(number) = self.number(*thread, fact.mutex) {
-                let level = self.effective_of(*thread);
+        for queued in &self.queue {
+            if queued.mutex == fact.mutex {
+                let level = self.effective_of(queued.thread);
                 if first.is_none() || level > highest {
-                    first = Some(number);
+                    first = Some(queued.number);
                     highest = level;
                 }
             }
@@ -166,8 +178,8 @@ impl Waiting {
     /// Returns how many threads wait for a mutex.
     fn count(&self, mutex: u32) -> usize {
         let mut count = 0usize;
-        for thread in &self.threads {
-            if self.number(*thread, mutex).is_some() {
+        for queued in &self.queue {
+            if queued.mutex == mutex {
                 count = count.saturating_add(1);
             }
         }
@@ -180,16 +192,16 @@ impl Waiting {
     fn find_levels(&mut self, sources: &Sources, course: &Course, fact: &Fact)
         ensures { self.new.open ≡ self.old.open }
     {
-        for thread in &self.threads {
-            let place = *thread as usize;
+        for queued in &self.queue {
+            let place = queued.thread as usize;
             if place < self.effective.len() {
                 self.effective[place] = 0;
             }
         }
-        for place in 0..self.threads.len() {
-            if let Some(thread) = self.threads.get(place).copied() {
-                let level = self.own_level(course, fact, thread);
-                self.raise_from(sources, course, fact, thread, level);
+        for place in 0..self.queue.len() {
+            if let Some(queued) = self.queue.get(place).copied() {
+                let level = self.own_level(course, fact, queued.thread);
+                self.raise_from(sources, course, fact, queued.thread, level);
             }
         }
     }
@@ -256,6 +268,13 @@ fn owner_before(course: &Course, fact: &Fact, mutex: u32) -> Option<u32> {
     match course.mutex(mutex).owner {
         0 => None,
         owner => Some(owner),
+    }
+}
+
+/// Removes the wait of a thread.
+fn leave_queue(queue: &mut Vec<Queued>, thread: u32) {
+    if let Some(place) = queue.iter().position(|queued| queued.thread == thread) {
+        let _left = queue.remove(place);
     }
 }
 
