@@ -13,6 +13,7 @@ import time
 
 from checks import ROOT, SECONDS, answer, check, difference, is_gone, skip, stat_of, threads_of, until
 from record_kernel import Tracefs, faults_of, guard_of, is_descendant
+from record_places import compiled
 
 INTERRUPT, QUIT, SUSPEND = b"\x03", b"\x1c", b"\x1a"
 KEYS = str(ROOT / "record/out/programs/keys")
@@ -50,8 +51,8 @@ LEFT = []  # the terminals that haven't ended
 class Terminal:
     """A terminal, what is printed there, and the job that runs there."""
 
-    def __init__(self, folder, kernel, *arguments):
-        command = [str(ROOT / "record/pim-record"), *kernel, "-o", f"{folder}/run", KEYS, *arguments]
+    def __init__(self, folder, kernel, *arguments, before=()):
+        command = [*before, str(ROOT / "record/pim-record"), *kernel, "-o", f"{folder}/run", KEYS, *arguments]
         self.notes, notes = os.pipe()
         orders, self.orders = os.pipe()
         self.shell, self.keys = pty.fork()
@@ -135,6 +136,39 @@ def stops(folder, kernel, tracefs):
     until(lambda: not stopped(job.program))
     job.presses(INTERRUPT)
     return difference((*got, job.end()), (True, 1, True, True, -signal.SIGINT))
+
+
+# waitid as where the program stops between the kernel's two looks: the first call waits for that, and finds nothing.
+FINDS_NOTHING = """\
+#define _GNU_SOURCE
+#include <dlfcn.h>
+#include <sys/wait.h>
+
+int waitid(idtype_t type, id_t process, siginfo_t *info, int options) {
+    int (*real)(idtype_t, id_t, siginfo_t *, int) = dlsym(RTLD_NEXT, "waitid");
+    static int calls;
+    int first = ++calls == 1;
+    int answer = real(type, process, info, first ? WSTOPPED | WNOWAIT : options);
+    if (first) info->si_pid = 0;
+    return answer;
+}
+"""
+
+
+def stops_at_once(folder, kernel, _):
+    """Ctrl-Z holds that comes while pim-record, which a shell has continued, looks whether the program was."""
+    shim = compiled(folder, "nothing.c", FINDS_NOTHING, "-shared", "-fPIC")
+    job = Terminal(folder, kernel, before=("/usr/bin/env", f"LD_PRELOAD={shim}"))
+    job.presses(SUSPEND)
+    got = [job.is_stopped()]
+    os.write(job.orders, b"f")
+    got.append(job.prints("goes on"))
+    job.presses(SUSPEND)
+    got.append(job.is_stopped())
+    os.write(job.orders, b"f")
+    got.append(job.prints("goes on", 2))
+    job.presses(INTERRUPT)
+    return difference((*got, job.end()), (True, True, True, True, -signal.SIGINT))
 
 
 def stops_again(folder, kernel, _):
@@ -297,7 +331,7 @@ def outside(folder):
     return check(name, difference((status, out), (128 + signal.SIGTERM, b"0 0\n")))
 
 
-PARTS = {"Ctrl-Z, fg, Ctrl-C": stops, "stopped again by others": stops_again,
+PARTS = {"Ctrl-Z, fg, Ctrl-C": stops, "stopped again at once": stops_at_once, "stopped again by others": stops_again,
          "a program that handles the keys": handles, "Ctrl-\\": quits,
          "SIGTSTP to pim-record alone": one_process, "a stop of the program alone": program_alone,
          "SIGSTOP to pim-record alone": stays, "a guard that was killed": unguarded,
