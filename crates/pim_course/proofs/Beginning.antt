@@ -11,10 +11,12 @@ use Rattle.pim_facts.specs.declared.ids.LoggedMutex.{LoggedMutex}
 use Rattle.pim_facts.specs.declared.ids.LoggedThread.{LoggedThread}
 use Rattle.pim_course.specs.Courses.{free, idle}
 use Rattle.pim_course.specs.Reading.{Begins, world_before}
+use Rattle.pim_course.specs.Sections.{no_sections, sections_of}
 use Rattle.pim_course.specs.World.{if_any, world_of}
 use Rattle.pim_course.specs.declared.course.Course.{Course}
 use Rattle.pim_course.specs.declared.course.CourseMutex.{CourseMutex}
 use Rattle.pim_course.specs.declared.course.CourseThread.{CourseThread}
+use Rattle.pim_course.proofs.Numbering.{sections_are}
 use Rattle.pim_course.proofs.Worlds.{worlds}
 
 -- the mutexes are free, and those below a place have their ceilings
@@ -22,18 +24,20 @@ pub record AreFree (logged : List LoggedMutex) (place : ℕ) (mutexes : List Cou
   pub len : length mutexes ≡ length logged
   pub owner : (m : ℕ) → (get_or mutexes m free).owner ≡ 0
   pub depth : (m : ℕ) → (get_or mutexes m free).depth ≡ 0
+  pub section : (m : ℕ) → (get_or mutexes m free).section ≡ 0
   pub ceiling : (m : ℕ) → m < place → (get_or mutexes m free).ceiling ≡ option_map_or (λ is. is.ceiling) (slice_get logged m) 0
 
 -- the threads do nothing, and those below a place have their levels
 pub record AreIdle (logged : List LoggedThread) (place : ℕ) (threads : List CourseThread) : Type 0 where
   pub len : length threads ≡ length logged
   pub awaits : (t : ℕ) → (get_or threads t idle).awaits ≡ 0
+  pub section : (t : ℕ) → (get_or threads t idle).section ≡ 0
   pub level : (t : ℕ) → t < place → (get_or threads t idle).level ≡ option_map_or (λ is. is.level) (slice_get logged t) 0
 
 pub begins : (ids : Ids) (course : Course) (place : ℕ) → AreFree ids.mutexes.items (length ids.mutexes.items) course.mutexes.items →
-    AreIdle ids.threads.items place course.threads.items → length ids.threads.items ≤ place → shown_in course.shown ≡ [] →
-    Begins ids course
-begins ids course place mutexes threads end shown =
+    AreIdle ids.threads.items place course.threads.items → length ids.threads.items ≤ place → course.sections ≡ 0 →
+    shown_in course.shown ≡ [] → Begins ids course
+begins ids course place mutexes threads end none shown =
     record {
       world = worlds (world_before ids) (world_of course)
           (fun_ext (λ m. ap if_any (mutexes.owner m)))
@@ -53,5 +57,9 @@ begins ids course place mutexes threads end shown =
       threads = threads.len;
       mutexes = mutexes.len;
       depths = mutexes.depth;
+      sections = sections_are no_sections (sections_of course)
+          (fun_ext (λ m. ap if_any (mutexes.section m)))
+          (fun_ext (λ t. ap if_any (threads.section t)))
+          none;
       shown = shown;
     }

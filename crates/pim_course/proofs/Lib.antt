@@ -3,3 +3,5 @@ pub mod Worlds
 pub mod Leading
 pub mod Covered
 pub mod Telling
+pub mod Numbering
+pub mod Together

@@ -12,10 +12,10 @@ use Rattle.pim_course.specs.declared.course.CourseMutex.{CourseMutex}
 use Rattle.pim_course.specs.declared.course.CourseThread.{CourseThread}
 
 -- a field of each element of a list
-abbrev each : {X A : Type 0} → (X → A) → X → List X → ℕ → A
+abbrev pub each : {X A : Type 0} → (X → A) → X → List X → ℕ → A
 each f d xs k = f (get_or xs k d)
 
-each-put : {X A : Type 0} (f : X → A) (d : X) (xs ys : List X) (i : ℕ) (y : X) → ys ≡ set xs i y → i < length xs →
+pub each-put : {X A : Type 0} (f : X → A) (d : X) (xs ys : List X) (i : ℕ) (y : X) → ys ≡ set xs i y → i < length xs →
     each f d ys ≡ but_for i (f y) (each f d xs)
 each-put f d xs ys i y e lt =
     fun_ext (λ k. elim (cases_eq k i) [
@@ -27,7 +27,7 @@ each-put f d xs ys i y e lt =
           ∙ sym (ap (λ b. cond b (f y) (f (get_or xs k d))) (ne_eqb k i other))
     ])
 
-each-same : {X A : Type 0} (f : X → A) (d : X) (xs ys : List X) (i : ℕ) (y : X) → ys ≡ set xs i y → f y ≡ f (get_or xs i d) →
+pub each-same : {X A : Type 0} (f : X → A) (d : X) (xs ys : List X) (i : ℕ) (y : X) → ys ≡ set xs i y → f y ≡ f (get_or xs i d) →
     each f d ys ≡ each f d xs
 each-same f d xs ys i y e same =
     fun_ext (λ k. elim (cases_lt i (length xs)) [

@@ -4,5 +4,6 @@ pub mod Going
 pub mod Kept
 pub mod Reading
 pub mod Requests
+pub mod Sections
 pub mod Told
 pub mod World

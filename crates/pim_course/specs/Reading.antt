@@ -11,6 +11,7 @@ use Rattle.pim_facts.specs.Levels.{first_level, id_of, level_by}
 use Rattle.pim_facts.specs.Shown.{shown_in}
 use Rattle.pim_facts.specs.declared.ids.Ids.{Ids}
 use Rattle.pim_course.specs.Depths.{depths_after}
+use Rattle.pim_course.specs.Sections.{AreNumbered, no_sections, sections_of}
 use Rattle.pim_course.specs.Told.{depths_of, happened_in, told_by}
 use Rattle.pim_course.specs.World.{Lead, World, but_for, world_of}
 use Rattle.pim_course.specs.declared.course.Course.{Course}
@@ -25,12 +26,14 @@ first_ceiling ids m = option_map_or (λ mutex. mutex.ceiling) (slice_get ids.mut
 abbrev pub world_before : Ids → World
 world_before ids = record { owner = λ m. None; awaits = λ t. None; level = first_level ids; ceiling = first_ceiling ids }
 
--- a course begins: it has the threads and mutexes of a log, no mutex is locked, and nothing is shown yet
+-- a course begins: it has the threads and mutexes of a log, no mutex is locked, there was no critical section, and nothing is
+-- shown yet
 pub record Begins (ids : Ids) (course : Course) : Type 0 where
   pub world : world_of course ≡ world_before ids
   pub threads : length course.threads.items ≡ length ids.threads.items
   pub mutexes : length course.mutexes.items ≡ length ids.mutexes.items
   pub depths : (m : ℕ) → depths_of course m ≡ 0
+  pub sections : sections_of course ≡ no_sections
   pub shown : shown_in course.shown ≡ []
 
 -- the world in which an event of a thread happens: the thread's first record tells the level that it has, which is no fact
@@ -66,7 +69,8 @@ abbrev pub LacksRecord : List ℕ → ℕ → Type 0
 LacksRecord bytes number = (slot : ℕ) → IsNumbered bytes slot number → ⊥
 
 -- a course goes on by the record of a log with this number: it shows then what the record tells. If the course has those of
--- the record, that leads from the world in which it is read to the one behind it, and each mutex is locked as often as it says
+-- the record, that leads from the world in which it is read to the one behind it, each mutex is locked as often as it says,
+-- and what is shown has the numbers of the critical sections
 pub record GoesBy (bytes : List ℕ) (sources : Sources) (number : ℕ) (old new : Course) : Type 0 where
   pub slot : ℕ
   pub found : Record
@@ -75,16 +79,20 @@ pub record GoesBy (bytes : List ℕ) (sources : Sources) (number : ℕ) (old new
   pub told : happened_in new ≡ told_by sources old found
   pub depths : HasThoseOf old found (id_of sources.ids number) → (m : ℕ) → depths_of new m ≡ depths_after sources old found m
   pub led : HasThoseOf old found (id_of sources.ids number) → Lead (shown_in new.shown) (world_at old found) (world_of new)
+  pub sections : HasThoseOf old found (id_of sources.ids number) →
+      AreNumbered (shown_in new.shown) (sections_of old) (sections_of new)
 
 -- a course has the threads and mutexes of a log
 pub record HasAllOf (ids : Ids) (course : Course) : Type 0 where
   pub threads : length course.threads.items ≡ length ids.threads.items
   pub mutexes : length course.mutexes.items ≡ length ids.mutexes.items
 
--- what a record of a log shows leads from the world in which it is read to the one behind it, and each mutex is locked then
--- as often as the record says, in a course that has the threads and mutexes of the log
+-- what a record of a log shows leads from the world in which it is read to the one behind it, each mutex is locked then as
+-- often as the record says, and what is shown has the numbers of the critical sections, in a course that has the threads and
+-- mutexes of the log
 abbrev pub ReadingLaw : Type 0
 ReadingLaw = (bytes : List ℕ) (sources : Sources) (number : ℕ) (old new : Course) → Covers sources.ids bytes →
     HasAllOf sources.ids old → number < end_of (header_of bytes) → (goes : GoesBy bytes sources number old new) →
     Lead (shown_in new.shown) (world_at old goes.found) (world_of new)
     × ((m : ℕ) → depths_of new m ≡ depths_after sources old goes.found m)
+    × AreNumbered (shown_in new.shown) (sections_of old) (sections_of new)

@@ -5,8 +5,9 @@ ghost use Rattle.pim_facts.specs.Levels.{id_of, level_by};
 ghost use Rattle.pim_facts.specs.Shown.{shown_in};
 ghost use Rattle.pim_course.specs.Courses.{family_in, mutex_in, thread_in};
 ghost use Rattle.pim_course.specs.Depths.{depth_again, depth_granted, depth_released, depths_after, is_recursive_in};
-ghost use Rattle.pim_course.specs.Going.{GoesOn, HasSameSize, IsStill, KeepsDepths, Tells};
+ghost use Rattle.pim_course.specs.Going.{GoesOn, HasSameSize, IsStill, KeepsDepths, KeepsSections, Numbers, Tells};
 ghost use Rattle.pim_course.specs.Reading.{Begins, HasRequest, HasThoseOf, world_at};
+ghost use Rattle.pim_course.specs.Sections.{AreNumbered, lasts_at, number_at, sections_of};
 ghost use Rattle.pim_course.specs.Told.{added_told, ceiling_told, fail_told, gave_up_told, grant_told, level_told, release_told, released_told, request_told};
 ghost use Rattle.pim_course.specs.Told.{ceiling_by_log, depths_of, did, happened_in, heir_in, is_it, told_by};
 ghost use Rattle.pim_course.specs.World.{CanHappen, Lead, but_for, if_any, world_of};
@@ -186,6 +187,9 @@ impl Course {
         ensures shown { HasThoseOf self.old «record».now (id_of sources.now.ids «record».now.number) →
             shown_in self.old.shown ≡ [] →
             Lead (shown_in self.new.shown) (world_at self.old «record».now) (world_of self.new) }
+        ensures sections { HasThoseOf self.old «record».now (id_of sources.now.ids «record».now.number) →
+            shown_in self.old.shown ≡ [] →
+            AreNumbered (shown_in self.new.shown) (sections_of self.old) (sections_of self.new) }
         ensures told { shown_in self.old.shown ≡ [] → happened_in self.new ≡ told_by sources.now self.old «record».now }
     {
         let id = sources.ids.of_record(record.number);
@@ -208,6 +212,9 @@ impl Course {
         ensures depths { KeepsDepths self.old self.new }
         ensures shown { HasRequest self.old request.now → shown_in self.old.shown ≡ [] →
             Lead (shown_in self.new.shown) (world_of self.old) (world_of self.new) }
+        ensures sections { HasRequest self.old request.now → request.now.mutex < length self.old.mutexes.items →
+            shown_in self.old.shown ≡ [] →
+            AreNumbered (shown_in self.new.shown) (sections_of self.old) (sections_of self.new) }
         ensures told { shown_in self.old.shown ≡ [] → happened_in self.new ≡ added_told (world_of self.old) request.now }
     {
         let (thread, mutex) = (request.thread, request.mutex);
@@ -223,6 +230,7 @@ impl Course {
     fn ask_at(&mut self, thread: u32, place: Option<u16>)
         ensures size { HasSameSize self.old self.new }
         ensures depths { KeepsDepths self.old self.new }
+        ensures sections { KeepsSections self.old self.new }
         ensures still { IsStill self.old self.new }
     {
         let mut is = self.thread(thread);
@@ -234,6 +242,7 @@ impl Course {
     fn begin(&mut self, thread: u32, priority: Priority) -> LeftOut
         ensures size { HasSameSize self.old self.new }
         ensures depths { KeepsDepths self.old self.new }
+        ensures sections { KeepsSections self.old self.new }
         ensures shown { self.new.shown ≡ self.old.shown }
         ensures level { thread < length self.old.threads.items →
             world_of self.new ≡
@@ -248,6 +257,7 @@ impl Course {
     fn set_level(&mut self, thread: u32, priority: Priority) -> LeftOut
         ensures size { HasSameSize self.old self.new }
         ensures depths { KeepsDepths self.old self.new }
+        ensures sections { Numbers 1 self.old self.new }
         ensures goes { thread < length self.old.threads.items → GoesOn 1 self.old self.new }
         ensures told { Tells 1 (level_told (world_of self.old) thread priority) self.old self.new }
     {
@@ -265,6 +275,7 @@ impl Course {
     fn set_ceiling(&mut self, sources: &Sources, thread: u32, said: &Mutex, mutex: u32) -> LeftOut
         ensures size { HasSameSize self.old self.new }
         ensures depths { KeepsDepths self.old self.new }
+        ensures sections { Numbers 1 self.old self.new }
         ensures goes { mutex < length self.old.mutexes.items → GoesOn 1 self.old self.new }
         ensures told { Tells 1 (ceiling_told sources.now (world_of self.old) thread mutex said.now) self.old self.new }
     {
@@ -279,6 +290,7 @@ impl Course {
     fn correct_ceiling(&mut self, sources: &Sources, thread: u32, said: &Mutex, mutex: u32) -> bool
         ensures size { HasSameSize self.old self.new }
         ensures depths { KeepsDepths self.old self.new }
+        ensures sections { Numbers 1 self.old self.new }
         ensures owner { (world_of self.new).owner ≡ (world_of self.old).owner }
         ensures awaits { (world_of self.new).awaits ≡ (world_of self.old).awaits }
         ensures goes { mutex < length self.old.mutexes.items → GoesOn 1 self.old self.new }
@@ -302,6 +314,7 @@ impl Course {
     fn correct_wait(&mut self, thread: u32, but: u32)
         ensures size { HasSameSize self.old self.new }
         ensures depths { KeepsDepths self.old self.new }
+        ensures sections { Numbers 1 self.old self.new }
         ensures owner { (world_of self.new).owner ≡ (world_of self.old).owner }
         ensures awaits { ((world_of self.new).awaits thread ≡ None) ⊎
             (((world_of self.new).awaits thread ≡ Some but) × ((world_of self.old).awaits thread ≡ Some but)) }
@@ -321,6 +334,7 @@ impl Course {
     fn stop_waiting(&mut self, thread: u32)
         ensures size { HasSameSize self.old self.new }
         ensures depths { KeepsDepths self.old self.new }
+        ensures sections { Numbers 1 self.old self.new }
         ensures owner { (world_of self.new).owner ≡ (world_of self.old).owner }
         ensures awaits { (world_of self.new).awaits thread ≡ None }
         ensures goes { (thread_in self.old thread).awaits ≢ 0 → GoesOn 1 self.old self.new }
@@ -350,6 +364,8 @@ impl Course {
         ensures depths { KeepsDepths self.old self.new }
         ensures goes { «record».now.thread < length self.old.threads.items → mutex < length self.old.mutexes.items →
             GoesOn 3 self.old self.new }
+        ensures sections { «record».now.thread < length self.old.threads.items → mutex < length self.old.mutexes.items →
+            Numbers 3 self.old self.new }
         ensures told { Tells 3 (request_told sources.now (world_of self.old) «record».now.thread mutex said.now) self.old self.new }
     {
         let thread = record.thread;
@@ -373,6 +389,7 @@ impl Course {
     fn request_own(&mut self, sources: &Sources, record: &Record, mutex: u32)
         ensures size { HasSameSize self.old self.new }
         ensures depths { KeepsDepths self.old self.new }
+        ensures sections { KeepsSections self.old self.new }
         ensures still { IsStill self.old self.new }
     {
         let mut own = self.thread(record.thread);
@@ -391,6 +408,8 @@ impl Course {
         ensures depths { KeepsDepths self.old self.new }
         ensures goes { thread < length self.old.threads.items → 0 < mutex →
             CanHappen (world_of self.old) What.Waits thread mutex → GoesOn 1 self.old self.new }
+        ensures sections { thread < length self.old.threads.items → mutex < length self.old.mutexes.items →
+            Numbers 1 self.old self.new }
         ensures told { Tells 1 (did What.Waits thread mutex) self.old self.new }
     {
         let section = self.section_of(mutex);
@@ -435,6 +454,9 @@ impl Course {
     fn section_of(&mut self, mutex: u32) -> u32
         ensures size { HasSameSize self.old self.new }
         ensures depths { KeepsDepths self.old self.new }
+        ensures sections { mutex < length self.old.mutexes.items →
+            sections_of self.new ≡ lasts_at (sections_of self.old) mutex }
+        ensures number { if_any result ≡ Some (number_at (sections_of self.old) mutex) }
         ensures still { IsStill self.old self.new }
     {
         let mut is = self.mutex(mutex);
@@ -454,6 +476,7 @@ impl Course {
             depth_granted sources.now.ids (world_of self.old) (depths_of self.old) «record».now.thread mutex m }
         ensures goes { 0 < «record».now.thread → «record».now.thread < length self.old.threads.items →
             mutex < length self.old.mutexes.items → GoesOn 4 self.old self.new }
+        ensures sections { mutex < length self.old.mutexes.items → Numbers 4 self.old self.new }
         ensures told { Tells 4 (grant_told sources.now (world_of self.old) «record».now.thread mutex said.now) self.old self.new }
     {
         let thread = record.thread;
@@ -480,6 +503,7 @@ impl Course {
             (world_of self.new).owner mutex ≡ None }
         ensures awaits { (world_of self.new).awaits ≡ (world_of self.old).awaits }
         ensures goes { if_any owner ≡ (world_of self.old).owner mutex → GoesOn 1 self.old self.new }
+        ensures sections { if_any owner ≡ (world_of self.old).owner mutex → Numbers 1 self.old self.new }
         ensures told { Tells 1 (option_map_or (λ t. released_told (world_of self.old) t mutex next) (if_any owner) [])
             self.old self.new }
     {
@@ -491,6 +515,7 @@ impl Course {
     fn forget_own(&mut self, thread: u32)
         ensures size { HasSameSize self.old self.new }
         ensures depths { KeepsDepths self.old self.new }
+        ensures sections { KeepsSections self.old self.new }
         ensures still { IsStill self.old self.new }
     {
         let mut is = self.thread(thread);
@@ -503,6 +528,7 @@ impl Course {
         ensures size { HasSameSize self.old self.new }
         ensures depths { mutex < length self.old.mutexes.items → 0 < thread →
             (m : ℕ) → depths_of self.new m ≡ depth_again ids.now (depths_of self.old) mutex m }
+        ensures sections { KeepsSections self.old self.new }
         ensures still { IsStill self.old self.new }
     {
         let mut is = self.mutex(mutex);
@@ -521,6 +547,7 @@ impl Course {
         ensures goes { 0 < «record».now.thread → «record».now.thread < length self.old.threads.items →
             mutex < length self.old.mutexes.items → 0 < mutex →
             CanHappen (world_of self.old) What.Granted «record».now.thread mutex → GoesOn 1 self.old self.new }
+        ensures sections { mutex < length self.old.mutexes.items → Numbers 1 self.old self.new }
         ensures told { Tells 1 (did What.Granted «record».now.thread mutex) self.old self.new }
     {
         let thread = record.thread;
@@ -548,6 +575,7 @@ impl Course {
     fn fail(&mut self, thread: u32, mutex: u32) -> LeftOut
         ensures size { HasSameSize self.old self.new }
         ensures depths { KeepsDepths self.old self.new }
+        ensures sections { Numbers 1 self.old self.new }
         ensures goes { GoesOn 1 self.old self.new }
         ensures told { Tells 1 (fail_told (world_of self.old) thread mutex) self.old self.new }
     {
@@ -565,6 +593,7 @@ impl Course {
         ensures depths { 0 < «record».now.thread → (m : ℕ) → depths_of self.new m ≡
             depth_released sources.now (world_of self.old) (depths_of self.old) «record».now.number «record».now.thread mutex m }
         ensures goes { 0 < «record».now.thread → GoesOn 2 self.old self.new }
+        ensures sections { 0 < «record».now.thread → Numbers 2 self.old self.new }
         ensures told { Tells 2 (release_told sources.now (world_of self.old) (depths_of self.old) «record».now.number
             «record».now.thread mutex) self.old self.new }
     {
@@ -596,6 +625,7 @@ impl Course {
         ensures owner { mutex < length self.old.mutexes.items → (world_of self.new).owner mutex ≡ None }
         ensures awaits { (world_of self.new).awaits ≡ (world_of self.old).awaits }
         ensures goes { (world_of self.old).owner mutex ≡ Some thread → GoesOn 1 self.old self.new }
+        ensures sections { (world_of self.old).owner mutex ≡ Some thread → Numbers 1 self.old self.new }
         ensures told { Tells 1 (released_told (world_of self.old) thread mutex next) self.old self.new }
     {
         let mut is = self.mutex(mutex);

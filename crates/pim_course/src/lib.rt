@@ -7,7 +7,8 @@
 //! waits, and [`Walk::shown`] returns what the record shows. It is proved that these are the facts that the record tells
 //! (specs/Told.antt), and that they lead from the one to the other: only a free mutex is granted, only its owner releases
 //! it, a thread awaits one mutex at a time, and nothing changes but what the facts say (specs/World.antt;
-//! [`reading_law`] says it of each record of a log).
+//! [`reading_law`] says it of each record of a log). Each fact has the number of its critical section, which no other one has
+//! (specs/Sections.antt, [`sections_law`]).
 //!
 //! ```text
 //! let mut walk = Walk::new(alloc, &sources.ids)?;
@@ -25,7 +26,7 @@ mod requests;
 mod walk;
 
 pub use course::{Course, CourseMutex, CourseThread, Sources, family_of};
-pub use laws::reading_law;
+pub use laws::{reading_law, sections_law};
 pub use next_owners::NextOwners;
 pub use requests::{Request, Requests};
 pub use walk::{Moment, Walk};

@@ -1,9 +1,10 @@
 //! The way through a log, record by record.
-ghost use Rattle.std.specs.Prelude.{◌≡◌, ◌⊎◌, [], IfOk, IfSome, slice_get};
+ghost use Rattle.std.specs.Prelude.{◌≡◌, ◌⊎◌, ◌<◌, [], length, IfOk, IfSome, slice_get};
 ghost use Rattle.std.specs.Option.{option_map_or};
 ghost use Rattle.pim_facts.specs.Shown.{shown_in};
-ghost use Rattle.pim_course.specs.Going.{HasSameSize, KeepsDepths};
+ghost use Rattle.pim_course.specs.Going.{HasSameSize, KeepsDepths, KeepsSections};
 ghost use Rattle.pim_course.specs.Reading.{Begins, GoesBy, HasRequest, LacksRecord};
+ghost use Rattle.pim_course.specs.Sections.{AreNumbered, sections_of};
 ghost use Rattle.pim_course.specs.Told.{added_told, happened_in};
 ghost use Rattle.pim_course.specs.World.{Lead, world_of};
 
@@ -56,7 +57,8 @@ impl Walk {
     pub fn read(&mut self, log: &Log, sources: &Sources, number: u64) -> Moment
         ensures size { HasSameSize self.old.course self.new.course }
         ensures shown { (LacksRecord log.now number × (shown_in self.new.course.shown ≡ [])
-            × (world_of self.new.course ≡ world_of self.old.course) × KeepsDepths self.old.course self.new.course)
+            × (world_of self.new.course ≡ world_of self.old.course) × KeepsDepths self.old.course self.new.course
+            × KeepsSections self.old.course self.new.course)
             ⊎ GoesBy log.now sources.now number self.old.course self.new.course }
     {
         self.course.shown.clear();
@@ -89,6 +91,9 @@ impl Walk {
         ensures depths { KeepsDepths self.old.course self.new.course }
         ensures shown { IfSome (slice_get sources.now.requests.list.items self.old.added) (HasRequest self.old.course) →
             Lead (shown_in self.new.course.shown) (world_of self.old.course) (world_of self.new.course) }
+        ensures sections { IfSome (slice_get sources.now.requests.list.items self.old.added)
+            (λ request. HasRequest self.old.course request × (request.mutex < length self.old.course.mutexes.items)) →
+            AreNumbered (shown_in self.new.course.shown) (sections_of self.old.course) (sections_of self.new.course) }
         ensures told { happened_in self.new.course ≡
             option_map_or (added_told (world_of self.old.course)) (slice_get sources.now.requests.list.items self.old.added) [] }
     {

@@ -5,6 +5,7 @@ use Rattle.pim_course.specs.World.{CanHappen, if_any}
 use Rattle.pim_course.specs.declared.course.Course.{Course}
 use Rattle.pim_course.proofs.Worlds.{some_is}
 use Rattle.pim_course.proofs.Leading.{goes-still, goes-then, led-by}
+use Rattle.pim_course.proofs.Numbering.{numbered-by, numbers-none, numbers-then}
 use Rattle.pim_course.proofs.course.Course.add_request.Goals as goal
 
 pub returns-then-is-thread-clause-shown : goal.returns-then-is-thread-clause-shown
@@ -18,4 +19,14 @@ returns-then-is-thread-clause-shown c has none =
       ap (λ y. if_any y.awaits) (sym c.thread.ensures) ∙ ap if_any c.if-thread-eq0.true,
       λ e. omega (arith, ap (λ z. z.owner) c.mutex-is.ensures ∙ some_is _ _ e),
     ))))
+    none
+
+pub returns-then-is-thread-clause-sections : goal.returns-then-is-thread-clause-sections
+returns-then-is-thread-clause-sections c has below none =
+    let old : Course = c.args.self.now in
+    let d : Course = c.ask_at.new.self in
+    numbered-by 1 old c.wait.new.self (omega arith)
+    (numbers-then 0 1 old d c.wait.new.self (numbers-none 0 old d c.ask_at.ensures.still.shown c.ask_at.ensures.sections)
+    (c.wait.ensures.sections (omega (arith, has.thread, c.ask_at.ensures.size.threads))
+    (omega (arith, below, c.ask_at.ensures.size.mutexes))))
     none

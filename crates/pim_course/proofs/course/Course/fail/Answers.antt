@@ -7,6 +7,7 @@ use Rattle.pim_course.specs.Told.{did, is_it}
 use Rattle.pim_course.specs.World.{World, world_of}
 use Rattle.pim_course.specs.declared.course.Course.{Course}
 use Rattle.pim_course.proofs.Telling.{if-not, if-so, it-is, it-isnt, left-of, neither, not-false, not-true, right-of, tells-behind, tells-none, tells-same}
+use Rattle.pim_course.proofs.Numbering.{numbers-none, numbers-then}
 use Rattle.pim_course.proofs.course.Course.fail.Goals as goal
 use Rattle.pim_course.proofs.course.Course.fail.Goals.{then-mutex-eq0-via-then-mutex-eq0, then-mutex-eq0-via-else-mutex-eq0+then-thread-mutex}
 
@@ -39,3 +40,14 @@ returns-clause-told c =
     ∙ sym (if-not _ _ _ (neither _ _ (ne_eqb m 0 (λ e. omega (arith, e, c.if-mutex-eq0.false)))
     (not-true _ (ap (λ (now : World). is_it (now.awaits t) m) (sym still.world) ∙ it-is _ _ awaits)))))
     c.stop_waiting.ensures.told)
+
+pub returns-then-mutex-eq0-clause-sections : goal.returns-then-mutex-eq0-clause-sections
+returns-then-mutex-eq0-clause-sections c =
+    numbers-none 1 c.args.self.now c.forget_own.new.self c.forget_own.ensures.still.shown c.forget_own.ensures.sections
+
+pub returns-clause-sections : goal.returns-clause-sections
+returns-clause-sections c =
+    let f : Course = c.forget_own.new.self in
+    numbers-then 0 1 c.args.self.now f c.stop_waiting.new.self
+    (numbers-none 0 c.args.self.now f c.forget_own.ensures.still.shown c.forget_own.ensures.sections)
+    c.stop_waiting.ensures.sections

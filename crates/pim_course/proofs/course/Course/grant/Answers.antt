@@ -10,6 +10,7 @@ use Rattle.pim_course.specs.declared.course.CourseMutex.{CourseMutex}
 use Rattle.pim_course.specs.declared.course.Course.{Course}
 use Rattle.pim_course.proofs.Telling.{depth-put, gave-up-same, if-not, it-isnt, neither, tells-behind, tells-same, tells-then}
 use Rattle.pim_course.proofs.Leading.{goes-marked, goes-still, goes-then}
+use Rattle.pim_course.proofs.Numbering.{numbers-marked, numbers-none, numbers-then}
 use Rattle.pim_course.proofs.course.Course.grant.Goals as goal
 
 pub returns-clause-goes : goal.returns-clause-goes
@@ -104,3 +105,29 @@ returns-clause-depths c below above k =
     ∙ sym (ap (λ is. cond is (depth_again c.args.sources.now.ids (depths_of old) m) once k)
     (neither _ _ (ne_eqb m 0 (λ e. omega (arith, e, c.if-mutex-eq0.false)))
     (it-isnt _ _ (λ e. c.if-owner-thread.false (ap (λ z. z.owner) c.mutex-owner.ensures ∙ e)))))
+
+pub returns-clause-sections : goal.returns-clause-sections
+returns-clause-sections c below =
+    let m = c.args.mutex in
+    let old : Course = c.args.self.now in
+    let f : Course = c.forget_own.new.self in
+    let a : Course = c.correct_ceiling.new.self in
+    let b : Course = c.correct_wait.new.self in
+    let g : Course = c.free.new.self in
+    let new : Course = c.take.new.self in
+    let owned : if_any c.mutex-owner.result.owner ≡ (world_of b).owner m =
+    ap (λ z. if_any z.owner) c.mutex-owner.ensures
+    ∙ sym (ap (λ h. h m) (c.correct_wait.ensures.owner ∙ c.correct_ceiling.ensures.owner
+    ∙ ap (λ w. w.owner) c.forget_own.ensures.still.world)) in
+    numbers-then 0 4 old f new (numbers-none 0 old f c.forget_own.ensures.still.shown c.forget_own.ensures.sections)
+    (numbers-then 1 3 f a new c.correct_ceiling.ensures.sections
+    (numbers-then 1 2 a b new c.correct_wait.ensures.sections
+    (numbers-marked 2 c.if-not-may_be_above.self b new
+    (numbers-then 1 1 _ g new (c.free.ensures.sections owned)
+    (c.take.ensures.sections (omega (
+      arith,
+      c.forget_own.ensures.size.mutexes,
+      c.correct_ceiling.ensures.size.mutexes,
+      c.correct_wait.ensures.size.mutexes,
+      c.free.ensures.size.mutexes,
+    )))))))

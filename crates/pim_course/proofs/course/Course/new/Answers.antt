@@ -1,4 +1,4 @@
-use Rattle.std.proofs.Common.{arith}
+use Rattle.std.proofs.Common.{refl, arith}
 use Rattle.std.proofs.lemmas.Grind.{common_steps}
 use Rattle.pim_course.proofs.Beginning.{begins}
 use Rattle.pim_course.proofs.course.Course.new.Goals as goal
@@ -10,4 +10,4 @@ returns c =
       omega (arith, c.loop-place-2-test.false, c.len-place-end-2.ensures, c.in_ok-threads.ensures.len, c.len-2.ensures),
       grind (arith, common_steps, c.loop-place-2-test.false, c.len-place-end-2.ensures, c.in_ok-threads.ensures.len),
     ))
-    c.none.ensures
+    refl c.none.ensures

@@ -9,6 +9,7 @@ use Rattle.pim_course.specs.declared.course.Course.{Course}
 use Rattle.pim_course.proofs.Telling.{depth-put, if-not, it-is, left-by, neither, never-zero, none-of, not-true, tells-same, tells-then}
 use Rattle.pim_course.proofs.Worlds.{has_mutex, is_any}
 use Rattle.pim_course.proofs.Leading.{goes-then}
+use Rattle.pim_course.proofs.Numbering.{numbers-then}
 use Rattle.pim_course.proofs.course.Course.release.Goals as goal
 
 pub returns-clause-goes : goal.returns-clause-goes
@@ -59,3 +60,12 @@ returns-clause-depths c above k =
     (ne_eqb m 0 (λ e. omega (arith, e, c.if-mutex-eq0.false)))
     (not-true _ (it-is _ _ owner))
     (sym c.is_refused.ensures ∙ c.if-is_refused.false)))
+
+pub returns-clause-sections : goal.returns-clause-sections
+returns-clause-sections c above =
+    let owner : c.mutex-is.result.owner ≡ c.args.record.now.thread = omega arith in
+    numbers-then 1 1 c.args.self.now c.correct_wait.new.self c.hand_over.new.self c.correct_wait.ensures.sections
+    (c.hand_over.ensures.sections
+    (ap (λ f. f c.args.mutex) c.correct_wait.ensures.owner
+    ∙ ap (λ z. if_any z.owner) (sym c.mutex-is.ensures) ∙ ap if_any owner
+    ∙ is_any c.args.record.now.thread (λ e. omega (arith, e))))

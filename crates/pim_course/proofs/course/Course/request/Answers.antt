@@ -8,6 +8,7 @@ use Rattle.pim_course.specs.declared.course.Course.{Course}
 use Rattle.pim_course.proofs.Telling.{gave-up-same, if-not, it-isnt, none-of, tells-behind, tells-same, tells-then}
 use Rattle.pim_course.proofs.Worlds.{some_is}
 use Rattle.pim_course.proofs.Leading.{goes-still, goes-then}
+use Rattle.pim_course.proofs.Numbering.{numbers-none, numbers-then}
 use Rattle.pim_course.proofs.course.Course.request.Goals as goal
 
 pub returns-clause-goes : goal.returns-clause-goes
@@ -54,3 +55,15 @@ returns-clause-told c =
     (tells-then 1 1 said gone old a b c.correct_ceiling.ensures.told
     (tells-same 1 _ gone a b (gave-up-same (world_of old) (world_of a) t m c.correct_ceiling.ensures.awaits) c.correct_wait.ensures.told))
     (tells-behind 1 _ b d new c.ask_at.ensures.still.shown c.wait.ensures.told))
+
+pub returns-clause-sections : goal.returns-clause-sections
+returns-clause-sections c lt below =
+    let a : Course = c.correct_ceiling.new.self in
+    let b : Course = c.correct_wait.new.self in
+    let d : Course = c.ask_at.new.self in
+    numbers-then 1 2 c.args.self.now a c.wait.new.self c.correct_ceiling.ensures.sections
+    (numbers-then 1 1 a b c.wait.new.self c.correct_wait.ensures.sections
+    (numbers-then 0 1 b d c.wait.new.self (numbers-none 0 b d c.ask_at.ensures.still.shown c.ask_at.ensures.sections)
+    (c.wait.ensures.sections
+    (omega (arith, c.correct_ceiling.ensures.size.threads, c.correct_wait.ensures.size.threads, c.ask_at.ensures.size.threads))
+    (omega (arith, c.correct_ceiling.ensures.size.mutexes, c.correct_wait.ensures.size.mutexes, c.ask_at.ensures.size.mutexes)))))

@@ -1,5 +1,6 @@
 use Rattle.std.proofs.Common.{ap, ◌∙◌}
 use Rattle.pim_course.proofs.Worlds.{still-thread}
+use Rattle.pim_course.proofs.Numbering.{same-thread}
 use Rattle.pim_course.proofs.course.Course.request_own.Goals as goal
 use Rattle.pim_course.proofs.course.Course.request_own.Goals.{then-not-is_recursive, else-not-is_recursive}
 
@@ -14,4 +15,13 @@ returns-clause-still c =
     (elim c.if-not-is_recursive.branch [
       | then-not-is_recursive w ↦ ap (λ y. y.level) w.own-is ∙ ap (λ y. y.level) c.thread-own.ensures
       | else-not-is_recursive w ↦ ap (λ y. y.level) w.own-is ∙ ap (λ y. y.level) c.thread-own.ensures
+    ])
+
+pub returns-clause-sections : goal.returns-clause-sections
+returns-clause-sections c =
+    same-thread c.args.self.now c.put_thread.new.self _ _ c.put_thread.ensures.threads
+    (ap (λ d. d.mutexes) c.put_thread.ensures.rest) (ap (λ d. d.sections) c.put_thread.ensures.rest)
+    (elim c.if-not-is_recursive.branch [
+      | then-not-is_recursive w ↦ ap (λ y. y.section) w.own-is ∙ ap (λ y. y.section) c.thread-own.ensures
+      | else-not-is_recursive w ↦ ap (λ y. y.section) w.own-is ∙ ap (λ y. y.section) c.thread-own.ensures
     ])

@@ -1,6 +1,7 @@
-use Rattle.std.proofs.Common.{ap, sym, ◌∙◌}
+use Rattle.std.proofs.Common.{ap, sym, ◌∙◌, refl}
 use Rattle.pim_course.proofs.Worlds.{world-level}
 use Rattle.pim_course.proofs.Leading.{goes-added}
+use Rattle.pim_course.proofs.Numbering.{numbers-added, same-thread}
 use Rattle.pim_course.proofs.course.Course.set_level.Goals as goal
 
 pub returns-clause-goes : goal.returns-clause-goes
@@ -10,3 +11,11 @@ returns-clause-goes c lt =
     (λ e. c.if-level-is.false (sym e ∙ sym (ap (λ y. y.level) c.thread-is.ensures)))
     (world-level c.args.self.now c.put_thread.new.self _ _ c.put_thread.ensures.threads
     (ap (λ d. d.mutexes.items) c.put_thread.ensures.rest) lt (ap (λ y. y.awaits) c.thread-is.ensures))
+
+pub returns-clause-sections : goal.returns-clause-sections
+returns-clause-sections c =
+    numbers-added c.args.self.now c.put_thread.new.self _ _ _ c.fact.ensures (ap (λ d. d.shown) c.put_thread.ensures.rest)
+    c.add.ensures.shown c.add.ensures.full refl
+    (same-thread c.args.self.now c.put_thread.new.self _ _ c.put_thread.ensures.threads
+    (ap (λ d. d.mutexes) c.put_thread.ensures.rest) (ap (λ d. d.sections) c.put_thread.ensures.rest)
+    (ap (λ y. y.section) c.thread-is.ensures))

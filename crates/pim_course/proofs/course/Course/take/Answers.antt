@@ -7,6 +7,7 @@ use Rattle.pim_course.specs.World.{CanHappen, if_any, world_of}
 use Rattle.pim_course.specs.declared.course.Course.{Course}
 use Rattle.pim_course.proofs.Worlds.{is_any, none_is, put-in, some_is, world-taken}
 use Rattle.pim_course.proofs.Leading.{goes-added, goes-still, goes-then}
+use Rattle.pim_course.proofs.Numbering.{numbers-added, same-both}
 use Rattle.pim_course.proofs.course.Course.take.Goals as goal
 use Rattle.pim_course.proofs.course.Course.take.Goals.{then-owner-mutex, else-owner-mutex}
 
@@ -46,3 +47,31 @@ returns-clause-goes c above lt below some possible =
     (put-in c.put_thread.new.self.mutexes.items s.mutexes.items _ _ _ items c.put_mutex.ensures.mutexes)
     (omega (arith, c.section_of-section.ensures.size.threads)) (omega (arith, c.section_of-section.ensures.size.mutexes))
     (ap if_any none) level (is_any c.args.record.now.thread (λ e. omega (arith, e))) ceiling))
+
+pub returns-clause-sections : goal.returns-clause-sections
+returns-clause-sections c below =
+    let old : Course = c.args.self.now in
+    let s : Course = c.section_of-section.new.self in
+    let still : IsStill old s = c.section_of-section.ensures.still in
+    let items : c.put_thread.new.self.mutexes.items ≡ s.mutexes.items =
+    ap (λ d. d.mutexes.items) c.put_thread.ensures.rest in
+    let began : c.if-owner-mutex.owner.section ≡ (thread_in s c.args.record.now.thread).section =
+    elim c.if-owner-mutex.branch [
+      | then-owner-mutex w ↦ ap (λ y. y.section) w.owner-is ∙ ap (λ y. y.section) c.thread-owner.ensures
+      | else-owner-mutex w ↦ ap (λ y. y.section) w.owner-is ∙ ap (λ y. y.section) c.thread-owner.ensures
+    ] in
+    let lasting : c.if-owner-mutex.is.section ≡ (mutex_in s c.args.mutex).section =
+    elim c.if-owner-mutex.branch [
+      | then-owner-mutex w ↦ ap (λ z. z.section) w.is-is ∙ ap (λ z. z.section) c.mutex-is.ensures
+      | else-owner-mutex w ↦ ap (λ z. z.section) w.is-is ∙ ap (λ z. z.section) c.mutex-is.ensures
+    ] in
+    numbers-added old c.put_mutex.new.self _ _ _
+    (ap (λ (f : Fact). record f { since = c.if-owner-mutex.since }) c.fact-granted.ensures)
+    (ap (λ d. d.shown) c.put_mutex.ensures.rest ∙ ap (λ d. d.shown) c.put_thread.ensures.rest ∙ still.shown)
+    c.add.ensures.shown c.add.ensures.full c.section_of-section.ensures.number
+    (same-both s c.put_mutex.new.self c.args.record.now.thread _ c.args.mutex _
+    (ap (λ d. d.threads.items) c.put_mutex.ensures.rest ∙ c.put_thread.ensures.threads)
+    (put-in c.put_thread.new.self.mutexes.items s.mutexes.items _ _ _ items c.put_mutex.ensures.mutexes)
+    (ap (λ d. d.sections) c.put_mutex.ensures.rest ∙ ap (λ d. d.sections) c.put_thread.ensures.rest)
+    began lasting
+    ∙ c.section_of-section.ensures.sections below)

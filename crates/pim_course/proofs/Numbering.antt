@@ -1,0 +1,188 @@
+-- How facts get the numbers of critical sections, a part of a record after the other.
+use Rattle.std.proofs.Common.{◌≡◌, ◌≢◌, ℕ, ◌+◌, ◌-◌, ◌^◌, ◌<◌, ◌≤◌, cond, Bool, List, [], ◌∷◌, ◌++◌, length, set, Some, None, is_none, sym, refl, ap, ◌∙◌, subst, inl, inr, eq-eqb, arith}
+use Rattle.std.proofs.Math.Path.{fun_ext}
+use Rattle.std.proofs.lemmas.Bool.{ne_eqb, cases_eq, cases_lt}
+use Rattle.std.proofs.lemmas.List.{length-append}
+use Rattle.std.specs.Option.{unwrap_or}
+use Rattle.pim_facts.specs.Shown.{shown_in}
+use Rattle.pim_facts.specs.declared.fact.Fact.{Fact}
+use Rattle.pim_facts.specs.declared.fact.What.TheVariants.{Released, Waits}
+use Rattle.pim_course.specs.Courses.{free, idle, mutex_in, thread_in}
+use Rattle.pim_course.specs.Going.{KeepsSections, Numbers}
+use Rattle.pim_course.specs.Sections.{AreNumbered, HasNumberOf, Sections, after_numbered, lasts_at, next_number, number_at, sections_after, sections_of}
+use Rattle.pim_course.specs.World.{but_for, if_any}
+use Rattle.pim_course.specs.declared.course.Course.{Course}
+use Rattle.pim_course.specs.declared.course.CourseMutex.{CourseMutex}
+use Rattle.pim_course.specs.declared.course.CourseThread.{CourseThread}
+use Rattle.pim_course.proofs.Worlds.{each, each-put, each-same, is_any}
+
+-- critical sections are the same if all of them says the same
+pub sections_are : (v w : Sections) → w.lasting ≡ v.lasting → w.began ≡ v.began → w.count ≡ v.count → w ≡ v
+sections_are v w lasting began count = λ i. record { lasting = lasting i; began = began i; count = count i }
+
+lasting-kept : (c d : Course) → d.mutexes.items ≡ c.mutexes.items → (sections_of d).lasting ≡ (sections_of c).lasting
+lasting-kept c d e = ap (each (λ z. if_any z.section) free) e
+
+began-kept : (c d : Course) → d.threads.items ≡ c.threads.items → (sections_of d).began ≡ (sections_of c).began
+began-kept c d e = ap (each (λ y. if_any y.section) idle) e
+
+lasting-same : (c d : Course) (m : ℕ) (z : CourseMutex) → d.mutexes.items ≡ set c.mutexes.items m z →
+    z.section ≡ (mutex_in c m).section → (sections_of d).lasting ≡ (sections_of c).lasting
+lasting-same c d m z e same = each-same (λ z. if_any z.section) free c.mutexes.items d.mutexes.items m z e (ap if_any same)
+
+began-same : (c d : Course) (t : ℕ) (y : CourseThread) → d.threads.items ≡ set c.threads.items t y →
+    y.section ≡ (thread_in c t).section → (sections_of d).began ≡ (sections_of c).began
+began-same c d t y e same = each-same (λ y. if_any y.section) idle c.threads.items d.threads.items t y e (ap if_any same)
+
+lasting-put : (c d : Course) (m : ℕ) (z : CourseMutex) → d.mutexes.items ≡ set c.mutexes.items m z →
+    m < length c.mutexes.items → (sections_of d).lasting ≡ but_for m (if_any z.section) (sections_of c).lasting
+lasting-put c d m z e lt = each-put (λ z. if_any z.section) free c.mutexes.items d.mutexes.items m z e lt
+
+began-put : (c d : Course) (t : ℕ) (y : CourseThread) → d.threads.items ≡ set c.threads.items t y →
+    t < length c.threads.items → (sections_of d).began ≡ but_for t (if_any y.section) (sections_of c).began
+began-put c d t y e lt = each-put (λ y. if_any y.section) idle c.threads.items d.threads.items t y e lt
+
+pub same-thread : (c d : Course) (t : ℕ) (y : CourseThread) → d.threads.items ≡ set c.threads.items t y →
+    d.mutexes ≡ c.mutexes → d.sections ≡ c.sections → y.section ≡ (thread_in c t).section → KeepsSections c d
+same-thread c d t y threads mutexes count section =
+    sections_are (sections_of c) (sections_of d) (lasting-kept c d (ap (λ v. v.items) mutexes))
+    (began-same c d t y threads section) count
+
+pub same-mutex : (c d : Course) (m : ℕ) (z : CourseMutex) → d.mutexes.items ≡ set c.mutexes.items m z →
+    d.threads ≡ c.threads → d.sections ≡ c.sections → z.section ≡ (mutex_in c m).section → KeepsSections c d
+same-mutex c d m z mutexes threads count section =
+    sections_are (sections_of c) (sections_of d) (lasting-same c d m z mutexes section)
+    (began-kept c d (ap (λ v. v.items) threads)) count
+
+pub same-both : (c d : Course) (t : ℕ) (y : CourseThread) (m : ℕ) (z : CourseMutex) →
+    d.threads.items ≡ set c.threads.items t y → d.mutexes.items ≡ set c.mutexes.items m z → d.sections ≡ c.sections →
+    y.section ≡ (thread_in c t).section → z.section ≡ (mutex_in c m).section → KeepsSections c d
+same-both c d t y m z threads mutexes count began lasting =
+    sections_are (sections_of c) (sections_of d) (lasting-same c d m z mutexes lasting) (began-same c d t y threads began) count
+
+pub next-above : (s : Sections) → next_number s ≢ 0
+next-above s none =
+    elim (cases_lt s.count (2 ^ 32 - 1)) [
+      | inl lt ↦ omega (arith, none)
+      | inr le ↦ omega (arith, none)
+    ]
+
+-- none lasts at the mutex: the next one does from now on
+pub number-next : (s : Sections) (m : ℕ) → s.lasting m ≡ None → number_at s m ≡ next_number s
+number-next s m none = ap (λ o. unwrap_or o (next_number s)) none
+
+pub number-lasting : (s : Sections) (m n : ℕ) → s.lasting m ≡ Some n → number_at s m ≡ n
+number-lasting s m n lasting = ap (λ o. unwrap_or o (next_number s)) lasting
+
+pub lasts-next : (c d : Course) (m : ℕ) (z : CourseMutex) → d.mutexes.items ≡ set c.mutexes.items m z →
+    d.threads ≡ c.threads → m < length c.mutexes.items → (mutex_in c m).section ≡ 0 → z.section ≡ next_number (sections_of c) →
+    d.sections ≡ next_number (sections_of c) → sections_of d ≡ lasts_at (sections_of c) m
+lasts-next c d m z mutexes threads lt section put count =
+    let s : Sections = sections_of c in
+    let none : s.lasting m ≡ None = ap if_any section in
+    let is : if_any z.section ≡ Some (number_at s m) =
+    ap if_any put ∙ is_any (next_number s) (next-above s) ∙ sym (ap (λ n. Some n) (number-next s m none)) in
+    sections_are (lasts_at s m) (sections_of d)
+    (lasting-put c d m z mutexes lt ∙ ap (λ o. but_for m o s.lasting) is)
+    (began-kept c d (ap (λ v. v.items) threads))
+    (count ∙ sym (ap (λ o. cond (is_none o) (next_number s) s.count) none))
+
+pub lasts-still : (s : Sections) (m n : ℕ) → s.lasting m ≡ Some n → s ≡ lasts_at s m
+lasts-still s m n lasting =
+    sections_are (lasts_at s m) s
+    (fun_ext (λ k. elim (cases_eq k m) [
+      | inl at ↦
+          ap s.lasting at ∙ lasting ∙ ap (λ j. Some j) (sym (number-lasting s m n lasting))
+          ∙ sym (ap (λ b. cond b (Some (number_at s m)) (s.lasting k)) (eq-eqb k m at))
+      | inr other ↦ sym (ap (λ b. cond b (Some (number_at s m)) (s.lasting k)) (ne_eqb k m other))
+    ]))
+    refl
+    (sym (ap (λ o. cond (is_none o) (next_number s) s.count) lasting))
+
+-- a thread waits in the critical section that lasts then
+pub waits-in : (c s d : Course) (t : ℕ) (y : CourseThread) (m : ℕ) (z : CourseMutex) →
+    sections_of s ≡ lasts_at (sections_of c) m → d.threads.items ≡ set s.threads.items t y →
+    d.mutexes.items ≡ set s.mutexes.items m z → d.sections ≡ s.sections → t < length s.threads.items →
+    if_any y.section ≡ Some (number_at (sections_of c) m) → z.section ≡ (mutex_in s m).section →
+    sections_of d ≡ sections_after (sections_of c) Waits t m
+waits-in c s d t y m z lasts threads mutexes count lt began lasting =
+    sections_are (sections_after (sections_of c) Waits t m) (sections_of d)
+    (lasting-same s d m z mutexes lasting ∙ ap (λ x. x.lasting) lasts)
+    (began-put s d t y threads lt ∙ ap (λ o. but_for t o (sections_of s).began) began
+    ∙ ap (λ x. but_for t (Some (number_at (sections_of c) m)) x.began) lasts)
+    (count ∙ ap (λ x. x.count) lasts)
+
+-- a mutex is released: to nobody, or to a thread that has it next
+pub released-to : (c d : Course) (t m : ℕ) (z : CourseMutex) (next : ℕ) → d.threads.items ≡ c.threads.items →
+    d.mutexes.items ≡ set c.mutexes.items m z → d.sections ≡ c.sections → m < length c.mutexes.items →
+    (next ≡ 0 → z.section ≡ 0) → (next ≢ 0 → z.section ≡ (mutex_in c m).section) →
+    sections_of d ≡ sections_after (sections_of c) (Released next) t m
+released-to c d t m z next threads mutexes count lt nobody somebody =
+    let s : Sections = sections_of c in
+    let ended : Sections = record s { lasting = but_for m None s.lasting } in
+    elim (cases_eq next 0) [
+      | inl none ↦
+          sections_are ended (sections_of d)
+          (lasting-put c d m z mutexes lt ∙ ap (λ o. but_for m o s.lasting) (ap if_any (nobody none)))
+          (began-kept c d threads) count
+          ∙ sym (ap (λ n. cond (is_none (if_any n)) ended s) none)
+      | inr some ↦
+          sections_are s (sections_of d) (lasting-same c d m z mutexes (somebody some)) (began-kept c d threads) count
+          ∙ sym (ap (λ o. cond (is_none o) ended s) (is_any next some))
+    ]
+
+numbered-more : (facts : List Fact) (from to now : Sections) (fact : Fact) → AreNumbered facts from to → HasNumberOf to fact →
+    now ≡ after_numbered to fact → AreNumbered (facts ++ (fact ∷ [])) from now
+numbered-more [] from to now fact led has e =
+    (subst (λ s. HasNumberOf s fact) led has, e ∙ ap (λ s. after_numbered s fact) led)
+numbered-more (first ∷ facts) from to now fact led has e =
+    (led.0, numbered-more facts (after_numbered from first) to now fact led.1 has e)
+
+pub numbers-added : (old mid new : Course) (fact said : Fact) → fact ≡ said → mid.shown ≡ old.shown →
+    (length (shown_in mid.shown) < 4 → shown_in new.shown ≡ shown_in mid.shown ++ (fact ∷ [])) →
+    (4 ≤ length (shown_in mid.shown) → shown_in new.shown ≡ shown_in mid.shown) →
+    HasNumberOf (sections_of old) said → sections_of new ≡ after_numbered (sections_of old) said → Numbers 1 old new
+numbers-added old mid new fact said is kept more full has sections =
+    let same : shown_in mid.shown ≡ shown_in old.shown = ap shown_in kept in
+    let size : length (shown_in mid.shown) ≡ length (shown_in old.shown) = ap length same in
+    record {
+      numbered = λ from led room.
+          subst (λ facts. AreNumbered facts from (sections_of new))
+          (sym (more (omega arith) ∙ ap (λ facts. facts ++ (fact ∷ [])) same ∙ ap (λ one. shown_in old.shown ++ (one ∷ [])) is))
+          (numbered-more (shown_in old.shown) from (sections_of old) (sections_of new) said led has sections);
+      few = elim (cases_lt (length (shown_in mid.shown)) 4) [
+        | inl lt ↦ omega (arith, ap length (more lt), length-append (shown_in mid.shown) (fact ∷ []), size)
+        | inr le ↦ omega (arith, ap length (full le), size)
+      ];
+    }
+
+pub numbers-none : (most : ℕ) (old new : Course) → new.shown ≡ old.shown → KeepsSections old new → Numbers most old new
+numbers-none most old new shown same =
+    record {
+      numbered = λ from led _.
+          subst (λ facts. AreNumbered facts from (sections_of new)) (sym (ap shown_in shown))
+          (subst (λ s. AreNumbered (shown_in old.shown) from s) (sym same) led);
+      few = omega (arith, ap (λ shown. length (shown_in shown)) shown);
+    }
+
+pub numbers-then : (a b : ℕ) (old mid new : Course) → Numbers a old mid → Numbers b mid new → Numbers (a + b) old new
+numbers-then a b old mid new first next =
+    record {
+      numbered = λ from led room.
+          next.numbered from (first.numbered from led (omega arith)) (omega (arith, first.few));
+      few = omega (arith, first.few, next.few);
+    }
+
+pub numbers-within : (a b : ℕ) (old new : Course) → a ≤ b → Numbers a old new → Numbers b old new
+numbers-within a b old new le numbers =
+    record { numbered = λ from led room. numbers.numbered from led (omega arith); few = omega (arith, numbers.few) }
+
+pub numbered-by : (most : ℕ) (old new : Course) → most ≤ 4 → Numbers most old new → shown_in old.shown ≡ [] →
+    AreNumbered (shown_in new.shown) (sections_of old) (sections_of new)
+numbered-by most old new le numbers none =
+    numbers.numbered (sections_of old) (subst (λ facts. AreNumbered facts (sections_of old) (sections_of old)) (sym none) refl)
+    (omega (arith, ap length none))
+
+pub numbers-marked : (most : ℕ) (is : Bool) (old new : Course) → Numbers most (record old { is_contradiction = is }) new →
+    Numbers most old new
+numbers-marked most is old new numbers = record { numbered = numbers.numbered; few = numbers.few }
