@@ -2,7 +2,7 @@
 ghost use Rattle.std.specs.Prelude.{◌≡◌};
 ghost use Rattle.pim_course.specs.Kept.{kept_by, kept_of, never_was, next_by};
 
-use crate::lists::{get, set};
+use crate::lists::{get, push, set};
 use pim_facts::Ids;
 use pim_log::{Call, Event, Log, Record};
 use std::alloc::{AllocError, Global};
@@ -49,6 +49,16 @@ struct Coming {
     failing: Vec<Option<u32>>,
 }
 
+/// Which thread has each number of the kernel, from the end of the log on.
+#[derive(Drop)]
+struct Tasks {
+    /// By the kernel's number the thread whose THREAD was the last one with it.
+    threads: HashMap<u32, u32>,
+    /// By THREAD, in the order of the records, the thread that had its number before, if one had. Those that are passed are
+    /// taken away.
+    before: Vec<Option<u32>>,
+}
+
 impl Kept {
     /// Returns what has this number.
     fn of(number: u32) -> Kept
@@ -80,7 +90,11 @@ impl NextOwners {
     ///
     /// Returns `AllocError` if out of memory.
     pub fn of(alloc: Global, log: &Log, ids: &Ids) -> Result<NextOwners, AllocError> {
-        let mut found = NextOwners::named(alloc, log, ids)?;
+        let end = log.header().end();
+        let mut found = NextOwners {
+            kept: vec![in alloc; Kept::Owner(None).number(); end as usize]?,
+        };
+        let mut tasks = Tasks::at_the_end(alloc, ids)?;
         let mut coming = Coming {
             owners: vec![in alloc; None; ids.mutexes.len()]?,
             began: vec![in alloc; None; ids.mutexes.len()]?,
@@ -88,41 +102,11 @@ impl NextOwners {
             granted: vec![in alloc; None; ids.threads.len()]?,
             failing: vec![in alloc; None; ids.threads.len()]?,
         };
-        for number in (1..log.header().end()).rev() {
+        for number in (1..end).rev() {
             if let Some(record) = log.record(number) {
-                let named = found.asked_owner(number);
+                let named = tasks.read(ids, &record)?;
                 let kept = coming.read(ids, &record, named);
                 found.keep(number, kept);
-            }
-        }
-        Ok(found)
-    }
-
-    /// Returns the thread that each REQUEST names as the owner. A thread of another process isn't the owner, unless they
-    /// share the mutex: a forked child has copies of mutexes that name its parent's thread.
-    fn named(alloc: Global, log: &Log, ids: &Ids) -> Result<NextOwners, AllocError> {
-        let end = log.header().end();
-        let mut found = NextOwners {
-            kept: vec![in alloc; Kept::Owner(None).number(); end as usize]?,
-        };
-        let mut threads: HashMap<u32, u32> = HashMap::new(alloc);
-        for number in 1..end {
-            let Some(record) = log.record(number) else {
-                continue;
-            };
-            match record.event {
-                Event::Thread { .. } => {
-                    threads.insert(record.task, record.thread)?;
-                }
-                Event::Request {
-                    owner: Some(task),
-                    ..
-                } => {
-                    let named = threads.get(&task).copied();
-                    let owner = named.filter(|thread| may_own(ids, &record, *thread));
-                    found.keep(number, Kept::Owner(owner));
-                }
-                _ => {}
             }
         }
         Ok(found)
@@ -181,6 +165,45 @@ impl NextOwners {
         ensures { result ≡ never_was (kept_of self.now number) }
     {
         matches!(self.kept(number), Kept::Refused)
+    }
+}
+
+impl Tasks {
+    /// Returns who has each number at the end of the log.
+    fn at_the_end(alloc: Global, ids: &Ids) -> Result<Tasks, AllocError> {
+        let mut threads: HashMap<u32, u32> = HashMap::new(alloc);
+        let mut before = Vec::new(alloc);
+        for begin in &ids.begins {
+            let earlier = threads.insert(begin.task, begin.thread)?;
+            push(&mut before, earlier)?;
+        }
+        Ok(Tasks { threads, before })
+    }
+
+    /// Goes back past a record, and returns the thread that a REQUEST names as the owner. A thread of another process isn't
+    /// the owner, unless they share the mutex: a forked child has copies of mutexes that name its parent's thread.
+    fn read(&mut self, ids: &Ids, record: &Record) -> Result<Option<u32>, AllocError> {
+        match record.event {
+            Event::Thread { .. } => {
+                match self.before.pop().flatten() {
+                    Some(thread) => {
+                        self.threads.insert(record.task, thread)?;
+                    }
+                    None => {
+                        let _last = self.threads.remove(&record.task);
+                    }
+                }
+                Ok(None)
+            }
+            Event::Request {
+                owner: Some(task),
+                ..
+            } => {
+                let named = self.threads.get(&task).copied();
+                Ok(named.filter(|thread| may_own(ids, record, *thread)))
+            }
+            _ => Ok(None),
+        }
     }
 }
 

@@ -42,6 +42,15 @@ pub struct LoggedMutex {
     pub is_recursive: bool,
 }
 
+/// A thread's first record.
+#[derive(Clone, Copy, PartialEq, Eq)]
+pub struct Begin {
+    /// The kernel's number of the thread, which an earlier one may have had.
+    pub task: u32,
+    /// The log's number of the thread.
+    pub thread: u32,
+}
+
 /// The threads and the mutexes of a log, and which of them each record is about.
 #[derive(Drop)]
 pub struct Ids {
@@ -49,6 +58,8 @@ pub struct Ids {
     pub threads: Vec<LoggedThread>,
     /// The mutexes, from number 1 on in the order in which the log names them first. There is none with number 0.
     pub mutexes: Vec<LoggedMutex>,
+    /// What each THREAD says, in the order of the records.
+    pub begins: Vec<Begin>,
     /// By the number of each record the mutex, or the thread that is named or whose priority is set; else 0.
     of_record: Vec<u32>,
     /// Which levels the log has.
@@ -126,6 +137,7 @@ impl Ids {
         Ok(Ids {
             threads,
             mutexes,
+            begins: Vec::new(alloc),
             of_record,
             levels: [false; 101],
             ended: log.header().began,
@@ -311,7 +323,22 @@ impl Ids {
             record.thread,
         )?;
         put(&mut places.tasks, record.task, record.thread)?;
+        self.keep_begin(record)?;
         Ok(record.thread)
+    }
+
+    /// Keeps which thread has its number in the kernel from a record on.
+    fn keep_begin(&mut self, record: &Record) -> Result<(), AllocError>
+        ensures { Grows self.old self.new }
+    {
+        let begin = Begin {
+            task: record.task,
+            thread: record.thread,
+        };
+        match self.begins.push(begin) {
+            Ok(()) => Ok(()),
+            Err(_) => Err(AllocError),
+        }
     }
 
     fn begin_level(&mut self, thread: u32, level: u8)

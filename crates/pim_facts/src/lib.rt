@@ -23,5 +23,5 @@ pub use fact::{Fact, LeftOut, What};
 pub use facts::Facts;
 pub use family::{Family, ceiling_in};
 pub use fault::IdsFault;
-pub use ids::{Ids, LoggedMutex, LoggedThread, MAX_THREADS};
+pub use ids::{Begin, Ids, LoggedMutex, LoggedThread, MAX_THREADS};
 pub use level::level_of;
