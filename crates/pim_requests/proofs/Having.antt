@@ -8,14 +8,14 @@ use Rattle.pim_log.specs.declared.event.Event.TheVariants as event
 use Rattle.pim_facts.specs.Covering.{Covers, HasNumber, HasThoseOf}
 use Rattle.pim_facts.specs.Levels.{id_of}
 use Rattle.pim_facts.specs.declared.ids.Ids.{Ids}
-use Rattle.pim_course.specs.Reading.{HasAllOf, HasRequest}
+use Rattle.pim_course.specs.Reading.{HasAllOf}
 use Rattle.pim_course.specs.declared.course.Course.{Course}
 use Rattle.pim_course.specs.declared.requests.Request.{Request}
 use Rattle.pim_requests.specs.Asked.{IsOfCall, IsOfWait, IsShown, MayHaveWaited}
-use Rattle.pim_requests.specs.Laws.{RequestsLaw}
+use Rattle.pim_requests.specs.Laws.{HasBoth, RequestsLaw}
 use Rattle.pim_requests.specs.declared.waits.Wait.{Wait}
 
-named : (ids : Ids) (n : ℕ) (e : Event) → MayHaveWaited e → HasNumber ids e n → 0 < n
+named : (ids : Ids) (n : ℕ) (e : Event) → MayHaveWaited e → HasNumber ids e n → (0 < n) × (n < length ids.mutexes.items)
 named ids n (event.Thread _ _) waited about = absurd waited
 named ids n (event.Name _) waited about = absurd waited
 named ids n event.Create waited about = absurd waited
@@ -34,8 +34,8 @@ named ids n (event.Destroy _) waited about = absurd waited
 named ids n (event.DestroyFailed _) waited about = absurd waited
 named ids n (event.Ceiling _) waited about = absurd waited
 named ids n (event.Request _ _) waited about = absurd waited
-named ids n (event.Granted _ _ _) waited about = about.0
-named ids n (event.Failed _ _ _) waited about = about.0
+named ids n (event.Granted _ _ _) waited about = about
+named ids n (event.Failed _ _ _) waited about = about
 named ids n (event.Release _ _) waited about = absurd waited
 named ids n (event.ReleaseFailed _) waited about = absurd waited
 named ids n (event.Condition _) waited about = absurd waited
@@ -45,24 +45,31 @@ named ids n (event.Give _ _) waited about = absurd waited
 named ids n (event.Frame _) waited about = absurd waited
 
 of-call : (bytes : List ℕ) (ids : Ids) (course : Course) (r : Request) → Covers ids bytes → HasAllOf ids course →
-    IsOfCall bytes ids r → HasRequest course r
+    IsOfCall bytes ids r → HasBoth course r
 of-call bytes ids course r covers all is =
     let those : HasThoseOf ids is.end (id_of ids is.end.number) =
     covers is.ends.slot is.end.number is.end is.ends.numbered.below is.ends.numbered is.ends.is in
     let has : is.end.thread < length ids.threads.items = those.thread in
-    record {
-      thread = subst (λ t. t < length course.threads.items) (sym is.thread)
-          (subst (λ n. is.end.thread < n) (sym all.threads) has);
-      mutex = subst (λ m. 0 < m) (sym is.mutex) (named ids (id_of ids is.end.number) is.end.event is.lasted those.about);
-    }
+    let number = named ids (id_of ids is.end.number) is.end.event is.lasted those.about in (
+      record {
+        thread = subst (λ t. t < length course.threads.items) (sym is.thread)
+            (subst (λ n. is.end.thread < n) (sym all.threads) has);
+        mutex = subst (λ m. 0 < m) (sym is.mutex) number.0;
+      },
+      subst (λ m. m < length course.mutexes.items) (sym is.mutex)
+          (subst (λ n. id_of ids is.end.number < n) (sym all.mutexes)
+          number.1),
+    )
 
 of-wait : (ids : Ids) (waits : List Wait) (course : Course) (r : Request) → HasAllOf ids course → IsOfWait ids waits r →
-    HasRequest course r
-of-wait ids waits course r all is =
-    record {
-      thread = subst (λ n. r.thread < n) (sym all.threads) (slice_get_within ids.threads.items r.thread is.of.thread is.of.has_thread);
-      mutex = is.of.named;
-    }
+    HasBoth course r
+of-wait ids waits course r all is = (
+  record {
+    thread = subst (λ n. r.thread < n) (sym all.threads) (slice_get_within ids.threads.items r.thread is.of.thread is.of.has_thread);
+    mutex = is.of.named;
+  },
+  subst (λ n. r.mutex < n) (sym all.mutexes) (slice_get_within ids.mutexes.items r.mutex is.of.mutex is.of.has_mutex),
+)
 
 each : {X : Type 0} (P Q : X → Type 0) → ((x : X) → P x → Q x) → (xs : List X) (k : ℕ) → All P xs → IfSome (slice_get xs k) Q
 each P Q so [] k all = tt
@@ -70,7 +77,7 @@ each P Q so (x ∷ xs) zero all = so x (All-head P x xs all)
 each P Q so (x ∷ xs) (suc k) all = each P Q so xs k (All-tail P x xs all)
 
 shown-has : (bytes : List ℕ) (ids : Ids) (waits : List Wait) (course : Course) (r : Request) → Covers ids bytes →
-    HasAllOf ids course → IsShown bytes ids waits r → HasRequest course r
+    HasAllOf ids course → IsShown bytes ids waits r → HasBoth course r
 shown-has bytes ids waits course r covers all shown =
     elim shown [
       | inl call ↦ of-call bytes ids course r covers all call
@@ -79,5 +86,5 @@ shown-has bytes ids waits course r covers all shown =
 
 pub has-requests : RequestsLaw
 has-requests bytes ids waits requests course place covers all shown =
-    each (IsShown bytes ids waits) (HasRequest course)
+    each (IsShown bytes ids waits) (HasBoth course)
     (λ r is. shown-has bytes ids waits course r covers all is) requests place shown
