@@ -2,7 +2,7 @@
 --
 -- Behind the header a log has slots of 32 bytes. Slot s is the head of a chunk if 512 divides s; the others have room for
 -- a record of that chunk's thread.
-use Rattle.std.specs.Prelude.{◌≡◌, ◌≢◌, ℕ, ◌+◌, ◌-◌, ◌*◌, ◌%◌, ◌<◌, ◌==◌, nat_le, nat_lt, List, length, slice_index, Bool, not, ◌&&◌, ◌||◌, if◌then◌else◌, bit_and, IsTrue, Option, Some, None}
+use Rattle.std.specs.Prelude.{◌≡◌, ◌≢◌, ℕ, ◌+◌, ◌-◌, ◌*◌, ◌%◌, ◌<◌, ◌==◌, nat_le, nat_lt, List, length, slice_index, slice_index_or, Bool, not, ◌&&◌, ◌||◌, if◌then◌else◌, bit_and, IsTrue, Option, Some, None}
 use Rattle.pim_log.specs.Numbers.{number_at}
 use Rattle.pim_log.specs.Events.{is_event_of, object_in, place_in, time_of, Says}
 use Rattle.pim_log.specs.Headers.{header_of, header_fault, end_of, chunks_of}
@@ -12,6 +12,7 @@ use Rattle.pim_log.specs.declared.slots.TheConstants.{CHUNK_MARK}
 use Rattle.pim_log.specs.declared.event.Event.{Event}
 use Rattle.pim_log.specs.declared.event.Event.TheVariants as events
 use Rattle.pim_log.specs.declared.fields.Fields.{Fields}
+use Rattle.pim_log.specs.declared.heads.Head.{Head}
 use Rattle.pim_log.specs.declared.record.Record.{Record}
 use Rattle.pim_log.specs.declared.fault.SlotFault.{SlotFault}
 use Rattle.pim_log.specs.declared.fault.SlotFault.TheVariants.{DamagedHead, OutsideChunk, OutOfOrder, NumberTooHigh, UnknownEvent}
@@ -130,6 +131,17 @@ fields_in bytes s =
       code = code_in bytes s;
       how = slice_index bytes (at + 31);
     }
+
+-- what the head in a slot says of its chunk's thread
+abbrev pub head_in : List ℕ → ℕ → Head
+head_in bytes s =
+    let at = slot_at (header_of bytes) s in
+    record { process = number_at 4 (at + 8) bytes; task = number_at 4 (at + 12) bytes; thread = number_at 4 (at + 16) bytes }
+
+-- a list has the heads of the first chunks
+pub record AreHeads (bytes : List ℕ) (end : ℕ) (heads : List Head) : Type 0 where
+  pub room : length heads ≡ end
+  pub each : (chunk : ℕ) (default : Head) → chunk < end → slice_index_or heads chunk default ≡ head_in bytes (CHUNK_SLOTS * chunk)
 
 -- the record in a slot: what its fields say, and the numbers of its chunk's head
 pub record IsRecord (bytes : List ℕ) (s : ℕ) (r : Record) : Type 0 where

@@ -18,6 +18,7 @@ mod event;
 mod fault;
 mod fields;
 mod header;
+mod heads;
 mod index;
 mod log;
 mod mutex;

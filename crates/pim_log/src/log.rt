@@ -4,7 +4,8 @@ ghost use Rattle.pim_log.specs.Headers.{header_of, end_of};
 ghost use Rattle.pim_log.specs.Logs.{address_of, IsLog, IsFault, IsNumbered, IsOfLock, IsRecord};
 
 use crate::fault::LogFault;
-use crate::header::{HEADER_BYTES, Header, PLACED_VERSION, PLACES};
+use crate::header::{CHUNK_SLOTS, HEADER_BYTES, Header, PLACED_VERSION, PLACES};
+use crate::heads::{Head, heads_of};
 use crate::index::index_of;
 use crate::numbers::u64_at;
 use crate::record::Record;
@@ -18,23 +19,26 @@ pub struct Log<'a> {
     bytes: &'a [u8],
     header: Header,
     index: Vec<u32>,
+    /// By chunk.
+    heads: Vec<Head>,
 }
 
 impl<'a> Model for Log<'a> {
     ghost use Rattle.std.specs.Prelude.{◌≡◌, ℕ, List};
-    ghost use Rattle.pim_log.specs.Headers.{header_of};
-    ghost use Rattle.pim_log.specs.Logs.{IsLog, IsIndex, slots_of};
+    ghost use Rattle.pim_log.specs.Headers.{chunks_of, header_of};
+    ghost use Rattle.pim_log.specs.Logs.{AreHeads, IsLog, IsIndex, slots_of};
 
     ghost Value = { List ℕ };
 
     ghost view = { λ log. log.bytes.now };
 
     ghost invariant = { λ log. IsLog log.bytes.now × (log.header ≡ header_of log.bytes.now)
-        × IsIndex log.bytes.now (slots_of (header_of log.bytes.now)) log.index.items };
+        × IsIndex log.bytes.now (slots_of (header_of log.bytes.now)) log.index.items
+        × AreHeads log.bytes.now (chunks_of (header_of log.bytes.now)) log.heads.items };
 }
 
 impl<'a> Log<'a> {
-    /// Reads a log. Its index takes four bytes a number; the records stay where they are.
+    /// Reads a log. Its index takes four bytes a number, and twelve a chunk; the records stay where they are.
     ///
     /// # Errors
     ///
@@ -48,10 +52,12 @@ impl<'a> Log<'a> {
             Err(fault) => return Err(LogFault::Header(fault)),
         };
         let index = index_of(alloc, &header, bytes)?;
+        let heads = heads_of(alloc, &header, bytes)?;
         Ok(Log {
             bytes,
             header,
             index,
+            heads,
         })
     }
 
@@ -76,7 +82,8 @@ impl<'a> Log<'a> {
         if slot == 0 {
             return None;
         }
-        record_of(&self.header, self.bytes, slot as usize)
+        let head = &self.heads[slot as usize / CHUNK_SLOTS];
+        record_of(&self.header, self.bytes, slot as usize, head)
     }
 
     /// Returns whether a lock's record has this number: a REQUEST, a RELEASE, or a GRANTED, unless it ends a wait at a

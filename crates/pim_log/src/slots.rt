@@ -1,12 +1,13 @@
 //! The slots of a log: a chunk's head, or room for a record.
 ghost use Rattle.std.specs.Prelude.{◌≡◌, ◌≢◌, ◌+◌, ◌-◌, ◌^◌, ◌<◌, ◌≤◌, ◌%◌, length, false, MatchOption};
 ghost use Rattle.pim_log.specs.Headers.{header_of};
-ghost use Rattle.pim_log.specs.Logs.{slot_at, number_in, code_in, head_fault, is_in_order, record_fault, slot_fault, fields_in, is_lock_in, IsRecord};
+ghost use Rattle.pim_log.specs.Logs.{slot_at, number_in, code_in, head_fault, is_in_order, record_fault, slot_fault, fields_in, head_in, is_lock_in, IsRecord};
 ghost use Rattle.pim_log.specs.Events.{is_event};
 
 use crate::fault::SlotFault;
 use crate::fields::{Fields, is_event_of, object_in, place_in};
 use crate::header::{CHUNK_SLOTS, Header, SLOT_BYTES};
+use crate::heads::Head;
 use crate::numbers::{u16_at, u32_at, u64_at};
 use crate::record::Record;
 
@@ -151,22 +152,22 @@ pub fn is_lock_in(header: &Header, bytes: &[u8], slot: usize) -> bool
     }
 }
 
-/// Returns the record in a slot.
+/// Returns the record in a slot, whose chunk has this head.
 #[inline(always)]
-pub fn record_of(header: &Header, bytes: &[u8], slot: usize) -> Option<Record>
+pub fn record_of(header: &Header, bytes: &[u8], slot: usize, head: &Head) -> Option<Record>
     requires header { header.now ≡ header_of bytes.now }
     requires slot { slot_at header.now slot + 32 ≤ length bytes.now }
+    requires head { head.now ≡ head_in bytes.now (slot - slot % 512) }
     ensures { MatchOption result (is_event (code_in bytes.now slot) ≡ false) (IsRecord bytes.now slot) }
 {
-    let head = head_of(header, slot);
     let fields = fields_of(header, bytes, slot);
     let event = fields.event()?;
     Some(Record {
         number: number_of(header, bytes, slot),
         time: fields.time(),
-        process: u32_at(bytes, head + 8),
-        task: u32_at(bytes, head + 12),
-        thread: u32_at(bytes, head + 16),
+        process: head.process,
+        task: head.task,
+        thread: head.thread,
         place: fields.place,
         event,
     })
