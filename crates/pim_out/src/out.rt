@@ -52,7 +52,8 @@ impl Out {
 
     /// Adds a number in decimal digits.
     pub fn number(&mut self, number: u64) {
-        self.show(number);
+        let mut digits = itoa::Buffer::new();
+        self.put(digits.format(number));
     }
 
     /// Adds a number in decimal digits, with leading zeros if it has fewer than three.
