@@ -1,15 +1,20 @@
 //! Lists, read and changed at any place.
-ghost use Rattle.std.specs.Prelude.{◌≡◌, ◌++◌, ◌∷◌, [], OnOk};
+ghost use Rattle.std.specs.Prelude.{◌≡◌, ◌++◌, ◌∷◌, [], OnOk, slice_get, slice_set};
+ghost use Rattle.std.specs.Option.{UnwrapsOrElse};
 
 use std::alloc::AllocError;
 
 /// Returns the item at a place, or the default if there is none.
-pub fn get<T: Copy + Default>(list: &[T], place: u32) -> T {
+pub fn get<T: Copy + Default>(list: &[T], place: u32) -> T
+    ensures { UnwrapsOrElse (slice_get list.now place) T.is_default result }
+{
     list.get(place as usize).copied().unwrap_or_default()
 }
 
 /// Puts an item at a place, if there is one.
-pub fn set<T: Copy>(list: &mut Vec<T>, place: u32, item: T) {
+pub fn set<T: Copy>(list: &mut Vec<T>, place: u32, item: T)
+    ensures { list.new.items ≡ slice_set list.old.items place item }
+{
     if (place as usize) < list.len() {
         list[place as usize] = item;
     }
