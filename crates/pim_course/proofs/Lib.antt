@@ -5,3 +5,4 @@ pub mod Covered
 pub mod Telling
 pub mod Numbering
 pub mod Together
+pub mod NextOwning

@@ -2,6 +2,7 @@ pub mod Courses
 pub mod Depths
 pub mod Going
 pub mod Kept
+pub mod NextOwners
 pub mod Reading
 pub mod Requests
 pub mod Sections

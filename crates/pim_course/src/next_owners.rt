@@ -1,6 +1,13 @@
 //! Who owns a mutex next, and whose it is when a thread asks for it.
-ghost use Rattle.std.specs.Prelude.{◌≡◌};
+ghost use Rattle.std.specs.Prelude.{◌≡◌, ◌+◌, ◌<◌, ◌≤◌, ◌^◌, ℕ, IfOk, OnOk, Some, None, ◌≢◌, length, slice_set, if◌then◌else◌, List, ◌∷◌};
+ghost use Rattle.pim_log.specs.Headers.{header_of, end_of};
+ghost use Rattle.pim_facts.specs.Covering.{Covers, HasThoseOf};
+ghost use Rattle.pim_facts.specs.Levels.{id_of};
+ghost use Rattle.pim_facts.specs.declared.ids.Ids.{Ids};
+ghost use Rattle.pim_log.specs.declared.record.Record.{Record};
 ghost use Rattle.pim_course.specs.Kept.{kept_by, kept_of, never_was, next_by};
+ghost use Rattle.pim_course.specs.NextOwners.{CoversThose, FindsFrom, HasFound, HasRoom, IsKeepable, IsKept, Knows};
+ghost use Rattle.pim_course.specs.NextOwners.{is_call, is_granted, is_of_release, is_release_failed, next_owner, release_kept};
 
 use crate::lists::{get, push, set};
 use pim_facts::Ids;
@@ -73,10 +80,12 @@ impl Kept {
     }
 
     /// Returns its number.
-    fn number(self) -> u32 {
+    fn number(self) -> u32
+        ensures { IsKeepable self → kept_by result ≡ self }
+    {
         match self {
             Kept::Owner(owner) => owner.unwrap_or(0),
-            Kept::Later(thread) => thread | LATER,
+            Kept::Later(thread) => LATER.saturating_add(thread),
             Kept::Refused => REFUSED,
         }
     }
@@ -84,16 +93,16 @@ impl Kept {
 
 impl NextOwners {
     /// Returns who owns each mutex after each of its releases, and as each of its requests is made. Takes four bytes a
-    /// record.
+    /// record. What it says of a release is proved to be what the records behind it say.
     ///
     /// # Errors
     ///
     /// Returns `AllocError` if out of memory.
-    pub fn of(alloc: Global, log: &Log, ids: &Ids) -> Result<NextOwners, AllocError> {
-        let end = log.header().end();
-        let mut found = NextOwners {
-            kept: vec![in alloc; Kept::Owner(None).number(); end as usize]?,
-        };
+    pub fn of(alloc: Global, log: &Log, ids: &Ids) -> Result<NextOwners, AllocError>
+        ensures { Covers ids.now log.now → length ids.now.threads.items ≤ 2 ^ 31 →
+            IfOk result (λ found. FindsFrom log.now ids.now found 1) }
+    {
+        let mut found = NextOwners::none(alloc, log)?;
         let mut tasks = Tasks::at_the_end(alloc, ids)?;
         let mut coming = Coming {
             owners: vec![in alloc; None; ids.mutexes.len()]?,
@@ -102,18 +111,50 @@ impl NextOwners {
             granted: vec![in alloc; None; ids.threads.len()]?,
             failing: vec![in alloc; None; ids.threads.len()]?,
         };
-        for number in (1..end).rev() {
-            if let Some(record) = log.record(number) {
-                let named = tasks.read(ids, &record)?;
-                let kept = coming.read(ids, &record, named);
-                found.keep(number, kept);
-            }
+        for number in (1..log.header().end()).rev() {
+            found.find(&mut tasks, &mut coming, log, ids, number)?;
         }
         Ok(found)
     }
 
+    /// Finds what is kept of the record with this number. What those behind it say is known, and then what it says, too.
+    fn find(
+        &mut self,
+        tasks: &mut Tasks,
+        coming: &mut Coming,
+        log: &Log,
+        ids: &Ids,
+        number: u64,
+    ) -> Result<(), AllocError>
+        ensures { Covers ids.now log.now → length ids.now.threads.items ≤ 2 ^ 31 →
+            HasFound log.now ids.now (number + 1) self.old coming.old →
+            OnOk result (HasFound log.now ids.now number self.new coming.new) }
+    {
+        let Some(record) = log.record(number) else {
+            return Ok(());
+        };
+        let named = tasks.read(ids, &record)?;
+        let kept = coming.read(ids, &record, named);
+        self.keep(number, kept);
+        Ok(())
+    }
+
+    /// Returns that nothing is kept of any record of a log.
+    fn none(alloc: Global, log: &Log) -> Result<NextOwners, AllocError>
+        ensures { IfOk result (λ found. length found.kept.items ≡ end_of (header_of log.now)) }
+    {
+        let end = log.header().end();
+        Ok(NextOwners {
+            kept: vec![in alloc; Kept::Owner(None).number(); end as usize]?,
+        })
+    }
+
     /// Keeps this of the record with this number.
-    fn keep(&mut self, number: u64, kept: Kept) {
+    fn keep(&mut self, number: u64, kept: Kept)
+        ensures room { length self.new.kept.items ≡ length self.old.kept.items }
+        ensures kept { number < length self.old.kept.items → IsKeepable kept → kept_of self.new number ≡ kept }
+        ensures rest { (other : ℕ) → other ≢ number → kept_of self.new other ≡ kept_of self.old other }
+    {
         if (number as usize) < self.kept.len() {
             self.kept[number as usize] = kept.number();
         }
@@ -209,31 +250,68 @@ impl Tasks {
 
 impl Coming {
     /// Records what a record says, and returns what is kept of it. A REQUEST names this thread.
-    fn read(&mut self, ids: &Ids, record: &Record, named: Option<u32>) -> Kept {
+    fn read(&mut self, ids: &Ids, record: &Record, named: Option<u32>) -> Kept
+        ensures room { HasRoom ids.now self.old → HasRoom ids.now self.new }
+        ensures knows { (behind : List Record) → Knows ids.now behind self.old → Knows ids.now (record.now ∷ behind) self.new }
+        ensures kept { (behind : List Record) → HasRoom ids.now self.old → Knows ids.now behind self.old →
+            CoversThose ids.now behind → HasThoseOf ids.now record.now (id_of ids.now record.now.number) →
+            IsKept ids.now (id_of ids.now record.now.number) record.now.thread record.now.event behind result }
+    {
         let mutex = ids.of_record(record.number);
         self.begin_behind(record);
+        let kept = self.kept(ids, record, named, mutex);
+        self.learn(record, mutex);
+        kept
+    }
+
+    /// Returns what is kept of a record, which is of this mutex. A REQUEST names this thread.
+    fn kept(&self, ids: &Ids, record: &Record, named: Option<u32>, mutex: u32) -> Kept
+        ensures { (behind : List Record) → HasRoom ids.now self.now → Knows ids.now behind self.now →
+            CoversThose ids.now behind → HasThoseOf ids.now record.now mutex →
+            IsKept ids.now mutex record.now.thread record.now.event behind result }
+    {
         match record.event {
             Event::Request { owner, .. } => {
-                set(&mut self.granted, record.thread, None);
                 if named.is_some() {
                     return Kept::Owner(named);
                 }
-                return self.next_if_asked(ids, record, owner, mutex);
+                self.next_if_asked(ids, record, owner, mutex)
             }
-            Event::Release { call, .. } => {
+            Event::Release { call, .. } => self.release(record.thread, call, mutex),
+            _ => Kept::Owner(None),
+        }
+    }
+
+    /// Learns whom a record grants its mutex, and what its thread calls.
+    fn learn(&mut self, record: &Record, mutex: u32)
+        ensures owners { self.new.owners.items ≡ (if is_granted record.now.event
+            then slice_set self.old.owners.items mutex (Some record.now.thread) else self.old.owners.items) }
+        ensures granted { self.new.granted.items ≡ (if is_call record.now.event
+            then slice_set self.old.granted.items record.now.thread (if is_granted record.now.event then Some mutex else None)
+            else self.old.granted.items) }
+        ensures failing { self.new.failing.items ≡ (if is_of_release record.now.event
+            then slice_set self.old.failing.items record.now.thread
+            (if is_release_failed record.now.event then Some mutex else None)
+            else self.old.failing.items) }
+    {
+        match record.event {
+            Event::Request { .. } | Event::Failed { .. } => {
                 set(&mut self.granted, record.thread, None);
-                return self.read_release(record.thread, call, mutex);
+            }
+            Event::Release { .. } => {
+                set(&mut self.granted, record.thread, None);
+                set(&mut self.failing, record.thread, None);
             }
             Event::Granted { .. } => self.read_grant(record, mutex),
-            Event::Failed { .. } => set(&mut self.granted, record.thread, None),
             Event::ReleaseFailed(_) => set(&mut self.failing, record.thread, Some(mutex)),
             _ => {}
         }
-        Kept::Owner(None)
     }
 
     /// A call whose begin its GRANTED doesn't say began behind the record of its thread before that, which this is.
-    fn begin_behind(&mut self, record: &Record) {
+    fn begin_behind(&mut self, record: &Record)
+        ensures { self.new ≡ record self.old { began = self.new.began; beginning = self.new.beginning } }
+    {
         if record.time.is_none() {
             return;
         }
@@ -245,7 +323,11 @@ impl Coming {
         }
     }
 
-    fn read_grant(&mut self, record: &Record, mutex: u32) {
+    fn read_grant(&mut self, record: &Record, mutex: u32)
+        ensures owners { self.new.owners.items ≡ slice_set self.old.owners.items mutex (Some record.now.thread) }
+        ensures granted { self.new.granted.items ≡ slice_set self.old.granted.items record.now.thread (Some mutex) }
+        ensures failing { self.new.failing ≡ self.old.failing }
+    {
         let began = record.began();
         let beginning = if began.is_none() { Some(mutex) } else { None };
         set(&mut self.granted, record.thread, Some(mutex));
@@ -274,24 +356,32 @@ impl Coming {
     }
 
     /// Returns what is kept of a RELEASE. The RELEASE_FAILED behind it is the next record of its thread.
-    fn read_release(&mut self, thread: u32, call: Call, mutex: u32) -> Kept {
-        let is_failing = get(&self.failing, thread) == Some(mutex);
-        set(&mut self.failing, thread, None);
-        if is_failing && call == Call::Condition {
+    fn release(&self, thread: u32, call: Call, mutex: u32) -> Kept
+        ensures { (ids : Ids) (behind : List Record) → HasRoom ids self.now → Knows ids behind self.now →
+            CoversThose ids behind → mutex < length ids.mutexes.items → thread < length ids.threads.items →
+            result ≡ release_kept ids mutex thread call behind }
+    {
+        if call == Call::Condition && get(&self.failing, thread) == Some(mutex) {
             Kept::Refused
         } else {
-            Kept::Owner(self.next_owner(mutex))
+            Kept::Owner(self.next_owner(thread, mutex))
         }
     }
 
-    /// Returns the thread that is granted a mutex next, if it calls nothing before.
-    fn next_owner(&self, mutex: u32) -> Option<u32> {
+    /// Returns another thread that is granted a mutex next, if it calls nothing before.
+    fn next_owner(&self, thread: u32, mutex: u32) -> Option<u32>
+        ensures { (ids : Ids) (behind : List Record) → HasRoom ids self.now → Knows ids behind self.now →
+            CoversThose ids behind → mutex < length ids.mutexes.items →
+            result ≡ next_owner ids mutex thread behind }
+    {
         let next = get(&self.owners, mutex)?;
-        if get(&self.granted, next) == Some(mutex) {
-            Some(next)
-        } else {
-            None
+        if next == thread {
+            return None;
         }
+        if get(&self.granted, next) == Some(mutex) {
+            return Some(next);
+        }
+        None
     }
 }
 

@@ -1,0 +1,218 @@
+-- What is found of the records of a log from one on, if it is found of those behind it.
+use Rattle.std.proofs.Common.{◌≡◌, ◌≢◌, ℕ, zero, suc, ◌+◌, ◌==◌, ◌&&◌, not, nat_eq, ◌<◌, ◌≤◌, ◌^◌, Bool, true, false, cond, List, [], ◌∷◌, length, get_or, replicate, refl, sym, ap, subst, ◌∙◌, arith, inl, inr, Option, Some, None}
+use Rattle.std.proofs.lemmas.Bool.{cases_eq}
+use Rattle.std.proofs.lemmas.List.{get_or-replicate, length-replicate}
+use Rattle.std.specs.Prelude.{IfSome, find, slice_get}
+use Rattle.std.specs.Option.{UnwrapsOrElse, option_and_then, option_eq, option_map}
+use Rattle.pim_log.specs.Headers.{header_of, end_of}
+use Rattle.pim_log.specs.Logs.{IsNumbered, IsRecord}
+use Rattle.pim_log.specs.declared.event.Call.{Call}
+use Rattle.pim_log.specs.declared.record.Record.{Record}
+use Rattle.pim_facts.specs.Levels.{id_of}
+use Rattle.pim_facts.specs.declared.ids.Ids.{Ids}
+use Rattle.pim_course.specs.Kept.{kept_of}
+use Rattle.pim_course.specs.NextOwners.{AreFrom, CoversThose, Finds, FindsFrom, HasFound, HasRoom, IsAt, IsKeepable, IsKept, Knows, granted_first, is_refused, is_that, next_granted, next_owner, release_call, release_kept}
+use Rattle.pim_course.specs.declared.next_owners.Coming.{Coming}
+use Rattle.pim_course.specs.declared.next_owners.Kept.{Kept}
+use Rattle.pim_course.specs.declared.next_owners.Kept.TheVariants.{Owner, Refused}
+use Rattle.pim_course.specs.declared.next_owners.NextOwners.{NextOwners}
+
+-- what `get` returns of a list of options
+pub got : (xs : List (Option ℕ)) (i : ℕ) (r : Option ℕ) → UnwrapsOrElse (slice_get xs i) (λ o. o ≡ None) r → r ≡ get_or xs i None
+got [] i r e = e
+got (x ∷ xs) zero r e = e
+got (x ∷ xs) (suc i) r e = got xs i r e
+
+-- the first of these records that passes a test is of a thread that is there
+first-there : (ids : Ids) (p : Record → Bool) (rs : List Record) (t : ℕ) → CoversThose ids rs →
+    option_map (λ r. r.thread) (find p rs) ≡ Some t → (0 < t) × (t < length ids.threads.items)
+first-there ids p [] t covers e = cc
+first-there ids p (r ∷ rs) t covers e =
+    elim (p r) as (λ v. option_map (λ r. r.thread) (cond v (Some r) (find p rs)) ≡ Some t → (0 < t) × (t < length ids.threads.items)) [
+      | true ↦ λ is. let same : r.thread ≡ t = cc in
+          (subst (λ n. 0 < n) same covers.0, subst (λ n. n < length ids.threads.items) same covers.1)
+      | false ↦ λ is. first-there ids p rs t covers.2 is
+    ] e
+
+-- the thread that is granted a mutex next is there
+pub next-there : (ids : Ids) (m : ℕ) (rs : List Record) (t : ℕ) → CoversThose ids rs → next_granted ids m rs ≡ Some t →
+    (0 < t) × (t < length ids.threads.items)
+next-there ids m rs t covers e = first-there ids _ rs t covers e
+
+chosen-keepable : (g : ℕ → Bool) (o : Option ℕ) → ((k : ℕ) → o ≡ Some k → (0 < k) × (k < 2 ^ 31)) →
+    IsKeepable (Owner (option_and_then (λ next. cond (g next) (Some next) None) o))
+chosen-keepable g None h = tt
+chosen-keepable g (Some k) h =
+    elim (g k) as (λ v. IsKeepable (Owner (cond v (Some k) None))) [ true ↦ h k refl | false ↦ tt ]
+
+release-keepable : (ids : Ids) (m t : ℕ) (call : Call) (behind : List Record) → CoversThose ids behind →
+    length ids.threads.items ≤ 2 ^ 31 → IsKeepable (release_kept ids m t call behind)
+release-keepable ids m t call behind covers few =
+    elim (is_refused ids m t call behind) as (λ v. IsKeepable (cond v Refused (Owner (next_owner ids m t behind)))) [
+      | true ↦ tt
+      | false ↦ chosen-keepable _ (next_granted ids m behind)
+          (λ k e. let there = next-there ids m behind k covers e in (there.0, omega arith))
+    ]
+
+-- what is kept of a RELEASE is read again
+read-again : (ids : Ids) (m t : ℕ) (o : Option Call) (behind : List Record) (kept again : Kept) → CoversThose ids behind →
+    length ids.threads.items ≤ 2 ^ 31 → IfSome o (λ call. kept ≡ release_kept ids m t call behind) →
+    (IsKeepable kept → again ≡ kept) → IfSome o (λ call. again ≡ release_kept ids m t call behind)
+read-again ids m t None behind kept again covers few is same = is
+read-again ids m t (Some call) behind kept again covers few is same =
+    same (subst IsKeepable (sym is) (release-keepable ids m t call behind covers few)) ∙ is
+
+-- the records are those from a number on that none has
+lacks-from : (bytes : List ℕ) (number : ℕ) (rs : List Record) → ((slot : ℕ) → IsNumbered bytes slot number → ⊥) →
+    AreFrom bytes (number + 1) rs → AreFrom bytes number rs
+lacks-from bytes number [] lacks are =
+    λ k slot from below numbered. elim (cases_eq k number) [
+      | inl same ↦ lacks slot (subst (IsNumbered bytes slot) same numbered)
+      | inr other ↦ are k slot (omega arith) below numbered
+    ]
+lacks-from bytes number (r ∷ rs) lacks are =
+    let next : number + 1 ≤ r.number = are.0 in (
+      omega arith,
+      (λ k slot from below numbered. elim (cases_eq k number) [
+        | inl same ↦ lacks slot (subst (IsNumbered bytes slot) same numbered)
+        | inr other ↦ are.1 k slot (omega arith) below numbered
+      ]),
+      are.2,
+      are.3,
+    )
+
+-- the log has no record with a number
+pub lacks-step : (bytes : List ℕ) (ids : Ids) (number : ℕ) (found : NextOwners) (coming : Coming) →
+    ((slot : ℕ) → IsNumbered bytes slot number → ⊥) → HasFound bytes ids (number + 1) found coming →
+    HasFound bytes ids number found coming
+lacks-step bytes ids number found coming lacks has =
+    record {
+      behind = has.behind;
+      are = lacks-from bytes number has.behind lacks has.are;
+      covers = has.covers;
+      knows = has.knows;
+      room = has.room;
+      kept = has.kept;
+      finds = λ k slot from numbered. elim (cases_eq k number) [
+        | inl same ↦ absurd (lacks slot (subst (IsNumbered bytes slot) same numbered))
+        | inr other ↦ has.finds k slot (omega arith) numbered
+      ];
+    }
+
+-- a record with a number was read, before those behind it
+pub record AsRead (ids : Ids) (number : ℕ) (r : Record) (behind : List Record) (old new : NextOwners) (after : Coming) (kept : Kept) : Type 0 where
+  pub knows : Knows ids (r ∷ behind) after
+  pub room : HasRoom ids after
+  pub as_long : length new.kept.items ≡ length old.kept.items
+  pub is : IsKept ids (id_of ids number) r.thread r.event behind kept
+  pub same : IsKeepable kept → kept_of new number ≡ kept
+  pub rest : (other : ℕ) → other ≢ number → kept_of new other ≡ kept_of old other
+
+found-again : (bytes : List ℕ) (ids : Ids) (k : ℕ) (old new : NextOwners) → kept_of new k ≡ kept_of old k →
+    Finds bytes ids old k → Finds bytes ids new k
+found-again bytes ids k old new e finds =
+    record {
+      r = finds.r;
+      behind = finds.behind;
+      is = finds.is;
+      are = finds.are;
+      kept = subst (λ kept. IsKept ids (id_of ids k) finds.r.thread finds.r.event finds.behind kept) (sym e) finds.kept;
+    }
+
+pub record-step : (bytes : List ℕ) (ids : Ids) (number slot : ℕ) (r : Record) (old new : NextOwners) (before after : Coming)
+    (kept : Kept) → IsNumbered bytes slot number → IsRecord bytes slot r → (0 < r.thread) → (r.thread < length ids.threads.items) →
+    length ids.threads.items ≤ 2 ^ 31 → (has : HasFound bytes ids (number + 1) old before) →
+    AsRead ids number r has.behind old new after kept → HasFound bytes ids number new after
+record-step bytes ids number slot r old new before after kept numbered is above there few has as_read =
+    let number-is : r.number ≡ number = is.number ∙ numbered.stored in
+    let here : IsAt bytes number r = record { slot = slot; numbered = numbered; is = is } in
+    record {
+      behind = r ∷ has.behind;
+      are = (
+        omega arith,
+        (λ k slot from below _. absurd (omega arith)),
+        subst (λ n. IsAt bytes n r) (sym number-is) here,
+        subst (λ n. AreFrom bytes (n + 1) has.behind) (sym number-is) has.are,
+      );
+      covers = (above, there, has.covers);
+      knows = as_read.knows;
+      room = as_read.room;
+      kept = as_read.as_long ∙ has.kept;
+      finds = λ k at from is-numbered. elim (cases_eq k number) [
+        | inl same ↦ subst (Finds bytes ids new) (sym same) (record {
+          r = r;
+          behind = has.behind;
+          is = here;
+          are = has.are;
+          kept = read-again ids (id_of ids number) r.thread (release_call r.event) has.behind kept (kept_of new number)
+              has.covers few as_read.is as_read.same;
+        })
+        | inr other ↦ found-again bytes ids k old new (as_read.rest k other) (has.finds k at (omega arith) is-numbered)
+      ];
+    }
+
+-- a number that isn't in an option
+is-not : (o : Option ℕ) (n : ℕ) → option_eq nat_eq o (Some n) ≡ false → is_that o n ≡ false
+is-not None n e = refl
+is-not (Some k) n e = e
+
+none-and : (b : Bool) (next : ℕ) → None ≡ cond (b && false) (Some next) None
+none-and true next = refl
+none-and false next = refl
+
+-- a thread that calls something before it is granted the mutex isn't the next owner
+not-next : (ids : Ids) (m t next : ℕ) (behind : List Record) (first : Option ℕ) → next_granted ids m behind ≡ Some next →
+    granted_first ids next behind ≡ first → is_that first m ≡ false → None ≡ next_owner ids m t behind
+not-next ids m t next behind first granted is not-that =
+    let that : is_that (granted_first ids next behind) m ≡ false = ap (λ o. is_that o m) is ∙ not-that in
+    none-and (not (next == t)) next
+    ∙ sym (ap (λ b. cond (not (next == t) && b) (Some next) None) that)
+    ∙ sym (ap (option_and_then (λ k. cond (not (k == t) && is_that (granted_first ids k behind) m) (Some k) None)) granted)
+
+-- so it is by what is known
+pub not-next-known : (ids : Ids) (m t next : ℕ) (behind : List Record) (coming : Coming) (first : Option ℕ) →
+    HasRoom ids coming → Knows ids behind coming → CoversThose ids behind → m < length ids.mutexes.items →
+    UnwrapsOrElse (slice_get coming.owners.items m) (λ o. o ≡ None) (Some next) →
+    UnwrapsOrElse (slice_get coming.granted.items next) (λ o. o ≡ None) first → option_eq nat_eq first (Some m) ≡ false →
+    None ≡ next_owner ids m t behind
+not-next-known ids m t next behind coming first room knows covers below owner granted not-that =
+    let is-owner : next_granted ids m behind ≡ Some next =
+    sym (knows.owners m (omega (arith, room.owners))) ∙ sym (got coming.owners.items m (Some next) owner) in
+    let there = next-there ids m behind next covers is-owner in
+    not-next ids m t next behind first is-owner
+    (sym (knows.granted next (omega (arith, room.granted, there.1))) ∙ sym (got coming.granted.items next first granted))
+    (is-not first m not-that)
+
+none-known : (xs : List (Option ℕ)) (n k : ℕ) → xs ≡ replicate n None → k < length xs → get_or xs k None ≡ None
+none-known xs n k e lt =
+    let long : length xs ≡ n = ap length e ∙ length-replicate n None in
+    ap (λ l. get_or l k None) e ∙ get_or-replicate n k None None (omega arith)
+
+-- nothing is known behind the last record
+pub begin-found : (bytes : List ℕ) (ids : Ids) (from : ℕ) (found : NextOwners) (coming : Coming) →
+    end_of (header_of bytes) ≤ from → length found.kept.items ≡ end_of (header_of bytes) →
+    coming.owners.items ≡ replicate (length ids.mutexes.items) None → coming.granted.items ≡ replicate (length ids.threads.items) None →
+    coming.failing.items ≡ replicate (length ids.threads.items) None → HasFound bytes ids from found coming
+begin-found bytes ids from found coming end long owners granted failing =
+    record {
+      behind = [];
+      are = λ k slot above below _. absurd (omega arith);
+      covers = tt;
+      knows = record {
+        owners = λ m lt. none-known coming.owners.items _ m owners lt;
+        granted = λ t lt. none-known coming.granted.items _ t granted lt;
+        failing = λ t lt. none-known coming.failing.items _ t failing lt;
+      };
+      room = record {
+        owners = ap length owners ∙ length-replicate _ None;
+        granted = ap length granted ∙ length-replicate _ None;
+        failing = ap length failing ∙ length-replicate _ None;
+      };
+      kept = long;
+      finds = λ k slot above numbered. absurd (omega (arith, numbered.below));
+    }
+
+-- the first number of a log was reached
+pub end-found : (bytes : List ℕ) (ids : Ids) (from : ℕ) (found : NextOwners) (coming : Coming) → from ≤ 1 →
+    HasFound bytes ids from found coming → FindsFrom bytes ids found 1
+end-found bytes ids from found coming low has = λ k slot above numbered. has.finds k slot (omega arith) numbered
