@@ -1,8 +1,8 @@
 -- Which record of a log a fault names.
 use Rattle.std.proofs.Common.{ℕ}
-use Rattle.pim_import.specs.Faults.{NamesNone, NamesOneOf}
-use Rattle.pim_import.specs.declared.fault.ImportFault.{ImportFault}
-use Rattle.pim_import.specs.declared.fault.ImportFault.TheVariants.{Contradiction, TooManyThreads, Crowded, TooManyPriorities, Memory}
+use Rattle.pim_builder.specs.Faults.{NamesNone, NamesOneOf}
+use Rattle.pim_builder.specs.declared.fault.ImportFault.{ImportFault}
+use Rattle.pim_builder.specs.declared.fault.ImportFault.TheVariants.{Contradiction, TooManyThreads, Crowded, TooManyPriorities, Memory}
 
 -- a fault that names no record names none outside of the log
 pub names_none_of : (end : ℕ) (fault : ImportFault) → NamesNone fault → NamesOneOf end fault

@@ -47,12 +47,3 @@ Keeps sections n = IsTrue sections.is_all ⊎ IsTrue (slice_index_or sections.is
 -- the fact is of a critical section that is in the trace, or of none
 abbrev pub IsKept : CriticalSections → Fact → Type 0
 IsKept sections fact = (fact.section ≡ 0) ⊎ Keeps sections fact.section
-
--- a level or a ceiling is set, which is in the trace only if its thread or mutex takes part by then
-abbrev pub IsSetting : What → Type 0
-IsSetting Granted = ⊥
-IsSetting (Released next) = ⊥
-IsSetting Waits = ⊥
-IsSetting GaveUp = ⊥
-IsSetting (Ceiling level) = Unit {0}
-IsSetting (Level level) = Unit {0}

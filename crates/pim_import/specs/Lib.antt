@@ -1,4 +1,2 @@
 pub mod Tallies
-pub mod Faults
 pub mod LeftOut
-pub mod Showing

@@ -3,7 +3,8 @@ ghost use Rattle.std.specs.Prelude.{◌↔◌, IsTrue};
 ghost use Rattle.pim_import.specs.LeftOut.{IsKept, Keeps};
 
 use crate::left_out::may_be_left_out;
-use crate::participants::{Participants, Seen};
+use crate::seen::Seen;
+use pim_builder::Participants;
 use pim_course::{Sources, Walk};
 use pim_facts::{Fact, What};
 use pim_log::Log;

@@ -1,18 +1,16 @@
 //! From a log to the pieces of a trace.
 ghost use Rattle.std.specs.Prelude.{◌≡◌, ◌⊎◌, ◌-◌, IfOk, IfErr, IsTrue, All, false};
 ghost use Rattle.pim_log.specs.Headers.{header_of, end_of};
-ghost use Rattle.pim_import.specs.Faults.{NamesOneOf, NamesOnly};
+ghost use Rattle.pim_builder.specs.Faults.{NamesOneOf, NamesOnly};
 ghost use Rattle.pim_facts.specs.Shown.{shown_in};
-ghost use Rattle.pim_import.specs.LeftOut.{IsKept, IsSetting, MayBeLeftOut};
-ghost use Rattle.pim_import.specs.Showing.{Shows};
+ghost use Rattle.pim_builder.specs.Showing.{IsSetting, Shows};
+ghost use Rattle.pim_import.specs.LeftOut.{IsKept, MayBeLeftOut};
 ghost use Rattle.pim_import.specs.Tallies.{total};
 
-use crate::builder::{Appearance, Context, Now, TraceBuilder};
 use crate::critical_sections::CriticalSections;
-use crate::fault::ImportFault;
 use crate::left_out::may_be_left_out;
-use crate::numbering::Numbering;
 use crate::tally::Tally;
+use pim_builder::{Appearance, Context, ImportFault, Now, Numbering, TraceBuilder};
 use pim_course::{Course, NextOwners, Requests, Sources, Walk};
 use pim_facts::{Fact, Ids, IdsFault};
 use pim_findings::Findings;

@@ -11,28 +11,15 @@
 //! ```
 //!
 //! It follows the [course](pim_course::Course) of the program some times. `critical_sections.rt`
-//! has those that are kept, `left_out.rt` what may be left out, `participants.rt` and
-//! `numbering.rt` who takes part under which number. `builder.rt` makes the steps by a
-//! [replay](pim_replay::Replay), and cuts the pieces. `showing.rt` looks up whether the replay
-//! shows a fact after its steps.
-//!
-//! [`numbers_law`] has no code: its contract says that no two threads have one number at a time.
+//! has those that are kept, `left_out.rt` what may be left out, `seen.rt` who takes part. A
+//! [`TraceBuilder`](pim_builder::TraceBuilder) makes the steps and cuts the pieces.
 #![tactic(auto)]
 
-mod builder;
 mod critical_sections;
-mod fault;
 mod importing;
-mod laws;
 mod left_out;
-mod numbering;
-mod participants;
-mod showing;
+mod seen;
 mod tally;
 
-pub use builder::{Appearance, Who};
-pub use fault::ImportFault;
 pub use importing::{Built, ImportOptions, Imported, import_log};
-pub use laws::numbers_law;
-pub use numbering::{Numbering, Numbers};
 pub use tally::Tally;

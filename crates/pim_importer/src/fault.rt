@@ -1,7 +1,7 @@
 //! Why a log isn't imported.
 
+use pim_builder::ImportFault;
 use pim_facts_text::FactsFault;
-use pim_import::ImportFault;
 use pim_kernel_events::TextFault;
 use pim_log::LogFault;
 use std::alloc::AllocError;

@@ -1,7 +1,8 @@
 //! The table of names: which thread and which mutex has each number, and when each step happened.
 
+use pim_builder::Who;
 use pim_course::family_of;
-use pim_import::{Imported, Who};
+use pim_import::Imported;
 use pim_labels::Labels;
 use pim_out::Out;
 use pim_replay::Piece;

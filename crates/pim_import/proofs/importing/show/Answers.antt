@@ -1,7 +1,8 @@
 use Rattle.std.proofs.Common.{◌≡◌, ◌⊎◌, ◌||◌, ◌∙◌, Bool, false, true, refl, subst, All, rules}
 use lib.Seq.{take_all}
 use Rattle.std.proofs.lemmas.List.Elements.{All-more}
-use Rattle.pim_import.specs.LeftOut.{IsKept, IsSetting, MayBeLeftOut}
+use Rattle.pim_builder.specs.Showing.{IsSetting}
+use Rattle.pim_import.specs.LeftOut.{IsKept, MayBeLeftOut}
 use Rattle.pim_facts.specs.declared.fact.Fact.{Fact}
 use Rattle.pim_import.proofs.importing.show.Goals as goal
 

@@ -1,5 +1,6 @@
 use Rattle.std.proofs.Common.{◌≡◌, ◌⊎◌, false, All, take}
-use Rattle.pim_import.specs.LeftOut.{IsKept, IsSetting, MayBeLeftOut}
+use Rattle.pim_builder.specs.Showing.{IsSetting}
+use Rattle.pim_import.specs.LeftOut.{IsKept, MayBeLeftOut}
 use Rattle.pim_facts.specs.declared.fact.Fact.{Fact}
 use Rattle.pim_import.proofs.importing.show.Given as goal
 

@@ -1,7 +1,7 @@
 //! What the definitions of a trace come to. Each law is the contract of a function that does nothing, so that it is
 //! proved.
 
-ghost use Rattle.pim_import.specs.Showing.{MutexLaw, TaskLaw};
+ghost use Rattle.pim_builder.specs.Showing.{MutexLaw, TaskLaw};
 
 /// No two threads have one number of the trace at a time, and no two mutexes.
 pub fn numbers_law()

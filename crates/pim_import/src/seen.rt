@@ -1,28 +1,11 @@
-//! Who takes part in the trace, and from when to when.
+//! Who takes part in the trace, as far as its records were looked at.
 
 use crate::critical_sections::CriticalSections;
+use pim_builder::{Participant, Participants};
 use pim_course::{Course, Sources, Walk};
 use pim_facts::{Fact, What};
 use pim_replay::Span;
 use std::alloc::{AllocError, Global};
-
-/// When a thread or a mutex takes part, and what it has as it begins to.
-#[derive(Clone, Copy, PartialEq, Eq)]
-pub struct Participant {
-    /// The first and the last record in the trace that shows it.
-    pub span: Span,
-    /// The level of the thread, or of the mutex's ceiling, at the first of them.
-    pub level: u8,
-}
-
-/// Who takes part in the trace.
-#[derive(Drop)]
-pub struct Participants {
-    /// By number, as in [`Ids`](pim_facts::Ids).
-    pub threads: Vec<Option<Participant>>,
-    /// By number, as in [`Ids`](pim_facts::Ids).
-    pub mutexes: Vec<Option<Participant>>,
-}
 
 /// What a record shows of a thread and a mutex.
 #[derive(Clone, Copy, PartialEq, Eq)]
@@ -90,9 +73,9 @@ impl Seen {
         if sections.has(fact) {
             if let Some(grant) = self.grant_of(fact) {
                 self.keep(fact.mutex, None);
-                self.participants.note(fact.mutex, &grant);
+                self.note(fact.mutex, &grant);
             }
-            self.participants.note(fact.mutex, &now);
+            self.note(fact.mutex, &now);
         } else if fact.what == What::Granted {
             self.keep(fact.mutex, Some(now));
         }
@@ -117,37 +100,45 @@ impl Seen {
     /// the log do so to the end, and the mutexes too.
     pub fn end(self, course: &Course, sections: &CriticalSections) -> Participants {
         let mut participants = self.participants;
-        participants.stay(course, sections);
+        stay(&mut participants, course, sections);
         participants
-    }
-}
-
-impl Participants {
-    /// Lets those take part to the end who own or await something in the trace then, and the
-    /// mutexes too.
-    fn stay(&mut self, course: &Course, sections: &CriticalSections) {
-        let mutexes = self.mutexes.len().min(u32::MAX as usize) as u32;
-        for mutex in 1..mutexes {
-            let is = course.mutex(mutex);
-            if is.owner != 0 && sections.keeps(is.section) {
-                last_to_the_end(&mut self.threads, is.owner);
-                last_to_the_end(&mut self.mutexes, mutex);
-            }
-        }
-        let threads = self.threads.len().min(u32::MAX as usize) as u32;
-        for thread in 1..threads {
-            let is = course.thread(thread);
-            if is.awaits != 0 && sections.keeps(is.section) {
-                last_to_the_end(&mut self.threads, thread);
-                last_to_the_end(&mut self.mutexes, is.awaits);
-            }
-        }
     }
 
     /// Notes that a record shows a thread and this mutex.
     fn note(&mut self, mutex: u32, now: &Appearing) {
-        note(&mut self.threads, now.thread, now.number, now.level);
-        note(&mut self.mutexes, mutex, now.number, now.ceiling);
+        note(
+            &mut self.participants.threads,
+            now.thread,
+            now.number,
+            now.level,
+        );
+        note(
+            &mut self.participants.mutexes,
+            mutex,
+            now.number,
+            now.ceiling,
+        );
+    }
+}
+
+/// Lets those take part to the end who own or await something in the trace then, and the mutexes
+/// too.
+fn stay(participants: &mut Participants, course: &Course, sections: &CriticalSections) {
+    let mutexes = participants.mutexes.len().min(u32::MAX as usize) as u32;
+    for mutex in 1..mutexes {
+        let is = course.mutex(mutex);
+        if is.owner != 0 && sections.keeps(is.section) {
+            last_to_the_end(&mut participants.threads, is.owner);
+            last_to_the_end(&mut participants.mutexes, mutex);
+        }
+    }
+    let threads = participants.threads.len().min(u32::MAX as usize) as u32;
+    for thread in 1..threads {
+        let is = course.thread(thread);
+        if is.awaits != 0 && sections.keeps(is.section) {
+            last_to_the_end(&mut participants.threads, thread);
+            last_to_the_end(&mut participants.mutexes, is.awaits);
+        }
     }
 }
 
@@ -165,7 +156,7 @@ fn note(participants: &mut Vec<Option<Participant>>, place: u32, number: u64, le
         return;
     }
     let noted = match participants[place as usize] {
-        Some(before) => before.and(number, level),
+        Some(before) => extended(before, number, level),
         None => Participant {
             span: Span {
                 first: number,
@@ -177,20 +168,18 @@ fn note(participants: &mut Vec<Option<Participant>>, place: u32, number: u64, le
     participants[place as usize] = Some(noted);
 }
 
-impl Participant {
-    /// Returns when it takes part if the record with this number shows it, too, at this level.
-    fn and(self, number: u64, level: u8) -> Participant {
-        if number < self.span.first {
-            let span = Span {
-                first: number,
-                ..self.span
-            };
-            return Participant { span, level };
-        }
+/// Returns when it takes part if the record with this number shows it, too, at this level.
+fn extended(before: Participant, number: u64, level: u8) -> Participant {
+    if number < before.span.first {
         let span = Span {
-            last: self.span.last.max(number),
-            ..self.span
+            first: number,
+            ..before.span
         };
-        Participant { span, ..self }
+        return Participant { span, level };
     }
+    let span = Span {
+        last: before.span.last.max(number),
+        ..before.span
+    };
+    Participant { span, ..before }
 }

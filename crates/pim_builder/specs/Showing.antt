@@ -9,9 +9,9 @@ use Rattle.pim_facts.specs.declared.fact.What.{What}
 use Rattle.pim_facts.specs.declared.fact.What.TheVariants.{Granted, Waits, GaveUp, Released, Level, Ceiling}
 use Rattle.pim_replay.specs.Priorities.{priority_of}
 use Rattle.pim_replay.specs.Replays.{ReplayState, Has, program_of, awaited}
-use Rattle.pim_import.specs.declared.builder.Context.{Context}
-use Rattle.pim_import.specs.declared.builder.TraceBuilder.{TraceBuilder}
-use Rattle.pim_import.specs.declared.numbering.Numbers.{Numbers}
+use Rattle.pim_builder.specs.declared.builder.Context.{Context}
+use Rattle.pim_builder.specs.declared.builder.TraceBuilder.{TraceBuilder}
+use Rattle.pim_builder.specs.declared.numbering.Numbers.{Numbers}
 
 -- the number in the trace of a thread or a mutex of the log, if it takes part
 abbrev pub number_in : Numbers → ℕ → Option ℕ
@@ -65,6 +65,15 @@ abbrev pub Shows : Context → TraceBuilder → Fact → Type 0
 Shows context builder fact =
     ShowsWhat builder.replay (priority_of context.priorities.now) (task_now context builder) fact.what
     (task_now context builder fact.thread) (mutex_now context builder fact.mutex)
+
+-- a level or a ceiling is set, which is in the trace only if its thread or mutex takes part by then
+abbrev pub IsSetting : What → Type 0
+IsSetting Granted = ⊥
+IsSetting (Released next) = ⊥
+IsSetting Waits = ⊥
+IsSetting GaveUp = ⊥
+IsSetting (Ceiling level) = Unit {0}
+IsSetting (Level level) = Unit {0}
 
 -- no two threads have one number at a time
 abbrev pub TaskLaw : Type 0

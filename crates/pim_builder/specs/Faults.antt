@@ -1,7 +1,7 @@
 -- Which record of a log a fault of its import names.
 use Rattle.std.specs.Prelude.{◌≡◌, ℕ, ◌≤◌, ◌<◌}
-use Rattle.pim_import.specs.declared.fault.ImportFault.{ImportFault}
-use Rattle.pim_import.specs.declared.fault.ImportFault.TheVariants.{Contradiction, TooManyThreads, Crowded, TooManyPriorities, Memory}
+use Rattle.pim_builder.specs.declared.fault.ImportFault.{ImportFault}
+use Rattle.pim_builder.specs.declared.fault.ImportFault.TheVariants.{Contradiction, TooManyThreads, Crowded, TooManyPriorities, Memory}
 
 -- the fault names this record, or memory ran out
 abbrev pub NamesOnly : ℕ → ImportFault → Type 0

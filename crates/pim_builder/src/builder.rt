@@ -1,9 +1,8 @@
 //! The trace as it is made: who has which number at a time, and the pieces.
 ghost use Rattle.std.specs.Prelude.{IfOk, IfErr, IsTrue, ◌≡◌, false};
 ghost use Rattle.pim_base.specs.Lists.{holds};
-ghost use Rattle.pim_import.specs.Faults.{NamesNone, NamesOnly};
-ghost use Rattle.pim_import.specs.LeftOut.{IsSetting};
-ghost use Rattle.pim_import.specs.Showing.{Shows, holder_in, mutex_now, task_now};
+ghost use Rattle.pim_builder.specs.Faults.{NamesNone, NamesOnly};
+ghost use Rattle.pim_builder.specs.Showing.{IsSetting, Shows, holder_in, mutex_now, task_now};
 
 use crate::fault::ImportFault;
 use crate::numbering::Numbering;

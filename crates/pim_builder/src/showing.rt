@@ -2,7 +2,7 @@
 
 ghost use Rattle.std.specs.Prelude.{◌≡◌, IsTrue, Some, None};
 ghost use Rattle.pim_replay.specs.Replays.{Has, program_of, awaited};
-ghost use Rattle.pim_import.specs.Showing.{HasBase, HasCeiling, HoldsOf, IsPassedOn};
+ghost use Rattle.pim_builder.specs.Showing.{HasBase, HasCeiling, HoldsOf, IsPassedOn};
 
 use pim_base::{MutexNo, Prio, Protocol, TaskNo};
 use pim_replay::Replay;

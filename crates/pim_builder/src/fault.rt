@@ -1,6 +1,6 @@
 //! Why a log isn't imported.
 ghost use Rattle.std.specs.Prelude.{◌≡◌};
-ghost use Rattle.pim_import.specs.declared.fault.ImportFault.TheVariants as import;
+ghost use Rattle.pim_builder.specs.declared.fault.ImportFault.TheVariants as import;
 
 use std::alloc::AllocError;
 use thiserror::Error;

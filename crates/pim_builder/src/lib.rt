@@ -1,0 +1,32 @@
+//! From facts to the pieces of a trace.
+//!
+//! A [`TraceBuilder`] makes the steps of each fact by a [replay](pim_replay::Replay), and cuts the
+//! trace into [`Piece`](pim_replay::Piece)s of at most 65,536 steps. After the steps of a fact it
+//! looks up whether the replay shows it.
+//!
+//! ```text
+//! let numbering = Numbering::of(alloc, &sources, &participants)?;
+//! let context = Context { sources: &sources, priorities: &priorities, participants: &participants, numbering: &numbering };
+//! let mut builder = TraceBuilder::new(alloc, &context)?;
+//! builder.build(&context, &fact, &Now { number: 1, time: 5000 })?; // the steps of a fact of record 1
+//! let (pieces, appearances) = builder.end()?;
+//! ```
+//!
+//! `numbering.rt` gives threads and mutexes their numbers in the trace, `builder.rt` makes the
+//! steps, `showing.rt` looks up what the replay shows.
+//!
+//! [`numbers_law`] has no code: its contract says that no two threads have one number at a time.
+#![tactic(auto)]
+
+mod builder;
+mod fault;
+mod laws;
+mod numbering;
+mod participants;
+mod showing;
+
+pub use builder::{Appearance, Context, Now, TraceBuilder, Who};
+pub use fault::ImportFault;
+pub use laws::numbers_law;
+pub use numbering::{Numbering, Numbers};
+pub use participants::{Participant, Participants};
