@@ -218,10 +218,13 @@ CUT_SHORT = "the file ends before its last chunk does\n"
 
 
 def prefixes():
-    """Returns the cases of the beginnings of a log."""
-    whole = read_text((SUITE / "damaged_log.log.txt").read_text())
-    return [Case(f"first_{size}_bytes", whole[:size], error=NOT_A_LOG if size < 4096 else CUT_SHORT)
-            for size in range(0, len(whole), 504)]
+    """Returns the cases of the beginnings of a log, and of one that ends with its table of places."""
+    cases = []
+    for name, end, step in (("damaged_log", None, 504), ("no_chunk_is_taken", reader.HEADER_BYTES[2], 6001)):
+        whole = read_text((SUITE / f"{name}.log.txt").read_text())[:end]
+        cases += [Case(f"first_{size}_bytes_of_{name}", whole[:size], error=NOT_A_LOG if size < 4096 else CUT_SHORT)
+                  for size in range(0, len(whole), step)]
+    return cases
 
 
 def suite(folder):

@@ -1,60 +1,100 @@
-//! pim_log: a log in memory.
+//! pim_log: logs of one record in memory.
 
-use crate::inversion::{SIXTH_PLACED, log_bytes, placed_bytes, write};
 use pim_log::*;
-use std::alloc::Global;
+use std::alloc::{AllocError, Global};
 use std::test::*;
 
-#[test]
-fn log_has_its_header_and_its_records(rt: HostRuntime) -> Result<(), Fail> {
-    let bytes = log_bytes(rt.alloc())?;
-    let (header, sixth, ninth) = match Log::read(rt.alloc(), &bytes) {
-        Ok(log) => (Some(*log.header()), log.record(6), log.record(9)),
-        Err(_) => (None, None, None),
-    };
-    let granted = Record {
-        number: 6,
-        time: Some(930_000),
-        process: 700,
-        task: 702,
-        thread: 2,
-        place: None,
-        event: Event::Granted {
-            mutex: INHERIT,
-            took: Some(630_000),
-            call: Call::Lock,
-        },
-    };
-    assert!(rt; sixth == Some(granted) && ninth.is_none());
-    let header = header.ok_or("it is a log")?;
-    let facts = [
-        header.known as u64,
-        header.process as u64,
-        header.began,
-        header.end(),
-        header.chunks_taken(),
-    ];
-    assert!(rt; facts == [7, 700, 90_000, 9, 2]);
-    Ok(())
+/// The offset of each 32 bytes of a log of version 3 that aren't all 0, and their four numbers of eight bytes. It has a
+/// chunk, and thread 1 put its only record, at 100,000.
+const ROWS: [[u64; 5]; 6] = [
+    [
+        0,
+        0x0a0d_676f_6c6d_6970,
+        0x0102_0304_0000_0003,
+        0x20_0001_1000,
+        0x7_0000_0200,
+    ],
+    [32, 1, 0x258_0000_02bc, 90_000, 0],
+    [128, 2, 0, 0, 0],
+    [192, 1, 2, 0, 0],
+    [69632, 0x6b6e_7568_436d_6970, 0x2bd_0000_02bc, 1, 0],
+    [69664, 1, 100_000, 0, 0],
+];
+
+/// Where a log has its version, how many chunks it has room for, how many were taken, and the object and the other fields
+/// of its record.
+const VERSION_AT: usize = 8;
+
+const CHUNKS_AT: usize = 32;
+
+const TAKEN_AT: usize = 192;
+
+const OBJECT_AT: usize = 69680;
+
+const FIELDS_AT: usize = 69688;
+
+/// Writes a number of so many bytes, the lowest first.
+fn write(bytes: &mut Vec<u8>, at: usize, width: usize, number: u64) {
+    let places = bytes.iter_mut().skip(at).take(width);
+    for (place, byte) in places.zip(number.to_le_bytes()) {
+        *place = byte;
+    }
 }
 
-/// 4096 + 16384 * 1125899906842623 bytes are 12288 bytes fewer than 2^64: with a chunk more, no file is as long.
+/// Returns the bytes of the log with these changes: where, how many bytes, and their number.
+fn log_with(alloc: Global, changes: &[(usize, usize, u64)]) -> Result<Vec<u8>, AllocError> {
+    let mut bytes = vec![in alloc; 0; 86_016]?;
+    for [at, first, second, third, fourth] in ROWS {
+        let at = (at as usize).min(85_984);
+        write(&mut bytes, at, 8, first);
+        write(&mut bytes, at + 8, 8, second);
+        write(&mut bytes, at + 16, 8, third);
+        write(&mut bytes, at + 24, 8, fourth);
+    }
+    for (at, width, number) in changes {
+        write(&mut bytes, *at, *width, *number);
+    }
+    Ok(bytes)
+}
+
+/// How many chunks were taken, and how many bytes of the file are used. 69632 + 16384 * 1125899906842619 bytes are 12288
+/// bytes fewer than 2^64: with a chunk more, no file is as long.
+const USED: [(u64, Result<usize, HeaderFault>); 3] = [
+    (1, Ok(86_016)),
+    (1_125_899_906_842_619, Ok(18_446_744_073_709_539_328)),
+    (1_125_899_906_842_620, Err(HeaderFault::CutShort)),
+];
+
+/// Returns how many bytes are used of a log with room for any number of chunks.
+fn used_of(alloc: Global, taken: u64) -> Result<Result<usize, HeaderFault>, AllocError> {
+    let bytes = log_with(alloc, &[(CHUNKS_AT, 8, u64::MAX), (TAKEN_AT, 8, taken)])?;
+    Ok(used_bytes(&bytes))
+}
+
 #[test]
 fn used_bytes_are_fewer_than_a_file_can_have(rt: HostRuntime) -> Result<(), Fail> {
-    let mut bytes = log_bytes(rt.alloc())?;
-    assert!(rt; used_bytes(&bytes) == Ok(36864));
-    write(&mut bytes, 32, 8, u64::MAX);
-    write(&mut bytes, 192, 8, 1_125_899_906_842_623);
-    assert!(rt; used_bytes(&bytes) == Ok(18_446_744_073_709_539_328));
-    write(&mut bytes, 192, 8, 1_125_899_906_842_624);
-    assert!(rt; used_bytes(&bytes) == Err(HeaderFault::CutShort));
-    bytes.truncate(HEADER_BYTES - 1);
-    assert!(rt; used_bytes(&bytes) == Err(HeaderFault::NotALog));
+    for (taken, wanted) in USED {
+        assert!(rt; used_of(rt.alloc(), taken)? == wanted, "{taken}");
+    }
     Ok(())
 }
 
-/// Where record 6 is in the log.
-const SIXTH: usize = 20576;
+/// Returns the record of a log of this version, with this object and these other fields.
+fn record_of(alloc: Global, version: u64, object: u64, fields: u64) -> Result<Record, Fail> {
+    let changes = [
+        (VERSION_AT, 4, version),
+        (OBJECT_AT, 8, object),
+        (FIELDS_AT, 8, fields),
+    ];
+    let bytes = log_with(alloc, &changes)?;
+    let Ok(log) = Log::read(alloc, &bytes) else {
+        return Err("it isn't a log".into());
+    };
+    match log.record(1) {
+        Some(record) => Ok(record),
+        None => Err("there is no record 1".into()),
+    }
+}
 
 /// The mutex of a record without what it is.
 const BARE: Mutex = Mutex {
@@ -300,201 +340,59 @@ const EVENTS: [(u64, Event); 42] = [
     ),
 ];
 
-/// Numbers of no event.
-const UNKNOWN: [u64; 5] = [0, 14, 15, 30, 255];
-
-/// Returns record 6 of a log, or the fault that the log has.
-fn sixth(alloc: Global, bytes: &[u8]) -> Result<Option<Record>, LogFault> {
-    let log = Log::read(alloc, bytes)?;
-    Ok(log.record(6))
-}
-
 #[test]
 fn record_says_what_its_fields_say(rt: HostRuntime) -> Result<(), Fail> {
-    let mut bytes = placed_bytes(rt.alloc())?;
-    write(&mut bytes, 8, 4, 3);
-    write(&mut bytes, SIXTH_PLACED + 16, 8, 0x500);
     for (fields, wanted) in EVENTS {
-        write(&mut bytes, SIXTH_PLACED + 24, 8, fields);
-        let event = sixth(rt.alloc(), &bytes)?.map(|record| record.event);
-        assert!(rt; event == Some(wanted), "{fields:x}");
+        let record = record_of(rt.alloc(), 3, 0x500, fields)?;
+        assert!(rt; record.event == wanted, "{fields:x}");
     }
-    for code in UNKNOWN {
-        write(&mut bytes, SIXTH_PLACED + 24, 8, code << 48);
-        let fault = LogFault::Slot(SIXTH_PLACED, SlotFault::UnknownEvent);
-        assert!(rt; sixth(rt.alloc(), &bytes) == Err(fault), "{code}");
-    }
-    Ok(())
-}
-
-/// A PRIORITY without a pthread_t names a task: 703.
-#[test]
-fn priority_of_a_task_has_its_number(rt: HostRuntime) -> Result<(), Fail> {
-    let mut bytes = log_bytes(rt.alloc())?;
-    write(&mut bytes, SIXTH + 16, 8, 0);
-    write(&mut bytes, SIXTH + 24, 8, 0x00_05_0a01_0000_02bf);
-    let wanted = Event::Priority {
-        of: ThreadKey::Task(703),
-        priority: Priority::RealTime(10),
-    };
-    let event = sixth(rt.alloc(), &bytes)?.map(|record| record.event);
-    assert!(rt; event == Some(wanted));
-    Ok(())
-}
-
-/// The bytes of a text are in the places of the time, the object, the value and the detail.
-#[test]
-fn text_is_in_the_place_of_other_fields(rt: HostRuntime) -> Result<(), Fail> {
-    let mut bytes = log_bytes(rt.alloc())?;
-    for place in 0..22 {
-        write(&mut bytes, SIXTH + 8 + place, 1, b'a' as u64 + place as u64);
-    }
-    for (how, wanted) in [
-        (3, "abc"),
-        (22, "abcdefghijklmnopqrstuv"),
-        (23, "abcdefghijklmnopqrstuv"),
-    ] {
-        write(&mut bytes, SIXTH + 30, 2, how * 256 + 13);
-        let record = sixth(rt.alloc(), &bytes)?.ok_or("there is a record 6")?;
-        assert!(rt; record.time.is_none() && record.began().is_none());
-        let Event::Text(text) = record.event else {
-            return Err("it is a text".into());
-        };
-        assert!(rt; text.as_bytes() == wanted.as_bytes(), "{how}");
-    }
-    Ok(())
-}
-
-#[test]
-fn log_of_version_2_has_its_places(rt: HostRuntime) -> Result<(), Fail> {
-    let mut bytes = placed_bytes(rt.alloc())?;
-    write(&mut bytes, SIXTH_PLACED + 16, 8, PLACED_OBJECT);
-    assert!(rt; used_bytes(&bytes) == Ok(102_400));
-    let log = Log::read(rt.alloc(), &bytes)?;
-    let header = *log.header();
-    assert!(rt; (header.version, header.length, header.unplaced) == (2, 69632, 5));
-    for (number, address) in PLACES_OF_LOG {
-        assert!(rt; log.place(number) == address, "{number}");
-    }
-    let granted = log.record(6).ok_or("there is a record 6")?;
-    let mutex = granted.event.mutex().ok_or("it is of a mutex")?;
-    assert!(rt; granted.place == Some(3) && mutex.address == 0x7fff_1234_0500);
-    let release = log.record(5).ok_or("there is a record 5")?;
-    assert!(rt; release.place.is_none() && release.number == 5);
     Ok(())
 }
 
 /// Place 3, and a mutex at 0x7fff_1234_0500.
-const PLACED_OBJECT: u64 = 0x0003_7fff_1234_0500;
+const PLACED: u64 = 0x0003_7fff_1234_0500;
 
-/// Numbers, and the addresses of their places.
-const PLACES_OF_LOG: [(u16, Option<u64>); 7] = [
-    (0, None),
-    (1, Some(0x7001)),
-    (2, None),
-    (3, Some(0x7003)),
-    (8192, Some(0xffff_ffff_ffff)),
-    (8193, None),
-    (65535, None),
+/// The mutex without the place.
+const UNPLACED: u64 = 0x7fff_1234_0500;
+
+/// Versions, events, their places, and the addresses that they have. From version 2 on the objects of calls have places,
+/// and from version 3 on those of waits for what isn't a mutex, too. A frame is a place. Other objects are whole.
+const PLACES: [(u64, u64, Option<u16>, Option<u64>); 18] = [
+    (2, 1, None, None),
+    (2, 12, None, None),
+    (2, 16, None, Some(PLACED)),
+    (2, 17, None, Some(PLACED)),
+    (2, 18, None, Some(PLACED)),
+    (2, 19, None, Some(PLACED)),
+    (2, 20, Some(3), Some(UNPLACED)),
+    (2, 21, Some(3), Some(UNPLACED)),
+    (2, 22, Some(3), Some(UNPLACED)),
+    (2, 23, Some(3), Some(UNPLACED)),
+    (2, 24, Some(3), Some(UNPLACED)),
+    (2, 25, Some(3), Some(UNPLACED)),
+    (3, 20, Some(3), Some(UNPLACED)),
+    (3, 25, Some(3), Some(UNPLACED)),
+    (3, 26, Some(3), Some(UNPLACED)),
+    (3, 27, Some(3), Some(UNPLACED)),
+    (3, 28, Some(3), Some(UNPLACED)),
+    (3, 29, Some(3), None),
 ];
 
-/// Events, whether they have places, and the address of their mutex if they have one: 0x7fff_1234_0500 is without the place.
-const PLACED_EVENTS: [(u64, bool, Option<u64>); 12] = [
-    (1, false, None),
-    (12, false, None),
-    (16, false, Some(PLACED_OBJECT)),
-    (17, false, Some(PLACED_OBJECT)),
-    (18, false, Some(PLACED_OBJECT)),
-    (19, false, Some(PLACED_OBJECT)),
-    (20, true, Some(0x7fff_1234_0500)),
-    (21, true, Some(0x7fff_1234_0500)),
-    (22, true, Some(0x7fff_1234_0500)),
-    (23, true, Some(0x7fff_1234_0500)),
-    (24, true, Some(0x7fff_1234_0500)),
-    (25, true, None),
-];
-
-#[test]
-fn calls_have_places_and_other_objects_are_whole(rt: HostRuntime) -> Result<(), Fail> {
-    let mut bytes = placed_bytes(rt.alloc())?;
-    write(&mut bytes, SIXTH_PLACED + 16, 8, PLACED_OBJECT);
-    for (code, is_placed, address) in PLACED_EVENTS {
-        write(&mut bytes, SIXTH_PLACED + 24, 8, code << 48);
-        let record = sixth(rt.alloc(), &bytes)?.ok_or("there is a record 6")?;
-        assert!(rt;
-            record.place == (if is_placed { Some(3) } else { None }),
-            "{code}"
-        );
-        let found = record.event.mutex().map(|mutex| mutex.address);
-        assert!(rt; found == address, "{code}");
+/// Returns the address of a mutex or of what else is waited for.
+fn address_in(event: Event) -> Option<u64> {
+    match event {
+        Event::Condition(object) | Event::Wait(object) => Some(object.address),
+        Event::Waited { object, .. } | Event::Give { object, .. } => Some(object.address),
+        event => Some(event.mutex()?.address),
     }
-    // Version 2 has no later events.
-    for code in 26..30 {
-        write(&mut bytes, SIXTH_PLACED + 24, 8, code << 48);
-        let fault = LogFault::Slot(SIXTH_PLACED, SlotFault::UnknownEvent);
-        assert!(rt; sixth(rt.alloc(), &bytes) == Err(fault), "{code}");
-    }
-    Ok(())
-}
-
-/// From version 3 on the events of waits for what isn't a mutex have places, too. Their objects are without them. A frame
-/// is a place.
-#[test]
-fn waits_of_version_3_have_places(rt: HostRuntime) -> Result<(), Fail> {
-    let mut bytes = placed_bytes(rt.alloc())?;
-    write(&mut bytes, 8, 4, 3);
-    write(&mut bytes, SIXTH_PLACED + 16, 8, PLACED_OBJECT);
-    for code in [20, 25, 26, 27, 28] {
-        write(&mut bytes, SIXTH_PLACED + 24, 8, code << 48);
-        let record = sixth(rt.alloc(), &bytes)?.ok_or("there is a record 6")?;
-        assert!(rt; record.place == Some(3), "{code}");
-        let address = match record.event {
-            Event::Condition(object) | Event::Wait(object) => object.address,
-            Event::Waited { object, .. } | Event::Give { object, .. } => object.address,
-            event => event.mutex().ok_or("it is of a mutex")?.address,
-        };
-        assert!(rt; address == 0x7fff_1234_0500, "{code}");
-    }
-    write(&mut bytes, SIXTH_PLACED + 24, 8, 0x00_1d_0000_0000_0002);
-    let record = sixth(rt.alloc(), &bytes)?.ok_or("there is a record 6")?;
-    assert!(rt; record.place == Some(3) && record.event == Event::Frame { index: 2 });
-    Ok(())
 }
 
 #[test]
-fn log_of_version_1_has_no_places(rt: HostRuntime) -> Result<(), Fail> {
-    let mut bytes = log_bytes(rt.alloc())?;
-    write(&mut bytes, SIXTH + 16, 8, PLACED_OBJECT);
-    let record = sixth(rt.alloc(), &bytes)?.ok_or("there is a record 6")?;
-    let mutex = record.event.mutex().ok_or("it is of a mutex")?;
-    assert!(rt; record.place.is_none() && mutex.address == PLACED_OBJECT);
-    let log = Log::read(rt.alloc(), &bytes)?;
-    assert!(rt; log.place(1).is_none());
-    Ok(())
-}
-
-#[test]
-fn header_has_the_length_of_its_version(rt: HostRuntime) -> Result<(), Fail> {
-    let cut_short = Err(LogFault::Header(HeaderFault::CutShort));
-    let other_sizes = Err(LogFault::Header(HeaderFault::OtherSizes));
-    let mut bytes = placed_bytes(rt.alloc())?;
-    bytes.truncate(102_399);
-    assert!(rt; sixth(rt.alloc(), &bytes) == cut_short);
-    // No chunk was taken, and the file ends in the table of places.
-    write(&mut bytes, 192, 8, 0);
-    bytes.truncate(69631);
-    assert!(rt; sixth(rt.alloc(), &bytes) == cut_short);
-    write(&mut bytes, 8, 4, 1);
-    assert!(rt; sixth(rt.alloc(), &bytes) == other_sizes);
-    write(&mut bytes, 8, 4, 2);
-    write(&mut bytes, 16, 4, 4096);
-    assert!(rt; sixth(rt.alloc(), &bytes) == other_sizes);
-    write(&mut bytes, 8, 4, 3);
-    assert!(rt; sixth(rt.alloc(), &bytes) == other_sizes);
-    for version in [0, 4] {
-        write(&mut bytes, 8, 4, version);
-        let other_version = Err(LogFault::Header(HeaderFault::OtherVersion));
-        assert!(rt; sixth(rt.alloc(), &bytes) == other_version);
+fn objects_of_calls_have_places(rt: HostRuntime) -> Result<(), Fail> {
+    for (version, code, place, address) in PLACES {
+        let record = record_of(rt.alloc(), version, PLACED, code << 48)?;
+        let found = (record.place, address_in(record.event));
+        assert!(rt; found == (place, address), "{version}: {code}");
     }
     Ok(())
 }
