@@ -1,5 +1,5 @@
 -- What a trace may be without: facts that change no priority.
-use Rattle.std.specs.Prelude.{◌≡◌, ◌≢◌, ℕ, ◌⊎◌, false, IsTrue, slice_index_or}
+use Rattle.std.specs.Prelude.{◌≡◌, ◌≢◌, ℕ, ◌⊎◌, true, IsTrue, slice_index_or}
 use Rattle.pim_facts.specs.declared.family.Family.{Family}
 use Rattle.pim_facts.specs.declared.fact.Fact.{Fact}
 use Rattle.pim_facts.specs.declared.fact.What.{What}
@@ -40,9 +40,13 @@ abbrev pub MayBeLeftOut : Course → Sources → Fact → Type 0
 MayBeLeftOut course sources fact =
     ChangesNoPriority fact.what (family_in sources fact.mutex) (mutex_in course fact.mutex) fact
 
--- the critical section with this number is in the trace
+-- a fact keeps its critical section in the trace: a thread begins to wait, or the trace may not be without the fact
+abbrev pub MustStay : Course → Sources → Fact → Type 0
+MustStay course sources fact = (fact.what ≡ Waits) ⊎ (MayBeLeftOut course sources fact → ⊥)
+
+-- the critical section with this number is in the trace; one that nothing is known of is, too
 abbrev pub Keeps : CriticalSections → ℕ → Type 0
-Keeps sections n = IsTrue sections.is_all ⊎ IsTrue (slice_index_or sections.is_kept.items n false)
+Keeps sections n = IsTrue sections.is_all ⊎ IsTrue (slice_index_or sections.is_kept.items n true)
 
 -- the fact is of a critical section that is in the trace, or of none
 abbrev pub IsKept : CriticalSections → Fact → Type 0

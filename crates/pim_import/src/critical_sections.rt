@@ -1,12 +1,13 @@
 //! Which critical sections are in the trace.
-ghost use Rattle.std.specs.Prelude.{◌↔◌, IsTrue};
-ghost use Rattle.pim_import.specs.LeftOut.{IsKept, Keeps};
+ghost use Rattle.std.specs.Prelude.{◌↔◌, ℕ, All, IsTrue};
+ghost use Rattle.pim_facts.specs.Shown.{shown_in};
+ghost use Rattle.pim_import.specs.LeftOut.{IsKept, Keeps, MustStay};
 
-use crate::left_out::may_be_left_out;
+use crate::left_out::must_stay;
 use crate::seen::Seen;
 use pim_builder::Participants;
 use pim_course::{Sources, Walk};
-use pim_facts::{Fact, What};
+use pim_facts::Fact;
 use pim_log::Log;
 use std::alloc::{AllocError, Global};
 
@@ -14,7 +15,7 @@ use std::alloc::{AllocError, Global};
 /// those of PROTECT mutexes; or all.
 #[derive(Drop)]
 pub struct CriticalSections {
-    /// By the number of the critical section.
+    /// By the number of the critical section: one for each that the log can have.
     is_kept: Vec<bool>,
     is_all: bool,
 }
@@ -56,14 +57,26 @@ impl CriticalSections {
     /// Keeps each critical section of which a fact may not be left out, or for which a thread
     /// waits: a wait is found also where no record says who owns the mutex, or where its owner is
     /// about to release it.
-    fn look(&mut self, walk: &Walk, sources: &Sources) {
-        for fact in walk.shown() {
-            let place = fact.section as usize;
-            let is_dropped = fact.what != What::Waits
-                && may_be_left_out(&walk.course, sources, fact);
-            if !is_dropped && place < self.is_kept.len() {
-                self.is_kept[place] = true;
+    fn look(&mut self, walk: &Walk, sources: &Sources)
+        ensures kept { All (λ fact. MustStay walk.now.course sources.now fact → Keeps self.new fact.section)
+            (shown_in walk.now.course.shown) }
+        ensures still { (n : ℕ) → Keeps self.old n → Keeps self.new n }
+    {
+        let shown = walk.shown();
+        for fact in shown {
+            if must_stay(&walk.course, sources, fact) {
+                self.keep(fact.section);
             }
+        }
+    }
+
+    /// Keeps a critical section.
+    fn keep(&mut self, section: u32)
+        ensures kept { Keeps self.new section }
+        ensures still { (n : ℕ) → Keeps self.old n → Keeps self.new n }
+    {
+        if (section as usize) < self.is_kept.len() {
+            self.is_kept[section as usize] = true;
         }
     }
 
@@ -74,10 +87,10 @@ impl CriticalSections {
         fact.section == 0 || self.keeps(fact.section)
     }
 
-    /// Returns whether a critical section is in the trace.
+    /// Returns whether a critical section is in the trace. One that nothing is known of is.
     pub fn keeps(&self, section: u32) -> bool
         ensures { IsTrue result ↔ Keeps self.now section }
     {
-        self.is_all || self.is_kept.get(section as usize) == Some(&true)
+        self.is_all || self.is_kept.get(section as usize).copied().unwrap_or(true)
     }
 }

@@ -1,7 +1,7 @@
 //! What a trace may be without.
 
 ghost use Rattle.std.specs.Prelude.{◌≡◌, ◌↔◌, IsTrue};
-ghost use Rattle.pim_import.specs.LeftOut.{ChangesNoPriority, MayBeLeftOut, IsFree, IsNotHandedOver, IsUnawaited};
+ghost use Rattle.pim_import.specs.LeftOut.{ChangesNoPriority, MayBeLeftOut, MustStay, IsFree, IsNotHandedOver, IsUnawaited};
 
 use pim_course::{Course, CourseMutex, Sources, family_of};
 use pim_facts::{Fact, Family, What};
@@ -13,6 +13,17 @@ pub(crate) fn may_be_left_out(course: &Course, sources: &Sources, fact: &Fact) -
 {
     let mutex = course.mutex(fact.mutex);
     changes_no_priority(family_of(sources, fact.mutex), &mutex, fact)
+}
+
+/// Returns whether a fact keeps its critical section in the trace: a thread begins to wait, or the trace may not be without
+/// the fact.
+pub(crate) fn must_stay(course: &Course, sources: &Sources, fact: &Fact) -> bool
+    ensures { IsTrue result ↔ MustStay course.now sources.now fact.now }
+{
+    match fact.what {
+        What::Waits => true,
+        _ => !may_be_left_out(course, sources, fact),
+    }
 }
 
 /// Returns whether a fact of a mutex of this protocol, which is so after it, changes no priority.

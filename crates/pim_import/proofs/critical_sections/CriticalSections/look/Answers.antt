@@ -1,0 +1,33 @@
+use Rattle.std.proofs.Common.{◌∙◌, ℕ, All, subst, sym}
+use lib.Seq.{take_all}
+use Rattle.pim_facts.specs.declared.fact.Fact.{Fact}
+use Rattle.pim_import.specs.LeftOut.{Keeps, MustStay}
+use Rattle.pim_import.specs.declared.critical_sections.CriticalSections.{CriticalSections}
+use Rattle.pim_import.proofs.Keeping.{kept-more}
+use Rattle.pim_import.proofs.critical_sections.CriticalSections.look.Goals as goal
+use Rattle.pim_import.proofs.critical_sections.CriticalSections.look.Goals.{then-must_stay, else-must_stay}
+
+pub loop-fact-preserved : goal.loop-fact-preserved
+loop-fact-preserved c =
+    let still : (n : ℕ) → Keeps c.loop-fact.self n → Keeps c.if-must_stay.self n =
+    λ n keeps. elim c.if-must_stay.branch [
+      | then-must_stay w ↦ subst (λ (s : CriticalSections). Keeps s n) (sym w.self-is) (w.keep.ensures.still n keeps)
+      | else-must_stay w ↦ subst (λ (s : CriticalSections). Keeps s n) (sym w.self-is) keeps
+    ] in
+    record {
+      kept =
+          kept-more (λ fact. MustStay c.args.walk.now.course c.args.sources.now fact) c.shown-shown.result.now
+          c.loop-fact.fact-index _ c.loop-fact.self c.if-must_stay.self c.loop-fact-test.true still
+          (λ must. elim c.if-must_stay.branch [
+            | then-must_stay w ↦ subst (λ (s : CriticalSections). Keeps s _) (sym w.self-is) w.keep.ensures.kept
+            | else-must_stay w ↦ absurd (cc (c.must_stay.ensures.1 must, w.if-must_stay.false))
+          ])
+          c.loop-fact.invariant.kept;
+      still = λ n keeps. still n (c.loop-fact.invariant.still n keeps);
+    }
+
+pub returns-clause-kept : goal.returns-clause-kept
+returns-clause-kept c =
+    subst (All (λ (fact : Fact). MustStay c.args.walk.now.course c.args.sources.now fact → Keeps c.loop-fact.self fact.section))
+    (take_all c.loop-fact.fact-index c.shown-shown.result.now c.loop-fact-test.false ∙ c.shown-shown.ensures)
+    c.loop-fact.invariant.kept

@@ -1,0 +1,11 @@
+use Rattle.std.proofs.Common.{ℕ, All, take}
+use Rattle.pim_facts.specs.declared.fact.Fact.{Fact}
+use Rattle.pim_import.specs.LeftOut.{Keeps, MustStay}
+use Rattle.pim_import.proofs.critical_sections.CriticalSections.look.Given as goal
+
+-- what was shown so far keeps its critical sections, and those that were kept still are
+abbrev pub invariant-loop-fact : goal.invariant-loop-fact
+invariant-loop-fact l = record {
+  kept : All (λ (fact : Fact). MustStay l.walk.course l.sources fact → Keeps l.self fact.section) (take l.fact-index l.shown);
+  still : (n : ℕ) → Keeps l.initial.self n → Keeps l.self n;
+}
