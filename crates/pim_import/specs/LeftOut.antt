@@ -1,10 +1,11 @@
 -- What a trace may be without: facts that change no priority.
-use Rattle.std.specs.Prelude.{◌≡◌, ◌≢◌, ℕ, ◌⊎◌, true, IsTrue, slice_index_or}
+use Rattle.std.specs.Prelude.{◌≡◌, ◌≢◌, ◌↔◌, ℕ, ◌⊎◌, true, IsTrue, List, [], ◌∷◌, ◌++◌, slice_index_or}
 use Rattle.pim_facts.specs.declared.family.Family.{Family}
 use Rattle.pim_facts.specs.declared.fact.Fact.{Fact}
 use Rattle.pim_facts.specs.declared.fact.What.{What}
 use Rattle.pim_facts.specs.declared.fact.What.TheVariants.{Granted, Waits, GaveUp, Released, Level, Ceiling}
 use Rattle.pim_course.specs.Courses.{family_in, mutex_in}
+use Rattle.pim_course.specs.Sections.{AreNumbered, AreTogether, IsWithin, Sections}
 use Rattle.pim_course.specs.declared.course.Course.{Course}
 use Rattle.pim_course.specs.declared.course.CourseMutex.{CourseMutex}
 use Rattle.pim_course.specs.declared.course.Sources.{Sources}
@@ -51,3 +52,9 @@ Keeps sections n = IsTrue sections.is_all ⊎ IsTrue (slice_index_or sections.is
 -- the fact is of a critical section that is in the trace, or of none
 abbrev pub IsKept : CriticalSections → Fact → Type 0
 IsKept sections fact = (fact.section ≡ 0) ⊎ Keeps sections fact.section
+
+-- What is left out is whole: of two facts in one critical section, the one before the other, both are kept or none is.
+abbrev pub WholeLaw : Type 0
+WholeLaw = (sections : CriticalSections) (between : List Fact) (first last : Fact) (from to : Sections) →
+    AreNumbered (first ∷ (between ++ (last ∷ []))) from to → IsWithin first → IsWithin last →
+    AreTogether first between last → IsKept sections last ↔ IsKept sections first

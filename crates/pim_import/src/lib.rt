@@ -13,13 +13,18 @@
 //! It follows the [course](pim_course::Course) of the program some times. `critical_sections.rt`
 //! has those that are kept, `left_out.rt` what may be left out, `seen.rt` who takes part. A
 //! [`TraceBuilder`](pim_builder::TraceBuilder) makes the steps and cuts the pieces.
+//!
+//! [`whole_law`] has no code: its contract says that what the trace is without are whole critical
+//! sections.
 #![tactic(auto)]
 
 mod critical_sections;
 mod importing;
+mod laws;
 mod left_out;
 mod seen;
 mod tally;
 
 pub use importing::{Built, ImportOptions, Imported, import_log};
+pub use laws::whole_law;
 pub use tally::Tally;
