@@ -1,7 +1,7 @@
 //! A critical section: from the grant of a mutex to its release by the thread that was granted it.
 
 /// A thread that uses a mutex, at a level.
-#[derive(Clone, Copy, PartialEq, Eq, PartialOrd, Ord)]
+#[derive(Clone, Copy, PartialEq, Eq, Hash, PartialOrd, Ord)]
 pub struct User {
     pub thread: u32,
     pub mutex: u32,

@@ -6,7 +6,7 @@ use crate::section::{Section, User};
 use pim_course::Course;
 use pim_facts::{Fact, What};
 use std::alloc::{AllocError, Global};
-use std::collections::BTreeMap;
+use std::collections::HashMap;
 
 /// A critical section that lasts.
 #[derive(Clone, Copy, PartialEq, Eq)]
@@ -22,7 +22,7 @@ pub(crate) struct Sections {
     /// By mutex the section that lasts.
     open: Vec<Option<Open>>,
     /// By user how long the longest lasted that ended.
-    longest: BTreeMap<User, u64>,
+    longest: HashMap<User, u64>,
 }
 
 impl Sections {
@@ -34,7 +34,7 @@ impl Sections {
     pub fn new(alloc: Global, mutexes: usize) -> Result<Sections, AllocError> {
         Ok(Sections {
             open: vec![in alloc; None; mutexes]?,
-            longest: BTreeMap::new(alloc),
+            longest: HashMap::new(alloc),
         })
     }
 
@@ -45,7 +45,7 @@ impl Sections {
         self.open.len()
     }
 
-    /// Learns from a fact of this time. The cost is logarithmic in the number of users.
+    /// Learns from a fact of this time.
     ///
     /// # Errors
     ///
@@ -88,6 +88,7 @@ impl Sections {
                 lasted: *lasted,
             })?;
         }
+        seen.sort_by_key(|section| section.user)?;
         Ok(seen)
     }
 
