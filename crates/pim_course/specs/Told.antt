@@ -90,7 +90,8 @@ grant_told sources world t m said =
 abbrev pub fail_told : World → ℕ → ℕ → List Happening
 fail_told world t m = if m == 0 || not (is_it (world.awaits t) m) then [] else did GaveUp t m
 
--- a RELEASE: its thread released the mutex, if it owns it, locked it once, and isn't refused
+-- a RELEASE: its thread released the mutex, if it owns it, locked it once, and isn't refused. What is kept of it is what the
+-- records behind it say: `Finds` of NextOwners.antt
 abbrev pub release_told : Sources → World → (ℕ → ℕ) → ℕ → ℕ → ℕ → List Happening
 release_told sources world depth number t m =
     let kept = kept_of sources.next_owners number in
