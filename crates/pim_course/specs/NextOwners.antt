@@ -31,17 +31,12 @@ is_call (event.Failed _ _ _) = true
 is_call (event.Granted _ _ _) = true
 is_call _ = false
 
--- a thread releases a mutex
-abbrev pub is_release : Event → Bool
-is_release (event.Release _ _) = true
-is_release _ = false
-
 -- a release didn't happen
 abbrev pub is_release_failed : Event → Bool
 is_release_failed (event.ReleaseFailed _) = true
 is_release_failed _ = false
 
--- a thread releases a mutex, or it didn't
+-- a thread releases a mutex, or a release didn't happen
 abbrev pub is_of_release : Event → Bool
 is_of_release (event.Release _ _) = true
 is_of_release (event.ReleaseFailed _) = true
