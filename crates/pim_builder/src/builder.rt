@@ -1,24 +1,22 @@
-//! The trace as it is made: who has which number at a time, and the pieces.
-ghost use Rattle.std.specs.Prelude.{IfOk, IfErr, IsTrue, ◌≡◌, false};
+//! The trace as it is made: who has which number at a time, and the steps of facts.
+ghost use Rattle.std.specs.Prelude.{IfOk, IfErr, IsTrue, ◌≡◌, All, false};
 ghost use Rattle.pim_base.specs.Lists.{holds};
 ghost use Rattle.pim_builder.specs.Faults.{NamesNone, NamesOnly};
+ghost use Rattle.pim_builder.specs.Pieces.{AreJoined, EndWith, HasTimes};
 ghost use Rattle.pim_builder.specs.Showing.{IsSetting, Shows, holder_in, mutex_now, task_now};
 
 use crate::fault::ImportFault;
 use crate::numbering::Numbering;
 use crate::participants::{Participant, Participants};
+use crate::pieces::Pieces;
 use crate::showing::{has_base, has_ceiling, is_awaited, is_done_waiting, is_granted, is_released};
-use pim_base::{MAX_STEPS, MutexNo, Prio, Protocol, TaskNo, nth};
+use pim_base::{MutexNo, Prio, Protocol, TaskNo, nth};
 use pim_course::lists::push;
 use pim_course::{Sources, family_of};
 use pim_facts::{Fact, Family, What};
 use pim_manager::MakeFault;
-use pim_replay::{Observation, Piece, Priorities, Replay, ReplayFault, restored};
+use pim_replay::{Observation, Piece, Priorities, Replay};
 use std::alloc::{AllocError, Global};
-
-/// A piece ends where fewer steps than this are left. A fact makes fewer: at most two for each task that waits and four
-/// more, and there are at most 256 tasks.
-const ROOM: usize = 1024;
 
 /// A thread or a mutex of the log.
 #[derive(Clone, Copy, PartialEq, Eq)]
@@ -43,14 +41,7 @@ pub struct TraceBuilder {
     threads: Vec<Option<u32>>,
     /// By mutex the mutex of the log that has its number now.
     mutexes: Vec<Option<u32>>,
-    /// The piece that is being made.
-    replay: Replay,
-    times: Vec<u64>,
-    restoring: usize,
-    /// The pieces before.
-    pieces: Vec<Piece>,
-    /// The steps of the pieces before, without those that restore a state.
-    steps_before: u64,
+    pieces: Pieces,
     appearances: Vec<Appearance>,
 }
 
@@ -69,30 +60,24 @@ impl TraceBuilder {
             alloc,
             threads: vec![in alloc; None; bases.len()]?,
             mutexes: vec![in alloc; None; protocols.len()]?,
-            replay: replay_of(alloc, bases, protocols)?,
-            times: Vec::new(alloc),
-            restoring: 0,
-            pieces: Vec::new(alloc),
-            steps_before: 0,
+            pieces: Pieces::new(alloc, replay_of(alloc, bases, protocols)?),
             appearances: Vec::new(alloc),
         })
     }
 
-    /// Ends the trace, and returns its pieces and who appears in it.
+    /// Ends the trace, and returns its pieces and who appears in it. Each further piece begins in the
+    /// state in which the one before it ends.
     ///
     /// # Errors
     ///
     /// Returns `Memory` if out of memory.
     pub fn end(self) -> Result<(Vec<Piece>, Vec<Appearance>), ImportFault>
-        ensures { IfErr result NamesNone }
+        ensures joined { IfOk result (λ made. AreJoined made.0.items) }
+        ensures times { IfOk result (λ made. All HasTimes made.0.items) }
+        ensures end { IfOk result (λ made. EndWith self.pieces made.0.items) }
+        ensures fault { IfErr result NamesNone }
     {
-        let mut pieces = self.pieces;
-        let piece = Piece {
-            replay: self.replay,
-            times: self.times,
-            restoring: self.restoring,
-        };
-        push(&mut pieces, piece)?;
+        let pieces = self.pieces.end()?;
         Ok((pieces, self.appearances))
     }
 }
@@ -129,13 +114,14 @@ impl TraceBuilder {
         let task = self.task_of(context, fact.thread);
         let mutex = self.mutex_of(context, fact.mutex);
         let priorities = context.priorities;
+        let replay = self.pieces.replay();
         match fact.what {
-            What::Granted => is_granted(&self.replay, task, mutex),
-            What::Waits => is_awaited(&self.replay, task, mutex),
-            What::GaveUp => is_done_waiting(&self.replay, task),
-            What::Released(next) => is_released(&self.replay, self.task_of(context, next), mutex),
-            What::Level(level) => has_base(&self.replay, task, priorities.of_level(level)),
-            What::Ceiling(level) => has_ceiling(&self.replay, mutex, priorities.of_level(level)),
+            What::Granted => is_granted(replay, task, mutex),
+            What::Waits => is_awaited(replay, task, mutex),
+            What::GaveUp => is_done_waiting(replay, task),
+            What::Released(next) => is_released(replay, self.task_of(context, next), mutex),
+            What::Level(level) => has_base(replay, task, priorities.of_level(level)),
+            What::Ceiling(level) => has_ceiling(replay, mutex, priorities.of_level(level)),
         }
     }
 
@@ -144,14 +130,14 @@ impl TraceBuilder {
         ensures unused { IfOk result (λ is_used. is_used ≡ false → IsSetting fact.now.what) }
         ensures fault { IfErr result (NamesOnly now.now.number) }
     {
-        self.cut(now)?;
+        self.pieces.cut(now)?;
         match fact.what {
             What::Level(level) => {
                 let Some(task) = self.task_of(context, fact.thread) else {
                     return Ok(false);
                 };
                 let prio = context.priorities.of_level(level);
-                self.observe(&Observation::Base(task, prio), now)?;
+                self.pieces.observe(&Observation::Base(task, prio), now)?;
                 Ok(true)
             }
             What::Ceiling(level) => {
@@ -159,9 +145,10 @@ impl TraceBuilder {
                     return Ok(false);
                 };
                 let ceiling = context.priorities.of_level(level);
-                let owner = self.replay.owner(mutex);
+                let owner = self.pieces.replay().owner(mutex);
                 let moved = self.set_aside(owner, now)?;
-                self.observe(&Observation::Ceiling(mutex, ceiling), now)?;
+                self.pieces
+                    .observe(&Observation::Ceiling(mutex, ceiling), now)?;
                 self.put_back(moved.as_slice(), now)?;
                 Ok(true)
             }
@@ -183,7 +170,7 @@ impl TraceBuilder {
                 let grant = Observation::Granted(task, mutex);
                 self.observe_grant(&Some(task), mutex, &grant, now)
             }
-            What::Waits => self.observe(&Observation::Waits(task, mutex), now),
+            What::Waits => self.pieces.observe(&Observation::Waits(task, mutex), now),
             What::Released(next) => {
                 let next = self.task_of(context, next);
                 let release = Observation::Released(task, mutex, next);
@@ -191,7 +178,7 @@ impl TraceBuilder {
                 self.observe_grant(&next, mutex, &release, now)?;
                 self.put_back(moved.as_slice(), now)
             }
-            _ => self.observe(&Observation::GaveUp(task), now),
+            _ => self.pieces.observe(&Observation::GaveUp(task), now),
         }
     }
 
@@ -208,22 +195,22 @@ impl TraceBuilder {
         ensures { IfErr result (NamesOnly now.now.number) }
     {
         let Some((task, base, ceiling)) = self.above_ceiling(task, mutex) else {
-            return self.observe(observation, now);
+            return self.pieces.observe(observation, now);
         };
-        self.observe(&Observation::Base(task, ceiling), now)?;
-        self.observe(observation, now)?;
-        self.observe(&Observation::Base(task, base), now)
+        self.pieces.observe(&Observation::Base(task, ceiling), now)?;
+        self.pieces.observe(observation, now)?;
+        self.pieces.observe(&Observation::Base(task, base), now)
     }
 
     /// Returns a task that waits for a mutex outside of its queue, its priority, and the ceiling of the mutex, if that is
     /// lower.
     fn above_ceiling(&self, task: &Option<TaskNo>, mutex: MutexNo) -> Option<(TaskNo, Prio, Prio)> {
         let task = (*task)?;
-        let manager = self.replay.manager();
+        let manager = self.pieces.replay().manager();
         let is_outside = manager.waits_for(task) == Some(None);
         let ceiling = manager.protocol(mutex)?.ceiling()?;
         let base = manager.base(task)?;
-        if is_outside && self.replay.awaits(task) == Some(mutex) && base > ceiling {
+        if is_outside && self.pieces.replay().awaits(task) == Some(mutex) && base > ceiling {
             Some((task, base, ceiling))
         } else {
             None
@@ -241,7 +228,8 @@ impl TraceBuilder {
     {
         let waits = self.waits_from(task)?;
         for (_ticket, task, _mutex) in &waits {
-            self.observe(&Observation::GaveUp(TaskNo(*task)), now)?;
+            self.pieces
+                .observe(&Observation::GaveUp(TaskNo(*task)), now)?;
         }
         Ok(waits)
     }
@@ -253,7 +241,7 @@ impl TraceBuilder {
         let Some((task, mutex)) = self.queue_of(task) else {
             return Ok(waits);
         };
-        let Some(waiters) = self.replay.manager().waiters(mutex) else {
+        let Some(waiters) = self.pieces.replay().manager().waiters(mutex) else {
             return Ok(waits);
         };
         let mut own = u64::MAX;
@@ -274,7 +262,7 @@ impl TraceBuilder {
     /// Returns the task, and the mutex in whose queue it is.
     fn queue_of(&self, task: Option<TaskNo>) -> Option<(TaskNo, MutexNo)> {
         let task = task?;
-        let mutex = self.replay.manager().waits_for(task)??;
+        let mutex = self.pieces.replay().manager().waits_for(task)??;
         Some((task, mutex))
     }
 
@@ -284,7 +272,7 @@ impl TraceBuilder {
     {
         for (_ticket, task, mutex) in waits {
             let wait = Observation::Waits(TaskNo(*task), MutexNo(*mutex));
-            self.observe(&wait, now)?;
+            self.pieces.observe(&wait, now)?;
         }
         Ok(())
     }
@@ -337,8 +325,8 @@ impl TraceBuilder {
         let prio = context
             .priorities
             .of_level(level_of(&context.participants.threads, thread));
-        if self.replay.manager().base(task) != Some(prio) {
-            self.observe(&Observation::Base(task, prio), now)?;
+        if self.pieces.replay().manager().base(task) != Some(prio) {
+            self.pieces.observe(&Observation::Base(task, prio), now)?;
         }
         Ok(task)
     }
@@ -347,13 +335,14 @@ impl TraceBuilder {
     fn leave(&mut self, task: TaskNo, now: &Now) -> Result<(), ImportFault>
         ensures { IfErr result (NamesOnly now.now.number) }
     {
-        if self.replay.awaits(task).is_some() {
-            self.observe(&Observation::GaveUp(task), now)?;
+        if self.pieces.replay().awaits(task).is_some() {
+            self.pieces.observe(&Observation::GaveUp(task), now)?;
         }
-        for number in 1..=self.replay.manager().mutexes() {
+        for number in 1..=self.pieces.replay().manager().mutexes() {
             let mutex = MutexNo(number);
-            if self.replay.owner(mutex) == Some(task) {
-                self.observe(&Observation::Released(task, mutex, None), now)?;
+            if self.pieces.replay().owner(mutex) == Some(task) {
+                self.pieces
+                    .observe(&Observation::Released(task, mutex, None), now)?;
             }
         }
         Ok(())
@@ -382,9 +371,10 @@ impl TraceBuilder {
             .priorities
             .of_level(level_of(&context.participants.mutexes, mutex));
         let is_protect = family_of(context.sources, mutex) == Family::Protect;
-        let protocol = self.replay.manager().protocol(number);
+        let protocol = self.pieces.replay().manager().protocol(number);
         if is_protect && protocol != Some(Protocol::Protect(ceiling)) {
-            self.observe(&Observation::Ceiling(number, ceiling), now)?;
+            self.pieces
+                .observe(&Observation::Ceiling(number, ceiling), now)?;
         }
         Ok(number)
     }
@@ -393,67 +383,23 @@ impl TraceBuilder {
     fn clear(&mut self, mutex: MutexNo, now: &Now) -> Result<(), ImportFault>
         ensures { IfErr result (NamesOnly now.now.number) }
     {
-        for number in 1..=self.replay.manager().tasks() {
-            if self.replay.awaits(TaskNo(number)) == Some(mutex) {
-                self.observe(&Observation::GaveUp(TaskNo(number)), now)?;
+        for number in 1..=self.pieces.replay().manager().tasks() {
+            if self.pieces.replay().awaits(TaskNo(number)) == Some(mutex) {
+                self.pieces
+                    .observe(&Observation::GaveUp(TaskNo(number)), now)?;
             }
         }
-        if let Some(owner) = self.replay.owner(mutex) {
-            self.observe(&Observation::Released(owner, mutex, None), now)?;
+        if let Some(owner) = self.pieces.replay().owner(mutex) {
+            self.pieces
+                .observe(&Observation::Released(owner, mutex, None), now)?;
         }
         Ok(())
     }
 
     /// Keeps who appears.
     fn appear(&mut self, who: Who) -> Result<(), AllocError> {
-        let steps = self.times.len().saturating_sub(self.restoring) as u64;
-        let appearance = Appearance {
-            step: self.steps_before.saturating_add(steps),
-            who,
-        };
-        push(&mut self.appearances, appearance)
-    }
-
-    /// Makes the steps of an observation, and keeps when they happened.
-    fn observe(&mut self, observation: &Observation, now: &Now) -> Result<(), ImportFault>
-        ensures { IfErr result (NamesOnly now.now.number) }
-    {
-        match self.replay.observe(observation) {
-            Ok(()) => {}
-            Err(ReplayFault::Contradiction) => return Err(ImportFault::Contradiction(now.number)),
-            Err(ReplayFault::Memory) => return Err(ImportFault::Memory),
-        }
-        let steps = self.replay.entries().len().saturating_sub(self.times.len());
-        for _step in 0..steps {
-            push(&mut self.times, now.time)?;
-        }
-        Ok(())
-    }
-
-    /// Ends the piece if it is nearly full, and begins the next one with the state at its end.
-    fn cut(&mut self, now: &Now) -> Result<(), ImportFault>
-        ensures { IfErr result (NamesOnly now.now.number) }
-    {
-        if self.replay.entries().len().saturating_add(ROOM) <= MAX_STEPS as usize {
-            return Ok(());
-        }
-        let next = match restored(self.alloc, &self.replay) {
-            Ok(next) => next,
-            Err(ReplayFault::Contradiction) => return Err(ImportFault::Contradiction(now.number)),
-            Err(ReplayFault::Memory) => return Err(ImportFault::Memory),
-        };
-        let restoring = next.entries().len();
-        let times = vec![in self.alloc; now.time; restoring]?;
-        let own = self.times.len().saturating_sub(self.restoring) as u64;
-        let piece = Piece {
-            replay: std::mem::replace(&mut self.replay, next),
-            times: std::mem::replace(&mut self.times, times),
-            restoring: self.restoring,
-        };
-        self.restoring = restoring;
-        self.steps_before = self.steps_before.saturating_add(own);
-        push(&mut self.pieces, piece)?;
-        Ok(())
+        let step = self.pieces.steps();
+        push(&mut self.appearances, Appearance { step, who })
     }
 }
 

@@ -13,7 +13,10 @@
 //! ```
 //!
 //! `numbering.rt` gives threads and mutexes their numbers in the trace, `builder.rt` makes the
-//! steps, `showing.rt` looks up what the replay shows.
+//! steps, `pieces.rt` keeps the pieces and cuts them, `showing.rt` looks up what the replay shows.
+//!
+//! It is proved that each further piece begins in the state in which the one before it ends
+//! (specs/Pieces.antt).
 //!
 //! [`numbers_law`] has no code: its contract says that no two threads have one number at a time.
 #![tactic(auto)]
@@ -23,6 +26,7 @@ mod fault;
 mod laws;
 mod numbering;
 mod participants;
+mod pieces;
 mod showing;
 
 pub use builder::{Appearance, Context, Now, TraceBuilder, Who};

@@ -3,6 +3,7 @@ ghost use Rattle.std.specs.Prelude.{◌≡◌, ◌⊎◌, ◌-◌, IfOk, IfErr, 
 ghost use Rattle.pim_log.specs.Headers.{header_of, end_of};
 ghost use Rattle.pim_builder.specs.Faults.{NamesOneOf, NamesOnly};
 ghost use Rattle.pim_facts.specs.Shown.{shown_in};
+ghost use Rattle.pim_builder.specs.Pieces.{AreJoined, HasTimes};
 ghost use Rattle.pim_builder.specs.Showing.{IsSetting, Shows};
 ghost use Rattle.pim_import.specs.LeftOut.{IsKept, MayBeLeftOut};
 ghost use Rattle.pim_import.specs.Tallies.{total};
@@ -76,6 +77,8 @@ pub fn import_log(
     waits: &[Wait],
 ) -> Result<Imported, ImportFault>
     ensures counted { IfOk result (λ imported. total imported.built.tally ≡ end_of (header_of log.now) - 1) }
+    ensures joined { IfOk result (λ imported. AreJoined imported.built.pieces.items) }
+    ensures times { IfOk result (λ imported. All HasTimes imported.built.pieces.items) }
     ensures fault { IfErr result (NamesOneOf (end_of (header_of log.now))) }
 {
     let sources = sources_of(alloc, log, waits)?;
@@ -134,6 +137,8 @@ fn build(
     ended: u64,
 ) -> Result<Built, ImportFault>
     ensures counted { IfOk result (λ built. total built.tally ≡ end_of (header_of log.now) - 1) }
+    ensures joined { IfOk result (λ built. AreJoined built.pieces.items) }
+    ensures times { IfOk result (λ built. All HasTimes built.pieces.items) }
     ensures fault { IfErr result (NamesOneOf (end_of (header_of log.now))) }
 {
     let sources = context.sources;

@@ -1,0 +1,180 @@
+//! The pieces of the trace as they are made.
+ghost use Rattle.std.specs.Prelude.{◌≡◌, All, IfErr, IfOk, IsTrue, length};
+ghost use Rattle.pim_replay.specs.Replays.{KeepsOrder, Observes, StaysTheSame};
+ghost use Rattle.pim_builder.specs.Faults.{NamesOnly};
+ghost use Rattle.pim_builder.specs.Pieces.{AreJoined, EndWith, HasTimes};
+
+use crate::builder::Now;
+use crate::fault::ImportFault;
+use pim_base::MAX_STEPS;
+use pim_course::lists::push;
+use pim_replay::{Observation, Piece, Replay, ReplayFault, restored};
+use std::alloc::{AllocError, Global};
+use std::marker::Model;
+
+/// A piece ends where fewer steps than this are left. A fact makes fewer: at most two for each task that waits and four
+/// more, and there are at most 256 tasks.
+const ROOM: usize = 1024;
+
+/// The pieces of the trace as they are made.
+///
+/// In contracts it is the replay of the piece that is being made. The type keeps that each further piece begins in the
+/// state in which the one before it ended.
+#[derive(Drop)]
+pub(crate) struct Pieces {
+    alloc: Global,
+    /// The piece that is being made.
+    piece: Piece,
+    /// Those before it.
+    ended: Vec<Piece>,
+    /// The steps of those before it, without those that restore a state.
+    steps_before: u64,
+}
+
+impl Model for Pieces {
+    ghost use Rattle.std.specs.Prelude.{List, [], ◌∷◌, ◌++◌, All};
+    ghost use Rattle.pim_replay.specs.Replays.{ReplayState};
+    ghost use Rattle.pim_builder.specs.Pieces.{AreJoined, HasTimes};
+
+    ghost Value = { ReplayState };
+
+    ghost view = { λ p. p.piece.replay };
+
+    ghost invariant = { λ p. AreJoined (p.ended.items ++ p.piece ∷ []) × All HasTimes p.ended.items };
+}
+
+impl Pieces {
+    /// Returns the pieces of a trace that begins with this replay.
+    pub(crate) fn new(alloc: Global, replay: Replay) -> Pieces
+        ensures { result ≡ replay }
+    {
+        let piece = Piece {
+            replay,
+            times: Vec::new(alloc),
+            restoring: 0,
+        };
+        Pieces {
+            alloc,
+            piece,
+            ended: Vec::new(alloc),
+            steps_before: 0,
+        }
+    }
+
+    /// Returns the replay of the piece that is being made.
+    pub(crate) fn replay(&self) -> &Replay
+        ensures { result.now ≡ self.now }
+    {
+        &self.piece.replay
+    }
+
+    /// Returns how many steps there are, without those that restore a state.
+    pub(crate) fn steps(&self) -> u64 {
+        let steps = self.piece.times.len().saturating_sub(self.piece.restoring) as u64;
+        self.steps_before.saturating_add(steps)
+    }
+
+    /// Makes the steps of an observation, and keeps when they happened.
+    #[tactic(auto, using(crate::proofs::Joining::joined_on))]
+    pub(crate) fn observe(
+        &mut self,
+        observation: &Observation,
+        now: &Now,
+    ) -> Result<(), ImportFault>
+        ensures observed { IfOk result (λ _. Observes self.old observation.now self.new) }
+        ensures fault { IfErr result (NamesOnly now.now.number) }
+    {
+        match self.piece.replay.observe(observation) {
+            Ok(()) => {}
+            Err(fault) => return Err(at_record(fault, now)),
+        }
+        let steps = self.piece.replay.entries().len();
+        push_times(&mut self.piece.times, steps, now.time)?;
+        Ok(())
+    }
+
+    /// Ends the piece if it is nearly full, and begins the next one with the state at its end.
+    pub(crate) fn cut(&mut self, now: &Now) -> Result<(), ImportFault>
+        ensures same { IfOk result (λ _. StaysTheSame self.old self.new) }
+        ensures fault { IfErr result (NamesOnly now.now.number) }
+    {
+        if self.piece.replay.entries().len().saturating_add(ROOM) <= MAX_STEPS as usize {
+            return Ok(());
+        }
+        let next = match restored(self.alloc, &self.piece.replay) {
+            Ok(next) => next,
+            Err(fault) => return Err(at_record(fault, now)),
+        };
+        let restoring = next.entries().len();
+        let next = Piece {
+            replay: next,
+            times: vec![in self.alloc; now.time; restoring]?,
+            restoring,
+        };
+        self.begin(next)?;
+        Ok(())
+    }
+
+    /// Ends the piece, and begins this one, which has the state at its end.
+    ///
+    /// # Errors
+    ///
+    /// Returns `AllocError` if out of memory, or if it was before so that a time is missing.
+    fn begin(&mut self, next: Piece) -> Result<(), AllocError>
+        requires steps { length next.replay.entries ≡ next.restoring }
+        requires same { StaysTheSame self.old next.replay }
+        requires order { KeepsOrder self.old next.replay }
+        ensures { IfOk result (λ _. self.new ≡ next.replay) }
+    {
+        if !has_times(&self.piece) || self.ended.reserve(1).is_err() {
+            return Err(AllocError);
+        }
+        self.steps_before = self.steps();
+        let piece = std::mem::replace(&mut self.piece, next);
+        self.ended.push_reserved(piece);
+        Ok(())
+    }
+
+    /// Ends the trace, and returns its pieces.
+    ///
+    /// # Errors
+    ///
+    /// Returns `AllocError` if out of memory, or if it was before so that a time is missing.
+    pub(crate) fn end(self) -> Result<Vec<Piece>, AllocError>
+        ensures joined { IfOk result (λ pieces. AreJoined pieces.items) }
+        ensures times { IfOk result (λ pieces. All HasTimes pieces.items) }
+        ensures end { IfOk result (λ pieces. EndWith self pieces.items) }
+    {
+        if !has_times(&self.piece) {
+            return Err(AllocError);
+        }
+        let mut pieces = self.ended;
+        push(&mut pieces, self.piece)?;
+        Ok(pieces)
+    }
+}
+
+/// Returns whether a piece has a time for each step.
+fn has_times(piece: &Piece) -> bool
+    ensures { IsTrue result → HasTimes piece.now }
+{
+    piece.times.len() == piece.replay.entries().len()
+}
+
+/// Appends the time until there are so many.
+fn push_times(times: &mut Vec<u64>, count: usize, time: u64) -> Result<(), AllocError> {
+    for _step in times.len()..count {
+        push(times, time)?;
+    }
+    Ok(())
+}
+
+/// Returns the fault of an import whose replay failed at a record.
+fn at_record(fault: ReplayFault, now: &Now) -> ImportFault
+    ensures { NamesOnly now.now.number result }
+{
+    match fault {
+        ReplayFault::Contradiction => ImportFault::Contradiction(now.number),
+        ReplayFault::Memory => ImportFault::Memory,
+    }
+}
