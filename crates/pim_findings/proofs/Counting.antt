@@ -91,6 +91,10 @@ pub ok-then : {T E P Q : Type 0} (r : Result T E) → (P → Q) → IfOk r (λ _
 ok-then (Ok x) f h = f h
 ok-then (Err e) f h = tt
 
+pub ok-always : {T E P : Type 0} (r : Result T E) → P → IfOk r (λ _. P)
+ok-always (Ok x) p = p
+ok-always (Err e) p = tt
+
 suc-more : (n : ℕ) → n + 1 ≡ suc n
 suc-more n = omega arith
 

@@ -1,13 +1,15 @@
 -- What is known of waits after one more fact.
-use Rattle.std.proofs.Common.{◌≡◌, ◌≢◌, ℕ, suc, ◌+◌, ◌<◌, ◌≤◌, ◌==◌, Bool, true, false, cond, List, ◌∷◌, length, get_or, Option, Some, None, sym, ap, ◌∙◌, subst, inl, inr, arith, eq-eqb}
+use Rattle.std.proofs.Common.{◌≡◌, ◌≢◌, ℕ, suc, ◌+◌, ◌<◌, ◌≤◌, ◌==◌, Bool, true, false, cond, List, ◌∷◌, length, get_or, Option, Some, None, Result, Ok, Err, ◌&&◌, nat_lt, sym, ap, ◌∙◌, subst, inl, inr, arith, eq-eqb}
 use Rattle.std.specs.Option.{option_map}
-use Rattle.std.proofs.lemmas.Bool.{ne_eqb, lt-ltb, le-ltb, cases_lt, cases_eq}
+use Rattle.std.specs.Result.{IfOk}
+use Rattle.std.proofs.lemmas.Bool.{ne_eqb, lt-ltb, le-ltb, cases_lt, cases_eq, and_from, and_left}
 use Rattle.std.proofs.lemmas.List.{get_or_past}
+use Rattle.pim_facts.specs.declared.fact.What.TheVariants.{Waits}
 use Rattle.pim_findings.specs.declared.found_wait.FoundWait.{FoundWait}
 use Rattle.pim_findings.specs.declared.found_waits.FoundWaits.{FoundWaits}
 use Rattle.pim_findings.specs.declared.findings.Findings.{Findings}
 use Rattle.pim_findings.specs.declared.waiting.Waiting.{Waiting}
-use Rattle.pim_findings.specs.Waits.{Moment, after_own, all_waits, and_fact, and_until, ended_waits, ends_wait, lasting_until, wait_of}
+use Rattle.pim_findings.specs.Waits.{Moment, after_own, all_waits, and_fact, and_until, begun_wait, ended_waits, ends_wait, lasting_until, wait_of}
 use Rattle.pim_findings.specs.Longest.{AreReported}
 use Rattle.pim_findings.specs.Found.{Finds, KeepsWaits, wait_at}
 use Rattle.pim_findings.proofs.Steps.{ended_waits-one, wait_of-other, wait_of-own}
@@ -59,6 +61,44 @@ finds-ended n k facts m old new ends gone reported threads at f = elim (cases_lt
 
     there : (t : ℕ) → m.fact.thread ≢ t → wait_at new.waiting t ≡ wait_at old.waiting t
     there t ne = at t ∙ ap (λ b. cond b None (wait_at old.waiting t)) (ne_eqb t m.fact.thread (λ e. ne (sym e)))
+
+-- a fact that begins a wait
+finds-begun : (n k : ℕ) (facts : List Moment) (m : Moment) (old new : Findings) (wait : FoundWait) → wait ≡ begun_wait m → m.fact.what ≡ Waits →
+    new.waits ≡ old.waits → length new.waiting.open.items ≡ length old.waiting.open.items →
+    ((t : ℕ) → wait_at new.waiting t ≡ cond ((t == wait.thread) && nat_lt t (length old.waiting.open.items)) (Some wait) (wait_at old.waiting t)) →
+    Finds n k facts old → Finds n k (and_fact n m facts) new
+finds-begun n k facts m old new wait e is waits threads at f = elim (cases_lt m.fact.thread n) [
+  | inl lt ↦ subst (λ l. Finds n k l new) (sym (and_fact-known n m facts lt)) (record {
+    ended = subst (λ l. AreReported k l new.waits)
+        (sym (ap (λ b. cond b (and_until m.time false (wait_of facts m.fact.thread) (ended_waits facts)) (ended_waits facts)) (ap ends_wait is)))
+        (subst (AreReported k (ended_waits facts)) (sym waits) f.ended);
+    threads = threads ∙ f.threads;
+    lasting = λ t h. elim (cases_eq m.fact.thread t) [
+      | inl same ↦ at t ∙ ap (λ b. cond b (Some wait) (wait_at old.waiting t)) (and_from _ _ (eq-eqb t wait.thread (sym (own ∙ same)))
+          (lt-ltb t (length old.waiting.open.items) (subst (λ l. t < l) (sym f.threads) h)))
+          ∙ ap (λ w. Some w) e ∙ sym (wait_of-own m facts t same ∙ ap (λ what. after_own m what (wait_of facts t)) is)
+      | inr ne ↦ there t ne ∙ f.lasting t h ∙ sym (wait_of-other m facts t ne)
+    ];
+  })
+  | inr le ↦ subst (λ l. Finds n k l new) (sym (and_fact-unknown n m facts le)) (record {
+    ended = subst (AreReported k (ended_waits facts)) (sym waits) f.ended;
+    threads = threads ∙ f.threads;
+    lasting = λ t h. let ne : m.fact.thread ≢ t = omega arith in there t ne ∙ f.lasting t h;
+  })
+]
+  where
+    own : wait.thread ≡ m.fact.thread
+    own = ap (λ (w : FoundWait). w.thread) e
+
+    there : (t : ℕ) → m.fact.thread ≢ t → wait_at new.waiting t ≡ wait_at old.waiting t
+    there t ne = at t ∙ ap (λ b. cond b (Some wait) (wait_at old.waiting t)) (and_left _ _ (ne_eqb t wait.thread (λ same. ne (sym (same ∙ own)))))
+
+pub finds-begins : {T E : Type 0} (r : Result T E) (m : Moment) (old new : Findings) (wait : FoundWait) → wait ≡ begun_wait m → m.fact.what ≡ Waits →
+    new.waits ≡ old.waits → length new.waiting.open.items ≡ length old.waiting.open.items →
+    IfOk r (λ _. (t : ℕ) → wait_at new.waiting t ≡ cond ((t == wait.thread) && nat_lt t (length old.waiting.open.items)) (Some wait) (wait_at old.waiting t)) →
+    IfOk r (λ _. (n k : ℕ) (facts : List Moment) → Finds n k facts old → Finds n k (and_fact n m facts) new)
+finds-begins (Ok x) m old new wait e is waits threads at = λ n k facts f. finds-begun n k facts m old new wait e is waits threads at f
+finds-begins (Err x) m old new wait e is waits threads at = tt
 
 -- the waits of the threads below this one have ended with the log, and those of the others last
 pub record IsEnding (n k : ℕ) (facts : List Moment) (time thread : ℕ) (found : Findings) : Type 0 where

@@ -10,3 +10,8 @@ pub mod Cycling
 pub mod Blockers
 pub mod Owning
 pub mod Granting
+pub mod Queueing
+pub mod Handing
+pub mod Highest
+pub mod Raising
+pub mod First

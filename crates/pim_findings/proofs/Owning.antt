@@ -141,3 +141,40 @@ owns-released k facts m old new no_grant release len since longest o = record {
           | inr ne ↦ ap (λ b. cond b (and_since (last_granted facts mutex) m.fact.thread m.time (ownerships_of facts mutex)) (ownerships_of facts mutex)) (ne_eqb mutex m.fact.mutex ne)
               ∙ sym (ownerships_of-one m facts mutex false (not-first (m.fact.mutex == mutex) (is_release m.fact.what) (ne_eqb m.fact.mutex mutex (λ e. ne (sym e)))))
         ]
+
+-- a fact that neither grants nor releases a mutex
+pub owns-still : (k : ℕ) (facts : List Moment) (m : Moment) (old new : Findings) → is_grant m.fact.what ≡ false → is_release m.fact.what ≡ false →
+    new.mutexes ≡ old.mutexes → Owns k facts old → Owns k (m ∷ facts) new
+owns-still k facts m old new no_grant no_release mutexes o = record {
+  mutexes = ap (λ v. length v.items) mutexes ∙ o.mutexes;
+  since = λ mutex h. ap (λ v. (mutex_at v.items mutex).owned_since) mutexes ∙ o.since mutex h
+      ∙ sym (last_granted-one m facts mutex false (not-second (m.fact.mutex == mutex) (is_grant m.fact.what) no_grant));
+  longest = λ mutex h. subst (λ v. IsLongest (ownerships_of (m ∷ facts) mutex) (mutex_at v.items mutex).longest) (sym mutexes)
+      (subst (λ l. IsLongest l (mutex_at old.mutexes.items mutex).longest)
+      (sym (ownerships_of-one m facts mutex false (not-second (m.fact.mutex == mutex) (is_release m.fact.what) no_release))) (o.longest mutex h));
+}
+
+-- a fact that grants a mutex
+pub owns-granted : (k : ℕ) (facts : List Moment) (m : Moment) (old mid new : Findings) → is_grant m.fact.what ≡ true → is_release m.fact.what ≡ false →
+    length mid.mutexes.items ≡ length old.mutexes.items →
+    ((mutex : ℕ) → mutex < length old.mutexes.items → (mutex_at mid.mutexes.items mutex).owned_since ≡
+    cond (mutex == m.fact.mutex) (Some m.time) (mutex_at old.mutexes.items mutex).owned_since) →
+    ((mutex : ℕ) → mutex < length old.mutexes.items → (mutex_at mid.mutexes.items mutex).longest ≡ (mutex_at old.mutexes.items mutex).longest) →
+    new.mutexes ≡ mid.mutexes → Owns k facts old → Owns k (m ∷ facts) new
+owns-granted k facts m old mid new grant no_release len since longest mutexes o = record {
+  mutexes = ap (λ v. length v.items) mutexes ∙ len ∙ o.mutexes;
+  since = λ mutex h.
+      let inside : mutex < length old.mutexes.items = omega (arith, o.mutexes) in
+      ap (λ v. (mutex_at v.items mutex).owned_since) mutexes ∙ since mutex inside ∙ elim (cases_eq mutex m.fact.mutex) [
+        | inl e ↦ ap (λ b. cond b (Some m.time) (mutex_at old.mutexes.items mutex).owned_since) (eq-eqb mutex m.fact.mutex e)
+            ∙ sym (last_granted-one m facts mutex true (both (m.fact.mutex == mutex) (is_grant m.fact.what) true (eq-eqb m.fact.mutex mutex (sym e)) grant))
+        | inr ne ↦ ap (λ b. cond b (Some m.time) (mutex_at old.mutexes.items mutex).owned_since) (ne_eqb mutex m.fact.mutex ne) ∙ o.since mutex h
+            ∙ sym (last_granted-one m facts mutex false (not-first (m.fact.mutex == mutex) (is_grant m.fact.what) (ne_eqb m.fact.mutex mutex (λ e. ne (sym e)))))
+      ];
+  longest = λ mutex h.
+      let inside : mutex < length old.mutexes.items = omega (arith, o.mutexes) in
+      subst (λ v. IsLongest (ownerships_of (m ∷ facts) mutex) (mutex_at v.items mutex).longest) (sym mutexes)
+      (subst (λ l. IsLongest l (mutex_at mid.mutexes.items mutex).longest)
+      (sym (ownerships_of-one m facts mutex false (not-second (m.fact.mutex == mutex) (is_release m.fact.what) no_release)))
+      (subst (IsLongest (ownerships_of facts mutex)) (sym (longest mutex inside)) (o.longest mutex h)));
+}

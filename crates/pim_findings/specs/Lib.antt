@@ -2,6 +2,9 @@ pub mod Waits
 pub mod Longest
 pub mod Found
 pub mod Ownerships
+pub mod Levels
+pub mod Queue
+pub mod HandOvers
 pub mod Laws
 pub mod Cycles
 pub mod Walks

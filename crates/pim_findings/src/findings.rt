@@ -1,10 +1,14 @@
 //! What is found in a recording.
-ghost use Rattle.std.specs.Prelude.{◌≡◌, ℕ, ◌<◌, ◌==◌, ◌↔◌, ◌⊎◌, List, [], ◌∷◌, length, is_some, Any, IfOk, IsTrue, if◌then◌else◌, vec_len};
+ghost use Rattle.std.specs.Prelude.{◌≡◌, ◌≢◌, ℕ, ◌<◌, ◌==◌, ◌&&◌, ◌||◌, not, nat_lt, ◌↔◌, ◌⊎◌, Some, None, List, [], ◌∷◌, length, is_some, Any, IfOk, IsTrue, if◌then◌else◌, vec_len};
 ghost use Rattle.pim_findings.specs.Cycles.{AreCycles};
 ghost use Rattle.pim_findings.specs.Deadlocks.{blocker_of, threads_of};
 ghost use Rattle.pim_findings.specs.Waits.{Moment, all_waits, and_fact, and_until};
 ghost use Rattle.pim_findings.specs.Longest.{AreReported};
 ghost use Rattle.pim_findings.specs.Found.{Finds, KeepsWaits, wait_at};
+ghost use Rattle.pim_course.specs.Courses.{family_in};
+ghost use Rattle.pim_findings.specs.HandOvers.{AreHandOvers, HandsOn, HandsOver, Leaves};
+ghost use Rattle.pim_findings.specs.Levels.{is_protect};
+ghost use Rattle.pim_findings.specs.Queue.{KeepsQueue, before_at, protects_at, queued_at};
 ghost use Rattle.pim_findings.specs.Ownerships.{IsLongest, Owns, and_since, mutex_at};
 ghost use Rattle.pim_orders.specs.Nestings as nesting;
 ghost use Rattle.pim_orders.specs.Opposites.{AreOpposites};
@@ -51,6 +55,8 @@ impl Findings {
         ensures waits { IfOk result (λ found. Finds (length sources.now.ids.threads.items) (length sources.now.ids.mutexes.items) [] found) }
         ensures orders { IfOk result (λ found. nested.Knows (length sources.now.ids.threads.items) [] found.orders) }
         ensures owns { IfOk result (λ found. Owns (length sources.now.ids.mutexes.items) [] found) }
+        ensures hand_overs { IfOk result (λ found.
+            HandsOver (length sources.now.ids.threads.items) (length sources.now.ids.mutexes.items) [] found) }
     {
         let mutexes = sources.ids.mutexes.len();
         Ok(Findings {
@@ -91,6 +97,7 @@ impl Findings {
     /// Returns `AllocError` if out of memory.
     pub fn observe(&mut self, course: &Course, fact: &Fact, time: u64) -> Result<(), AllocError>
         ensures waits { KeepsWaits self.old self.new }
+        ensures waiting { self.new.waiting ≡ self.old.waiting }
         ensures mutexes { self.new.mutexes ≡ self.old.mutexes }
         ensures orders { IfOk result (λ _. (n : ℕ) (facts : List nesting.Moment) → nested.Knows n facts self.old.orders →
             nested.Knows n (nested.and_fact n (record { fact = fact.now; course = course.now }) facts) self.new.orders) }
@@ -127,6 +134,13 @@ impl Findings {
               course = course.now;
               sources = sources.now;
             } ∷ facts) self.new) }
+        ensures hand_overs { IfOk result (λ _. (n k : ℕ) (facts : List Moment) → fact.now.thread < n →
+            HandsOver n k facts self.old → HandsOver n k (record {
+              fact = fact.now;
+              time = time;
+              course = course.now;
+              sources = sources.now;
+            } ∷ facts) self.new) }
     {
         match fact.what {
             What::Waits => self
@@ -141,7 +155,8 @@ impl Findings {
                 self.release(sources, course, fact, time);
                 Ok(())
             }
-            What::Level(_) | What::Ceiling(_) => Ok(()),
+            What::Level(_) => Ok(()),
+            What::Ceiling(_) => Ok(()),
         }
     }
 
@@ -154,6 +169,10 @@ impl Findings {
         ensures orders { self.new.orders ≡ self.old.orders }
         ensures mutexes { self.new.mutexes ≡ self.old.mutexes }
         ensures others { (t : ℕ) → wait_at self.new.waiting t ≡ (if t == thread then None else wait_at self.old.waiting t) }
+        ensures queued { (t : ℕ) → queued_at self.new.waiting t ≡ (if t == thread then None else queued_at self.old.waiting t) }
+        ensures queue { KeepsQueue self.old.waiting → KeepsQueue self.new.waiting }
+        ensures begun { self.new.waiting.begun ≡ self.old.waiting.begun }
+        ensures protects { self.new.waiting.protecting ≡ self.old.waiting.protecting }
     {
         match self.waiting.end(thread) {
             Some(wait) => self.waits.add(wait.until(time, is_open)),
@@ -171,20 +190,43 @@ impl Findings {
             (if mutex == fact.now.mutex then Some time else (mutex_at self.old.mutexes.items mutex).owned_since) }
         ensures longest { (mutex : ℕ) → mutex < length self.old.mutexes.items →
             (mutex_at self.new.mutexes.items mutex).longest ≡ (mutex_at self.old.mutexes.items mutex).longest }
+        ensures waiting { self.new.waiting ≡ record self.old.waiting { protecting = self.new.waiting.protecting } }
+        ensures protects { IfOk result (λ _. (mutex : ℕ) → protects_at self.new.waiting mutex ≡
+            (protects_at self.old.waiting mutex ||
+            ((fact.now.mutex == mutex) && is_protect (family_in sources.now fact.now.mutex)))) }
+        ensures left { (mutex : ℕ) → mutex < length self.old.mutexes.items →
+            (mutex_at self.new.mutexes.items mutex).left ≡
+            (if mutex == fact.now.mutex then None else (mutex_at self.old.mutexes.items mutex).left) }
+        ensures hand_overs { KeepsQueue self.old.waiting → fact.now.mutex < length self.old.mutexes.items →
+            let before = mutex_at self.old.mutexes.items fact.now.mutex in
+            HandsOn (queued_at self.old.waiting) fact.now.thread fact.now.mutex before.left before.hand_overs
+            (mutex_at self.new.mutexes.items fact.now.mutex).hand_overs }
+        ensures others { (mutex : ℕ) → mutex < length self.old.mutexes.items → mutex ≢ fact.now.mutex →
+            (mutex_at self.new.mutexes.items mutex).hand_overs ≡ (mutex_at self.old.mutexes.items mutex).hand_overs }
     {
         let mut found = self.mutex(fact.mutex);
-        if let Some(left) = found.left() {
-            if self.waiting.has_early(fact.mutex, left.begun) {
-                let number = self.waiting.number(fact.thread, fact.mutex);
-                found.hand_over(&left, fact.thread, number);
-            }
-        }
+        self.hand_on(&mut found, fact);
         found.own(time);
         put(&mut self.mutexes, fact.mutex, found);
         if family_of(sources, fact.mutex) == Family::Protect {
             self.waiting.protect(fact.mutex)?;
         }
         Ok(())
+    }
+
+    /// A thread is granted a mutex: that is a hand-over if a thread waits that did so as the mutex was released.
+    fn hand_on(&self, found: &mut FoundMutex, fact: &Fact)
+        ensures since { found.new.owned_since ≡ found.old.owned_since }
+        ensures longest { found.new.longest ≡ found.old.longest }
+        ensures hand_overs { KeepsQueue self.now.waiting → HandsOn (queued_at self.now.waiting) fact.now.thread fact.now.mutex
+            found.old.left found.old.hand_overs found.new.hand_overs }
+    {
+        if let Some(left) = found.left() {
+            if self.waiting.has_early(fact.mutex, left.begun) {
+                let number = self.waiting.number(fact.thread, fact.mutex);
+                found.hand_over(&left, fact.thread, number);
+            }
+        }
     }
 
     /// The owner of a mutex has it no more. Keeps who waits for it then, and who is first.
@@ -198,6 +240,21 @@ impl Findings {
             let before = mutex_at self.old.mutexes.items mutex in IsLongest ownerships before.longest →
             IsLongest (if mutex == fact.now.mutex then and_since before.owned_since fact.now.thread time ownerships else ownerships)
             (mutex_at self.new.mutexes.items mutex).longest }
+        ensures waiting { self.new.waiting ≡ record self.old.waiting {
+          protecting = self.new.waiting.protecting;
+          effective = self.new.waiting.effective;
+        } }
+        ensures places { length self.new.waiting.effective.items ≡ length self.old.waiting.effective.items }
+        ensures protects { (mutex : ℕ) → protects_at self.new.waiting mutex ≡
+            (not (fact.now.mutex == mutex) && protects_at self.old.waiting mutex) }
+        ensures left { KeepsQueue self.old.waiting → fact.now.mutex < length self.old.mutexes.items →
+            let before = before_at sources.now course.now fact.now self.old.waiting in
+            Leaves before fact.now.mutex fact.now.thread self.old.waiting.begun
+            (mutex_at self.new.mutexes.items fact.now.mutex).left }
+        ensures others { (mutex : ℕ) → mutex < length self.old.mutexes.items → mutex ≢ fact.now.mutex →
+            (mutex_at self.new.mutexes.items mutex).left ≡ (mutex_at self.old.mutexes.items mutex).left }
+        ensures hand_overs { (mutex : ℕ) → mutex < length self.old.mutexes.items →
+            (mutex_at self.new.mutexes.items mutex).hand_overs ≡ (mutex_at self.old.mutexes.items mutex).hand_overs }
     {
         let mut found = self.mutex(fact.mutex);
         let left = match self.waiting.first(sources, course, fact) {
@@ -224,6 +281,8 @@ impl Findings {
         ensures mutexes { self.new.mutexes ≡ self.old.mutexes }
         ensures waits { IfOk result (λ _. (n k : ℕ) (facts : List Moment) → Finds n k facts self.old →
             AreReported k (all_waits facts time n) self.new.waits) }
+        ensures hand_overs { (n k : ℕ) (facts : List Moment) → HandsOver n k facts self.old →
+            (mutex : ℕ) → mutex < k → AreHandOvers facts mutex (mutex_at self.new.mutexes.items mutex).hand_overs }
         ensures deadlocks { IfOk result (λ _. AreCycles (blocker_of course.now) (threads_of self.new.deadlocks.items)) }
         ensures opposites { IfOk result (λ _. (n : ℕ) (facts : List nesting.Moment) → nested.Knows n facts self.old.orders →
             AreOpposites (nesting.nestings facts) self.new.opposites.items) }

@@ -1,5 +1,6 @@
 //! Who owned a mutex, and to whom it went.
 ghost use Rattle.std.specs.Prelude.{◌≡◌, ℕ, List, is_some};
+ghost use Rattle.pim_findings.specs.HandOvers.{and_to, heir_by};
 ghost use Rattle.pim_findings.specs.Ownerships.{IsLongest, and_since};
 
 /// To whom a mutex went for which threads waited.
@@ -49,7 +50,9 @@ pub(crate) struct Left {
 impl HandOvers {
     /// Counts a hand-over after this release to a thread, whose wait for the mutex has this number
     /// if it waits.
-    fn count(&mut self, left: &Left, thread: u32, number: Option<u64>) {
+    fn count(&mut self, left: &Left, thread: u32, number: Option<u64>)
+        ensures { self.new ≡ and_to (heir_by left.now thread number) self.old }
+    {
         let is_early = match number {
             Some(number) => number <= left.begun,
             None => false,
@@ -88,7 +91,9 @@ impl FoundMutex {
     }
 
     /// Returns its last release, while it is free, if threads waited for it then.
-    pub(crate) fn left(&self) -> Option<Left> {
+    pub(crate) fn left(&self) -> Option<Left>
+        ensures { result ≡ self.now.left }
+    {
         self.left
     }
 
@@ -96,6 +101,7 @@ impl FoundMutex {
     pub(crate) fn hand_over(&mut self, left: &Left, thread: u32, number: Option<u64>)
         ensures since { self.new.owned_since ≡ self.old.owned_since }
         ensures longest { self.new.longest ≡ self.old.longest }
+        ensures hand_overs { self.new.hand_overs ≡ and_to (heir_by left.now thread number) self.old.hand_overs }
     {
         self.hand_overs.count(left, thread, number);
     }
@@ -104,6 +110,8 @@ impl FoundMutex {
     pub(crate) fn own(&mut self, time: u64)
         ensures since { self.new.owned_since ≡ Some time }
         ensures longest { self.new.longest ≡ self.old.longest }
+        ensures left { self.new.left ≡ None }
+        ensures hand_overs { self.new.hand_overs ≡ self.old.hand_overs }
     {
         self.owned_since = Some(time);
         self.left = None;
@@ -114,6 +122,8 @@ impl FoundMutex {
         ensures since { self.new.owned_since ≡ self.old.owned_since }
         ensures longest { (ownerships : List FoundOwnership) → IsLongest ownerships self.old.longest →
             IsLongest (and_since self.old.owned_since thread time ownerships) self.new.longest }
+        ensures left { self.new.left ≡ left }
+        ensures hand_overs { self.new.hand_overs ≡ self.old.hand_overs }
     {
         let lasted = time.saturating_sub(self.owned_since.unwrap_or(time));
         let longest = match self.longest {

@@ -1,6 +1,15 @@
 //! Who waits for which mutex, and who is the first waiter.
-ghost use Rattle.std.specs.Prelude.{◌≡◌, ℕ, ◌==◌, ◌&&◌, nat_lt, length, IfOk, if◌then◌else◌, slice_index_or};
+ghost use Rattle.std.specs.Prelude.{◌≡◌, ◌↔◌, ℕ, ◌+◌, ◌<◌, ◌==◌, ◌&&◌, ◌||◌, false, nat_le, nat_lt, not, length, slice_set, Contains, Option, Some, None, IfOk, IsTrue, if◌then◌else◌, slice_index_or};
+ghost use Rattle.std.specs.List.{filter, find, list_all, list_any};
 ghost use Rattle.pim_findings.specs.Found.{wait_at};
+ghost use Rattle.pim_findings.specs.HandOvers.{number_for};
+ghost use Rattle.std.specs.Option.{option_map_or};
+ghost use Rattle.pim_course.specs.World.{but_for, world_of};
+ghost use Rattle.pim_course.specs.declared.course.Sources as declared;
+ghost use Rattle.pim_findings.specs.declared.waiting.Queued as queues;
+ghost use Rattle.pim_findings.specs.Levels.{Gets, IsFirstNumber, IsOwnLevel, heir_by};
+ghost use Rattle.pim_findings.specs.Longest.{capped};
+ghost use Rattle.pim_findings.specs.Queue.{AreEffective, AreSound, HasHighest, IsRaised, KeepsQueue, before_at, is_before_at, level_at, protects_at, queued_at};
 
 use crate::found_wait::FoundWait;
 use pim_course::lists::push;
@@ -49,6 +58,10 @@ impl Waiting {
     pub fn new(alloc: Global, threads: usize) -> Result<Waiting, AllocError>
         ensures len { IfOk result (λ waiting. length waiting.open.items ≡ threads) }
         ensures none { IfOk result (λ waiting. (t : ℕ) → wait_at waiting t ≡ None) }
+        ensures queued { IfOk result (λ waiting. (t : ℕ) → queued_at waiting t ≡ None) }
+        ensures queue { IfOk result (λ waiting. KeepsQueue waiting) }
+        ensures begun { IfOk result (λ waiting. waiting.begun ≡ 0) }
+        ensures protects { IfOk result (λ waiting. (mutex : ℕ) → protects_at waiting mutex ≡ false) }
     {
         Ok(Waiting {
             open: vec![in alloc; None; threads]?,
@@ -74,19 +87,23 @@ impl Waiting {
     }
 
     /// Returns how many waits have begun.
-    pub fn begun(&self) -> u64 {
+    pub fn begun(&self) -> u64
+        ensures { result ≡ self.now.begun }
+    {
         self.begun
     }
 
     /// Returns the number of the wait of a thread for a mutex, if it waits for that.
-    pub fn number(&self, thread: u32, mutex: u32) -> Option<u64> {
+    pub fn number(&self, thread: u32, mutex: u32) -> Option<u64>
+        ensures { result ≡ number_for (queued_at self.now) thread mutex }
+    {
         match self.open.get(thread as usize) {
             Some(Some(open)) if open.wait.mutex == mutex => Some(open.number),
             _ => None,
         }
     }
 
-    /// A wait begins.
+    /// A wait begins, and ends another one of its thread.
     ///
     /// # Errors
     ///
@@ -95,9 +112,17 @@ impl Waiting {
         ensures len { length self.new.open.items ≡ length self.old.open.items }
         ensures waits { IfOk result (λ _. (t : ℕ) → wait_at self.new t ≡
             (if (t == wait.thread) && nat_lt t (length self.old.open.items) then Some wait else wait_at self.old t)) }
+        ensures queued { IfOk result (λ _. (t : ℕ) → queued_at self.new t ≡
+            (if (t == wait.thread) && nat_lt t (length self.old.open.items)
+            then Some (record { number = self.new.begun; thread = t; mutex = wait.mutex }) else queued_at self.old t)) }
+        ensures queue { IfOk result (λ _. KeepsQueue self.old → KeepsQueue self.new) }
+        ensures begun { IfOk result (λ _. self.new.begun ≡
+            (if nat_lt wait.thread (length self.old.open.items) then capped (self.old.begun + 1) else self.old.begun)) }
+        ensures protects { self.new.protecting ≡ self.old.protecting }
     {
         let place = wait.thread as usize;
         if place < self.open.len() {
+            let _other = self.end(place);
             self.begun = self.begun.saturating_add(1);
             let number = self.begun;
             let queued = Queued {
@@ -116,11 +141,15 @@ impl Waiting {
         ensures wait { result ≡ wait_at self.old thread }
         ensures len { length self.new.open.items ≡ length self.old.open.items }
         ensures others { (t : ℕ) → wait_at self.new t ≡ (if t == thread then None else wait_at self.old t) }
+        ensures queued { (t : ℕ) → queued_at self.new t ≡ (if t == thread then None else queued_at self.old t) }
+        ensures queue { KeepsQueue self.old → KeepsQueue self.new }
+        ensures begun { self.new.begun ≡ self.old.begun }
+        ensures protects { self.new.protecting ≡ self.old.protecting }
     {
         let open = self.of(thread)?;
         if thread < self.open.len() {
             self.open[thread] = None;
-            leave_queue(&mut self.queue, open.wait.thread);
+            leave_queue(&mut self.queue, thread);
         }
         Some(open.wait)
     }
@@ -131,118 +160,168 @@ impl Waiting {
     ///
     /// Returns `AllocError` if out of memory.
     pub fn protect(&mut self, mutex: u32) -> Result<(), AllocError>
-        ensures { self.new.open ≡ self.old.open }
+        ensures rest { self.new ≡ record self.old { protecting = self.new.protecting } }
+        ensures protects { IfOk result (λ _. (one : ℕ) → protects_at self.new one ≡ protects_at self.old one || (mutex == one)) }
     {
         push(&mut self.protecting, mutex)
     }
 
     /// A mutex has no owner any more.
     pub fn leave(&mut self, mutex: u32)
-        ensures { self.new.open ≡ self.old.open }
+        ensures rest { self.new ≡ record self.old { protecting = self.new.protecting } }
+        ensures protects { (one : ℕ) → protects_at self.new one ≡ not (mutex == one) && protects_at self.old one }
     {
         remove(&mut self.protecting, mutex);
     }
 
     /// Returns whether a wait for a mutex lasts that was among the first so many to begin.
-    pub fn has_early(&self, mutex: u32, begun: u64) -> bool {
-        for queued in &self.queue {
-            if queued.mutex == mutex && queued.number <= begun {
-                return true;
-            }
-        }
-        false
+    pub fn has_early(&self, mutex: u32, begun: u64) -> bool
+        ensures { result ≡ list_any (λ wait. (wait.mutex == mutex) && nat_le wait.number begun) self.now.queue.items }
+    {
+        self.queue
+            .iter()
+            .any(|wait| wait.mutex == mutex && wait.number <= begun)
     }
 
     /// Returns the number of the first wait for the mutex that the fact's thread releases: that of
     /// the thread with the highest effective level, and of equal ones the earliest.
     pub fn first(&mut self, sources: &Sources, course: &Course, fact: &Fact) -> Option<u64>
-        ensures { self.new.open ≡ self.old.open }
+        ensures rest { self.new ≡ record self.old { effective = self.new.effective } }
+        ensures len { length self.new.effective.items ≡ length self.old.effective.items }
+        ensures first { KeepsQueue self.old →
+            IsFirstNumber (before_at sources.now course.now fact.now self.old) fact.now.mutex result }
     {
-        if self.count(fact.mutex) > 1 {
-            self.find_levels(sources, course, fact);
+        let any = self.any_of(fact.mutex)?;
+        if self.is_alone(&any) {
+            return Some(any.number);
         }
-        let mut first = None;
-        let mut highest = 0;
-        for queued in &self.queue {
-            if queued.mutex == fact.mutex {
-                let level = self.effective_of(queued.thread);
-                if first.is_none() || level > highest {
-                    first = Some(queued.number);
-                    highest = level;
-                }
-            }
-        }
-        first
+        self.find_levels(sources, course, fact);
+        Some(self.highest(&any))
     }
 
-    /// Returns how many threads wait for a mutex.
-    fn count(&self, mutex: u32) -> usize {
-        let mut count = 0usize;
-        for queued in &self.queue {
-            if queued.mutex == mutex {
-                count = count.saturating_add(1);
+    /// Returns a wait for a mutex.
+    fn any_of(&self, mutex: u32) -> Option<Queued>
+        ensures { result ≡ find (λ wait. wait.mutex == mutex) self.now.queue.items }
+    {
+        self.queue.iter().copied().find(|wait| wait.mutex == mutex)
+    }
+
+    /// Returns whether no other thread waits for the mutex.
+    fn is_alone(&self, any: &Queued) -> bool
+        ensures { result ≡
+            list_all (λ wait. not (wait.mutex == any.now.mutex) || (wait.thread == any.now.thread)) self.now.queue.items }
+    {
+        self.queue.iter().all(|wait| wait.mutex != any.mutex || wait.thread == any.thread)
+    }
+
+    /// Returns the number of the wait of the thread with the highest level of those that wait for the same mutex, and of
+    /// equal ones of the earliest.
+    fn highest(&self, any: &Queued) -> u64
+        ensures { Contains self.now.queue.items any.now → HasHighest self.now any.now.mutex result }
+    {
+        let mut first = *any;
+        for wait in &self.queue {
+            if wait.mutex == any.mutex && self.is_before(wait, &first) {
+                first = *wait;
             }
         }
-        count
+        first.number
+    }
+
+    /// Returns whether a wait is that of a thread with a higher level, or with the same one and began before.
+    fn is_before(&self, wait: &Queued, other: &Queued) -> bool
+        ensures { result ≡ is_before_at self.now wait.now other.now }
+    {
+        let level = self.effective_of(wait.thread);
+        let lower = self.effective_of(other.thread);
+        level > lower || (level == lower && wait.number < other.number)
     }
 
     /// Computes the effective level of each thread that waits, before the fact's thread releases its mutex: the highest
     /// of its own level, the ceilings of its PROTECT mutexes, and the effective levels of those that wait for its INHERIT
     /// mutexes. Each thread raises those along its chain, up to one that isn't lower.
     fn find_levels(&mut self, sources: &Sources, course: &Course, fact: &Fact)
-        ensures { self.new.open ≡ self.old.open }
+        ensures rest { self.new ≡ record self.old { effective = self.new.effective } }
+        ensures len { length self.new.effective.items ≡ length self.old.effective.items }
+        ensures levels { KeepsQueue self.old → AreEffective (before_at sources.now course.now fact.now self.old) self.new }
     {
-        for queued in &self.queue {
-            let place = queued.thread as usize;
-            if place < self.effective.len() {
-                self.effective[place] = 0;
-            }
-        }
+        self.forget_levels();
         for place in 0..self.queue.len() {
-            if let Some(queued) = self.queue.get(place).copied() {
-                let level = self.own_level(course, fact, queued.thread);
-                self.raise_from(sources, course, fact, queued.thread, level);
-            }
+            let thread = self.queue[place].thread;
+            let level = self.own_level(course, fact, thread);
+            self.raise_from(sources, course, fact, thread, level);
+        }
+    }
+
+    /// Gives each thread that waits the lowest level.
+    fn forget_levels(&mut self)
+        ensures rest { self.new ≡ record self.old { effective = self.new.effective } }
+        ensures len { length self.new.effective.items ≡ length self.old.effective.items }
+        ensures lowest { (wait : queues.Queued) → Contains self.old.queue.items wait → level_at self.new wait.thread ≡ 0 }
+    {
+        for place in 0..self.queue.len() {
+            let thread = self.queue[place].thread;
+            self.put_level(thread, 0);
         }
     }
 
     /// Raises the effective level of a thread, and of those along its chain, to this one.
     fn raise_from(&mut self, sources: &Sources, course: &Course, fact: &Fact, first: u32, level: u8)
-        ensures { self.new.open ≡ self.old.open }
+        ensures rest { self.new ≡ record self.old { effective = self.new.effective } }
+        ensures len { length self.new.effective.items ≡ length self.old.effective.items }
+        ensures levels { KeepsQueue self.old → let before = before_at sources.now course.now fact.now self.old in
+            Gets before first level → AreSound before self.old → IsRaised before self.old self.new first level }
     {
         let mut thread = first;
-        for _hop in 0..self.open.len() {
+        for hop in 0..self.open.len() {
             if !self.raise(thread, level) {
-                break;
+                return;
             }
             match self.heir_of(sources, course, fact, thread) {
                 Some(heir) => thread = heir,
-                None => break,
+                None => return,
             }
         }
     }
 
     /// Raises the effective level of a thread to this one. Returns whether it was lower.
     fn raise(&mut self, thread: u32, level: u8) -> bool
-        ensures { self.new.open ≡ self.old.open }
+        ensures rest { self.new ≡ record self.old { effective = self.new.effective } }
+        ensures len { length self.new.effective.items ≡ length self.old.effective.items }
+        ensures lower { IsTrue result ↔ (thread < length self.old.effective.items) × (level_at self.old thread < level) }
+        ensures levels { self.new.effective.items ≡
+            (if result then slice_set self.old.effective.items thread level else self.old.effective.items) }
     {
-        let place = thread as usize;
-        if place >= self.effective.len() || self.effective[place] >= level {
+        if thread as usize >= self.effective.len() || self.effective_of(thread) >= level {
             return false;
         }
-        self.effective[place] = level;
+        self.put_level(thread, level);
         true
     }
 
-    fn effective_of(&self, thread: u32) -> u8 {
+    /// Returns the level that is computed of a thread.
+    fn effective_of(&self, thread: u32) -> u8
+        ensures { result ≡ level_at self.now thread }
+    {
         self.effective.get(thread as usize).copied().unwrap_or(0)
     }
 
+    fn put_level(&mut self, thread: u32, level: u8)
+        ensures rest { self.new ≡ record self.old { effective = self.new.effective } }
+        ensures levels { self.new.effective.items ≡ slice_set self.old.effective.items thread level }
+    {
+        if (thread as usize) < self.effective.len() {
+            self.effective[thread as usize] = level;
+        }
+    }
+
     /// Returns the higher of a thread's level and the ceilings of its PROTECT mutexes.
-    fn own_level(&self, course: &Course, fact: &Fact, thread: u32) -> u8 {
+    fn own_level(&self, course: &Course, fact: &Fact, thread: u32) -> u8
+        ensures { (sources : declared.Sources) → IsOwnLevel (before_at sources course.now fact.now self.now) thread result }
+    {
         let mut level = course.thread(thread).level;
         for mutex in &self.protecting {
-            if owner_before(course, fact, *mutex) == Some(thread) {
+            if is_owner(course, fact, *mutex, thread) {
                 level = level.max(course.mutex(*mutex).ceiling);
             }
         }
@@ -250,7 +329,9 @@ impl Waiting {
     }
 
     /// Returns the thread to which a waiter donates its level.
-    fn heir_of(&self, sources: &Sources, course: &Course, fact: &Fact, thread: u32) -> Option<u32> {
+    fn heir_of(&self, sources: &Sources, course: &Course, fact: &Fact, thread: u32) -> Option<u32>
+        ensures { result ≡ heir_by (before_at sources.now course.now fact.now self.now) thread }
+    {
         let mutex = self.of(thread as usize)?.wait.mutex;
         if family_of(sources, mutex) == Family::Inherit {
             owner_before(course, fact, mutex)
@@ -261,7 +342,9 @@ impl Waiting {
 }
 
 /// Returns the owner of a mutex before the fact's thread releases its own.
-fn owner_before(course: &Course, fact: &Fact, mutex: u32) -> Option<u32> {
+fn owner_before(course: &Course, fact: &Fact, mutex: u32) -> Option<u32>
+    ensures { result ≡ but_for fact.now.mutex (Some fact.now.thread) (world_of course.now).owner mutex }
+{
     if mutex == fact.mutex {
         return Some(fact.thread);
     }
@@ -271,16 +354,27 @@ fn owner_before(course: &Course, fact: &Fact, mutex: u32) -> Option<u32> {
     }
 }
 
-/// Removes the wait of a thread.
-fn leave_queue(queue: &mut Vec<Queued>, thread: u32) {
-    if let Some(place) = queue.iter().position(|queued| queued.thread == thread) {
-        let _left = queue.remove(place);
+/// Returns whether a thread owned a mutex before the fact's thread releases its own.
+fn is_owner(course: &Course, fact: &Fact, mutex: u32, thread: u32) -> bool
+    ensures { result ≡ option_map_or (λ owner. owner == thread)
+        (but_for fact.now.mutex (Some fact.now.thread) (world_of course.now).owner mutex) false }
+{
+    match owner_before(course, fact, mutex) {
+        Some(owner) => owner == thread,
+        None => false,
     }
 }
 
-/// Removes the first item that is this one.
-fn remove(list: &mut Vec<u32>, one: u32) {
-    if let Some(place) = list.iter().position(|other| *other == one) {
-        let _removed = list.remove(place);
-    }
+/// Removes the wait of the thread with this number.
+fn leave_queue(queue: &mut Vec<Queued>, thread: usize)
+    ensures { queue.new.items ≡ filter (λ wait. not (wait.thread == thread)) queue.old.items }
+{
+    queue.retain(|wait| wait.thread as usize != thread);
+}
+
+/// Removes this one from a list.
+fn remove(list: &mut Vec<u32>, one: u32)
+    ensures { list.new.items ≡ filter (λ other. not (other == one)) list.old.items }
+{
+    list.retain(|other| *other != one);
 }

@@ -1,0 +1,156 @@
+-- The first wait for a mutex is that of the first thread that waits for it.
+use Rattle.std.proofs.Common.{◌≡◌, ℕ, ◌<◌, ◌≤◌, ◌==◌, Bool, true, not, ◌||◌, length, get_or, Some, None, Contains, refl, sym, ap, ◌∙◌, subst, inl, inr, arith, eq-eqb}
+use Rattle.std.specs.List.{find, list_all}
+use Rattle.std.proofs.lemmas.Bool.{both_ways, not-true, eqb-true, or_cases, cases_lt}
+use Rattle.std.proofs.lemmas.List.Elements.{All-contains}
+use Rattle.std.proofs.lemmas.List.Sums.{AllPass-from_list_all}
+use Rattle.pim_facts.specs.declared.fact.Fact.{Fact}
+use Rattle.pim_course.specs.declared.course.Course.{Course}
+use Rattle.pim_course.specs.declared.course.Sources.{Sources}
+use Rattle.pim_findings.specs.declared.waiting.Queued.{Queued}
+use Rattle.pim_findings.specs.declared.waiting.Waiting.{Waiting}
+use Rattle.pim_findings.specs.Levels.{Gets, HasFirst, IsOwnLevel, awaits_by, number_by}
+use Rattle.pim_findings.specs.Queue.{AreEffective, AreSound, HasHighest, IsBehind, IsRaised, KeepsQueue, before_at, level_at, queued_at}
+use Rattle.pim_findings.proofs.Queueing.{queue-kept}
+use Rattle.pim_findings.proofs.Highest.{find-none, find-some, queue-number, queue-waits, waits-queued}
+use Rattle.pim_findings.proofs.Raising.{HasOwn, all-effective, heir-waits, sound-none, waits-inside}
+
+pub first-none : (waiting : Waiting) (mutex : ℕ) → KeepsQueue waiting → find (λ wait. wait.mutex == mutex) waiting.queue.items ≡ None →
+    (t : ℕ) → awaits_by (queued_at waiting) t ≡ Some mutex → ⊥
+first-none waiting mutex k none t a =
+    let q = waits-queued waiting mutex t k a in
+    both_ways (q.wait.mutex == mutex) (find-none (λ wait. wait.mutex == mutex) waiting.queue.items q.wait none q.queued) (eq-eqb q.wait.mutex mutex q.for_it)
+
+abbrev alone : Queued → Queued → Bool
+alone any wait = not (wait.mutex == any.mutex) || (wait.thread == any.thread)
+
+module _ (sources : Sources) (course : Course) (fact : Fact) (waiting : Waiting) (any : Queued) (mutex : ℕ) (k : KeepsQueue waiting)
+    (some : find (λ wait. wait.mutex == mutex) waiting.queue.items ≡ Some any) where
+  pub any-queued : Contains waiting.queue.items any
+  any-queued = (find-some (λ wait. wait.mutex == mutex) waiting.queue.items any some).0
+
+  any-for : any.mutex ≡ mutex
+  any-for = eqb-true any.mutex mutex (find-some (λ wait. wait.mutex == mutex) waiting.queue.items any some).1
+
+  -- all that wait for the mutex are this thread
+  same-thread : list_all (alone any) waiting.queue.items ≡ true → (other : ℕ) → awaits_by (queued_at waiting) other ≡ Some mutex → other ≡ any.thread
+  same-thread all other a =
+      let q = waits-queued waiting mutex other k a in
+      let passes : alone any q.wait ≡ true = All-contains (λ wait. alone any wait ≡ true) waiting.queue.items q.wait
+      (AllPass-from_list_all (alone any) waiting.queue.items all) q.queued in
+      elim (or_cases _ _ passes) [
+        | inl not_it ↦ absurd (both_ways (q.wait.mutex == any.mutex) (not-true _ not_it) (eq-eqb q.wait.mutex any.mutex (q.for_it ∙ sym any-for)))
+        | inr it ↦ sym q.of_it ∙ eqb-true q.wait.thread any.thread it
+      ]
+
+  pub first-alone : list_all (alone any) waiting.queue.items ≡ true → HasFirst (before_at sources course fact waiting) mutex any.number
+  first-alone all = record {
+    thread = any.thread;
+    first = record {
+      waits = queue-waits waiting any mutex k any-queued any-for;
+      none_higher = λ other level a g. record {
+        high = level;
+        gets = subst (λ t. Gets (before_at sources course fact waiting) t level) (same-thread all other a) g;
+        is_high = omega arith;
+      };
+      none_before = λ other a lt.
+          let less : number_by (queued_at waiting) any.thread < number_by (queued_at waiting) any.thread =
+          subst (λ t. number_by (queued_at waiting) t < number_by (queued_at waiting) any.thread) (same-thread all other a) lt in
+          absurd (omega arith);
+    };
+    is = queue-number waiting any k any-queued;
+  }
+
+  module _ (new : Waiting) (queues : new.queue ≡ waiting.queue) (e : AreEffective (before_at sources course fact waiting) new) where
+    behind-it : (number : ℕ) (h : HasHighest new any.mutex number) (other : ℕ) → awaits_by (queued_at waiting) other ≡ Some mutex →
+        (wait : Queued) × (wait.thread ≡ other) × (wait.number ≡ number_by (queued_at waiting) other) × IsBehind new wait h.first
+    behind-it number h other a =
+        let q = waits-queued waiting mutex other k a in (
+          q.wait,
+          q.of_it,
+          queue-number waiting q.wait k q.queued ∙ ap (number_by (queued_at waiting)) q.of_it,
+          h.behind q.wait (subst (λ v. Contains v.items q.wait) (sym queues) q.queued) (q.for_it ∙ sym any-for),
+        )
+
+    pub first-highest : (number : ℕ) → HasHighest new any.mutex number → HasFirst (before_at sources course fact waiting) mutex number
+    first-highest number h =
+        let queued : Contains waiting.queue.items h.first = subst (λ v. Contains v.items h.first) queues h.queued in
+        let waits = queue-waits waiting h.first mutex k queued (h.for_it ∙ any-for) in
+        let number_is : h.first.number ≡ number_by (queued_at waiting) h.first.thread = queue-number waiting h.first k queued in
+        record {
+          thread = h.first.thread;
+          first = record {
+            waits = waits;
+            none_higher = λ other level a g.
+                let b = behind-it number h other a in
+                let le : level ≤ level_at new other = e.highest other mutex level a g in
+                let one : level_at new b.0.thread ≤ level_at new h.first.thread = b.3.not_higher in
+                let same : level_at new b.0.thread ≡ level_at new other = ap (level_at new) b.1 in
+                record { high = level_at new h.first.thread; gets = e.gotten h.first.thread mutex waits; is_high = omega arith };
+            none_before = λ other a before.
+                let b = behind-it number h other a in
+                let one : level_at new b.0.thread ≤ level_at new h.first.thread = b.3.not_higher in
+                let same : level_at new b.0.thread ≡ level_at new other = ap (level_at new) b.1 in
+                let less : b.0.number < h.first.number = omega (arith, b.2, number_is, before) in
+                let lower : level_at new other < level_at new h.first.thread = elim (cases_lt (level_at new b.0.thread) (level_at new h.first.thread)) [
+                  | inl lt ↦ omega arith
+                  | inr ge ↦
+                      let equal : level_at new b.0.thread ≡ level_at new h.first.thread = omega arith in
+                      let not_less : h.first.number ≤ b.0.number = b.3.not_before equal in
+                      absurd (omega arith)
+                ] in
+                record {
+                  high = level_at new h.first.thread;
+                  gets = e.gotten h.first.thread mutex waits;
+                  is_higher = λ level g. let le : level ≤ level_at new other = e.highest other mutex level a g in omega arith;
+                };
+          };
+          is = h.is ∙ number_is;
+        }
+
+-- ---- the levels of the queue
+
+-- one thread of the queue more has its own level
+pub owned-raised : (sources : Sources) (course : Course) (fact : Fact) (old now new : Waiting) (thread level : ℕ) →
+    now ≡ record old { effective = now.effective } → length now.effective.items ≡ length old.effective.items → KeepsQueue old →
+    IsOwnLevel (before_at sources course fact now) thread level → AreSound (before_at sources course fact old) now →
+    (KeepsQueue now → Gets (before_at sources course fact now) thread level → AreSound (before_at sources course fact now) now →
+    IsRaised (before_at sources course fact now) now new thread level) →
+    IsRaised (before_at sources course fact old) now new thread level × IsOwnLevel (before_at sources course fact old) thread level
+owned-raised sources course fact old now new thread level rest len k is_own sound raises =
+    let same = ap (before_at sources course fact) rest in (
+      subst (λ b. IsRaised b now new thread level) same
+          (raises (queue-kept old now (ap (λ w. w.open) rest) (ap (λ w. w.queue) rest) len k) is_own.gets (subst (λ b. AreSound b now) (sym same) sound)),
+      subst (λ b. IsOwnLevel b thread level) same is_own,
+    )
+
+-- a thread of the queue
+pub owned-here : (sources : Sources) (course : Course) (fact : Fact) (old now new : Waiting) (wait : Queued) (level : ℕ) →
+    length now.effective.items ≡ length old.effective.items → KeepsQueue old → Contains old.queue.items wait →
+    IsRaised (before_at sources course fact old) now new wait.thread level → IsOwnLevel (before_at sources course fact old) wait.thread level →
+    HasOwn (before_at sources course fact old) new wait.thread
+owned-here sources course fact old now new wait level len k queued raised is_own = record {
+  level = level;
+  is_own = is_own;
+  within = raised.reached (subst (λ n. wait.thread < n) (sym len)
+      (waits-inside old wait.thread wait.mutex k (queue-waits old wait wait.mutex k queued refl)));
+}
+
+-- all of them
+pub owned-all : (sources : Sources) (course : Course) (fact : Fact) (old new : Waiting) → KeepsQueue old → AreSound (before_at sources course fact old) new →
+    ((j : ℕ) (d : Queued) → j < length old.queue.items → HasOwn (before_at sources course fact old) new (get_or old.queue.items j d).thread) →
+    AreEffective (before_at sources course fact old) new
+owned-all sources course fact old new k sound owned =
+    all-effective (before_at sources course fact old) new sound (λ t mutex a.
+    let q = waits-queued old mutex t k a in
+    subst (HasOwn (before_at sources course fact old) new) (ap (λ (w : Queued). w.thread) q.queued.2 ∙ q.of_it) (owned q.queued.0 q.wait q.queued.1))
+
+-- the lowest levels
+pub sound-lowest : (sources : Sources) (course : Course) (fact : Fact) (old new : Waiting) → KeepsQueue old →
+    ((wait : Queued) → Contains old.queue.items wait → level_at new wait.thread ≡ 0) → AreSound (before_at sources course fact old) new
+sound-lowest sources course fact old new k lowest =
+    sound-none (before_at sources course fact old) new low
+    (λ t heir h. let w = heir-waits (before_at sources course fact old) t heir h in low t w.0 w.1)
+  where
+    low : (t mutex : ℕ) → awaits_by (queued_at old) t ≡ Some mutex → level_at new t ≡ 0
+    low t mutex a = let q = waits-queued old mutex t k a in subst (λ t. level_at new t ≡ 0) q.of_it (lowest q.wait q.queued)

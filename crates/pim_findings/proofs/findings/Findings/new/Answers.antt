@@ -1,0 +1,35 @@
+use Rattle.std.proofs.Common.{rules, ◌≡◌, ℕ, ◌<◌, ◌∙◌, [], length, replicate, sym, ap, subst, arith}
+use Rattle.std.proofs.lemmas.List.{get_or-replicate}
+use Rattle.std.proofs.lemmas.List.Elements.{All-nil}
+use Rattle.pim_findings.specs.declared.found_mutex.FoundMutex.{FoundMutex}
+use Rattle.pim_findings.specs.declared.found_mutex.TheConstants.FoundMutex.{UNSEEN}
+use Rattle.pim_findings.specs.Ownerships.{IsLongest, mutex_at}
+use Rattle.pim_findings.specs.HandOvers.{AreHandOvers, IsLeft, at_first, never}
+use Rattle.pim_findings.proofs.findings.Findings.new.Goals as goal
+
+pub returns-clause-owns : goal.returns-clause-owns
+returns-clause-owns c =
+    let all : c.in_ok-vec.field-0.items ≡ replicate c.len-mutexes.result UNSEEN = c.in_ok-vec.ensures.items_if_clones_equal (search rules) in
+    let unseen : (mutex : ℕ) → mutex < length c.args.sources.now.ids.mutexes.items → mutex_at c.in_ok-vec.field-0.items mutex ≡ UNSEEN =
+    λ mutex h. ap (λ l. mutex_at l mutex) all ∙ get_or-replicate c.len-mutexes.result mutex UNSEEN UNSEEN (omega (arith, c.len-mutexes.ensures)) in
+    record {
+      mutexes = search rules;
+      since = λ mutex h. ap (λ (f : FoundMutex). f.owned_since) (unseen mutex h);
+      longest = λ mutex h. subst (λ (f : FoundMutex). IsLongest [] f.longest) (sym (unseen mutex h)) (All-nil (λ one. one.lasted ≡ 0));
+    }
+
+pub returns-clause-hand_overs : goal.returns-clause-hand_overs
+returns-clause-hand_overs c =
+    let all : c.in_ok-vec.field-0.items ≡ replicate c.len-mutexes.result UNSEEN = c.in_ok-vec.ensures.items_if_clones_equal (search rules) in
+    let unseen : (mutex : ℕ) → mutex < length c.args.sources.now.ids.mutexes.items → mutex_at c.in_ok-vec.field-0.items mutex ≡ UNSEEN =
+    λ mutex h. ap (λ l. mutex_at l mutex) all ∙ get_or-replicate c.len-mutexes.result mutex UNSEEN UNSEEN (omega (arith, c.len-mutexes.ensures)) in
+    record {
+      threads = search rules;
+      mutexes = search rules;
+      begun = c.in_ok-new-4.ensures.begun;
+      waits = c.in_ok-new-4.ensures.queued;
+      queue = c.in_ok-new-4.ensures.queue;
+      protects = c.in_ok-new-4.ensures.protects;
+      left = λ mutex h. subst (λ (f : FoundMutex). IsLeft [] mutex f.left) (sym (unseen mutex h)) never;
+      hand_overs = λ mutex h. subst (λ (f : FoundMutex). AreHandOvers [] mutex f.hand_overs) (sym (unseen mutex h)) at_first;
+    }
