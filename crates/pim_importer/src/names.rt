@@ -16,7 +16,7 @@ struct Table<'a> {
     imported: &'a Imported,
     labels: &'a Labels,
     entered: usize,
-    /// The last line of a thread or a mutex.
+    /// The last line of a step, a thread or a mutex.
     line: Out,
 }
 
@@ -67,10 +67,20 @@ impl<'a> Table<'a> {
                 let own = (step - piece.restoring) as u64;
                 self.write_appearances(out, before.saturating_add(own))?;
             }
-            let number = step.saturating_add(1);
-            writeln!(out, "step {number} {}", piece.times[step])?;
+            self.write_step(out, step.saturating_add(1) as u64, piece.times[step])?;
         }
         Ok(())
+    }
+
+    /// Writes when the step with this number happened. Most lines of the table are of steps.
+    fn write_step<W: Write>(&mut self, out: &mut W, number: u64, time: u64) -> io::Result<()> {
+        self.line.clear();
+        self.line.put("step ");
+        self.line.number(number);
+        self.line.put(" ");
+        self.line.number(time);
+        self.line.put("\n");
+        out.write_all(self.line.as_str()?.as_bytes())
     }
 
     /// Writes who appears up to a step.
