@@ -1,7 +1,10 @@
 //! From a log to the pieces of a trace.
-ghost use Rattle.std.specs.Prelude.{◌≡◌, ◌⊎◌, ◌-◌, IfOk, IfErr, IsTrue, All, false};
+ghost use Rattle.std.specs.Prelude.{◌≡◌, ◌⊎◌, ◌-◌, ◌++◌, ◌∷◌, [], ℕ, List, IfOk, IfErr, IsTrue, All, false};
 ghost use Rattle.pim_log.specs.Headers.{header_of, end_of};
+ghost use Rattle.pim_course.specs.Reading.{Begins};
 ghost use Rattle.pim_builder.specs.Faults.{NamesOneOf, NamesOnly};
+ghost use Rattle.pim_findings.specs.Waits.{Moment};
+ghost use Rattle.pim_import.specs.Following.{FollowsLog, HasFollowed, IsOfLog, Knows, moment_of, moments_of};
 ghost use Rattle.pim_facts.specs.Shown.{shown_in};
 ghost use Rattle.pim_builder.specs.Pieces.{AreJoined, HasTimes};
 ghost use Rattle.pim_builder.specs.Showing.{IsSetting, Shows};
@@ -79,6 +82,7 @@ pub fn import_log(
     ensures counted { IfOk result (λ imported. total imported.built.tally ≡ end_of (header_of log.now) - 1) }
     ensures joined { IfOk result (λ imported. AreJoined imported.built.pieces.items) }
     ensures times { IfOk result (λ imported. All HasTimes imported.built.pieces.items) }
+    ensures findings { IfOk result (IsOfLog log.now) }
     ensures fault { IfErr result (NamesOneOf (end_of (header_of log.now))) }
 {
     let sources = sources_of(alloc, log, waits)?;
@@ -139,6 +143,8 @@ fn build(
     ensures counted { IfOk result (λ built. total built.tally ≡ end_of (header_of log.now) - 1) }
     ensures joined { IfOk result (λ built. AreJoined built.pieces.items) }
     ensures times { IfOk result (λ built. All HasTimes built.pieces.items) }
+    ensures findings { IfOk result (λ built. (n k : ℕ) → Knows n k sections.now [] findings →
+        FollowsLog log.now context.now.sources.now sections.now n k ended built) }
     ensures fault { IfErr result (NamesOneOf (end_of (header_of log.now))) }
 {
     let sources = context.sources;
@@ -177,6 +183,9 @@ fn play(
     end: u64,
 ) -> Result<Tally, ImportFault>
     ensures counted { IfOk result (λ tally. total tally ≡ end - 1) }
+    ensures follows { IfOk result (λ _. (n k : ℕ) → Begins context.now.sources.now.ids walk.old.course →
+        Knows n k sections.now [] findings.old →
+        HasFollowed log.now context.now.sources.now sections.now n k (end - 1) walk.new findings.new) }
     ensures fault { IfErr result (NamesOneOf end) }
 {
     let mut tally = Tally::new();
@@ -204,7 +213,10 @@ fn add_requests(
     findings: &mut Findings,
     now: &Now,
 ) -> Result<(), ImportFault>
-    ensures { IfErr result (NamesOnly now.now.number) }
+    ensures follows { IfOk result (λ _. (bytes : List ℕ) (n k : ℕ) →
+        HasFollowed bytes context.now.sources.now sections.now n k now.now.number walk.old findings.old →
+        HasFollowed bytes context.now.sources.now sections.now n k now.now.number walk.new findings.new) }
+    ensures fault { IfErr result (NamesOnly now.now.number) }
 {
     for _request in 0..walk.missing(context.sources, now.number) {
         let then = Now {
@@ -236,6 +248,9 @@ fn show(
     ensures unused { IfOk result (λ is_used. is_used ≡ false → All
         (λ fact. IsSetting fact.what ⊎ MayBeLeftOut walk.now.course context.now.sources.now fact)
         (shown_in walk.now.course.shown)) }
+    ensures finds { IfOk result (λ _. (n k : ℕ) (facts : List Moment) → Knows n k sections.now facts findings.old →
+        let shown = moments_of context.now.sources.now walk.now.course now.now.time (shown_in walk.now.course.shown) in
+        Knows n k sections.now (shown ++ facts) findings.new) }
     ensures fault { IfErr result (NamesOnly now.now.number) }
 {
     let mut is_used = false;
@@ -268,6 +283,8 @@ fn show_fact(
     ensures unused { IfOk result (λ is_used. is_used ≡ false →
         IsSetting fact.now.what ⊎ MayBeLeftOut walk.now.course context.now.sources.now fact.now) }
     ensures shows { IfOk result (λ is_used. IsTrue is_used → Shows context.now builder.new fact.now) }
+    ensures finds { IfOk result (λ _. (n k : ℕ) (facts : List Moment) → Knows n k sections.now facts findings.old →
+        Knows n k sections.now (moment_of context.now.sources.now walk.now.course now.now.time fact.now ∷ facts) findings.new) }
     ensures fault { IfErr result (NamesOnly now.now.number) }
 {
     findings.observe(&walk.course, fact, now.time)?;

@@ -1,9 +1,12 @@
-use Rattle.std.proofs.Common.{◌≡◌, ◌⊎◌, ◌||◌, ◌∙◌, Bool, false, true, refl, subst, All, rules}
+use Rattle.std.proofs.Common.{◌≡◌, ◌⊎◌, ◌||◌, ◌∙◌, ◌++◌, List, sym, Bool, false, true, refl, subst, All, rules}
 use lib.Seq.{take_all}
 use Rattle.std.proofs.lemmas.List.Elements.{All-more}
 use Rattle.pim_builder.specs.Showing.{IsSetting}
 use Rattle.pim_import.specs.LeftOut.{IsKept, MayBeLeftOut}
 use Rattle.pim_facts.specs.declared.fact.Fact.{Fact}
+use Rattle.pim_findings.specs.Waits.{Moment}
+use Rattle.pim_import.proofs.Following.{moments_more}
+use Rattle.pim_import.specs.Following.{Knows, moments_of}
 use Rattle.pim_import.proofs.importing.show.Goals as goal
 
 neither : (a b : Bool) → (a || b) ≡ false → (a ≡ false) × (b ≡ false)
@@ -21,6 +24,10 @@ loop-fact-preserved c =
           let both = neither c.loop-fact.is_used c.in_ok-is_used.field-0 none in
           All-more (λ (s : Fact). IsSetting s.what ⊎ MayBeLeftOut c.args.walk.now.course c.args.context.now.sources.now s)
           c.shown-shown.result.now c.loop-fact.fact-index _ c.loop-fact-test.true (c.loop-fact.invariant.unused both.0) (told.unused both.1);
+      finds = λ n k facts knows.
+          subst (λ (moments : List Moment). Knows n k c.args.sections.now (moments ++ facts) c.show_fact.new.findings)
+          (sym (moments_more c.args.context.now.sources.now c.args.walk.now.course c.args.now.now.time c.shown-shown.result.now c.loop-fact.fact-index _ c.loop-fact-test.true))
+          (told.finds n k _ (c.loop-fact.invariant.finds n k facts knows));
     }
 
 pub returns-clause-left_out : goal.returns-clause-left_out
@@ -34,3 +41,9 @@ returns-clause-unused c none =
     subst (All (λ (s : Fact). IsSetting s.what ⊎ MayBeLeftOut c.args.walk.now.course c.args.context.now.sources.now s))
     (take_all c.loop-fact.fact-index c.shown-shown.result.now c.loop-fact-test.false ∙ c.shown-shown.ensures)
     (c.loop-fact.invariant.unused none)
+
+pub returns-clause-finds : goal.returns-clause-finds
+returns-clause-finds c n k facts knows =
+    subst (λ (shown : List Fact). Knows n k c.args.sections.now (moments_of c.args.context.now.sources.now c.args.walk.now.course c.args.now.now.time shown ++ facts) c.loop-fact.findings)
+    (take_all c.loop-fact.fact-index c.shown-shown.result.now c.loop-fact-test.false ∙ c.shown-shown.ensures)
+    (c.loop-fact.invariant.finds n k facts knows)

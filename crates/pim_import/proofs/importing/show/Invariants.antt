@@ -1,6 +1,8 @@
-use Rattle.std.proofs.Common.{◌≡◌, ◌⊎◌, false, All, take}
+use Rattle.std.proofs.Common.{◌≡◌, ◌⊎◌, ◌++◌, ℕ, List, false, All, take}
 use Rattle.pim_builder.specs.Showing.{IsSetting}
 use Rattle.pim_import.specs.LeftOut.{IsKept, MayBeLeftOut}
+use Rattle.pim_findings.specs.Waits.{Moment}
+use Rattle.pim_import.specs.Following.{Knows, moments_of}
 use Rattle.pim_facts.specs.declared.fact.Fact.{Fact}
 use Rattle.pim_import.proofs.importing.show.Given as goal
 
@@ -9,4 +11,6 @@ abbrev pub invariant-loop-fact : goal.invariant-loop-fact
 invariant-loop-fact l = record {
   left_out : All (λ (fact : Fact). IsKept l.sections fact ⊎ MayBeLeftOut l.walk.course l.context.sources.now fact) (take l.fact-index l.shown);
   unused : l.is_used ≡ false → All (λ (fact : Fact). IsSetting fact.what ⊎ MayBeLeftOut l.walk.course l.context.sources.now fact) (take l.fact-index l.shown);
+  finds : (n k : ℕ) (facts : List Moment) → Knows n k l.sections facts l.fn.findings →
+      Knows n k l.sections (moments_of l.context.sources.now l.walk.course l.now.time (take l.fact-index l.shown) ++ facts) l.findings;
 }

@@ -1,0 +1,178 @@
+-- What is known of the findings on the way through a log.
+use Rattle.std.proofs.Common.{◌≡◌, ◌⊎◌, ℕ, ◌+◌, ◌-◌, ◌<◌, ◌≤◌, ◌==◌, ◌||◌, ◌∙◌, Bool, true, false, cond, List, [], ◌∷◌, ◌++◌, length, get_or, take, map, reverse, slice_get, All, ap, sym, subst, refl, inl, inr, arith, eq-eqb, Result, Ok, Err}
+use Rattle.std.proofs.lemmas.Bool.{eqb-true}
+use Rattle.std.proofs.lemmas.List.{map-append, reverse-append, take_more}
+use Rattle.std.proofs.lemmas.List.Elements.{All-cons}
+use Rattle.std.specs.Option.{option_map_or}
+use Rattle.std.specs.Prelude.{IfOk, IfSome, slice_index_or}
+use Rattle.pim_course.specs.Going.{HasSameSize, KeepsDepths}
+use Rattle.pim_course.specs.Reading.{Begins, GoesBy, HasRequest}
+use Rattle.pim_course.specs.Told.{added_told, happened_in}
+use Rattle.pim_course.specs.World.{Lead, world_of}
+use Rattle.pim_course.specs.declared.course.Course.{Course}
+use Rattle.pim_course.specs.declared.course.Sources.{Sources}
+use Rattle.pim_course.specs.declared.walk.Walk.{Walk}
+use Rattle.pim_facts.specs.Shown.{shown_in}
+use Rattle.pim_facts.specs.declared.fact.Fact.{Fact}
+use Rattle.pim_findings.proofs.Following.{finds-kept}
+use Rattle.pim_findings.specs.Found.{Finds, KeepsWaits}
+use Rattle.pim_findings.specs.Ownerships.{IsLongest, Owns, mutex_at, ownerships_of}
+use Rattle.pim_findings.specs.Longest.{AreReported}
+use Rattle.pim_findings.specs.Waits.{Moment, all_waits, and_fact}
+use Rattle.pim_import.specs.declared.importing.Built.{Built}
+use Rattle.pim_log.specs.Headers.{end_of, header_of}
+use Rattle.pim_findings.specs.declared.findings.Findings.{Findings}
+use Rattle.pim_import.specs.Following.{FollowsLog, HasFollowed, IsLacking, IsSpared, Knows, below, facts_of, is_kept, kept_of, moment_of, moments_of, stage_of}
+use Rattle.pim_import.specs.LeftOut.{IsKept}
+use Rattle.pim_import.specs.declared.critical_sections.CriticalSections.{CriticalSections}
+
+either : (a b c : Bool) → (a ≡ true) ⊎ ((b ≡ true) ⊎ (c ≡ true)) → (a || b || c) ≡ true
+either true b c any = refl
+either false true c any = refl
+either false false true any = refl
+either false false false (inl e) = e
+either false false false (inr (inl e)) = e
+either false false false (inr (inr e)) = e
+
+-- a fact that is kept passes the test
+pub kept_true : (sections : CriticalSections) (fact : Fact) → IsKept sections fact → is_kept sections fact ≡ true
+kept_true sections fact (inl none) = either (fact.section == 0) sections.is_all (slice_index_or sections.is_kept.items fact.section true) (inl (eq-eqb fact.section 0 none))
+kept_true sections fact (inr (inl all)) = either (fact.section == 0) sections.is_all (slice_index_or sections.is_kept.items fact.section true) (inr (inl all))
+kept_true sections fact (inr (inr one)) = either (fact.section == 0) sections.is_all (slice_index_or sections.is_kept.items fact.section true) (inr (inr one))
+
+either_of : (a b c : Bool) → (a || b || c) ≡ true → (a ≡ true) ⊎ ((b ≡ true) ⊎ (c ≡ true))
+either_of true b c e = inl refl
+either_of false true c e = inr (inl refl)
+either_of false false true e = inr (inr refl)
+either_of false false false e = inl e
+
+is_zero : (n : ℕ) (rest : Type 0) → ((n == 0) ≡ true) ⊎ rest → (n ≡ 0) ⊎ rest
+is_zero n rest (inl e) = inl (eqb-true n 0 e)
+is_zero n rest (inr other) = inr other
+
+-- one that isn't kept doesn't pass it
+pub kept_false : (sections : CriticalSections) (fact : Fact) → (IsKept sections fact → ⊥) → is_kept sections fact ≡ false
+kept_false sections fact not = go (is_kept sections fact) refl
+  where
+    go : (b : Bool) → is_kept sections fact ≡ b → is_kept sections fact ≡ false
+    go false e = e
+    go true e = absurd (not (is_zero fact.section _ (either_of (fact.section == 0) sections.is_all (slice_index_or sections.is_kept.items fact.section true) e)))
+
+pub not_both : (b : Bool) → b ≡ true → b ≡ false → ⊥
+not_both b is isnt = cc
+
+-- what is known is promised of a call that may fail
+pub if_ok : {T E P : Type 0} (r : Result T E) → P → IfOk r (λ _. P)
+if_ok (Ok x) h = h
+if_ok (Err e) h = tt
+
+owns_kept : (k : ℕ) (facts : List Moment) (old new : Findings) → new.mutexes ≡ old.mutexes → Owns k facts old → Owns k facts new
+owns_kept k facts old new same owns =
+    record {
+      mutexes = ap (λ mutexes. length mutexes.items) same ∙ owns.mutexes;
+      since = λ mutex lt. ap (λ mutexes. (mutex_at mutexes.items mutex).owned_since) same ∙ owns.since mutex lt;
+      longest = λ mutex lt.
+          subst (λ mutexes. IsLongest (ownerships_of facts mutex) (mutex_at mutexes.items mutex).longest) (sym same) (owns.longest mutex lt);
+    }
+
+-- one more fact, which isn't kept
+pub knows_without : (n k : ℕ) (sections : CriticalSections) (m : Moment) (facts : List Moment) (old new : Findings) →
+    is_kept sections m.fact ≡ false → IsSpared sections m → KeepsWaits old new → new.mutexes ≡ old.mutexes →
+    Knows n k sections facts old → Knows n k sections (m ∷ facts) new
+knows_without n k sections m facts old new is spared keeps same knows =
+    let rest : List Moment = kept_of sections facts in
+    record {
+      finds = subst (λ b. Finds n k (below n (cond b (m ∷ rest) rest)) new) (sym is) (finds-kept n k (below n rest) old new keeps knows.finds);
+      owns = subst (λ b. Owns k (cond b (m ∷ rest) rest) new) (sym is) (owns_kept k rest old new same knows.owns);
+      spared = All-cons (IsSpared sections) m facts spared knows.spared;
+    }
+
+-- one more fact, which is kept
+pub knows_with : (n k : ℕ) (sections : CriticalSections) (m : Moment) (facts : List Moment) (old mid new : Findings) →
+    IsKept sections m.fact → KeepsWaits old mid → mid.mutexes ≡ old.mutexes →
+    ((rest : List Moment) → Finds n k rest mid → Finds n k (and_fact n m rest) new) →
+    ((rest : List Moment) → Owns k rest mid → Owns k (m ∷ rest) new) →
+    Knows n k sections facts old → Knows n k sections (m ∷ facts) new
+knows_with n k sections m facts old mid new is keeps same finds owns knows =
+    let rest : List Moment = kept_of sections facts in
+    record {
+      finds = subst (λ b. Finds n k (below n (cond b (m ∷ rest) rest)) new) (sym (kept_true sections m.fact is))
+          (finds (below n rest) (finds-kept n k (below n rest) old mid keeps knows.finds));
+      owns = subst (λ b. Owns k (cond b (m ∷ rest) rest) new) (sym (kept_true sections m.fact is))
+          (owns rest (owns_kept k rest old mid same knows.owns));
+      spared = All-cons (IsSpared sections) m facts (inl is) knows.spared;
+    }
+
+-- one more of the facts that a course shows
+pub moments_more : (sources : Sources) (course : Course) (time : ℕ) (facts : List Fact) (i : ℕ) (d : Fact) → i < length facts →
+    moments_of sources course time (take (i + 1) facts) ≡
+    moment_of sources course time (get_or facts i d) ∷ moments_of sources course time (take i facts)
+moments_more sources course time facts i d lt =
+    ap (moments_of sources course time) (take_more facts i d lt)
+    ∙ ap reverse (map-append (moment_of sources course time) (take i facts) (get_or facts i d ∷ []))
+    ∙ reverse-append (map (moment_of sources course time) (take i facts)) (moment_of sources course time (get_or facts i d) ∷ [])
+
+-- a walk that begins went through nothing
+pub follows_begin : (bytes : List ℕ) (sources : Sources) (sections : CriticalSections) (n k : ℕ) (walk : Walk) (found : Findings) →
+    Begins sources.ids walk.course → Knows n k sections [] found → HasFollowed bytes sources sections n k 0 walk found
+follows_begin bytes sources sections n k walk found begins knows =
+    record {
+      time = 0;
+      before = [];
+      way = record { number = refl; course = begins };
+      knows = subst (λ shown. Knows n k sections (moments_of sources walk.course 0 shown ++ []) found) (sym begins.shown) knows;
+    }
+
+-- one more record
+pub follows_record : (bytes : List ℕ) (sources : Sources) (sections : CriticalSections) (n k number time : ℕ)
+    (old new : Walk) (found looked : Findings) → 1 ≤ number → HasSameSize old.course new.course →
+    IsLacking bytes number old.course new.course ⊎ GoesBy bytes sources number old.course new.course →
+    ((facts : List Moment) → Knows n k sections facts found →
+    Knows n k sections (moments_of sources new.course time (shown_in new.course.shown) ++ facts) looked) →
+    HasFollowed bytes sources sections n k (number - 1) old found → HasFollowed bytes sources sections n k number new looked
+follows_record bytes sources sections n k number time old new found looked above size shown step f =
+    let is : number ≡ number - 1 + 1 = omega arith in
+    record {
+      time = time;
+      before = stage_of (number - 1) f.time old ∷ f.before;
+      way = (inl (record { number = is; size = size; shown = shown }), f.way);
+      knows = step (facts_of sources (stage_of (number - 1) f.time old ∷ f.before)) f.knows;
+    }
+
+-- one more request
+pub follows_request : (bytes : List ℕ) (sources : Sources) (sections : CriticalSections) (n k number time place : ℕ)
+    (old new : Walk) (found looked : Findings) → HasSameSize old.course new.course → KeepsDepths old.course new.course →
+    (IfSome (slice_get sources.requests.list.items place) (HasRequest old.course) →
+    Lead (shown_in new.course.shown) (world_of old.course) (world_of new.course)) →
+    happened_in new.course ≡ option_map_or (added_told (world_of old.course)) (slice_get sources.requests.list.items place) [] →
+    ((facts : List Moment) → Knows n k sections facts found →
+    Knows n k sections (moments_of sources new.course time (shown_in new.course.shown) ++ facts) looked) →
+    HasFollowed bytes sources sections n k number old found → HasFollowed bytes sources sections n k number new looked
+follows_request bytes sources sections n k number time place old new found looked size depths led told step f =
+    record {
+      time = time;
+      before = stage_of number f.time old ∷ f.before;
+      way = (inr (record { number = refl; place = place; size = size; depths = depths; told = told; led = led }), f.way);
+      knows = step (facts_of sources (stage_of number f.time old ∷ f.before)) f.knows;
+    }
+
+-- the log ends
+pub follows_log : (bytes : List ℕ) (sources : Sources) (sections : CriticalSections) (n k ended end : ℕ) (walk : Walk)
+    (found : Findings) (built : Built) → end ≡ end_of (header_of bytes) →
+    ((facts : List Moment) → Finds n k facts found → AreReported k (all_waits facts ended n) built.findings.waits) →
+    built.findings.mutexes ≡ found.mutexes → built.course ≡ walk.course →
+    HasFollowed bytes sources sections n k (end - 1) walk found → FollowsLog bytes sources sections n k ended built
+follows_log bytes sources sections n k ended end walk found built is waits same course f =
+    let facts : List Moment = facts_of sources (stage_of (end - 1) f.time walk ∷ f.before) in
+    record {
+      last = stage_of (end - 1) f.time walk;
+      before = f.before;
+      way = f.way;
+      number = ap (λ n. n - 1) is;
+      found = record {
+        waits = waits (below n (kept_of sections facts)) f.knows.finds;
+        owns = owns_kept k (kept_of sections facts) found built.findings same f.knows.owns;
+        spared = f.knows.spared;
+      };
+      course = course;
+    }

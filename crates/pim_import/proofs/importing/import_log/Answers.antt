@@ -1,0 +1,16 @@
+use Rattle.std.proofs.Common.{length}
+use Rattle.std.proofs.lemmas.List.Elements.{All-nil}
+use Rattle.pim_import.specs.Following.{IsSpared}
+use Rattle.pim_import.proofs.importing.import_log.Goals as goal
+
+pub returns-clause-findings : goal.returns-clause-findings
+returns-clause-findings c =
+    record {
+      sections = c.in_ok-sections.sections;
+      follows = c.in_ok-built.ensures.findings (length c.in_ok-sources.sources.ids.threads.items) (length c.in_ok-sources.sources.ids.mutexes.items)
+          (record {
+            finds = c.in_ok-findings.ensures.waits;
+            owns = c.in_ok-findings.ensures.owns;
+            spared = All-nil (IsSpared c.in_ok-sections.sections);
+          });
+    }

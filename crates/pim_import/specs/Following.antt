@@ -1,0 +1,135 @@
+-- The way through a log, and what is found of the facts that it shows.
+use Rattle.std.specs.Prelude.{◌≡◌, ◌⊎◌, ◌+◌, ◌-◌, ℕ, nat_lt, ◌==◌, ◌||◌, Bool, true, List, [], ◌∷◌, ◌++◌, map, reverse, filter, length, slice_get, slice_index_or, IfSome, All}
+use Rattle.std.specs.Option.{option_map_or}
+use Rattle.pim_log.specs.Headers.{header_of, end_of}
+use Rattle.pim_facts.specs.Shown.{shown_in}
+use Rattle.pim_facts.specs.declared.fact.Fact.{Fact}
+use Rattle.pim_course.specs.Going.{HasSameSize, KeepsDepths, KeepsSections}
+use Rattle.pim_course.specs.Reading.{Begins, GoesBy, HasRequest, LacksRecord}
+use Rattle.pim_course.specs.Told.{added_told, happened_in}
+use Rattle.pim_course.specs.World.{Lead, world_of}
+use Rattle.pim_course.specs.declared.course.Course.{Course}
+use Rattle.pim_course.specs.declared.course.Sources.{Sources}
+use Rattle.pim_course.specs.declared.walk.Walk.{Walk}
+use Rattle.pim_findings.specs.Found.{Finds}
+use Rattle.pim_findings.specs.Longest.{AreReported}
+use Rattle.pim_findings.specs.Ownerships.{Owns}
+use Rattle.pim_findings.specs.Waits.{Moment, all_waits}
+use Rattle.pim_findings.specs.declared.findings.Findings.{Findings}
+use Rattle.pim_import.specs.LeftOut.{IsKept, MayBeLeftOut}
+use Rattle.pim_import.specs.declared.critical_sections.CriticalSections.{CriticalSections}
+use Rattle.pim_import.specs.declared.importing.Built.{Built}
+use Rattle.pim_import.specs.declared.importing.Imported.{Imported}
+
+-- How far a way through a log has come: the number of the last record, the time of what it went by last, and the course behind
+-- that.
+pub record Stage : Type 0 where
+  pub number : ℕ
+  pub time : ℕ
+  pub course : Course
+
+-- the way begins: no record is read
+pub record IsBegin (sources : Sources) (stage : Stage) : Type 0 where
+  pub number : stage.number ≡ 0
+  pub course : Begins sources.ids stage.course
+
+-- no record of a log has a number, and nothing happens
+abbrev pub IsLacking : List ℕ → ℕ → Course → Course → Type 0
+IsLacking bytes number old new =
+    LacksRecord bytes number × (shown_in new.shown ≡ []) × (world_of new ≡ world_of old) × KeepsDepths old new
+    × KeepsSections old new
+
+-- a stage leads to the next by the record with the next number, which shows what it tells
+pub record GoesByRecord (bytes : List ℕ) (sources : Sources) (from to : Stage) : Type 0 where
+  pub number : to.number ≡ from.number + 1
+  pub size : HasSameSize from.course to.course
+  pub shown : IsLacking bytes to.number from.course to.course ⊎ GoesBy bytes sources to.number from.course to.course
+
+-- a stage leads to the next by one of the requests that the log lacks, which shows what it tells
+pub record GoesByRequest (sources : Sources) (from to : Stage) : Type 0 where
+  pub number : to.number ≡ from.number
+  pub place : ℕ
+  pub size : HasSameSize from.course to.course
+  pub depths : KeepsDepths from.course to.course
+  pub told : happened_in to.course ≡
+      option_map_or (added_told (world_of from.course)) (slice_get sources.requests.list.items place) []
+  pub led : IfSome (slice_get sources.requests.list.items place) (HasRequest from.course) →
+      Lead (shown_in to.course.shown) (world_of from.course) (world_of to.course)
+
+-- A way through a log leads from its begin to this stage, through those before it, of which the latest is first.
+abbrev pub IsWay : List ℕ → Sources → Stage → List Stage → Type 0
+IsWay bytes sources last [] = IsBegin sources last
+IsWay bytes sources last (from ∷ before) =
+    (GoesByRecord bytes sources from last ⊎ GoesByRequest sources from last) × IsWay bytes sources from before
+
+-- what a fact says at this time
+abbrev pub moment_of : Sources → Course → ℕ → Fact → Moment
+moment_of sources course time fact = record { fact = fact; time = time; course = course; sources = sources }
+
+-- what these facts say, the last first
+abbrev pub moments_of : Sources → Course → ℕ → List Fact → List Moment
+moments_of sources course time facts = reverse (map (moment_of sources course time) facts)
+
+-- the facts of a way, the latest first
+abbrev pub facts_of : Sources → List Stage → List Moment
+facts_of sources [] = []
+facts_of sources (stage ∷ before) =
+    moments_of sources stage.course stage.time (shown_in stage.course.shown) ++ facts_of sources before
+
+-- whether a fact is of a critical section that is in the trace, or of none
+abbrev pub is_kept : CriticalSections → Fact → Bool
+is_kept sections fact = fact.section == 0 || sections.is_all || slice_index_or sections.is_kept.items fact.section true
+
+-- the facts that are in the trace
+abbrev pub kept_of : CriticalSections → List Moment → List Moment
+kept_of sections facts = filter (λ m. is_kept sections m.fact) facts
+
+-- the facts of threads below n
+abbrev pub below : ℕ → List Moment → List Moment
+below n facts = filter (λ m. nat_lt m.fact.thread n) facts
+
+-- a fact that isn't kept may be left out
+abbrev pub IsSpared : CriticalSections → Moment → Type 0
+IsSpared sections m = IsKept sections m.fact ⊎ MayBeLeftOut m.course m.sources m.fact
+
+-- The findings are those of these facts, of threads below n and mutexes below k: of those that are kept the waits and the
+-- ownerships. What isn't kept may be left out.
+pub record Knows (n k : ℕ) (sections : CriticalSections) (facts : List Moment) (found : Findings) : Type 0 where
+  pub finds : Finds n k (below n (kept_of sections facts)) found
+  pub owns : Owns k (kept_of sections facts) found
+  pub spared : All (IsSpared sections) facts
+
+-- the stage up to which a walk has come
+abbrev pub stage_of : ℕ → ℕ → Walk → Stage
+stage_of number time walk = record { number = number; time = time; course = walk.course }
+
+-- A walk went through a log up to the record with this number, and the findings are those of the facts on its way.
+pub record HasFollowed (bytes : List ℕ) (sources : Sources) (sections : CriticalSections) (n k number : ℕ) (walk : Walk) (found : Findings) : Type 0 where
+  pub time : ℕ
+  pub before : List Stage
+  pub way : IsWay bytes sources (stage_of number time walk) before
+  pub knows : Knows n k sections (facts_of sources (stage_of number time walk ∷ before)) found
+
+-- What is found is what these facts show, of threads below n and mutexes below k, at this end of the log: of those that are
+-- kept the waits and the ownerships. What isn't kept may be left out.
+pub record AreFound (n k : ℕ) (sections : CriticalSections) (ended : ℕ) (facts : List Moment) (found : Findings) : Type 0 where
+  pub waits : AreReported k (all_waits (below n (kept_of sections facts)) ended n) found.waits
+  pub owns : Owns k (kept_of sections facts) found
+  pub spared : All (IsSpared sections) facts
+
+-- There is a way through all records of a log, such that what is found is what the facts on the way show, and the course is
+-- that behind the last of them.
+pub record FollowsLog (bytes : List ℕ) (sources : Sources) (sections : CriticalSections) (n k ended : ℕ) (built : Built) : Type 0 where
+  pub last : Stage
+  pub before : List Stage
+  pub way : IsWay bytes sources last before
+  pub number : last.number ≡ end_of (header_of bytes) - 1
+  pub found : AreFound n k sections ended (facts_of sources (last ∷ before)) built.findings
+  pub course : built.course ≡ last.course
+
+-- The findings are those of the log, with the threads and mutexes that it names, and with the critical sections that are in
+-- the trace.
+pub record IsOfLog (bytes : List ℕ) (imported : Imported) : Type 0 where
+  pub sections : CriticalSections
+  pub follows : FollowsLog bytes imported.sources sections (length imported.sources.ids.threads.items)
+      (length imported.sources.ids.mutexes.items) imported.ended imported.built
