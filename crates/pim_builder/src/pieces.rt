@@ -32,7 +32,7 @@ pub(crate) struct Pieces {
 }
 
 impl Model for Pieces {
-    ghost use Rattle.std.specs.Prelude.{List, [], ◌∷◌, ◌++◌, All};
+    ghost use Rattle.std.specs.Prelude.{[], ◌∷◌, ◌++◌, All};
     ghost use Rattle.pim_replay.specs.Replays.{ReplayState};
     ghost use Rattle.pim_builder.specs.Pieces.{AreJoined, HasTimes};
 

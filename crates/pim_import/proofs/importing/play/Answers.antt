@@ -1,4 +1,4 @@
-use Rattle.std.proofs.Common.{◌≡◌, ◌+◌, ◌-◌, refl, subst, arith}
+use Rattle.std.proofs.Common.{◌≡◌, ◌+◌, ◌-◌, subst, arith}
 use Rattle.pim_import.proofs.Following.{follows_begin, follows_record}
 use Rattle.pim_import.specs.Following.{HasFollowed}
 use Rattle.pim_import.proofs.importing.play.Goals as goal
