@@ -65,8 +65,8 @@ impl TraceBuilder {
         })
     }
 
-    /// Ends the trace, and returns its pieces and who appears in it. Each further piece begins in the
-    /// state in which the one before it ends.
+    /// Ends the trace, and returns its pieces and who appears in it. Each further piece begins with
+    /// the owners, waits, bases, protocols and order of waiters with which the one before it ends.
     ///
     /// # Errors
     ///

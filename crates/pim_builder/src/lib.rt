@@ -15,10 +15,11 @@
 //! `numbering.rt` gives threads and mutexes their numbers in the trace, `builder.rt` makes the
 //! steps, `pieces.rt` keeps the pieces and cuts them, `showing.rt` looks up what the replay shows.
 //!
-//! It is proved that each further piece begins in the state in which the one before it ends
-//! (specs/Pieces.antt).
+//! It is proved that each further piece begins with the owners, waits, bases, protocols and order
+//! of waiters with which the one before it ends (specs/Pieces.antt).
 //!
-//! [`numbers_law`] has no code: its contract says that no two threads have one number at a time.
+//! [`numbers_law`] has no code: its contract says that no two threads, and no two
+//! mutexes, have one number at a time.
 #![tactic(auto)]
 
 mod builder;

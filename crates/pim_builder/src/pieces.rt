@@ -18,8 +18,8 @@ const ROOM: usize = 1024;
 
 /// The pieces of the trace as they are made.
 ///
-/// In contracts it is the replay of the piece that is being made. The type keeps that each further piece begins in the
-/// state in which the one before it ended.
+/// In contracts it is the replay of the piece that is being made. The type keeps that each further piece begins with the
+/// owners, waits, bases, protocols and order of waiters with which the one before it ended.
 #[derive(Drop)]
 pub(crate) struct Pieces {
     alloc: Global,

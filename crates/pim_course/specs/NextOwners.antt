@@ -115,7 +115,7 @@ AreFrom bytes from [] = LacksFrom bytes from (end_of (header_of bytes))
 AreFrom bytes from (r ∷ rs) =
     (from ≤ r.number) × LacksFrom bytes from r.number × IsAt bytes r.number r × AreFrom bytes (r.number + 1) rs
 
--- what was found of the record of a log with this number is what those behind it say
+-- what was found of the record of a log with this number, if it is a RELEASE, is what those behind it say
 pub record Finds (bytes : List ℕ) (ids : Ids) (next_owners : NextOwners) (number : ℕ) : Type 0 where
   pub r : Record
   pub behind : List Record

@@ -45,7 +45,8 @@ lasts_at sections m =
     }
 
 -- the number of the critical section in which this happens to a thread and a mutex: a thread gives up in the one in which its
--- wait began, and all else happens in the one of the mutex; a grant and a wait are in the next one if none lasts
+-- wait began, and all else but a level, which is in none, happens in the one of the mutex; a grant and a wait are in the next
+-- one if none lasts
 abbrev pub number_of : Sections → What → ℕ → ℕ → Option ℕ
 number_of sections Granted t m = Some (number_at sections m)
 number_of sections Waits t m = Some (number_at sections m)

@@ -170,7 +170,7 @@ impl NextOwners {
         }
     }
 
-    /// Returns the thread that is granted the mutex next after the RELEASE with this number, if it calls nothing between.
+    /// Returns the other thread that is granted the mutex next after the RELEASE with this number, if it calls nothing before.
     /// So if it waits for the mutex then, it waits until the grant.
     pub fn next_owner(&self, number: u64) -> Option<u32>
         ensures { result ≡ next_by (kept_of self.now number) }

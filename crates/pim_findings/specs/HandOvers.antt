@@ -75,8 +75,8 @@ abbrev pub number_for : levels.Waits → ℕ → ℕ → Option ℕ
 number_for waits t mutex = option_and_then (λ wait. if wait.mutex == mutex then Some wait.number else None) (waits t)
 
 -- to whom a mutex goes by its last release and the number of the thread's wait for it, if it waits
-abbrev pub heir_by : Left → ℕ → Option ℕ → Heir
-heir_by left thread number =
+abbrev pub handed_to : Left → ℕ → Option ℕ → Heir
+handed_to left thread number =
     if option_map_or (λ n. n == left.first) number false then FirstWaiter
     else if option_map_or (λ n. nat_le n left.begun) number false then LaterWaiter
     else if thread == left.thread then LastOwner
@@ -102,7 +102,7 @@ pub data HandsOn (waits : levels.Waits) (thread mutex : ℕ) : Option Left → H
   unawaited : {counts : HandOvers} → HandsOn waits thread mutex None counts counts
   left_alone : {left : Left} {counts : HandOvers} → (IsEarly waits mutex left.begun → ⊥) → HandsOn waits thread mutex (Some left) counts counts
   handed_over : {left : Left} {counts : HandOvers} → IsEarly waits mutex left.begun →
-      HandsOn waits thread mutex (Some left) counts (and_to (heir_by left thread (number_for waits thread mutex)) counts)
+      HandsOn waits thread mutex (Some left) counts (and_to (handed_to left thread (number_for waits thread mutex)) counts)
 
 -- no hand-over yet
 abbrev pub no_hand_overs : HandOvers

@@ -1,6 +1,6 @@
 //! Who owned a mutex, and to whom it went.
 ghost use Rattle.std.specs.Prelude.{◌≡◌, ℕ, List, is_some};
-ghost use Rattle.pim_findings.specs.HandOvers.{and_to, heir_by};
+ghost use Rattle.pim_findings.specs.HandOvers.{and_to, handed_to};
 ghost use Rattle.pim_findings.specs.Ownerships.{IsLongest, and_since};
 
 /// To whom a mutex went for which threads waited.
@@ -51,7 +51,7 @@ impl HandOvers {
     /// Counts a hand-over after this release to a thread, whose wait for the mutex has this number
     /// if it waits.
     fn count(&mut self, left: &Left, thread: u32, number: Option<u64>)
-        ensures { self.new ≡ and_to (heir_by left.now thread number) self.old }
+        ensures { self.new ≡ and_to (handed_to left.now thread number) self.old }
     {
         let is_early = match number {
             Some(number) => number <= left.begun,
@@ -101,7 +101,7 @@ impl FoundMutex {
     pub(crate) fn hand_over(&mut self, left: &Left, thread: u32, number: Option<u64>)
         ensures since { self.new.owned_since ≡ self.old.owned_since }
         ensures longest { self.new.longest ≡ self.old.longest }
-        ensures hand_overs { self.new.hand_overs ≡ and_to (heir_by left.now thread number) self.old.hand_overs }
+        ensures hand_overs { self.new.hand_overs ≡ and_to (handed_to left.now thread number) self.old.hand_overs }
     {
         self.hand_overs.count(left, thread, number);
     }

@@ -127,8 +127,8 @@ pub record FollowsLog (bytes : List ℕ) (sources : Sources) (sections : Critica
   pub found : AreFound n k sections ended (facts_of sources (last ∷ before)) built.findings
   pub course : built.course ≡ last.course
 
--- The findings are those of the log, with the threads and mutexes that it names, and with the critical sections that are in
--- the trace.
+-- The findings are those of the log, with the threads and mutexes that it names, of the facts of some of its critical
+-- sections. Which ones is said elsewhere.
 pub record IsOfLog (bytes : List ℕ) (imported : Imported) : Type 0 where
   pub sections : CriticalSections
   pub follows : FollowsLog bytes imported.sources sections (length imported.sources.ids.threads.items)

@@ -2,7 +2,7 @@
 
 ghost use Rattle.pim_import.specs.LeftOut.{WholeLaw};
 
-/// What a trace is without are whole critical sections: no grant is in it whose release isn't.
+/// Of two facts within one critical section both are in the trace or none is: no grant is in it without its release.
 pub fn whole_law()
     ensures { WholeLaw }
 {}

@@ -1,5 +1,5 @@
 use Rattle.std.proofs.Common.{◌≡◌, ◌∙◌, None, sym, ap, subst}
-use Rattle.pim_findings.specs.HandOvers.{HandsOn, and_to, handed_over, heir_by, left_alone, number_for, unawaited}
+use Rattle.pim_findings.specs.HandOvers.{HandsOn, and_to, handed_over, handed_to, left_alone, number_for, unawaited}
 use Rattle.pim_findings.specs.Queue.{queued_at}
 use Rattle.pim_findings.proofs.Handing.{early-from, early-none}
 use Rattle.pim_findings.proofs.findings.Findings.hand_on.Goals as goal
@@ -8,11 +8,11 @@ pub returns-then-has_early-clause-hand_overs : goal.returns-then-has_early-claus
 returns-then-has_early-clause-hand_overs c = λ k.
     let left = c.in-Some.ensures in
     let early = early-from c.args.self.now.waiting c.args.fact.now.mutex c.in-Some.left.begun k (sym c.has_early.ensures ∙ c.if-has_early.true) in
-    let counted = c.hand_over.ensures.hand_overs ∙ ap (λ n. and_to (heir_by c.in-Some.left c.args.fact.now.thread n) c.args.found.now.hand_overs) c.number-number.ensures in
+    let counted = c.hand_over.ensures.hand_overs ∙ ap (λ n. and_to (handed_to c.in-Some.left c.args.fact.now.thread n) c.args.found.now.hand_overs) c.number-number.ensures in
     subst (λ more. HandsOn (queued_at c.args.self.now.waiting) c.args.fact.now.thread c.args.fact.now.mutex c.args.found.now.left c.args.found.now.hand_overs more)
     (sym counted)
     (subst (λ last. HandsOn (queued_at c.args.self.now.waiting) c.args.fact.now.thread c.args.fact.now.mutex last c.args.found.now.hand_overs
-    (and_to (heir_by c.in-Some.left c.args.fact.now.thread (number_for (queued_at c.args.self.now.waiting) c.args.fact.now.thread c.args.fact.now.mutex)) c.args.found.now.hand_overs))
+    (and_to (handed_to c.in-Some.left c.args.fact.now.thread (number_for (queued_at c.args.self.now.waiting) c.args.fact.now.thread c.args.fact.now.mutex)) c.args.found.now.hand_overs))
     left (handed_over early))
 
 pub returns-else-has_early-clause-hand_overs : goal.returns-else-has_early-clause-hand_overs
