@@ -1,12 +1,12 @@
 -- Which numbers of a walk are on a cycle, and that all cycles are found.
-use Rattle.std.proofs.Common.{◌≡◌, ◌≢◌, ℕ, zero, suc, ◌+◌, ◌-◌, ◌<◌, ◌≤◌, ◌⊎◌, Bool, true, false, true≢false, List, [], ◌∷◌, ◌++◌, length, get_or, drop, replicate, Option, Some, None, IfSome, Any, Contains, inl, inr, refl, sym, ap, subst, ◌∙◌, arith, add-zero, zero-add}
+use Rattle.std.proofs.Common.{◌≡◌, ◌≢◌, ℕ, zero, suc, ◌+◌, ◌-◌, ◌<◌, ◌≤◌, ◌⊎◌, Bool, true, false, true≢false, List, [], ◌∷◌, ◌++◌, length, get_or, drop, replicate, Option, Some, None, IfSome, All, Any, Contains, inl, inr, refl, sym, ap, subst, ◌∙◌, arith, add-zero, zero-add}
 use Rattle.std.proofs.lemmas.Bool.{cases_lt}
 use Rattle.std.proofs.lemmas.List.{get_or-drop, get_or-replicate, get_or_append_left, get_or_default, get_or_past, length-append, length-drop}
-use Rattle.std.proofs.lemmas.List.Elements.{All-nil, All-push, Contains-push_cases}
+use Rattle.std.proofs.lemmas.List.Elements.{All-nil, All-push, All-weaker, Contains-push_cases}
 use Rattle.std.proofs.lemmas.List.Quantifiers.{Any-push, all_pairs_push}
 use Rattle.std.proofs.lemmas.Option.{none-some, same_Some}
-use Rattle.pim_findings.specs.Cycles.{AreApart, AreCycles, IsCycle}
-use Rattle.pim_findings.specs.Walks.{Found, IsWalk}
+use Rattle.pim_findings.specs.Cycles.{AreApart, AreCycles, Enters, IsCycle, IsListedBefore, IsLowest, entered, leads_on}
+use Rattle.pim_findings.specs.Walks.{Found, IsEnteredBelow, IsWalk}
 
 -- ---- round a cycle
 
@@ -100,6 +100,8 @@ found-none next n past = record {
   real = All-nil (IsCycle next);
   once = λ i j d lt h. absurd (omega arith);
   held = λ t has. absurd (omega (arith, has.2));
+  begins = All-nil (IsEnteredBelow next 0);
+  order = λ i j d lt h. absurd (omega arith);
   every = λ cycle t c has is. absurd (cycle-leads next cycle t c has (past t (beyond t is)));
 }
   where
@@ -114,6 +116,8 @@ pub found-all : (next : ℕ → Option ℕ) (seen : List Bool) (found : List (Li
 found-all next seen found n all f = record {
   real = f.real;
   once = f.once;
+  begins = All-weaker (IsEnteredBelow next n) (λ one. (t : ℕ) × IsLowest next one t) (λ one (t, below, is). (t, is)) found f.begins;
+  order = f.order;
   every = λ cycle t c has. f.every cycle t c has (elim (cases_lt t n) [
     | inl lt ↦ f.below t lt
     | inr le ↦ get_or_past seen t true (omega arith)
@@ -148,6 +152,12 @@ walked-closed next before start seen passed end found f w ended t u is to = elim
       ]
 ]
 
+entered-more : (next : ℕ → Option ℕ) (start : ℕ) (found : List (List ℕ)) → All (IsEnteredBelow next start) found →
+    All (IsEnteredBelow next (start + 1)) found
+entered-more next start found begins =
+    All-weaker (IsEnteredBelow next start) (IsEnteredBelow next (start + 1))
+    (λ one (t, below, is). let less : t < start + 1 = omega (arith, below) in (t, less, is)) found begins
+
 -- a walk that ends outside itself passed no cycle
 pub found-open : (next : ℕ → Option ℕ) (before : List Bool) (start : ℕ) (seen : List Bool) (passed : List ℕ) (end : Option ℕ) (found : List (List ℕ)) →
     ((k : ℕ) → k < length passed → end ≢ Some (get_or passed k 0)) →
@@ -159,6 +169,8 @@ found-open next before start seen passed end found outside f w ended = record {
   real = f.real;
   once = f.once;
   held = λ t has. w.kept t (f.held t has);
+  begins = entered-more next start found f.begins;
+  order = f.order;
   every = λ cycle t c has is. elim (w.only t is) [
     | inl old ↦ f.every cycle t c has old
     | inr (k, lt, at) ↦ absurd (off-cycle next before start seen passed end f.closed w k lt (ends k end refl ended) cycle t c has (get_or_default passed k 0 t lt ∙ at))
@@ -209,6 +221,56 @@ rest-has passed place k t le lt at =
     let same : place + (k - place) ≡ k = omega arith in
     (k - place, inside, get_or-drop place passed (k - place) t ∙ ap (λ i. get_or passed i t) same ∙ at)
 
+-- ---- the lowest number that leads into a cycle
+
+-- what numbers pass on along the way into a cycle
+led : (Q : ℕ → Type 0) (next : ℕ → Option ℕ) (cycle : List ℕ) → ((t u : ℕ) → Q t → next t ≡ Some u → Q u) →
+    (t first : ℕ) → Enters next cycle t first → Q t → Q first × Contains cycle first
+led Q next cycle on _ _ (entered {t} has) q = (q, has)
+led Q next cycle on _ _ (leads_on {t} {u} {first} not to way) q = led Q next cycle on u first way (on t u q to)
+
+-- the numbers of a walk lead into the rest of it from a place on
+walk-enters : (next : ℕ → Option ℕ) (before : List Bool) (start : ℕ) (seen : List Bool) (passed : List ℕ) (end : Option ℕ) (place : ℕ) →
+    place < length passed → IsWalk next before start seen passed end → (more i : ℕ) → i + more ≡ place →
+    Enters next (drop place passed) (get_or passed i 0) (get_or passed place 0)
+walk-enters next before start seen passed end place h w zero i is =
+    let same : place ≡ i = omega (arith, is) in
+    let no_less : place ≤ place = omega arith in
+    subst (λ k. Enters next (drop place passed) (get_or passed k 0) (get_or passed place 0)) same
+    (entered (rest-has passed place place (get_or passed place 0) no_less h (get_or_default passed place (get_or passed place 0) 0 h)))
+walk-enters next before start seen passed end place h w (suc more) i is =
+    let later : i + 1 + more ≡ place = omega (arith, is) in
+    let below : i + 1 < length passed = omega (arith, is, h) in
+    leads_on not (w.each i below) (walk-enters next before start seen passed end place h w more (i + 1) later)
+  where
+    not : Contains (drop place passed) (get_or passed i 0) → ⊥
+    not has =
+        let there = in-rest passed place (get_or passed i 0) has in
+        let less : i < there.0 = omega (arith, is, there.1) in
+        w.apart i there.0 less there.2 (sym there.3)
+
+-- a walk began with the lowest number that leads into the cycle that it closed
+closed-lowest : (next : ℕ → Option ℕ) (before : List Bool) (start : ℕ) (seen : List Bool) (passed : List ℕ) (end : Option ℕ)
+    (found : List (List ℕ)) (place : ℕ) → place < length passed → Found next start before found →
+    IsWalk next before start seen passed end → IsLowest next (drop place passed) start
+closed-lowest next before start seen passed end found place h f w = record {
+  enters =
+      let some : 0 < length passed = omega (arith, h) in
+      let all : 0 + place ≡ place = omega arith in
+      let begin : get_or (drop place passed) 0 0 ≡ get_or passed place 0 =
+      get_or-drop place passed 0 0 ∙ ap (λ i. get_or passed i 0) (add-zero place) in
+      subst (λ t. Enters next (drop place passed) t (get_or (drop place passed) 0 0)) (w.first some)
+      (subst (Enters next (drop place passed) (get_or passed 0 0)) (sym begin)
+      (walk-enters next before start seen passed end place h w place 0 all));
+  lowest = λ u first way. elim (cases_lt u start) [
+    | inl lt ↦
+        let old = led (λ v. get_or before v true ≡ true) next (drop place passed) f.closed u first way (f.below u lt) in
+        let there = in-rest passed place first old.1 in
+        absurd (true≢false (sym old.0 ∙ ap (λ v. get_or before v true) (sym there.3) ∙ w.new there.0 there.2))
+    | inr le ↦ le
+  ];
+}
+
 -- a walk that passed its end closed one cycle
 pub found-closed : (next : ℕ → Option ℕ) (before : List Bool) (start : ℕ) (seen : List Bool) (passed : List ℕ) (end : Option ℕ) (found : List (List ℕ)) (place : ℕ) →
     place < length passed → end ≡ Some (get_or passed place 0) →
@@ -219,6 +281,10 @@ found-closed next before start seen passed end found place h same f w ended = re
   closed = walked-closed next before start seen passed end found f w ended;
   real = All-push (IsCycle next) found (drop place passed) f.real (closed-cycle next before start seen passed end place h same w);
   once = all_pairs_push AreApart found (drop place passed) f.once apart;
+  begins =
+      let now : start < start + 1 = omega arith in
+      All-push (IsEnteredBelow next (start + 1)) found (drop place passed) (entered-more next start found f.begins) (start, now, lowest);
+  order = all_pairs_push (IsListedBefore next) found (drop place passed) f.order ascends;
   held = λ t has. elim (any-cases found (drop place passed) t has) [
     | inl old ↦ w.kept t (f.held t old)
     | inr rest ↦ let at = in-rest passed place t rest in subst (λ v. get_or seen v true ≡ true) at.3 (w.marked at.0 at.2)
@@ -232,6 +298,16 @@ found-closed next before start seen passed end found place h same f w ended = re
   ];
 }
   where
+    lowest : IsLowest next (drop place passed) start
+    lowest = closed-lowest next before start seen passed end found place h f w
+
+    ascends : (k : ℕ) (d : List ℕ) → k < length found → IsListedBefore next (get_or found k d) (drop place passed)
+    ascends k d lt t u first last =
+        let (s, below, is) = f.begins k d lt in
+        let no_more : t ≤ s = first.lowest s (get_or (get_or found k d) 0 0) is.enters in
+        let no_less : start ≤ u = lowest.lowest u (get_or (drop place passed) 0 0) last.enters in
+        omega (arith, below, no_more, no_less)
+
     apart : (k : ℕ) (d : List ℕ) → k < length found → AreApart (get_or found k d) (drop place passed)
     apart k d lt t has rest =
         let at = in-rest passed place t rest in

@@ -36,6 +36,8 @@ set-kept seen t u h = elim (cases_eq u t) [
 
 pub walk-none : (next : ℕ → Option ℕ) (seen : List Bool) (start : ℕ) → IsWalk next seen start seen [] (Some start)
 walk-none next seen start = record {
+  none = λ e. refl;
+  first = λ some. absurd (omega arith);
   begun = inl refl;
   each = λ k h. absurd (omega arith);
   last = λ k h. absurd (omega arith);
@@ -51,6 +53,13 @@ pub walk-more : (next : ℕ → Option ℕ) (before : List Bool) (start : ℕ) (
     end ≡ Some t → get_or seen t true ≡ false → IsWalk next before start seen passed end →
     IsWalk next before start (set seen t true) (passed ++ t ∷ []) (next t)
 walk-more next before start seen passed end t at fresh w = record {
+  none = λ e. absurd (omega (arith, more));
+  first = λ some. elim (cases_lt 0 (length passed)) [
+    | inl lt ↦ old 0 lt ∙ w.first lt
+    | inr le ↦
+        let empty : length passed ≡ 0 = omega arith in
+        newest 0 (sym empty) ∙ same_Some t start (sym at ∙ w.none empty)
+  ];
   begun = inr (elim w.begun [
     | inl first ↦ subst (λ v. get_or (set seen t true) v true ≡ true) (same_Some t start (sym at ∙ first)) (set-marked seen t)
     | inr is ↦ set-kept seen t start is

@@ -17,8 +17,8 @@ struct Walk {
     end: Option<u32>,
 }
 
-/// Returns the cycles, each once. By number the list says whom it leads to. Each number is passed
-/// once.
+/// Returns the cycles, each once, by the lowest numbers that lead into them. By number the list says whom it leads to. Each
+/// number is passed once.
 ///
 /// # Errors
 ///

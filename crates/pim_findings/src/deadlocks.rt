@@ -10,7 +10,8 @@ use pim_course::Course;
 use pim_course::lists::push;
 use std::alloc::{AllocError, Global};
 
-/// Returns the cycles of waits of a course. Costs time in proportion to the threads.
+/// Returns the cycles of waits of a course, by the lowest threads that lead into them. Costs time in proportion to the
+/// threads.
 ///
 /// # Errors
 ///
