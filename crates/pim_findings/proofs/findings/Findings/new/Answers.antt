@@ -1,4 +1,4 @@
-use Rattle.std.proofs.Common.{rules, ◌≡◌, ℕ, ◌<◌, ◌∙◌, [], length, replicate, sym, ap, subst, arith}
+use Rattle.std.proofs.Common.{rules, ◌≡◌, ℕ, ◌<◌, ◌∙◌, List, [], length, replicate, sym, ap, subst, arith}
 use Rattle.std.proofs.lemmas.List.{get_or-replicate}
 use Rattle.std.proofs.lemmas.List.Elements.{All-nil}
 use Rattle.pim_findings.specs.declared.found_mutex.FoundMutex.{FoundMutex}
@@ -7,11 +7,17 @@ use Rattle.pim_findings.specs.Ownerships.{IsLongest, mutex_at}
 use Rattle.pim_findings.specs.HandOvers.{AreHandOvers, IsLeft, at_first, never}
 use Rattle.pim_findings.proofs.findings.Findings.new.Goals as goal
 
+-- no mutex was seen yet
+unseen_in : (mutexes : List FoundMutex) (k : ℕ) → mutexes ≡ replicate k UNSEEN → (mutex : ℕ) → mutex < k →
+    mutex_at mutexes mutex ≡ UNSEEN
+unseen_in mutexes k all mutex h = ap (λ l. mutex_at l mutex) all ∙ get_or-replicate k mutex UNSEEN UNSEEN h
+
 pub returns-clause-owns : goal.returns-clause-owns
 returns-clause-owns c =
-    let all : c.in_ok-vec.field-0.items ≡ replicate c.len-mutexes.result UNSEEN = c.in_ok-vec.ensures.items_if_clones_equal (search rules) in
-    let unseen : (mutex : ℕ) → mutex < length c.args.sources.now.ids.mutexes.items → mutex_at c.in_ok-vec.field-0.items mutex ≡ UNSEEN =
-    λ mutex h. ap (λ l. mutex_at l mutex) all ∙ get_or-replicate c.len-mutexes.result mutex UNSEEN UNSEEN (omega (arith, c.len-mutexes.ensures)) in
+    let count = c.len-mutexes.result in
+    let all = c.in_ok-vec.ensures.items_if_clones_equal (search rules) in
+    let unseen = λ (mutex : ℕ) (h : mutex < length c.args.sources.now.ids.mutexes.items).
+    unseen_in c.in_ok-vec.field-0.items count all mutex (omega (arith, h, c.len-mutexes.ensures)) in
     record {
       mutexes = search rules;
       since = λ mutex h. ap (λ (f : FoundMutex). f.owned_since) (unseen mutex h);
@@ -20,9 +26,10 @@ returns-clause-owns c =
 
 pub returns-clause-hand_overs : goal.returns-clause-hand_overs
 returns-clause-hand_overs c =
-    let all : c.in_ok-vec.field-0.items ≡ replicate c.len-mutexes.result UNSEEN = c.in_ok-vec.ensures.items_if_clones_equal (search rules) in
-    let unseen : (mutex : ℕ) → mutex < length c.args.sources.now.ids.mutexes.items → mutex_at c.in_ok-vec.field-0.items mutex ≡ UNSEEN =
-    λ mutex h. ap (λ l. mutex_at l mutex) all ∙ get_or-replicate c.len-mutexes.result mutex UNSEEN UNSEEN (omega (arith, c.len-mutexes.ensures)) in
+    let count = c.len-mutexes.result in
+    let all = c.in_ok-vec.ensures.items_if_clones_equal (search rules) in
+    let unseen = λ (mutex : ℕ) (h : mutex < length c.args.sources.now.ids.mutexes.items).
+    unseen_in c.in_ok-vec.field-0.items count all mutex (omega (arith, h, c.len-mutexes.ensures)) in
     record {
       threads = search rules;
       mutexes = search rules;
