@@ -105,6 +105,21 @@ handed-still n k facts m old new no_grant no_release mutexes threads begun waits
       (subst (λ v. AreHandOvers facts mutex (mutex_at v.items mutex).hand_overs) (sym mutexes) (o.hand_overs mutex h));
 }
 
+-- the same facts, and the mutexes and the waits as they were
+pub handed-kept : (n k : ℕ) (facts : List Moment) (old new : Findings) → new.mutexes ≡ old.mutexes → new.waiting ≡ old.waiting →
+    HandsOver n k facts old → HandsOver n k facts new
+handed-kept n k facts old new mutexes waiting o = record {
+  threads = ap (λ w. length w.open.items) waiting ∙ o.threads;
+  mutexes = ap (λ v. length v.items) mutexes ∙ o.mutexes;
+  begun = ap (λ w. w.begun) waiting ∙ o.begun;
+  waits = λ t. ap (λ w. queued_at w t) waiting ∙ o.waits t;
+  queue = subst KeepsQueue (sym waiting) o.queue;
+  protects = λ mutex. ap (λ w. protects_at w mutex) waiting ∙ o.protects mutex;
+  left = λ mutex h. subst (λ v. IsLeft facts mutex (mutex_at v.items mutex).left) (sym mutexes) (o.left mutex h);
+  hand_overs = λ mutex h.
+      subst (λ v. AreHandOvers facts mutex (mutex_at v.items mutex).hand_overs) (sym mutexes) (o.hand_overs mutex h);
+}
+
 -- nothing changes but the levels and ceilings
 pub handed-same : (n k : ℕ) (facts : List Moment) (m : Moment) (found : Findings) →
     is_grant m.fact.what ≡ false → is_release m.fact.what ≡ false → begins_wait m.fact.what ≡ false →

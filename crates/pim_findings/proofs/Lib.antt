@@ -15,3 +15,4 @@ pub mod Handing
 pub mod Highest
 pub mod Raising
 pub mod First
+pub mod Nested

@@ -9,3 +9,4 @@ pub mod Laws
 pub mod Cycles
 pub mod Walks
 pub mod Deadlocks
+pub mod Orders

@@ -32,7 +32,7 @@ pub struct Findings {
     pub waits: FoundWaits,
     /// By mutex, as in [`Ids`](pim_facts::Ids).
     pub mutexes: Vec<FoundMutex>,
-    /// The threads that wait for each other at the end of the log.
+    /// The threads that wait for each other at the end of the log, by the lowest threads that wait for them.
     pub deadlocks: Vec<Deadlock>,
     /// What threads can be blocked for. Known at the end of the log.
     pub bounds: Vec<Bound>,
@@ -79,6 +79,13 @@ impl Findings {
             Some(found) => *found,
             None => FoundMutex::UNSEEN,
         }
+    }
+
+    /// Returns whether the log has a thread with this number.
+    pub fn has_thread(&self, thread: u32) -> bool
+        ensures { IsTrue result ↔ (thread < length self.now.waiting.open.items) }
+    {
+        (thread as usize) < self.waiting.threads()
     }
 
     /// Returns whether a wait that nothing bounds was found, or a deadlock.

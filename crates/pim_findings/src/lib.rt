@@ -4,9 +4,9 @@
 //! [`Findings`] learns from each [`Fact`](pim_facts::Fact) of a log, in order, beside the
 //! [`Course`](pim_course::Course) of the program. It is proved that the waits it reports are those
 //! of these facts, with the owner and the levels that the course has as each begins, that the
-//! longest ownership of each mutex is that by these facts, and that the deadlocks are the cycles of
-//! threads that the course has at the end: `specs/` says what they are, and [`waits_law`] and
-//! [`ownerships_law`] what that comes to. Hand-overs are tested.
+//! longest ownership and the hand-overs of each mutex are those by these facts, and that the
+//! deadlocks are the cycles of threads that the course has at the end: `specs/` says what they are,
+//! and [`waits_law`] and [`ownerships_law`] what that comes to.
 //!
 //! ```text
 //! let mut findings = Findings::new(alloc, &sources)?;
