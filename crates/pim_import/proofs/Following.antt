@@ -1,6 +1,6 @@
 -- What is known of the findings on the way through a log.
 use Rattle.std.proofs.Common.{◌≡◌, ◌⊎◌, ℕ, ◌+◌, ◌-◌, ◌<◌, ◌≤◌, ◌==◌, ◌||◌, ◌∙◌, Bool, true, false, cond, List, [], ◌∷◌, ◌++◌, length, get_or, take, map, reverse, slice_get, ap, sym, subst, refl, inl, inr, arith, eq-eqb, Result, Ok, Err}
-use Rattle.std.proofs.lemmas.Bool.{eqb-true}
+use Rattle.std.proofs.lemmas.Bool.{eqb-true, lt-ltb}
 use Rattle.std.proofs.lemmas.List.{map-append, reverse-append, take_more}
 use Rattle.std.proofs.lemmas.List.Elements.{All-cons}
 use Rattle.std.specs.Option.{option_map_or}
@@ -15,14 +15,20 @@ use Rattle.pim_course.specs.declared.walk.Walk.{Walk}
 use Rattle.pim_facts.specs.Shown.{shown_in}
 use Rattle.pim_facts.specs.declared.fact.Fact.{Fact}
 use Rattle.pim_findings.proofs.Following.{finds-kept}
+use Rattle.pim_findings.proofs.Handing.{handed-kept}
+use Rattle.pim_findings.proofs.Nested.{orders-kept}
+use Rattle.pim_findings.specs.Cycles.{AreCycles}
+use Rattle.pim_findings.specs.Deadlocks.{blocker_of, threads_of}
 use Rattle.pim_findings.specs.Found.{Finds, KeepsWaits}
+use Rattle.pim_findings.specs.HandOvers.{AreHandOvers, HandsOver}
+use Rattle.pim_findings.specs.Orders.{FindsOpposites, KnowsOrders}
 use Rattle.pim_findings.specs.Ownerships.{IsLongest, Owns, mutex_at, ownerships_of}
 use Rattle.pim_findings.specs.Longest.{AreReported}
 use Rattle.pim_findings.specs.Waits.{Moment, all_waits, and_fact}
 use Rattle.pim_import.specs.declared.importing.Built.{Built}
 use Rattle.pim_log.specs.Headers.{end_of, header_of}
 use Rattle.pim_findings.specs.declared.findings.Findings.{Findings}
-use Rattle.pim_import.specs.Following.{FollowsLog, HasFollowed, IsLacking, IsSpared, Knows, below, facts_of, is_kept, kept_of, moment_of, moments_of, stage_of}
+use Rattle.pim_import.specs.Following.{FollowsLog, HasFollowed, IsLacking, IsOfThread, IsSpared, Knows, facts_of, is_kept, kept_of, moment_of, moments_of, stage_of}
 use Rattle.pim_import.specs.LeftOut.{IsKept}
 use Rattle.pim_import.specs.declared.critical_sections.CriticalSections.{CriticalSections}
 
@@ -75,31 +81,50 @@ owns_kept k facts old new same owns =
           subst (λ mutexes. IsLongest (ownerships_of facts mutex) (mutex_at mutexes.items mutex).longest) (sym same) (owns.longest mutex lt);
     }
 
--- one more fact, which isn't kept
+-- the orders of mutexes are those with one more fact
+abbrev pub OrdersMore : Moment → Findings → Findings → Type 0
+OrdersMore m old new =
+    (n : ℕ) (facts : List Moment) → m.fact.thread < n → KnowsOrders n facts old → KnowsOrders n (m ∷ facts) new
+
+-- one more fact, of a thread of the log, which isn't kept
 pub knows_without : (n k : ℕ) (sections : CriticalSections) (m : Moment) (facts : List Moment) (old new : Findings) →
-    is_kept sections m.fact ≡ false → IsSpared sections m → KeepsWaits old new → new.mutexes ≡ old.mutexes →
+    m.fact.thread < length old.waiting.open.items → is_kept sections m.fact ≡ false → IsSpared sections m →
+    KeepsWaits old new → new.mutexes ≡ old.mutexes → new.waiting ≡ old.waiting → OrdersMore m old new →
     Knows n k sections facts old → Knows n k sections (m ∷ facts) new
-knows_without n k sections m facts old new is spared keeps same knows =
+knows_without n k sections m facts old new inside is spared keeps same waiting orders knows =
     let rest : List Moment = kept_of sections facts in
+    let below : m.fact.thread < n = subst (λ l. m.fact.thread < l) knows.finds.threads inside in
     record {
-      finds = subst (λ b. Finds n k (below n (cond b (m ∷ rest) rest)) new) (sym is) (finds-kept n k (below n rest) old new keeps knows.finds);
+      finds = subst (λ b. Finds n k (cond b (m ∷ rest) rest) new) (sym is) (finds-kept n k rest old new keeps knows.finds);
       owns = subst (λ b. Owns k (cond b (m ∷ rest) rest) new) (sym is) (owns_kept k rest old new same knows.owns);
+      hand_overs = subst (λ b. HandsOver n k (cond b (m ∷ rest) rest) new) (sym is)
+          (handed-kept n k rest old new same waiting knows.hand_overs);
+      orders = orders n facts below knows.orders;
+      threads = All-cons (IsOfThread n) m facts below knows.threads;
       spared = All-cons (IsSpared sections) m facts spared knows.spared;
     }
 
--- one more fact, which is kept
+-- one more fact, of a thread of the log, which is kept
 pub knows_with : (n k : ℕ) (sections : CriticalSections) (m : Moment) (facts : List Moment) (old mid new : Findings) →
-    IsKept sections m.fact → KeepsWaits old mid → mid.mutexes ≡ old.mutexes →
+    m.fact.thread < length old.waiting.open.items → IsKept sections m.fact →
+    KeepsWaits old mid → mid.mutexes ≡ old.mutexes → mid.waiting ≡ old.waiting → OrdersMore m old mid → new.orders ≡ mid.orders →
     ((rest : List Moment) → Finds n k rest mid → Finds n k (and_fact n m rest) new) →
     ((rest : List Moment) → Owns k rest mid → Owns k (m ∷ rest) new) →
+    ((rest : List Moment) → m.fact.thread < n → HandsOver n k rest mid → HandsOver n k (m ∷ rest) new) →
     Knows n k sections facts old → Knows n k sections (m ∷ facts) new
-knows_with n k sections m facts old mid new is keeps same finds owns knows =
+knows_with n k sections m facts old mid new inside is keeps same waiting orders still finds owns hands knows =
     let rest : List Moment = kept_of sections facts in
+    let below : m.fact.thread < n = subst (λ l. m.fact.thread < l) knows.finds.threads inside in
+    let kept = kept_true sections m.fact is in
     record {
-      finds = subst (λ b. Finds n k (below n (cond b (m ∷ rest) rest)) new) (sym (kept_true sections m.fact is))
-          (finds (below n rest) (finds-kept n k (below n rest) old mid keeps knows.finds));
-      owns = subst (λ b. Owns k (cond b (m ∷ rest) rest) new) (sym (kept_true sections m.fact is))
-          (owns rest (owns_kept k rest old mid same knows.owns));
+      finds = subst (λ b. Finds n k (cond b (m ∷ rest) rest) new) (sym kept)
+          (subst (λ b. Finds n k (cond b (m ∷ rest) rest) new) (lt-ltb m.fact.thread n below)
+          (finds rest (finds-kept n k rest old mid keeps knows.finds)));
+      owns = subst (λ b. Owns k (cond b (m ∷ rest) rest) new) (sym kept) (owns rest (owns_kept k rest old mid same knows.owns));
+      hand_overs = subst (λ b. HandsOver n k (cond b (m ∷ rest) rest) new) (sym kept)
+          (hands rest below (handed-kept n k rest old mid same waiting knows.hand_overs));
+      orders = orders-kept n (m ∷ facts) mid new still (orders n facts below knows.orders);
+      threads = All-cons (IsOfThread n) m facts below knows.threads;
       spared = All-cons (IsSpared sections) m facts (inl is) knows.spared;
     }
 
@@ -161,8 +186,12 @@ pub follows_log : (bytes : List ℕ) (sources : Sources) (sections : CriticalSec
     (found : Findings) (built : Built) → end ≡ end_of (header_of bytes) →
     ((facts : List Moment) → Finds n k facts found → AreReported k (all_waits facts ended n) built.findings.waits) →
     built.findings.mutexes ≡ found.mutexes → built.course ≡ walk.course →
+    ((facts : List Moment) → HandsOver n k facts found → (mutex : ℕ) → mutex < k →
+    AreHandOvers facts mutex (mutex_at built.findings.mutexes.items mutex).hand_overs) →
+    ((facts : List Moment) → KnowsOrders n facts found → FindsOpposites facts built.findings) →
+    AreCycles (blocker_of walk.course) (threads_of built.findings.deadlocks.items) →
     HasFollowed bytes sources sections n k (end - 1) walk found → FollowsLog bytes sources sections n k ended built
-follows_log bytes sources sections n k ended end walk found built is waits same course f =
+follows_log bytes sources sections n k ended end walk found built is waits same course hands opposites deadlocks f =
     let facts : List Moment = facts_of sources (stage_of (end - 1) f.time walk ∷ f.before) in
     record {
       last = stage_of (end - 1) f.time walk;
@@ -170,8 +199,12 @@ follows_log bytes sources sections n k ended end walk found built is waits same 
       way = f.way;
       number = ap (λ n. n - 1) is;
       found = record {
-        waits = waits (below n (kept_of sections facts)) f.knows.finds;
+        waits = waits (kept_of sections facts) f.knows.finds;
         owns = owns_kept k (kept_of sections facts) found built.findings same f.knows.owns;
+        hand_overs = hands (kept_of sections facts) f.knows.hand_overs;
+        opposites = opposites facts f.knows.orders;
+        deadlocks = deadlocks;
+        threads = f.knows.threads;
         spared = f.knows.spared;
       };
       course = course;

@@ -1,5 +1,5 @@
 -- The way through a log, and what is found of the facts that it shows.
-use Rattle.std.specs.Prelude.{◌≡◌, ◌⊎◌, ◌+◌, ◌-◌, ℕ, nat_lt, ◌==◌, ◌||◌, Bool, true, List, [], ◌∷◌, ◌++◌, map, reverse, filter, length, slice_get, slice_index_or, IfSome, All}
+use Rattle.std.specs.Prelude.{◌≡◌, ◌⊎◌, ◌+◌, ◌-◌, ℕ, ◌<◌, ◌==◌, ◌||◌, Bool, true, List, [], ◌∷◌, ◌++◌, map, reverse, filter, length, slice_get, slice_index_or, IfSome, All}
 use Rattle.std.specs.Option.{option_map_or}
 use Rattle.pim_log.specs.Headers.{header_of, end_of}
 use Rattle.pim_facts.specs.Shown.{shown_in}
@@ -11,9 +11,13 @@ use Rattle.pim_course.specs.World.{Lead, world_of}
 use Rattle.pim_course.specs.declared.course.Course.{Course}
 use Rattle.pim_course.specs.declared.course.Sources.{Sources}
 use Rattle.pim_course.specs.declared.walk.Walk.{Walk}
+use Rattle.pim_findings.specs.Cycles.{AreCycles}
+use Rattle.pim_findings.specs.Deadlocks.{blocker_of, threads_of}
 use Rattle.pim_findings.specs.Found.{Finds}
+use Rattle.pim_findings.specs.HandOvers.{AreHandOvers, HandsOver}
 use Rattle.pim_findings.specs.Longest.{AreReported}
-use Rattle.pim_findings.specs.Ownerships.{Owns}
+use Rattle.pim_findings.specs.Orders.{FindsOpposites, KnowsOrders}
+use Rattle.pim_findings.specs.Ownerships.{Owns, mutex_at}
 use Rattle.pim_findings.specs.Waits.{Moment, all_waits}
 use Rattle.pim_findings.specs.declared.findings.Findings.{Findings}
 use Rattle.pim_import.specs.LeftOut.{IsKept, MayBeLeftOut}
@@ -84,19 +88,22 @@ is_kept sections fact = fact.section == 0 || sections.is_all || slice_index_or s
 abbrev pub kept_of : CriticalSections → List Moment → List Moment
 kept_of sections facts = filter (λ m. is_kept sections m.fact) facts
 
--- the facts of threads below n
-abbrev pub below : ℕ → List Moment → List Moment
-below n facts = filter (λ m. nat_lt m.fact.thread n) facts
+-- a fact is of a thread below n
+abbrev pub IsOfThread : ℕ → Moment → Type 0
+IsOfThread n m = m.fact.thread < n
 
 -- a fact that isn't kept may be left out
 abbrev pub IsSpared : CriticalSections → Moment → Type 0
 IsSpared sections m = IsKept sections m.fact ⊎ MayBeLeftOut m.course m.sources m.fact
 
--- The findings are those of these facts, of threads below n and mutexes below k: of those that are kept the waits and the
--- ownerships. What isn't kept may be left out.
+-- The findings are those of these facts, of threads below n and mutexes below k: of those that are kept the waits, the
+-- ownerships and the hand-overs, and of all the orders of mutexes. What isn't kept may be left out.
 pub record Knows (n k : ℕ) (sections : CriticalSections) (facts : List Moment) (found : Findings) : Type 0 where
-  pub finds : Finds n k (below n (kept_of sections facts)) found
+  pub finds : Finds n k (kept_of sections facts) found
   pub owns : Owns k (kept_of sections facts) found
+  pub hand_overs : HandsOver n k (kept_of sections facts) found
+  pub orders : KnowsOrders n facts found
+  pub threads : All (IsOfThread n) facts
   pub spared : All (IsSpared sections) facts
 
 -- the stage up to which a walk has come
@@ -111,10 +118,17 @@ pub record HasFollowed (bytes : List ℕ) (sources : Sources) (sections : Critic
   pub knows : Knows n k sections (facts_of sources (stage_of number time walk ∷ before)) found
 
 -- What is found is what these facts show, of threads below n and mutexes below k, at this end of the log: of those that are
--- kept the waits and the ownerships. What isn't kept may be left out.
-pub record AreFound (n k : ℕ) (sections : CriticalSections) (ended : ℕ) (facts : List Moment) (found : Findings) : Type 0 where
-  pub waits : AreReported k (all_waits (below n (kept_of sections facts)) ended n) found.waits
+-- kept the waits, the ownerships and the hand-overs, and of all the mutexes that were taken in opposite orders. The
+-- deadlocks are those of the last course. What isn't kept may be left out.
+pub record AreFound (n k : ℕ) (sections : CriticalSections) (ended : ℕ) (facts : List Moment) (last : Course) (found : Findings)
+    : Type 0 where
+  pub waits : AreReported k (all_waits (kept_of sections facts) ended n) found.waits
   pub owns : Owns k (kept_of sections facts) found
+  pub hand_overs : (mutex : ℕ) → mutex < k →
+      AreHandOvers (kept_of sections facts) mutex (mutex_at found.mutexes.items mutex).hand_overs
+  pub opposites : FindsOpposites facts found
+  pub deadlocks : AreCycles (blocker_of last) (threads_of found.deadlocks.items)
+  pub threads : All (IsOfThread n) facts
   pub spared : All (IsSpared sections) facts
 
 -- There is a way through all records of a log, such that what is found is what the facts on the way show, and the course is
@@ -124,7 +138,7 @@ pub record FollowsLog (bytes : List ℕ) (sources : Sources) (sections : Critica
   pub before : List Stage
   pub way : IsWay bytes sources last before
   pub number : last.number ≡ end_of (header_of bytes) - 1
-  pub found : AreFound n k sections ended (facts_of sources (last ∷ before)) built.findings
+  pub found : AreFound n k sections ended (facts_of sources (last ∷ before)) last.course built.findings
   pub course : built.course ≡ last.course
 
 -- The findings are those of the log, with the threads and mutexes that it names, of the facts of some of its critical

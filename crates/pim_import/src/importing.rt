@@ -267,8 +267,8 @@ fn show(
 ///
 /// # Errors
 ///
-/// Returns `Contradiction` if the record contradicts those before it, and `Memory` if out of
-/// memory.
+/// Returns `Contradiction` if the record contradicts those before it, or the log has no such thread,
+/// and `Memory` if out of memory.
 fn show_fact(
     context: &Context,
     sections: &CriticalSections,
@@ -287,6 +287,9 @@ fn show_fact(
         Knows n k sections.now (moment_of context.now.sources.now walk.now.course now.now.time fact.now ∷ facts) findings.new) }
     ensures fault { IfErr result (NamesOnly now.now.number) }
 {
+    if !findings.has_thread(fact.thread) {
+        return Err(ImportFault::Contradiction(now.number));
+    }
     findings.observe(&walk.course, fact, now.time)?;
     if sections.has(fact) {
         findings.look(context.sources, &walk.course, fact, now.time)?;

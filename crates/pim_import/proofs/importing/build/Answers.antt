@@ -1,6 +1,7 @@
 use Rattle.std.proofs.Common.{◌∙◌, ap, refl}
 use Rattle.std.proofs.lemmas.Result.{err_from_is_err_and}
 use Rattle.pim_log.specs.Headers.{end_of}
+use Rattle.pim_findings.specs.Orders.{nested_of}
 use Rattle.pim_import.proofs.Following.{follows_log}
 use Rattle.pim_import.proofs.importing.build.Goals as goal
 
@@ -12,4 +13,6 @@ pub returns-clause-findings : goal.returns-clause-findings
 returns-clause-findings c n k knows =
     follows_log c.args.log.now c.args.context.now.sources.now c.args.sections.now n k c.args.ended c.end-end.result c.play.new.walk
     c.play.new.findings _ (c.end-end.ensures ∙ ap end_of c.header.ensures) (λ facts. c.in_ok-end.ensures.waits n k facts)
-    c.end.ensures.mutexes refl (c.in_ok-tally.ensures.follows n k c.in_ok-walk.ensures knows)
+    c.end.ensures.mutexes refl (λ facts. c.end.ensures.hand_overs n k facts)
+    (λ facts. c.in_ok-end.ensures.opposites n (nested_of facts)) c.in_ok-end.ensures.deadlocks
+    (c.in_ok-tally.ensures.follows n k c.in_ok-walk.ensures knows)

@@ -1,6 +1,6 @@
 use Rattle.std.proofs.Common.{length}
 use Rattle.std.proofs.lemmas.List.Elements.{All-nil}
-use Rattle.pim_import.specs.Following.{IsSpared}
+use Rattle.pim_import.specs.Following.{IsOfThread, IsSpared}
 use Rattle.pim_import.proofs.importing.import_log.Goals as goal
 
 pub returns-clause-findings : goal.returns-clause-findings
@@ -11,6 +11,9 @@ returns-clause-findings c =
           (record {
             finds = c.in_ok-findings.ensures.waits;
             owns = c.in_ok-findings.ensures.owns;
+            hand_overs = c.in_ok-findings.ensures.hand_overs;
+            orders = c.in_ok-findings.ensures.orders;
+            threads = All-nil (IsOfThread (length c.in_ok-sources.sources.ids.threads.items));
             spared = All-nil (IsSpared c.in_ok-sections.sections);
           });
     }

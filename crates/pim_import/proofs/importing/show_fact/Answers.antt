@@ -1,4 +1,5 @@
 use Rattle.std.proofs.Common.{inr}
+use Rattle.pim_findings.proofs.Nested.{orders-more}
 use Rattle.pim_findings.specs.Waits.{Moment}
 use Rattle.pim_import.proofs.Following.{if_ok, kept_false, not_both, knows_with, knows_without}
 use Rattle.pim_import.specs.Following.{moment_of}
@@ -9,12 +10,17 @@ returns-then-has-clause-finds c =
     let m : Moment = moment_of c.args.context.now.sources.now c.args.walk.now.course c.args.now.now.time c.args.fact.now in
     if_ok c.build.result
     (λ n k facts. knows_with n k c.args.sections.now m facts c.args.findings.now c.observe.new.self c.look.new.self
-    (c.has.ensures.0 c.if-has.true) c.observe.ensures.waits c.observe.ensures.mutexes
-    (c.in_ok-look.ensures.waits n k) (c.in_ok-look.ensures.owns k))
+    (c.has_thread.ensures.0 c.if-not-has_thread.false) (c.has.ensures.0 c.if-has.true)
+    c.observe.ensures.waits c.observe.ensures.mutexes c.observe.ensures.waiting
+    (λ n facts below. orders-more n m facts c.args.findings.now c.observe.new.self below c.in_ok-observe.ensures.orders)
+    c.look.ensures.orders (c.in_ok-look.ensures.waits n k) (c.in_ok-look.ensures.owns k) (c.in_ok-look.ensures.hand_overs n k))
 
 pub returns-clause-finds : goal.returns-clause-finds
 returns-clause-finds c n k facts =
     let m : Moment = moment_of c.args.context.now.sources.now c.args.walk.now.course c.args.now.now.time c.args.fact.now in
     knows_without n k c.args.sections.now m facts c.args.findings.now c.observe.new.self
+    (c.has_thread.ensures.0 c.if-not-has_thread.false)
     (kept_false c.args.sections.now c.args.fact.now (λ kept. not_both c.has.result (c.has.ensures.1 kept) c.if-has.false))
     (inr (c.may_be_left_out.ensures.0 c.if-not-may_be_left_out.false)) c.observe.ensures.waits c.observe.ensures.mutexes
+    c.observe.ensures.waiting
+    (λ n facts below. orders-more n m facts c.args.findings.now c.observe.new.self below c.in_ok-observe.ensures.orders)
