@@ -1,5 +1,5 @@
 -- How the records of a log are read one after the other.
-use Rattle.std.proofs.Common.{◌≡◌, ◌≢◌, ℕ, ◌+◌, ◌-◌, ◌*◌, ◌/◌, ◌<◌, ◌≤◌, ◌%◌, ◌==◌, ◌&&◌, ◌||◌, nat_le, Bool, true, false, cond, List, length, get_or, set, Option, Some, None, MatchOption, refl, sym, ap, subst, ◌∙◌, inl, inr, eq-eqb, arith}
+use Rattle.std.proofs.Common.{◌≡◌, ◌≢◌, ℕ, ◌+◌, ◌-◌, ◌*◌, ◌/◌, ◌^◌, ◌<◌, ◌≤◌, ◌%◌, ◌==◌, ◌&&◌, ◌||◌, nat_le, Bool, true, false, cond, List, length, get_or, set, Option, Some, None, MatchOption, refl, sym, ap, subst, ◌∙◌, inl, inr, eq-eqb, arith}
 use Rattle.std.proofs.Math.Nat.{mul-mod_right}
 use Rattle.std.proofs.lemmas.Bool.{cases_lt}
 use Rattle.std.proofs.lemmas.Bool.Decides.{nat_tests}
@@ -165,9 +165,9 @@ lacks bytes n ids none read = record {
 -- behind a record
 pub reads : (bytes : List ℕ) (n : ℕ) (old mid new : Ids) (r : Record) (id : ℕ) →
     ((slot : ℕ) × (IsNumbered bytes slot n × IsRecord bytes slot r)) → Grows old mid → HasThread mid r.thread →
-    HasNumber mid r.event id → new.of_record.items ≡ set mid.of_record.items n id →
+    r.thread ≤ 2 ^ 22 → HasNumber mid r.event id → new.of_record.items ≡ set mid.of_record.items n id →
     new ≡ record mid { of_record = new.of_record } → HasRead bytes n old → HasRead bytes (n + 1) new
-reads bytes n old mid new r id found grows thread about put rest read =
+reads bytes n old mid new r id found grows thread few about put rest read =
     let s : ℕ = found.0 in
     let both : IsNumbered bytes s n × IsRecord bytes s r = found.1 in
     let num : IsNumbered bytes s n = both.0 in
@@ -193,6 +193,7 @@ reads bytes n old mid new r id found grows thread about put rest read =
             let m_le : length old.mutexes.items ≤ length new.mutexes.items = omega (arith, grows.mutexes, m) in
             record {
               above = was.above;
+              few = was.few;
               thread = below-all q.thread (length old.threads.items) (length new.threads.items) was.thread t_le;
               about = more old new (id_of old number) (id_of new number) (mutex_of q.event) t_le m_le kept was.about;
             }
@@ -207,6 +208,7 @@ reads bytes n old mid new r id found grows thread about put rest read =
             let m_le : length mid.mutexes.items ≤ length new.mutexes.items = omega (arith, m) in
             record {
               above = subst (λ k. 0 < k) (sym own.thread) (thread-above bytes s n log num);
+              few = subst (λ k. k ≤ 2 ^ 22) thread_is few;
               thread = subst (λ k. k < length new.threads.items) thread_is
                   (below-all r.thread (length mid.threads.items) (length new.threads.items) there t_le);
               about = more mid new id (id_of new number) (mutex_of q.event) t_le m_le (ap (λ k. id_of new k) e ∙ put_at)

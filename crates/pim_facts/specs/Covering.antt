@@ -1,5 +1,5 @@
 -- Whom the records of a log are about is there.
-use Rattle.std.specs.Prelude.{◌≡◌, ◌<◌, ◌≤◌, ℕ, List, length, MatchOption}
+use Rattle.std.specs.Prelude.{◌≡◌, ◌<◌, ◌≤◌, ◌^◌, ℕ, List, length, MatchOption}
 use Rattle.pim_log.specs.Events.{mutex_of}
 use Rattle.pim_log.specs.Headers.{header_of, end_of}
 use Rattle.pim_log.specs.Logs.{IsLog, IsNumbered, IsRecord}
@@ -20,9 +20,10 @@ HasMutex ids m = (0 < m) × (m < length ids.mutexes.items)
 abbrev pub HasNumber : Ids → Event → ℕ → Type 0
 HasNumber ids event number = MatchOption (mutex_of event) (HasThread ids number) (λ _. HasMutex ids number)
 
--- the thread of a record is there, above 0, and so is whom the record is about
+-- the thread of a record is there, with a number from 1 to 2 ^ 22, and so is whom the record is about
 pub record HasThoseOf (ids : Ids) (r : Record) (number : ℕ) : Type 0 where
   pub above : 0 < r.thread
+  pub few : r.thread ≤ 2 ^ 22
   pub thread : HasThread ids r.thread
   pub about : HasNumber ids r.event number
 

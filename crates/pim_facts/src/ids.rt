@@ -1,5 +1,5 @@
 //! Whom each record of a log is about.
-ghost use Rattle.std.specs.Prelude.{◌≡◌, ◌+◌, ◌<◌, IfErr, IfOk, length, slice_set};
+ghost use Rattle.std.specs.Prelude.{◌≡◌, ◌+◌, ◌<◌, ◌≤◌, ◌^◌, IfErr, IfOk, length, slice_set};
 ghost use Rattle.pim_log.specs.Headers.{header_of, end_of};
 ghost use Rattle.pim_log.specs.Logs.{IsLog};
 ghost use Rattle.pim_facts.specs.Covering.{Covers, Grows, HasMutex, HasNumber, HasRead, HasThread};
@@ -194,6 +194,7 @@ impl Ids {
         ensures fault { IfErr result (NamesOnly «record».now.number) }
         ensures grown { Grows self.old self.new }
         ensures thread { IfOk result (λ _. HasThread self.new «record».now.thread) }
+        ensures few { IfOk result (λ _. «record».now.thread ≤ 2 ^ 22) }
         ensures about { 0 < length self.old.mutexes.items → IfOk result (HasNumber self.new «record».now.event) }
     {
         self.read_thread(record)?;
@@ -268,6 +269,7 @@ impl Ids {
         ensures fault { IfErr result (NamesOnly «record».now.number) }
         ensures grown { Grows self.old self.new }
         ensures thread { IfOk result (λ _. HasThread self.new «record».now.thread) }
+        ensures few { IfOk result (λ _. «record».now.thread ≤ 2 ^ 22) }
     {
         if record.thread > MAX_THREADS {
             return Err(IdsFault::TooManyThreads(record.number));

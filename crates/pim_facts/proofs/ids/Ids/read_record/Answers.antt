@@ -7,5 +7,5 @@ returns-in-None-clause-read c = lacks c.args.log.now c.args.number c.args.self.n
 pub returns-clause-read : goal.returns-clause-read
 returns-clause-read c read =
     reads c.args.log.now c.args.number c.args.self.now c.read.new.self c.put.new.self c.in-Some.record c.in_ok-id.id
-    c.in-Some.ensures c.read.ensures.grown c.in_ok-id.ensures.thread (c.in_ok-id.ensures.about read.mutexes)
+    c.in-Some.ensures c.read.ensures.grown c.in_ok-id.ensures.thread c.in_ok-id.ensures.few (c.in_ok-id.ensures.about read.mutexes)
     c.put.ensures.about c.put.ensures.rest read
