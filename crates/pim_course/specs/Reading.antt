@@ -1,8 +1,9 @@
 -- How the record of a log changes the world.
-use Rattle.std.specs.Prelude.{◌≡◌, ◌<◌, ℕ, List, [], length, slice_get, None}
+use Rattle.std.specs.Prelude.{◌≡◌, ◌⊎◌, ◌<◌, ℕ, List, [], length, slice_get, Option, None}
 use Rattle.std.specs.Option.{option_map_or}
+use Rattle.pim_log.specs.Events.{time_of}
 use Rattle.pim_log.specs.Headers.{header_of, end_of}
-use Rattle.pim_log.specs.Logs.{IsNumbered, IsRecord}
+use Rattle.pim_log.specs.Logs.{IsNumbered, IsRecord, fields_in}
 use Rattle.pim_log.specs.declared.event.Event.{Event}
 use Rattle.pim_log.specs.declared.event.Event.TheVariants as event
 use Rattle.pim_log.specs.declared.record.Record.{Record}
@@ -67,6 +68,16 @@ pub record HasRequest (course : Course) (request : Request) : Type 0 where
 -- no record of a log has this number
 abbrev pub LacksRecord : List ℕ → ℕ → Type 0
 LacksRecord bytes number = (slot : ℕ) → IsNumbered bytes slot number → ⊥
+
+-- the record of a log with this number has this time, if it has one
+pub record HasTime (bytes : List ℕ) (number : ℕ) (time : Option ℕ) : Type 0 where
+  pub slot : ℕ
+  pub numbered : IsNumbered bytes slot number
+  pub is : time ≡ time_of (fields_in bytes slot)
+
+-- this is the time of the record with this number; none where the log lacks the record
+abbrev pub IsTimeOf : List ℕ → ℕ → Option ℕ → Type 0
+IsTimeOf bytes number time = (LacksRecord bytes number × (time ≡ None)) ⊎ HasTime bytes number time
 
 -- a course goes on by the record of a log with this number: it shows then what the record tells. If the course has those of
 -- the record, that leads from the world in which it is read to the one behind it, each mutex is locked as often as it says,

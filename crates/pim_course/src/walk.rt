@@ -1,9 +1,10 @@
 //! The way through a log, record by record.
-ghost use Rattle.std.specs.Prelude.{◌≡◌, ◌⊎◌, ◌<◌, [], length, IfOk, IfSome, slice_get};
+ghost use Rattle.std.specs.Prelude.{◌≡◌, ◌⊎◌, ◌+◌, ◌<◌, [], length, IfOk, IfSome, None, slice_get};
 ghost use Rattle.std.specs.Option.{option_map_or};
 ghost use Rattle.pim_facts.specs.Shown.{shown_in};
 ghost use Rattle.pim_course.specs.Going.{HasSameSize, KeepsDepths, KeepsSections};
-ghost use Rattle.pim_course.specs.Reading.{Begins, GoesBy, HasRequest, LacksRecord};
+ghost use Rattle.pim_course.specs.Reading.{Begins, GoesBy, HasRequest, IsTimeOf, LacksRecord};
+ghost use Rattle.pim_course.specs.Requests.{AreBehind};
 ghost use Rattle.pim_course.specs.Sections.{AreNumbered, sections_of};
 ghost use Rattle.pim_course.specs.Told.{added_told, happened_in};
 ghost use Rattle.pim_course.specs.World.{Lead, world_of};
@@ -38,7 +39,8 @@ impl Walk {
     ///
     /// Returns `AllocError` if out of memory.
     pub fn new(alloc: Global, ids: &Ids) -> Result<Walk, AllocError>
-        ensures { IfOk result (λ walk. Begins ids.now walk.course) }
+        ensures begins { IfOk result (λ walk. Begins ids.now walk.course) }
+        ensures added { IfOk result (λ walk. walk.added ≡ 0) }
     {
         Ok(Walk {
             course: Course::new(alloc, ids)?,
@@ -56,6 +58,8 @@ impl Walk {
     /// Goes on by the record with this number.
     pub fn read(&mut self, log: &Log, sources: &Sources, number: u64) -> Moment
         ensures size { HasSameSize self.old.course self.new.course }
+        ensures added { self.new.added ≡ self.old.added }
+        ensures time { IsTimeOf log.now number result.time }
         ensures shown { (LacksRecord log.now number × (shown_in self.new.course.shown ≡ [])
             × (world_of self.new.course ≡ world_of self.old.course) × KeepsDepths self.old.course self.new.course
             × KeepsSections self.old.course self.new.course)
@@ -74,8 +78,10 @@ impl Walk {
         }
     }
 
-    /// Returns how many requests the log lacks behind the record with this number.
-    pub fn missing(&self, sources: &Sources, number: u64) -> usize {
+    /// Returns how many of the next requests belong behind the record with this number.
+    pub fn missing(&self, sources: &Sources, number: u64) -> usize
+        ensures { AreBehind sources.now.requests.list.items self.now.added number result }
+    {
         let list = &sources.requests.list;
         for place in self.added..list.len() {
             if list[place].after != number {
@@ -85,8 +91,13 @@ impl Walk {
         list.len().saturating_sub(self.added)
     }
 
-    /// Goes on by the next request that the log lacks. Returns when it was made, if a wait shows it.
+    /// Goes on by the next request that the log lacks. Returns when it was made, if a wait shows it. If there is no further
+    /// request, the way shows nothing.
     pub fn add(&mut self, sources: &Sources) -> Option<u64>
+        ensures added { self.new.added ≡
+            option_map_or (λ request. self.old.added + 1) (slice_get sources.now.requests.list.items self.old.added) self.old.added }
+        ensures time { result ≡
+            option_map_or (λ request. request.time) (slice_get sources.now.requests.list.items self.old.added) None }
         ensures size { HasSameSize self.old.course self.new.course }
         ensures depths { KeepsDepths self.old.course self.new.course }
         ensures shown { IfSome (slice_get sources.now.requests.list.items self.old.added) (HasRequest self.old.course) →
