@@ -1,4 +1,5 @@
 pub mod Following
 pub mod Naming
 pub mod Keeping
+pub mod KeptSections
 pub mod Whole

@@ -20,6 +20,7 @@ use Rattle.pim_findings.specs.Orders.{FindsOpposites, KnowsOrders}
 use Rattle.pim_findings.specs.Ownerships.{Owns, mutex_at}
 use Rattle.pim_findings.specs.Waits.{Moment, all_waits}
 use Rattle.pim_findings.specs.declared.findings.Findings.{Findings}
+use Rattle.pim_import.specs.KeptSections.{KeepsThoseOf, room_of}
 use Rattle.pim_import.specs.LeftOut.{IsKept, MayBeLeftOut}
 use Rattle.pim_import.specs.declared.critical_sections.CriticalSections.{CriticalSections}
 use Rattle.pim_import.specs.declared.importing.Built.{Built}
@@ -141,9 +142,19 @@ pub record FollowsLog (bytes : List ℕ) (sources : Sources) (sections : Critica
   pub found : AreFound n k sections ended (facts_of sources (last ∷ before)) last.course built.findings
   pub course : built.course ≡ last.course
 
--- The findings are those of the log, with the threads and mutexes that it names, of the facts of some of its critical
--- sections. Which ones is said elsewhere.
-pub record IsOfLog (bytes : List ℕ) (imported : Imported) : Type 0 where
+-- There is a way through all records of a log, such that the critical sections in the trace are exactly those of which a fact on
+-- the way must stay: a thread begins to wait in it, or the fact may change a priority; or all, if that is asked for.
+pub record KeepsThoseOfLog (bytes : List ℕ) (sources : Sources) (is_all : Bool) (sections : CriticalSections) : Type 0 where
+  pub last : Stage
+  pub before : List Stage
+  pub way : IsWay bytes sources last before
+  pub number : last.number ≡ end_of (header_of bytes) - 1
+  pub keeps : KeepsThoseOf is_all (room_of bytes sources) (facts_of sources (last ∷ before)) sections
+
+-- The findings are those of the log, with the threads and mutexes that it names, of the facts of the critical sections in the
+-- trace.
+pub record IsOfLog (bytes : List ℕ) (is_all : Bool) (imported : Imported) : Type 0 where
   pub sections : CriticalSections
+  pub keeps : KeepsThoseOfLog bytes imported.sources is_all sections
   pub follows : FollowsLog bytes imported.sources sections (length imported.sources.ids.threads.items)
       (length imported.sources.ids.mutexes.items) imported.ended imported.built

@@ -1,3 +1,4 @@
 pub mod Tallies
 pub mod Following
+pub mod KeptSections
 pub mod LeftOut

@@ -1,6 +1,9 @@
 //! Which critical sections are in the trace.
-ghost use Rattle.std.specs.Prelude.{◌↔◌, ℕ, All, IsTrue};
+ghost use Rattle.std.specs.Prelude.{◌≡◌, ◌⊎◌, ◌↔◌, ◌++◌, ℕ, Bool, List, All, IfOk, IsTrue};
 ghost use Rattle.pim_facts.specs.Shown.{shown_in};
+ghost use Rattle.pim_findings.specs.Waits.{Moment};
+ghost use Rattle.pim_import.specs.Following.{KeepsThoseOfLog, moments_of};
+ghost use Rattle.pim_import.specs.KeptSections.{KeepsThoseOf};
 ghost use Rattle.pim_import.specs.LeftOut.{IsKept, Keeps, MustStay};
 
 use crate::left_out::must_stay;
@@ -21,7 +24,8 @@ pub struct CriticalSections {
 }
 
 impl CriticalSections {
-    /// Returns which critical sections of the log are in the trace, and who takes part in it.
+    /// Returns which critical sections of the log are in the trace, and who takes part in it. Which sections these are is
+    /// proved: those that the facts of the log must keep, and no others.
     ///
     /// # Errors
     ///
@@ -31,7 +35,9 @@ impl CriticalSections {
         log: &Log,
         sources: &Sources,
         is_all: bool,
-    ) -> Result<(CriticalSections, Participants), AllocError> {
+    ) -> Result<(CriticalSections, Participants), AllocError>
+        ensures { IfOk result (λ found. KeepsThoseOfLog log.now sources.now is_all found.0) }
+    {
         let end = log.header().end();
         let room = (end as usize).saturating_add(sources.requests.list.len());
         let mut sections = CriticalSections {
@@ -61,6 +67,9 @@ impl CriticalSections {
         ensures kept { All (λ fact. MustStay walk.now.course sources.now fact → Keeps self.new fact.section)
             (shown_in walk.now.course.shown) }
         ensures still { (n : ℕ) → Keeps self.old n → Keeps self.new n }
+        ensures exact { (is_all : Bool) (room time : ℕ) (facts : List Moment) → KeepsThoseOf is_all room facts self.old →
+            let shown = moments_of sources.now walk.now.course time (shown_in walk.now.course.shown) in
+            KeepsThoseOf is_all room (shown ++ facts) self.new }
     {
         let shown = walk.shown();
         for fact in shown {
@@ -74,6 +83,7 @@ impl CriticalSections {
     fn keep(&mut self, section: u32)
         ensures kept { Keeps self.new section }
         ensures still { (n : ℕ) → Keeps self.old n → Keeps self.new n }
+        ensures only { (n : ℕ) → Keeps self.new n → Keeps self.old n ⊎ (n ≡ section) }
     {
         if (section as usize) < self.is_kept.len() {
             self.is_kept[section as usize] = true;

@@ -82,7 +82,7 @@ pub fn import_log(
     ensures counted { IfOk result (λ imported. total imported.built.tally ≡ end_of (header_of log.now) - 1) }
     ensures joined { IfOk result (λ imported. AreJoined imported.built.pieces.items) }
     ensures times { IfOk result (λ imported. All HasTimes imported.built.pieces.items) }
-    ensures findings { IfOk result (IsOfLog log.now) }
+    ensures findings { IfOk result (IsOfLog log.now options.keeps_all) }
     ensures fault { IfErr result (NamesOneOf (end_of (header_of log.now))) }
 {
     let sources = sources_of(alloc, log, waits)?;

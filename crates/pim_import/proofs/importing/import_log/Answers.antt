@@ -7,6 +7,7 @@ pub returns-clause-findings : goal.returns-clause-findings
 returns-clause-findings c =
     record {
       sections = c.in_ok-sections.sections;
+      keeps = c.in_ok-sections.ensures;
       follows = c.in_ok-built.ensures.findings (length c.in_ok-sources.sources.ids.threads.items) (length c.in_ok-sources.sources.ids.mutexes.items)
           (record {
             finds = c.in_ok-findings.ensures.waits;

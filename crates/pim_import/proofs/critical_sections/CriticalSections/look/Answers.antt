@@ -1,9 +1,12 @@
-use Rattle.std.proofs.Common.{◌∙◌, ℕ, All, subst, sym}
+use Rattle.std.proofs.Common.{◌∙◌, ◌++◌, ℕ, List, All, subst, sym, inl, inr}
 use lib.Seq.{take_all}
 use Rattle.pim_facts.specs.declared.fact.Fact.{Fact}
+use Rattle.pim_import.specs.Following.{moments_of}
+use Rattle.pim_import.specs.KeptSections.{KeepsThoseOf}
 use Rattle.pim_import.specs.LeftOut.{Keeps, MustStay}
 use Rattle.pim_import.specs.declared.critical_sections.CriticalSections.{CriticalSections}
 use Rattle.pim_import.proofs.Keeping.{kept-more}
+use Rattle.pim_import.proofs.KeptSections.{keeps-more}
 use Rattle.pim_import.proofs.critical_sections.CriticalSections.look.Goals as goal
 use Rattle.pim_import.proofs.critical_sections.CriticalSections.look.Goals.{then-must_stay, else-must_stay}
 
@@ -24,6 +27,19 @@ loop-fact-preserved c =
           ])
           c.loop-fact.invariant.kept;
       still = λ n keeps. still n (c.loop-fact.invariant.still n keeps);
+      exact = λ is_all room time facts are.
+          keeps-more is_all room time c.args.sources.now c.args.walk.now.course facts c.shown-shown.result.now
+          c.loop-fact.fact-index _ c.loop-fact.self c.if-must_stay.self c.loop-fact-test.true
+          (elim c.if-must_stay.branch [
+            | then-must_stay w ↦ inl (
+              c.must_stay.ensures.0 w.if-must_stay.true,
+              subst (λ (s : CriticalSections). Keeps s _) (sym w.self-is) w.keep.ensures.kept,
+              still,
+              (λ n keeps. w.keep.ensures.only n (subst (λ (s : CriticalSections). Keeps s n) w.self-is keeps)),
+            )
+            | else-must_stay w ↦ inr ((λ must. absurd (cc (c.must_stay.ensures.1 must, w.if-must_stay.false))), w.self-is)
+          ])
+          (c.loop-fact.invariant.exact is_all room time facts are);
     }
 
 pub returns-clause-kept : goal.returns-clause-kept
@@ -31,3 +47,10 @@ returns-clause-kept c =
     subst (All (λ (fact : Fact). MustStay c.args.walk.now.course c.args.sources.now fact → Keeps c.loop-fact.self fact.section))
     (take_all c.loop-fact.fact-index c.shown-shown.result.now c.loop-fact-test.false ∙ c.shown-shown.ensures)
     c.loop-fact.invariant.kept
+
+pub returns-clause-exact : goal.returns-clause-exact
+returns-clause-exact c is_all room time facts are =
+    subst (λ (shown : List Fact).
+    KeepsThoseOf is_all room (moments_of c.args.sources.now c.args.walk.now.course time shown ++ facts) c.loop-fact.self)
+    (take_all c.loop-fact.fact-index c.shown-shown.result.now c.loop-fact-test.false ∙ c.shown-shown.ensures)
+    (c.loop-fact.invariant.exact is_all room time facts are)

@@ -1,0 +1,14 @@
+use Rattle.std.proofs.Common.{◌≤◌, ◌-◌, max}
+use Rattle.pim_import.proofs.KeptSections.{HasLooked}
+use Rattle.pim_import.proofs.critical_sections.CriticalSections.of.Given as goal
+
+-- the records so far were looked at
+abbrev pub invariant-loop-number : goal.invariant-loop-number
+invariant-loop-number l = record {
+  within : l.number ≤ max 1 l.end;
+  looked : HasLooked l.log l.sources l.is_all (l.number - 1) l.walk l.sections;
+}
+
+-- and the requests behind the last one of them
+abbrev pub invariant-loop-request : goal.invariant-loop-request
+invariant-loop-request l = HasLooked l.log l.sources l.is_all l.number l.walk l.sections
