@@ -6,3 +6,4 @@ pub mod Telling
 pub mod Numbering
 pub mod Together
 pub mod NextOwning
+pub mod AskedOwning

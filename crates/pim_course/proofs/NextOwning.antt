@@ -25,18 +25,19 @@ got (x ∷ xs) (suc i) r e = got xs i r e
 
 -- the first of these records that passes a test is of a thread that is there
 first-there : (ids : Ids) (p : Record → Bool) (rs : List Record) (t : ℕ) → CoversThose ids rs →
-    option_map (λ r. r.thread) (find p rs) ≡ Some t → (0 < t) × (t < length ids.threads.items)
+    option_map (λ r. r.thread) (find p rs) ≡ Some t → (0 < t) × (t ≤ 2 ^ 22) × (t < length ids.threads.items)
 first-there ids p [] t covers e = cc
 first-there ids p (r ∷ rs) t covers e =
-    elim (p r) as (λ v. option_map (λ r. r.thread) (cond v (Some r) (find p rs)) ≡ Some t → (0 < t) × (t < length ids.threads.items)) [
+    elim (p r) as
+    (λ v. option_map (λ r. r.thread) (cond v (Some r) (find p rs)) ≡ Some t → (0 < t) × (t ≤ 2 ^ 22) × (t < length ids.threads.items)) [
       | true ↦ λ is. let same : r.thread ≡ t = cc in
-          (subst (λ n. 0 < n) same covers.0, subst (λ n. n < length ids.threads.items) same covers.1)
-      | false ↦ λ is. first-there ids p rs t covers.2 is
+          (subst (λ n. (0 < n) × (n ≤ 2 ^ 22) × (n < length ids.threads.items)) same (covers.0, covers.1, covers.2))
+      | false ↦ λ is. first-there ids p rs t covers.3 is
     ] e
 
 -- the thread that is granted a mutex next is there
 pub next-there : (ids : Ids) (m : ℕ) (rs : List Record) (t : ℕ) → CoversThose ids rs → next_granted ids m rs ≡ Some t →
-    (0 < t) × (t < length ids.threads.items)
+    (0 < t) × (t ≤ 2 ^ 22) × (t < length ids.threads.items)
 next-there ids m rs t covers e = first-there ids _ rs t covers e
 
 chosen-keepable : (g : ℕ → Bool) (o : Option ℕ) → ((k : ℕ) → o ≡ Some k → (0 < k) × (k < 2 ^ 31)) →
@@ -46,21 +47,21 @@ chosen-keepable g (Some k) h =
     elim (g k) as (λ v. IsKeepable (Owner (cond v (Some k) None))) [ true ↦ h k refl | false ↦ tt ]
 
 release-keepable : (ids : Ids) (m t : ℕ) (call : Call) (behind : List Record) → CoversThose ids behind →
-    length ids.threads.items ≤ 2 ^ 31 → IsKeepable (release_kept ids m t call behind)
-release-keepable ids m t call behind covers few =
+    IsKeepable (release_kept ids m t call behind)
+release-keepable ids m t call behind covers =
     elim (is_refused ids m t call behind) as (λ v. IsKeepable (cond v Refused (Owner (next_owner ids m t behind)))) [
       | true ↦ tt
       | false ↦ chosen-keepable _ (next_granted ids m behind)
-          (λ k e. let there = next-there ids m behind k covers e in (there.0, omega arith))
+          (λ k e. let there = next-there ids m behind k covers e in (there.0, omega (arith, there.1)))
     ]
 
 -- what is kept of a RELEASE is read again
 read-again : (ids : Ids) (m t : ℕ) (o : Option Call) (behind : List Record) (kept again : Kept) → CoversThose ids behind →
-    length ids.threads.items ≤ 2 ^ 31 → IfSome o (λ call. kept ≡ release_kept ids m t call behind) →
+    IfSome o (λ call. kept ≡ release_kept ids m t call behind) →
     (IsKeepable kept → again ≡ kept) → IfSome o (λ call. again ≡ release_kept ids m t call behind)
-read-again ids m t None behind kept again covers few is same = is
-read-again ids m t (Some call) behind kept again covers few is same =
-    same (subst IsKeepable (sym is) (release-keepable ids m t call behind covers few)) ∙ is
+read-again ids m t None behind kept again covers is same = is
+read-again ids m t (Some call) behind kept again covers is same =
+    same (subst IsKeepable (sym is) (release-keepable ids m t call behind covers)) ∙ is
 
 -- the records are those from a number on that none has
 lacks-from : (bytes : List ℕ) (number : ℕ) (rs : List Record) → ((slot : ℕ) → IsNumbered bytes slot number → ⊥) →
@@ -83,21 +84,23 @@ lacks-from bytes number (r ∷ rs) lacks are =
 
 -- the log has no record with a number
 pub lacks-step : (bytes : List ℕ) (ids : Ids) (number : ℕ) (found : NextOwners) (coming : Coming) →
-    ((slot : ℕ) → IsNumbered bytes slot number → ⊥) → HasFound bytes ids (number + 1) found coming →
-    HasFound bytes ids number found coming
-lacks-step bytes ids number found coming lacks has =
-    record {
-      behind = has.behind;
-      are = lacks-from bytes number has.behind lacks has.are;
-      covers = has.covers;
-      knows = has.knows;
-      room = has.room;
-      kept = has.kept;
-      finds = λ k slot from numbered. elim (cases_eq k number) [
-        | inl same ↦ absurd (lacks slot (subst (IsNumbered bytes slot) same numbered))
-        | inr other ↦ has.finds k slot (omega arith) numbered
-      ];
-    }
+    ((slot : ℕ) → IsNumbered bytes slot number → ⊥) → (has : HasFound bytes ids (number + 1) found coming) →
+    (new : HasFound bytes ids number found coming) × (new.behind ≡ has.behind)
+lacks-step bytes ids number found coming lacks has = (
+  record {
+    behind = has.behind;
+    are = lacks-from bytes number has.behind lacks has.are;
+    covers = has.covers;
+    knows = has.knows;
+    room = has.room;
+    kept = has.kept;
+    finds = λ k slot from numbered. elim (cases_eq k number) [
+      | inl same ↦ absurd (lacks slot (subst (IsNumbered bytes slot) same numbered))
+      | inr other ↦ has.finds k slot (omega arith) numbered
+    ];
+  },
+  refl,
+)
 
 -- a record with a number was read, before those behind it
 pub record AsRead (ids : Ids) (number : ℕ) (r : Record) (behind : List Record) (old new : NextOwners) (after : Coming) (kept : Kept) : Type 0 where
@@ -120,39 +123,42 @@ found-again bytes ids k old new e finds =
     }
 
 pub record-step : (bytes : List ℕ) (ids : Ids) (number slot : ℕ) (r : Record) (old new : NextOwners) (before after : Coming)
-    (kept : Kept) → IsNumbered bytes slot number → IsRecord bytes slot r → (0 < r.thread) → (r.thread < length ids.threads.items) →
-    length ids.threads.items ≤ 2 ^ 31 → (has : HasFound bytes ids (number + 1) old before) →
-    AsRead ids number r has.behind old new after kept → HasFound bytes ids number new after
-record-step bytes ids number slot r old new before after kept numbered is above there few has as_read =
+    (kept : Kept) → IsNumbered bytes slot number → IsRecord bytes slot r → (0 < r.thread) → r.thread ≤ 2 ^ 22 →
+    r.thread < length ids.threads.items → (has : HasFound bytes ids (number + 1) old before) →
+    AsRead ids number r has.behind old new after kept →
+    (found : HasFound bytes ids number new after) × (found.behind ≡ r ∷ has.behind)
+record-step bytes ids number slot r old new before after kept numbered is above few there has as_read =
     let number-is : r.number ≡ number = is.number ∙ numbered.stored in
-    let here : IsAt bytes number r = record { slot = slot; numbered = numbered; is = is } in
-    record {
-      behind = r ∷ has.behind;
-      are = (
-        omega arith,
-        (λ k slot from below _. absurd (omega arith)),
-        subst (λ n. IsAt bytes n r) (sym number-is) here,
-        subst (λ n. AreFrom bytes (n + 1) has.behind) (sym number-is) has.are,
-      );
-      covers = (above, there, has.covers);
-      knows = as_read.knows;
-      room = as_read.room;
-      kept = as_read.as_long ∙ has.kept;
-      finds = λ k at from is-numbered. elim (cases_eq k number) [
-        | inl same ↦ subst (Finds bytes ids new) (sym same) (record {
-          r = r;
-          behind = has.behind;
-          is = here;
-          are = has.are;
-          kept = read-again ids (id_of ids number) r.thread (release_call r.event) has.behind kept (kept_of new number)
-              has.covers few as_read.is as_read.same;
-        })
-        | inr other ↦ found-again bytes ids k old new (as_read.rest k other) (has.finds k at (omega arith) is-numbered)
-      ];
-    }
+    let here : IsAt bytes number r = record { slot = slot; numbered = numbered; is = is } in (
+      record {
+        behind = r ∷ has.behind;
+        are = (
+          omega arith,
+          (λ k slot from below _. absurd (omega arith)),
+          subst (λ n. IsAt bytes n r) (sym number-is) here,
+          subst (λ n. AreFrom bytes (n + 1) has.behind) (sym number-is) has.are,
+        );
+        covers = (above, few, there, has.covers);
+        knows = as_read.knows;
+        room = as_read.room;
+        kept = as_read.as_long ∙ has.kept;
+        finds = λ k at from is-numbered. elim (cases_eq k number) [
+          | inl same ↦ subst (Finds bytes ids new) (sym same) (record {
+            r = r;
+            behind = has.behind;
+            is = here;
+            are = has.are;
+            kept = read-again ids (id_of ids number) r.thread (release_call r.event) has.behind kept (kept_of new number)
+                has.covers as_read.is as_read.same;
+          })
+          | inr other ↦ found-again bytes ids k old new (as_read.rest k other) (has.finds k at (omega arith) is-numbered)
+        ];
+      },
+      refl,
+    )
 
 -- a number that isn't in an option
-is-not : (o : Option ℕ) (n : ℕ) → option_eq nat_eq o (Some n) ≡ false → is_that o n ≡ false
+pub is-not : (o : Option ℕ) (n : ℕ) → option_eq nat_eq o (Some n) ≡ false → is_that o n ≡ false
 is-not None n e = refl
 is-not (Some k) n e = e
 
@@ -180,7 +186,7 @@ not-next-known ids m t next behind coming first room knows covers below owner gr
     sym (knows.owners m (omega (arith, room.owners))) ∙ sym (got coming.owners.items m (Some next) owner) in
     let there = next-there ids m behind next covers is-owner in
     not-next ids m t next behind first is-owner
-    (sym (knows.granted next (omega (arith, room.granted, there.1))) ∙ sym (got coming.granted.items next first granted))
+    (sym (knows.granted next (omega (arith, room.granted, there.2))) ∙ sym (got coming.granted.items next first granted))
     (is-not first m not-that)
 
 none-known : (xs : List (Option ℕ)) (n k : ℕ) → xs ≡ replicate n None → k < length xs → get_or xs k None ≡ None
@@ -192,8 +198,12 @@ none-known xs n k e lt =
 pub begin-found : (bytes : List ℕ) (ids : Ids) (from : ℕ) (found : NextOwners) (coming : Coming) →
     end_of (header_of bytes) ≤ from → length found.kept.items ≡ end_of (header_of bytes) →
     coming.owners.items ≡ replicate (length ids.mutexes.items) None → coming.granted.items ≡ replicate (length ids.threads.items) None →
-    coming.failing.items ≡ replicate (length ids.threads.items) None → HasFound bytes ids from found coming
-begin-found bytes ids from found coming end long owners granted failing =
+    coming.failing.items ≡ replicate (length ids.threads.items) None →
+    coming.began.items ≡ replicate (length ids.mutexes.items) None →
+    coming.beginning.items ≡ replicate (length ids.threads.items) None →
+    (has : HasFound bytes ids from found coming) × (has.behind ≡ [])
+begin-found bytes ids from found coming end long owners granted failing began beginning =
+    let has : HasFound bytes ids from found coming =
     record {
       behind = [];
       are = λ k slot above below _. absurd (omega arith);
@@ -207,10 +217,12 @@ begin-found bytes ids from found coming end long owners granted failing =
         owners = ap length owners ∙ length-replicate _ None;
         granted = ap length granted ∙ length-replicate _ None;
         failing = ap length failing ∙ length-replicate _ None;
+        began = ap length began ∙ length-replicate _ None;
+        beginning = ap length beginning ∙ length-replicate _ None;
       };
       kept = long;
       finds = λ k slot above numbered. absurd (omega (arith, numbered.below));
-    }
+    } in (has, refl)
 
 -- the first number of a log was reached
 pub end-found : (bytes : List ℕ) (ids : Ids) (from : ℕ) (found : NextOwners) (coming : Coming) → from ≤ 1 →

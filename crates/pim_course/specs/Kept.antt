@@ -26,3 +26,9 @@ next_by _ = None
 abbrev pub never_was : Kept → Bool
 never_was Refused = true
 never_was _ = false
+
+-- the thread that is granted the mutex next, earlier or later
+abbrev pub granted_by_kept : Kept → Option ℕ
+granted_by_kept (Owner next) = next
+granted_by_kept (Later next) = Some next
+granted_by_kept Refused = None

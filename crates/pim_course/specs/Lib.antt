@@ -1,3 +1,4 @@
+pub mod AskedOwners
 pub mod Courses
 pub mod Depths
 pub mod Going

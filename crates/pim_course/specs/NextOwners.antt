@@ -128,10 +128,10 @@ abbrev pub FindsFrom : List ℕ → Ids → NextOwners → ℕ → Type 0
 FindsFrom bytes ids next_owners from =
     (number slot : ℕ) → from ≤ number → IsNumbered bytes slot number → Finds bytes ids next_owners number
 
--- the thread of each of these records is there, above 0
+-- the thread of each of these records is there, with a number from 1 to 2 ^ 22
 abbrev pub CoversThose : Ids → List Record → Type 0
 CoversThose ids [] = Unit {0}
-CoversThose ids (r ∷ rs) = (0 < r.thread) × (r.thread < length ids.threads.items) × CoversThose ids rs
+CoversThose ids (r ∷ rs) = (0 < r.thread) × (r.thread ≤ 2 ^ 22) × (r.thread < length ids.threads.items) × CoversThose ids rs
 
 -- it has a number of its own in four bytes
 abbrev pub IsKeepable : Kept → Type 0
@@ -154,6 +154,8 @@ pub record HasRoom (ids : Ids) (coming : Coming) : Type 0 where
   pub owners : length coming.owners.items ≡ length ids.mutexes.items
   pub granted : length coming.granted.items ≡ length ids.threads.items
   pub failing : length coming.failing.items ≡ length ids.threads.items
+  pub began : length coming.began.items ≡ length ids.mutexes.items
+  pub beginning : length coming.beginning.items ≡ length ids.threads.items
 
 -- what the records of a log from a number on say is found of them, and known
 pub record HasFound (bytes : List ℕ) (ids : Ids) (from : ℕ) (next_owners : NextOwners) (coming : Coming) : Type 0 where

@@ -1,16 +1,19 @@
 //! Who owns a mutex next, and whose it is when a thread asks for it.
-ghost use Rattle.std.specs.Prelude.{◌≡◌, ◌+◌, ◌<◌, ◌≤◌, ◌^◌, ℕ, IfOk, OnOk, Some, None, ◌≢◌, length, slice_set, if◌then◌else◌, List, ◌∷◌};
+ghost use Rattle.std.specs.Prelude.{◌≡◌, ◌≢◌, ◌+◌, ◌-◌, ◌<◌, ◌^◌, ◌==◌, ◌&&◌, ℕ, if◌then◌else◌, List, ◌∷◌, length, Some, None};
+ghost use Rattle.std.specs.Prelude.{is_some, IfOk, IfSome, IsTrue, OnOk, slice_index_or, slice_set};
 ghost use Rattle.pim_log.specs.Headers.{header_of, end_of};
+ghost use Rattle.pim_log.specs.Logs.{began_of};
 ghost use Rattle.pim_facts.specs.Covering.{Covers, HasThoseOf};
 ghost use Rattle.pim_facts.specs.Levels.{id_of};
 ghost use Rattle.pim_facts.specs.declared.ids.Ids.{Ids};
 ghost use Rattle.pim_log.specs.declared.record.Record.{Record};
-ghost use Rattle.pim_course.specs.Kept.{kept_by, kept_of, never_was, next_by};
-ghost use Rattle.pim_course.specs.NextOwners.{CoversThose, FindsFrom, HasFound, HasRoom, IsKeepable, IsKept, Knows};
-ghost use Rattle.pim_course.specs.NextOwners.{is_call, is_granted, is_of_release, is_release_failed, next_owner, release_kept};
+ghost use Rattle.pim_course.specs.AskedOwners.{AreTimed, FindsAskedFrom, HasAsked, IsAsked, KnowsCalls, MayOwn, is_after, named_kept, next_other, unnamed_kept};
+ghost use Rattle.pim_course.specs.Kept.{granted_by_kept, kept_by, kept_of, never_was, next_by};
+ghost use Rattle.pim_course.specs.NextOwners.{CoversThose, FindsFrom, HasRoom, IsKeepable, IsKept, Knows};
+ghost use Rattle.pim_course.specs.NextOwners.{is_call, is_granted, is_of_release, is_release_failed, is_that, next_owner, release_kept};
 
 use crate::lists::{get, push, set};
-use pim_facts::Ids;
+use pim_facts::{Ids, MAX_THREADS};
 use pim_log::{Call, Event, Log, Record};
 use std::alloc::{AllocError, Global};
 use std::collections::HashMap;
@@ -99,8 +102,8 @@ impl NextOwners {
     ///
     /// Returns `AllocError` if out of memory.
     pub fn of(alloc: Global, log: &Log, ids: &Ids) -> Result<NextOwners, AllocError>
-        ensures { Covers ids.now log.now → length ids.now.threads.items ≤ 2 ^ 31 →
-            IfOk result (λ found. FindsFrom log.now ids.now found 1) }
+        ensures releases { Covers ids.now log.now → IfOk result (λ found. FindsFrom log.now ids.now found 1) }
+        ensures requests { Covers ids.now log.now → IfOk result (λ found. FindsAskedFrom log.now ids.now found 1) }
     {
         let mut found = NextOwners::none(alloc, log)?;
         let mut tasks = Tasks::at_the_end(alloc, ids)?;
@@ -126,9 +129,8 @@ impl NextOwners {
         ids: &Ids,
         number: u64,
     ) -> Result<(), AllocError>
-        ensures { Covers ids.now log.now → length ids.now.threads.items ≤ 2 ^ 31 →
-            HasFound log.now ids.now (number + 1) self.old coming.old →
-            OnOk result (HasFound log.now ids.now number self.new coming.new) }
+        ensures { Covers ids.now log.now → HasAsked log.now ids.now (number + 1) self.old coming.old →
+            OnOk result (HasAsked log.now ids.now number self.new coming.new) }
     {
         let Some(record) = log.record(number) else {
             return Ok(());
@@ -184,7 +186,9 @@ impl NextOwners {
     /// Returns the thread that the REQUEST with this number names as the owner. If it names none, that is the one that is
     /// granted the mutex next, if its call had begun as the REQUEST was made, and it isn't the thread of the REQUEST.
     /// `None` if no record says it.
-    pub fn asked_owner(&self, number: u64) -> Option<u32> {
+    pub fn asked_owner(&self, number: u64) -> Option<u32>
+        ensures { result ≡ next_by (kept_of self.now number) }
+    {
         match self.kept(number) {
             Kept::Owner(asked) => asked,
             _ => None,
@@ -193,7 +197,9 @@ impl NextOwners {
 
     /// Returns the thread that is granted the mutex next after the REQUEST with this number, which names no thread.
     /// `None` if none is, or that of the REQUEST.
-    pub fn next_granted(&self, number: u64) -> Option<u32> {
+    pub fn next_granted(&self, number: u64) -> Option<u32>
+        ensures { result ≡ granted_by_kept (kept_of self.now number) }
+    {
         match self.kept(number) {
             Kept::Owner(next) => next,
             Kept::Later(next) => Some(next),
@@ -223,7 +229,9 @@ impl Tasks {
 
     /// Goes back past a record, and returns the thread that a REQUEST names as the owner. A thread of another process isn't
     /// the owner, unless they share the mutex: a forked child has copies of mutexes that name its parent's thread.
-    fn read(&mut self, ids: &Ids, record: &Record) -> Result<Option<u32>, AllocError> {
+    fn read(&mut self, ids: &Ids, record: &Record) -> Result<Option<u32>, AllocError>
+        ensures { IfOk result (λ named. IfSome named (MayOwn ids.now (id_of ids.now «record».now.number) «record».now.process)) }
+    {
         match record.event {
             Event::Thread { .. } => {
                 match self.before.pop().flatten() {
@@ -240,8 +248,11 @@ impl Tasks {
                 owner: Some(task),
                 ..
             } => {
-                let named = self.threads.get(&task).copied();
-                Ok(named.filter(|thread| may_own(ids, record, *thread)))
+                let mutex = ids.of_record(record.number);
+                match self.threads.get(&task).copied() {
+                    Some(thread) if may_own(ids, mutex, record.process, thread) => Ok(Some(thread)),
+                    _ => Ok(None),
+                }
             }
             _ => Ok(None),
         }
@@ -253,30 +264,43 @@ impl Coming {
     fn read(&mut self, ids: &Ids, record: &Record, named: Option<u32>) -> Kept
         ensures room { HasRoom ids.now self.old → HasRoom ids.now self.new }
         ensures knows { (behind : List Record) → Knows ids.now behind self.old → Knows ids.now (record.now ∷ behind) self.new }
+        ensures calls { (behind : List Record) → HasRoom ids.now self.old → Knows ids.now behind self.old →
+            AreTimed (record.now ∷ behind) → HasThoseOf ids.now record.now (id_of ids.now record.now.number) →
+            KnowsCalls ids.now behind self.old → KnowsCalls ids.now (record.now ∷ behind) self.new }
         ensures kept { (behind : List Record) → HasRoom ids.now self.old → Knows ids.now behind self.old →
             CoversThose ids.now behind → HasThoseOf ids.now record.now (id_of ids.now record.now.number) →
             IsKept ids.now (id_of ids.now record.now.number) record.now.thread record.now.event behind result }
+        ensures asked { (behind : List Record) → HasRoom ids.now self.old → Knows ids.now behind self.old →
+            KnowsCalls ids.now behind self.old → HasThoseOf ids.now record.now (id_of ids.now record.now.number) →
+            IfSome named (MayOwn ids.now (id_of ids.now record.now.number) record.now.process) →
+            IsAsked ids.now (id_of ids.now record.now.number) record.now behind result }
     {
         let mutex = ids.of_record(record.number);
-        self.begin_behind(record);
         let kept = self.kept(ids, record, named, mutex);
+        self.begin_behind(record);
         self.learn(record, mutex);
         kept
     }
 
     /// Returns what is kept of a record, which is of this mutex. A REQUEST names this thread.
     fn kept(&self, ids: &Ids, record: &Record, named: Option<u32>, mutex: u32) -> Kept
-        ensures { (behind : List Record) → HasRoom ids.now self.now → Knows ids.now behind self.now →
+        ensures kept { (behind : List Record) → HasRoom ids.now self.now → Knows ids.now behind self.now →
             CoversThose ids.now behind → HasThoseOf ids.now record.now mutex →
             IsKept ids.now mutex record.now.thread record.now.event behind result }
+        ensures asked { (behind : List Record) → HasRoom ids.now self.now → Knows ids.now behind self.now →
+            KnowsCalls ids.now behind self.now → HasThoseOf ids.now record.now mutex →
+            IfSome named (MayOwn ids.now mutex record.now.process) →
+            IsAsked ids.now mutex record.now behind result }
     {
         match record.event {
-            Event::Request { owner, .. } => {
-                if named.is_some() {
-                    return Kept::Owner(named);
-                }
-                self.next_if_asked(ids, record, owner, mutex)
-            }
+            Event::Request { owner: None, .. } => self.next_if_asked(record, mutex),
+            Event::Request {
+                owner: Some(task),
+                ..
+            } => match named {
+                Some(thread) => Kept::Owner(Some(thread)),
+                None => Kept::Owner(self.next_with_task(ids, record.thread, task, mutex)),
+            },
             Event::Release { call, .. } => self.release(record.thread, call, mutex),
             _ => Kept::Owner(None),
         }
@@ -293,6 +317,11 @@ impl Coming {
             then slice_set self.old.failing.items record.now.thread
             (if is_release_failed record.now.event then Some mutex else None)
             else self.old.failing.items) }
+        ensures began { self.new.began.items ≡ (if is_granted record.now.event
+            then slice_set self.old.began.items mutex (began_of record.now) else self.old.began.items) }
+        ensures beginning { self.new.beginning.items ≡ (if is_granted record.now.event
+            then slice_set self.old.beginning.items record.now.thread (if is_some (began_of record.now) then None else Some mutex)
+            else self.old.beginning.items) }
     {
         match record.event {
             Event::Request { .. } | Event::Failed { .. } => {
@@ -310,7 +339,16 @@ impl Coming {
 
     /// A call whose begin its GRANTED doesn't say began behind the record of its thread before that, which this is.
     fn begin_behind(&mut self, record: &Record)
-        ensures { self.new ≡ record self.old { began = self.new.began; beginning = self.new.beginning } }
+        ensures rest { self.new ≡ record self.old { began = self.new.began; beginning = self.new.beginning } }
+        ensures room { (length self.new.began.items ≡ length self.old.began.items)
+            × (length self.new.beginning.items ≡ length self.old.beginning.items) }
+        ensures began { (m : ℕ) → m < length self.old.began.items → slice_index_or self.new.began.items m None ≡
+            (if is_some «record».now.time && is_that (slice_index_or self.old.beginning.items «record».now.thread None) m
+            && is_that (slice_index_or self.old.owners.items m None) «record».now.thread
+            then Some (2 ^ 64 - 1) else slice_index_or self.old.began.items m None) }
+        ensures beginning { (t : ℕ) → slice_index_or self.new.beginning.items t None ≡
+            (if is_some «record».now.time && «record».now.thread == t then None
+            else slice_index_or self.old.beginning.items t None) }
     {
         if record.time.is_none() {
             return;
@@ -327,6 +365,9 @@ impl Coming {
         ensures owners { self.new.owners.items ≡ slice_set self.old.owners.items mutex (Some record.now.thread) }
         ensures granted { self.new.granted.items ≡ slice_set self.old.granted.items record.now.thread (Some mutex) }
         ensures failing { self.new.failing ≡ self.old.failing }
+        ensures began { self.new.began.items ≡ slice_set self.old.began.items mutex (began_of record.now) }
+        ensures beginning { self.new.beginning.items ≡
+            slice_set self.old.beginning.items record.now.thread (if is_some (began_of record.now) then None else Some mutex) }
     {
         let began = record.began();
         let beginning = if began.is_none() { Some(mutex) } else { None };
@@ -336,23 +377,42 @@ impl Coming {
         set(&mut self.began, mutex, began);
     }
 
-    /// Returns the next owner of the mutex of a REQUEST if it may be the owner already: another thread, with the number
-    /// that the REQUEST names, if it names one. It is a later one if its call began after the REQUEST.
-    fn next_if_asked(&self, ids: &Ids, record: &Record, task: Option<u32>, mutex: u32) -> Kept {
-        let Some(next) = get(&self.owners, mutex) else {
+    /// Returns what is kept of a REQUEST that names no task: another thread that is granted the mutex next. It is a later one
+    /// if its call began after the REQUEST.
+    fn next_if_asked(&self, record: &Record, mutex: u32) -> Kept
+        ensures { (ids : Ids) (behind : List Record) → HasRoom ids self.now → Knows ids behind self.now →
+            KnowsCalls ids behind self.now → mutex < length ids.mutexes.items →
+            result ≡ unnamed_kept ids mutex «record».now.thread «record».now.time behind }
+    {
+        let Some(next) = self.next_other(record.thread, mutex) else {
             return Kept::Owner(None);
         };
-        let next_task = ids.threads.get(next as usize).map(|is| is.task);
-        let may_be_named = task.is_none() || task == next_task;
-        if next == record.thread || !may_be_named {
-            return Kept::Owner(None);
+        if is_after(get(&self.began, mutex), record.time) {
+            Kept::Later(next)
+        } else {
+            Kept::Owner(Some(next))
         }
-        match record.time {
-            Some(time) if task.is_none() && get(&self.began, mutex) > Some(time) => {
-                Kept::Later(next)
-            }
-            _ => Kept::Owner(Some(next)),
+    }
+
+    /// Returns another thread that is granted a mutex next, if it has this task.
+    fn next_with_task(&self, ids: &Ids, thread: u32, task: u32, mutex: u32) -> Option<u32>
+        ensures { (behind : List Record) → HasRoom ids.now self.now → Knows ids.now behind self.now →
+            mutex < length ids.now.mutexes.items → Kept.Owner result ≡ named_kept ids.now mutex thread task behind }
+    {
+        let next = self.next_other(thread, mutex)?;
+        match ids.threads.get(next as usize) {
+            Some(is) if is.task == task => Some(next),
+            _ => None,
         }
+    }
+
+    /// Returns another thread that is granted a mutex next.
+    fn next_other(&self, thread: u32, mutex: u32) -> Option<u32>
+        ensures { (ids : Ids) (behind : List Record) → HasRoom ids self.now → Knows ids behind self.now →
+            mutex < length ids.mutexes.items → result ≡ next_other ids mutex thread behind }
+    {
+        let next = get(&self.owners, mutex)?;
+        if next == thread { None } else { Some(next) }
     }
 
     /// Returns what is kept of a RELEASE. The RELEASE_FAILED behind it is the next record of its thread.
@@ -385,14 +445,30 @@ impl Coming {
     }
 }
 
-/// Returns whether a thread can own the mutex of a REQUEST: it is of the process, or processes share the mutex.
-fn may_own(ids: &Ids, record: &Record, thread: u32) -> bool {
-    let is_shared = match ids.mutex(ids.of_record(record.number)) {
-        Some(mutex) => mutex.process == 0,
+/// Returns whether one time is after another, if both are known.
+fn is_after(time: Option<u64>, other: Option<u64>) -> bool
+    ensures { result ≡ is_after time other }
+{
+    match (time, other) {
+        (Some(time), Some(other)) => other < time,
+        _ => false,
+    }
+}
+
+/// Returns whether a thread may own a mutex as a thread of this process asks for it: it is of the process, or processes
+/// share the mutex.
+fn may_own(ids: &Ids, mutex: u32, process: u32, thread: u32) -> bool
+    ensures { IsTrue result → MayOwn ids.now mutex process thread }
+{
+    let is_shared = match ids.mutexes.get(mutex as usize) {
+        Some(is) => is.process == 0,
         None => false,
     };
+    // The map has only numbers of threads, which isn't proved of it.
     match ids.threads.get(thread as usize) {
-        Some(named) => is_shared || named.process == record.process,
-        None => false,
+        Some(named) if 0 < thread && thread <= MAX_THREADS => {
+            is_shared || named.process == process
+        }
+        _ => false,
     }
 }

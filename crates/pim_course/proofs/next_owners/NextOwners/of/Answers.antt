@@ -1,18 +1,33 @@
-use Rattle.std.proofs.Common.{ap, ◌∙◌, arith, rules}
+use Rattle.std.proofs.Common.{◌≡◌, ◌+◌, ◌-◌, ◌∙◌, ap, arith, rules, subst}
 use Rattle.std.proofs.lemmas.Grind.{common_steps}
 use Rattle.pim_log.specs.Headers.{end_of}
-use Rattle.pim_course.proofs.NextOwning.{begin-found, end-found}
+use Rattle.pim_course.specs.AskedOwners.{HasAsked}
+use Rattle.pim_course.proofs.AskedOwning.{asked-begin, asked-end}
+use Rattle.pim_course.proofs.NextOwning.{end-found}
 use Rattle.pim_course.proofs.next_owners.NextOwners.of.Goals as goal
 
 pub loop-number-init : goal.loop-number-init
-loop-number-init c = λ covers few.
+loop-number-init c = λ covers.
     let end = c.end-number.ensures ∙ ap (λ h. end_of h) c.header.ensures in
-    begin-found _ c.args.ids.now _ c.in_ok-found.found _ (omega arith) c.in_ok-found.ensures
+    asked-begin _ c.args.ids.now _ c.in_ok-found.found _ (omega arith) c.in_ok-found.ensures
     (grind (arith, common_steps, c.len.ensures, c.in_ok-vec.ensures.items_if_clones_equal (search rules)))
     (grind (arith, common_steps, c.len-4.ensures, c.in_ok-vec-4.ensures.items_if_clones_equal (search rules)))
     (grind (arith, common_steps, c.len-5.ensures, c.in_ok-vec-5.ensures.items_if_clones_equal (search rules)))
+    (grind (arith, common_steps, c.len-2.ensures, c.in_ok-vec-2.ensures.items_if_clones_equal (search rules)))
+    (grind (arith, common_steps, c.len-3.ensures, c.in_ok-vec-3.ensures.items_if_clones_equal (search rules)))
 
-pub returns : goal.returns
-returns c = λ covers few.
+pub returns-clause-releases : goal.returns-clause-releases
+returns-clause-releases c = λ covers.
     end-found _ c.args.ids.now c.loop-number.number _ c.loop-number.coming
-    (omega (arith, c.loop-number-test.false)) (c.loop-number.invariant covers few)
+    (omega (arith, c.loop-number-test.false)) (c.loop-number.invariant covers).found
+
+pub returns-clause-requests : goal.returns-clause-requests
+returns-clause-requests c = λ covers.
+    asked-end _ c.args.ids.now c.loop-number.number _ c.loop-number.coming
+    (omega (arith, c.loop-number-test.false)) (c.loop-number.invariant covers)
+
+pub loop-number-preserved : goal.loop-number-preserved
+loop-number-preserved c = λ covers.
+    let at : c.loop-number.number ≡ c.loop-number.number - 1 + 1 = omega (arith, c.loop-number-test.true) in
+    c.in_ok-find.ensures covers
+    (subst (λ n. HasAsked c.args.log.now c.args.ids.now n c.loop-number.found c.loop-number.coming) at (c.loop-number.invariant covers))

@@ -1,0 +1,133 @@
+-- Whose a mutex is as a thread asks for it, by the records behind its REQUEST: docs/FINDINGS.md, 'The owner of a wait'.
+--
+-- Each list of records here is in the order of their numbers, so its first record is the next one.
+use Rattle.std.specs.Prelude.{◌≡◌, ◌⊎◌, ◌+◌, ◌-◌, ◌^◌, ◌<◌, ◌≤◌, ℕ, ◌==◌, nat_lt, Bool, false, true, ◌&&◌, ◌||◌, if◌then◌else◌, List, [], ◌∷◌, length, slice_get, slice_index_or, find, is_some, IsSome, IfSome, Option, Some, None}
+use Rattle.std.specs.Option.{option_and_then, option_map_or}
+use Rattle.pim_log.specs.Logs.{IsNumbered, began_of}
+use Rattle.pim_log.specs.declared.event.Event.{Event}
+use Rattle.pim_log.specs.declared.event.Event.TheVariants as event
+use Rattle.pim_log.specs.declared.record.Record.{Record}
+use Rattle.pim_facts.specs.Levels.{id_of}
+use Rattle.pim_facts.specs.declared.ids.Ids.{Ids}
+use Rattle.pim_course.specs.Kept.{kept_of}
+use Rattle.pim_course.specs.NextOwners.{AreFrom, HasFound, IsAt, granted_by, is_granted, is_that, next_granted}
+use Rattle.pim_course.specs.declared.next_owners.Coming.{Coming}
+use Rattle.pim_course.specs.declared.next_owners.Kept.{Kept}
+use Rattle.pim_course.specs.declared.next_owners.Kept.TheVariants.{Owner, Later}
+use Rattle.pim_course.specs.declared.next_owners.NextOwners.{NextOwners}
+
+-- a record grants a mutex
+abbrev pub grants : Ids → ℕ → Record → Bool
+grants ids m r = is_granted r.event && id_of ids r.number == m
+
+-- the first record of a thread that has a time
+abbrev pub first_timed : ℕ → List Record → Option Record
+first_timed t records = find (λ r. is_some r.time && r.thread == t) records
+
+-- the mutex that a thread is granted by its first record that has a time, if that is a GRANTED
+abbrev pub granted_soonest : Ids → ℕ → List Record → Option ℕ
+granted_soonest ids t records = option_and_then (granted_by ids) (first_timed t records)
+
+-- When the call began that the next GRANTED of a mutex ends: as that says, or else after the record of its thread before it,
+-- which is later than any time before these records. None if there is no such record either.
+abbrev pub begin_of : Ids → ℕ → List Record → Record → Option ℕ
+begin_of ids m records r =
+    if is_some (began_of r) then began_of r
+    else if is_that (granted_soonest ids r.thread records) m then None
+    else Some (2 ^ 64 - 1)
+
+-- when the call began by which a mutex is granted next
+abbrev pub next_begin : Ids → ℕ → List Record → Option ℕ
+next_begin ids m records = option_and_then (begin_of ids m records) (find (grants ids m) records)
+
+-- whether one time is after another, if both are known
+abbrev pub is_after : Option ℕ → Option ℕ → Bool
+is_after (Some begin) (Some time) = nat_lt time begin
+is_after _ _ = false
+
+-- another thread that is granted a mutex next
+abbrev pub next_other : Ids → ℕ → ℕ → List Record → Option ℕ
+next_other ids m t behind = option_and_then (λ next. if next == t then None else Some next) (next_granted ids m behind)
+
+-- that thread: a later one, if its call began after this time
+abbrev pub begun_or_later : Option ℕ → Option ℕ → ℕ → Kept
+begun_or_later begin time next = if is_after begin time then Later next else Owner (Some next)
+
+-- what is kept of a REQUEST by a thread that names no task: another thread that is granted the mutex next
+abbrev pub unnamed_kept : Ids → ℕ → ℕ → Option ℕ → List Record → Kept
+unnamed_kept ids m t time behind =
+    option_map_or (begun_or_later (next_begin ids m behind) time) (next_other ids m t behind) (Owner None)
+
+-- whether a thread has this task
+abbrev pub has_task : Ids → ℕ → ℕ → Bool
+has_task ids task t = option_map_or (λ thread. thread.task == task) (slice_get ids.threads.items t) false
+
+-- what is kept of a REQUEST by a thread that names a task, if no thread that began with it before may own the mutex: another
+-- thread that is granted the mutex next, if it has the task
+abbrev pub named_kept : Ids → ℕ → ℕ → ℕ → List Record → Kept
+named_kept ids m t task behind =
+    Owner (option_and_then (λ next. if has_task ids task next then Some next else None) (next_other ids m t behind))
+
+-- a thread may own a mutex of a process: it is of the process, or processes share the mutex
+pub record MayOwn (ids : Ids) (m process t : ℕ) : Type 0 where
+  pub above : 0 < t
+  pub few : t ≤ 2 ^ 22
+  pub there : t < length ids.threads.items
+  pub of_process : IfSome (slice_get ids.threads.items t) (λ thread.
+      IfSome (slice_get ids.mutexes.items m) (λ mutex. (((mutex.process == 0) || (thread.process == process)) ≡ true)))
+
+-- the task that a REQUEST names, or none
+abbrev pub asked_task : Event → Option (Option ℕ)
+asked_task (event.Request _ task) = Some task
+asked_task _ = None
+
+-- this is kept of a REQUEST of a mutex, that names this task or none: if it names one, a thread that may own the mutex, or else
+-- what is kept if there is none. That the thread is the last one that began with the task before isn't said.
+abbrev pub IsAskedBy : Ids → ℕ → Record → List Record → Kept → Option ℕ → Type 0
+IsAskedBy ids m r behind kept None = kept ≡ unnamed_kept ids m r.thread r.time behind
+IsAskedBy ids m r behind kept (Some task) =
+    ((named : ℕ) × MayOwn ids m r.process named × (kept ≡ Owner (Some named))) ⊎ (kept ≡ named_kept ids m r.thread task behind)
+
+-- this is kept of a record, if it is a REQUEST
+abbrev pub IsAsked : Ids → ℕ → Record → List Record → Kept → Type 0
+IsAsked ids m r behind kept = IfSome (asked_task r.event) (IsAskedBy ids m r behind kept)
+
+-- what was found of the record of a log with this number, if it is a REQUEST, is what those behind it say
+pub record FindsAsked (bytes : List ℕ) (ids : Ids) (next_owners : NextOwners) (number : ℕ) : Type 0 where
+  pub r : Record
+  pub behind : List Record
+  pub is : IsAt bytes number r
+  pub are : AreFrom bytes (number + 1) behind
+  pub asked : IsAsked ids (id_of ids number) r behind (kept_of next_owners number)
+
+-- so it is of each record of a log from a number on
+abbrev pub FindsAskedFrom : List ℕ → Ids → NextOwners → ℕ → Type 0
+FindsAskedFrom bytes ids next_owners from =
+    (number slot : ℕ) → from ≤ number → IsNumbered bytes slot number → FindsAsked bytes ids next_owners number
+
+-- a GRANTED has a time
+abbrev pub IsTimed : Record → Type 0
+IsTimed r = is_granted r.event ≡ true → IsSome r.time
+
+-- each GRANTED of these records has a time
+abbrev pub AreTimed : List Record → Type 0
+AreTimed [] = Unit {0}
+AreTimed (r ∷ rs) = IsTimed r × AreTimed rs
+
+-- the mutex that a thread is granted by its first record that has a time, if that doesn't say when its call began
+abbrev pub begun_before : Ids → ℕ → List Record → Option ℕ
+begun_before ids t records =
+    option_and_then (λ r. if is_some (began_of r) then None else granted_by ids r) (first_timed t records)
+
+-- what is known of the calls is what the records behind say
+pub record KnowsCalls (ids : Ids) (behind : List Record) (coming : Coming) : Type 0 where
+  pub began : (m : ℕ) → m < length ids.mutexes.items → slice_index_or coming.began.items m None ≡ next_begin ids m behind
+  pub beginning : (t : ℕ) → t < length ids.threads.items →
+      slice_index_or coming.beginning.items t None ≡ begun_before ids t behind
+
+-- what the records of a log from a number on say is found of them, and known, also of their calls
+pub record HasAsked (bytes : List ℕ) (ids : Ids) (from : ℕ) (next_owners : NextOwners) (coming : Coming) : Type 0 where
+  pub found : HasFound bytes ids from next_owners coming
+  pub timed : AreTimed found.behind
+  pub calls : KnowsCalls ids found.behind coming
+  pub asked : FindsAskedFrom bytes ids next_owners from
