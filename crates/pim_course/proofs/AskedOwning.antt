@@ -40,7 +40,8 @@ some-same : {A : Type 0} (x y : A) → Some x ≡ Some y → x ≡ y
 some-same x y e = cc
 
 -- a record that grants a mutex is the first one of its thread that has a time
-timed-here : (ids : Ids) (m : ℕ) (r : Record) → IsTimed r → grants ids m r ≡ true → (is_some r.time && r.thread == r.thread) ≡ true
+timed-here : (ids : Ids) (m : ℕ) (r : Record) → IsTimed r → grants ids m r ≡ true →
+    (is_some r.time && r.thread == r.thread) ≡ true
 timed-here ids m r timed is =
     let some : is_some r.time ≡ true = some-true r.time (timed (both-true (is_granted r.event) (id_of ids r.number == m) is).0) in
     ap (λ b. b && r.thread == r.thread) some ∙ self-eq r.thread
@@ -105,8 +106,10 @@ beginning-step ids r behind t xs ys zs timed h between learned lt =
                 subst (λ k. (is_some r.time && r.thread == k) ≡ true) (sym same)
                 (ap (λ b. b && r.thread == r.thread) (some-true r.time (timed g)) ∙ self-eq r.thread) in
                 ap (λ l. get_or l t None) z
-                ∙ subst (λ k. k < length ys → get_or (set ys r.thread v) k None ≡ v) (sym same) (get_or-set_same ys r.thread v None) lt
-                ∙ sym (behind-it ∙ ap (λ b. cond b (cond said None (granted_by ids r)) (begun_before ids t behind)) yes ∙ ap (cond said None) by)
+                ∙ subst (λ k. k < length ys → get_or (set ys r.thread v) k None ≡ v) (sym same)
+                (get_or-set_same ys r.thread v None) lt
+                ∙ sym (behind-it ∙ ap (λ b. cond b (cond said None (granted_by ids r)) (begun_before ids t behind)) yes
+                ∙ ap (cond said None) by)
             | inr other ↦
                 let no : test ≡ false = and-not (is_some r.time) r.thread t (λ e. other (sym e)) in
                 ap (λ l. get_or l t None) z ∙ get_or-set_other ys r.thread t v None other ∙ between
@@ -116,8 +119,10 @@ beginning-step ids r behind t xs ys zs timed h between learned lt =
       | false ↦ λ g.
           let z : zs ≡ ys = learned ∙ ap (λ b. cond b (set ys r.thread v) ys) g in
           let by : granted_by ids r ≡ None = ap (λ b. cond b (Some (id_of ids r.number)) None) g in
-          let same : cond test None (get_or xs t None) ≡ cond test (cond said None (granted_by ids r)) (begun_before ids t behind) =
-          elim test as (λ b. cond b None (get_or xs t None) ≡ cond b (cond said None (granted_by ids r)) (begun_before ids t behind)) [
+          let same : cond test None (get_or xs t None) ≡
+          cond test (cond said None (granted_by ids r)) (begun_before ids t behind) =
+          elim test as
+          (λ b. cond b None (get_or xs t None) ≡ cond b (cond said None (granted_by ids r)) (begun_before ids t behind)) [
             | true ↦ same-either said None ∙ sym (ap (cond said None) by)
             | false ↦ h
           ] in
@@ -172,7 +177,8 @@ none-begun timed beginning owners thread mutex m owner x y begun at isnt =
 pub nothing-begun : (timed : Bool) (beginning : List (Option ℕ)) (thread m : ℕ) (third : Bool) (x y : Option ℕ) →
     None ≡ get_or beginning thread None → y ≡ cond (timed && is_that (get_or beginning thread None) m && third) x y
 nothing-begun timed beginning thread m third x y none =
-    sym (ap (λ t. cond t x y) (and-second timed (is_that (get_or beginning thread None) m) third (sym (ap (λ o. is_that o m) none))))
+    sym (ap (λ t. cond t x y)
+    (and-second timed (is_that (get_or beginning thread None) m) third (sym (ap (λ o. is_that o m) none))))
 
 pub still-beginning : (timed : Bool) (beginning : List (Option ℕ)) (thread t : ℕ) → None ≡ get_or beginning thread None →
     get_or beginning t None ≡ cond (timed && thread == t) None (get_or beginning t None)
@@ -237,7 +243,8 @@ begun-behind ids m behind g timed is =
   where
     own : (m : ℕ) (begun by : Option ℕ) → by ≡ Some m →
         cond (is_that (cond (is_some begun) None by) m) (Some (2 ^ 64 - 1))
-        (cond (is_some begun) begun (cond (is_that by m) None (Some (2 ^ 64 - 1)))) ≡ cond (is_some begun) begun (Some (2 ^ 64 - 1))
+        (cond (is_some begun) begun (cond (is_that by m) None (Some (2 ^ 64 - 1)))) ≡
+        cond (is_some begun) begun (Some (2 ^ 64 - 1))
     own m None by e =
         ap (λ o. cond (is_that o m) (Some (2 ^ 64 - 1)) (cond (is_that o m) None (Some (2 ^ 64 - 1)))) e
         ∙ ap (λ t. cond t (Some (2 ^ 64 - 1)) (cond t None (Some (2 ^ 64 - 1)))) (self-eq m)
@@ -267,7 +274,8 @@ began-step ids r behind m xs ys zs of next timed all h of-is next-is between lea
             | None ↦ λ e.
                 let nobody : is_that next r.thread ≡ false =
                 ap (λ o. is_that o r.thread) (next-is ∙ ap (option_map (λ q. q.thread)) e) in
-                between ∙ ap (λ t. cond t (Some (2 ^ 64 - 1)) (get_or xs m None)) (and-last (is_some r.time) (is_that of m) _ nobody)
+                between
+                ∙ ap (λ t. cond t (Some (2 ^ 64 - 1)) (get_or xs m None)) (and-last (is_some r.time) (is_that of m) _ nobody)
                 ∙ h ∙ ap (option_and_then (begin_of ids m behind)) e
             | Some g ↦ λ e. found g e no
           ] refl)
@@ -339,16 +347,19 @@ pub calls-step : (ids : Ids) (r : Record) (behind : List Record) (old mid new : 
     AreTimed (r ∷ behind) → 0 < r.thread → r.thread < length ids.threads.items → KnowsCalls ids behind old →
     length mid.began.items ≡ length old.began.items → length mid.beginning.items ≡ length old.beginning.items →
     ((m : ℕ) → m < length old.began.items → get_or mid.began.items m None ≡
-    cond (is_some r.time && is_that (get_or old.beginning.items r.thread None) m && is_that (get_or old.owners.items m None) r.thread)
+    cond (is_some r.time && is_that (get_or old.beginning.items r.thread None) m
+    && is_that (get_or old.owners.items m None) r.thread)
     (Some (2 ^ 64 - 1)) (get_or old.began.items m None)) →
-    ((t : ℕ) → get_or mid.beginning.items t None ≡ cond (is_some r.time && r.thread == t) None (get_or old.beginning.items t None)) →
+    ((t : ℕ) → get_or mid.beginning.items t None ≡
+    cond (is_some r.time && r.thread == t) None (get_or old.beginning.items t None)) →
     (mutex : ℕ) → mutex ≡ id_of ids r.number →
     new.began.items ≡ cond (is_granted r.event) (set mid.began.items mutex (began_of r)) mid.began.items →
     new.beginning.items ≡ cond (is_granted r.event)
     (set mid.beginning.items r.thread (cond (is_some (began_of r)) None (Some mutex))) mid.beginning.items →
     KnowsCalls ids (r ∷ behind) new
 calls-step ids r behind old mid new room knows timed above there calls long longer began beginning mutex is learned learned-too =
-    let learned-began = subst (λ n. new.began.items ≡ cond (is_granted r.event) (set mid.began.items n (began_of r)) mid.began.items) is learned in
+    let learned-began =
+    subst (λ n. new.began.items ≡ cond (is_granted r.event) (set mid.began.items n (began_of r)) mid.began.items) is learned in
     let learned-beginning =
     subst (λ n. new.beginning.items ≡ cond (is_granted r.event)
     (set mid.beginning.items r.thread (cond (is_some (began_of r)) None (Some n))) mid.beginning.items) is learned-too in
@@ -356,7 +367,8 @@ calls-step ids r behind old mid new room knows timed above there calls long long
       began = λ m lt.
           let within : m < length old.began.items = omega (arith, room.began) in
           began-step ids r behind m old.began.items mid.began.items new.began.items _ _ timed.0 timed.1 (calls.began m lt)
-          (calls.beginning r.thread there) (knows.owners m (omega (arith, room.owners))) (began m within) learned-began (omega (arith, long));
+          (calls.beginning r.thread there) (knows.owners m (omega (arith, room.owners))) (began m within) learned-began
+          (omega (arith, long));
       beginning = λ t lt.
           beginning-step ids r behind t old.beginning.items mid.beginning.items new.beginning.items timed.0 (calls.beginning t lt)
           (beginning t) learned-beginning (omega (arith, longer, room.beginning));
@@ -406,8 +418,10 @@ none-known xs n k e lt = ap (λ l. get_or l k None) e ∙ get_or-replicate n k N
 
 pub asked-begin : (bytes : List ℕ) (ids : Ids) (from : ℕ) (found : NextOwners) (coming : Coming) →
     end_of (header_of bytes) ≤ from → length found.kept.items ≡ end_of (header_of bytes) →
-    coming.owners.items ≡ replicate (length ids.mutexes.items) None → coming.granted.items ≡ replicate (length ids.threads.items) None →
-    coming.failing.items ≡ replicate (length ids.threads.items) None → coming.began.items ≡ replicate (length ids.mutexes.items) None →
+    coming.owners.items ≡ replicate (length ids.mutexes.items) None →
+    coming.granted.items ≡ replicate (length ids.threads.items) None →
+    coming.failing.items ≡ replicate (length ids.threads.items) None →
+    coming.began.items ≡ replicate (length ids.mutexes.items) None →
     coming.beginning.items ≡ replicate (length ids.threads.items) None → HasAsked bytes ids from found coming
 asked-begin bytes ids from found coming end long owners granted failing began beginning =
     let begin = begin-found bytes ids from found coming end long owners granted failing began beginning in
@@ -447,7 +461,8 @@ other-keepable ids t (Some n) h k e =
     ] e
 
 -- another thread that is granted a mutex next has a number from 1 to 2 ^ 22
-other-there : (ids : Ids) (m t : ℕ) (behind : List Record) → CoversThose ids behind → (k : ℕ) → next_other ids m t behind ≡ Some k →
+other-there : (ids : Ids) (m t : ℕ) (behind : List Record) → CoversThose ids behind → (k : ℕ) →
+    next_other ids m t behind ≡ Some k →
     (0 < k) × (k ≤ 2 ^ 22)
 other-there ids m t behind covers =
     other-keepable ids t (next_granted ids m behind) (λ k e. let there = next-there ids m behind k covers e in (there.0, there.1))
@@ -501,8 +516,8 @@ asked-before bytes ids k old new e finds =
 
 -- a record with a number was read, before those behind it
 pub asked-step : (bytes : List ℕ) (ids : Ids) (number slot : ℕ) (r : Record) (old new : NextOwners) (before after : Coming)
-    (kept : Kept) (numbered : IsNumbered bytes slot number) (is : IsRecord bytes slot r) (above : 0 < r.thread) (few : r.thread ≤ 2 ^ 22)
-    (there : r.thread < length ids.threads.items) → (has : HasAsked bytes ids (number + 1) old before) →
+    (kept : Kept) (numbered : IsNumbered bytes slot number) (is : IsRecord bytes slot r) (above : 0 < r.thread)
+    (few : r.thread ≤ 2 ^ 22) (there : r.thread < length ids.threads.items) → (has : HasAsked bytes ids (number + 1) old before) →
     (as_read : AsRead ids number r has.found.behind old new after kept) → KnowsCalls ids (r ∷ has.found.behind) after →
     IsAsked ids (id_of ids number) r has.found.behind kept → HasAsked bytes ids number new after
 asked-step bytes ids number slot r old new before after kept numbered is above few there has as_read calls asked =

@@ -29,7 +29,8 @@ first-there : (ids : Ids) (p : Record → Bool) (rs : List Record) (t : ℕ) →
 first-there ids p [] t covers e = cc
 first-there ids p (r ∷ rs) t covers e =
     elim (p r) as
-    (λ v. option_map (λ r. r.thread) (cond v (Some r) (find p rs)) ≡ Some t → (0 < t) × (t ≤ 2 ^ 22) × (t < length ids.threads.items)) [
+    (λ v. option_map (λ r. r.thread) (cond v (Some r) (find p rs)) ≡ Some t →
+    (0 < t) × (t ≤ 2 ^ 22) × (t < length ids.threads.items)) [
       | true ↦ λ is. let same : r.thread ≡ t = cc in
           (subst (λ n. (0 < n) × (n ≤ 2 ^ 22) × (n < length ids.threads.items)) same (covers.0, covers.1, covers.2))
       | false ↦ λ is. first-there ids p rs t covers.3 is
@@ -103,7 +104,8 @@ lacks-step bytes ids number found coming lacks has = (
 )
 
 -- a record with a number was read, before those behind it
-pub record AsRead (ids : Ids) (number : ℕ) (r : Record) (behind : List Record) (old new : NextOwners) (after : Coming) (kept : Kept) : Type 0 where
+pub record AsRead (ids : Ids) (number : ℕ) (r : Record) (behind : List Record) (old new : NextOwners) (after : Coming)
+    (kept : Kept) : Type 0 where
   pub knows : Knows ids (r ∷ behind) after
   pub room : HasRoom ids after
   pub as_long : length new.kept.items ≡ length old.kept.items
@@ -197,7 +199,8 @@ none-known xs n k e lt =
 -- nothing is known behind the last record
 pub begin-found : (bytes : List ℕ) (ids : Ids) (from : ℕ) (found : NextOwners) (coming : Coming) →
     end_of (header_of bytes) ≤ from → length found.kept.items ≡ end_of (header_of bytes) →
-    coming.owners.items ≡ replicate (length ids.mutexes.items) None → coming.granted.items ≡ replicate (length ids.threads.items) None →
+    coming.owners.items ≡ replicate (length ids.mutexes.items) None →
+    coming.granted.items ≡ replicate (length ids.threads.items) None →
     coming.failing.items ≡ replicate (length ids.threads.items) None →
     coming.began.items ≡ replicate (length ids.mutexes.items) None →
     coming.beginning.items ≡ replicate (length ids.threads.items) None →

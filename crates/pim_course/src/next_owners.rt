@@ -96,7 +96,8 @@ impl Kept {
 
 impl NextOwners {
     /// Returns who owns each mutex after each of its releases, and as each of its requests is made. Takes four bytes a
-    /// record. What it says of a release is proved to be what the records behind it say.
+    /// record. What it says of a release or a request is proved to be what the records behind it say, but not which thread
+    /// last began with the task that a request names.
     ///
     /// # Errors
     ///

@@ -8,7 +8,8 @@ returns-else-eq-clause-began c = λ m within.
     let self = c.args.self.now in
     none-begun _ self.beginning.items self.owners.items c.args.record.now.thread c.in-Some.mutex m c.get-in-Some.result _ _
     (got self.beginning.items c.args.record.now.thread _ (grind (arith, c.get.ensures, c.in-Some.is, c.deref.ensures.value)))
-    (got self.owners.items c.in-Some.mutex c.get-in-Some.result (grind (arith, c.get-in-Some.ensures, c.deref-in-Some.ensures.value)))
+    (got self.owners.items c.in-Some.mutex c.get-in-Some.result
+    (grind (arith, c.get-in-Some.ensures, c.deref-in-Some.ensures.value)))
     (grind (arith, c.eq.ensures, c.if-eq.false, c.if-eq.ensures))
 
 pub returns-in_default-clause-began : goal.returns-in_default-clause-began

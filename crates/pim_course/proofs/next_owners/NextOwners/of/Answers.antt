@@ -30,4 +30,5 @@ pub loop-number-preserved : goal.loop-number-preserved
 loop-number-preserved c = λ covers.
     let at : c.loop-number.number ≡ c.loop-number.number - 1 + 1 = omega (arith, c.loop-number-test.true) in
     c.in_ok-find.ensures covers
-    (subst (λ n. HasAsked c.args.log.now c.args.ids.now n c.loop-number.found c.loop-number.coming) at (c.loop-number.invariant covers))
+    (subst (λ n. HasAsked c.args.log.now c.args.ids.now n c.loop-number.found c.loop-number.coming) at
+    (c.loop-number.invariant covers))
