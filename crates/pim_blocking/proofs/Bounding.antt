@@ -1,10 +1,13 @@
 -- Sums over numbers, and sections at the same mutexes.
-use Rattle.std.proofs.Common.{◌≡◌, ℕ, zero, suc, ◌+◌, ◌<◌, ◌≤◌, ◌&&◌, nat_lt, not, ◌==◌, Bool, cond, List, [], ◌∷◌, length, get_or, filter, refl, sym, ap, ◌∙◌, arith, inl, inr}
-use Rattle.std.proofs.lemmas.Bool.{cases_lt, le-ltb, lt-ltb}
+use Rattle.std.proofs.Common.{◌≡◌, ℕ, zero, suc, ◌+◌, ◌<◌, ◌≤◌, ◌&&◌, nat_lt, not, ◌==◌, Bool, cond, List, [], ◌∷◌, length, get_or, filter, All, Contains, refl, sym, ap, subst, ◌∙◌, arith, inl, inr}
+use Rattle.std.proofs.lemmas.Bool.{and_parts, cases_lt, le-ltb, lt-ltb, ltb-true}
+use Rattle.std.proofs.lemmas.List.Elements.{All-weaker}
+use Rattle.std.specs.Bool.{IsTrue}
 use Rattle.pim_blocking.specs.declared.section.Section.{Section}
 use Rattle.pim_blocking.specs.declared.bounds.Per.{Per}
-use Rattle.pim_blocking.specs.Bounds.{blocking, blocks, capped, is_used, is_used_below, longest_of_number, sum_below}
-use Rattle.pim_blocking.specs.Reached.{is_in}
+use Rattle.pim_blocking.specs.declared.bounds.Bound.{Bound}
+use Rattle.pim_blocking.specs.Bounds.{IsBound, blocking, blocks, capped, is_used, is_used_below, longest_of_number, sum_below}
+use Rattle.pim_blocking.specs.Reached.{IsReached, by_nesting, by_use, is_in}
 use Rattle.pim_blocking.proofs.Reaching.{outside}
 
 -- the sum of what is the same below n
@@ -47,3 +50,43 @@ used-same k seen thread level list len each m = elim (cases_lt m k) [
       let past : length list ≤ m = omega (arith, above, len) in
       outside list m past ∙ sym (ap (λ b. b && is_used seen thread level m) (le-ltb m k above))
 ]
+
+-- ---- by the orders in which threads took mutexes
+
+-- what is reached from mutexes below k is below k
+reached-below : (k : ℕ) (used : ℕ → Bool) (inner : ℕ → List ℕ) → ((m : ℕ) → IsTrue (used m) → m < k) → (m : ℕ) →
+    IsReached k used inner m → m < k
+reached-below k used inner below _ (by_use {m} h) = below m h
+reached-below k used inner below _ (by_nesting {m} {i} r asked lt) = lt
+
+reached-inner : (k : ℕ) (used : ℕ → Bool) (f g : ℕ → List ℕ) → ((m : ℕ) → IsTrue (used m) → m < k) →
+    ((m : ℕ) → m < k → f m ≡ g m) → (m : ℕ) → IsReached k used f m → IsReached k used g m
+reached-inner k used f g below same _ (by_use {m} h) = by_use h
+reached-inner k used f g below same _ (by_nesting {m} {i} r asked lt) =
+    by_nesting (reached-inner k used f g below same m r)
+    (subst (λ l. Contains l i) (same m (reached-below k used f below m r)) asked) lt
+
+used-below : (k : ℕ) (seen : List Section) (thread level m : ℕ) → IsTrue (is_used_below k seen thread level m) → m < k
+used-below k seen thread level m h = ltb-true m k (and_parts (nat_lt m k) (is_used seen thread level m) h).0
+
+-- what owners of each mutex asked for, said otherwise of the mutexes below k
+pub bound-inner : (k : ℕ) (n : ℕ) (seen : List Section) (f g : ℕ → List ℕ) → ((m : ℕ) → m < k → f m ≡ g m) → (bound : Bound) →
+    IsBound n k seen f bound → IsBound n k seen g bound
+bound-inner k n seen f g same bound b = record {
+  at = b.at;
+  reached = λ m. let used = is_used_below k seen bound.thread bound.level in
+      let below = used-below k seen bound.thread bound.level in (
+        λ h. reached-inner k used f g below same m ((b.reached m).0 h),
+        λ h. (b.reached m).1 (reached-inner k used g f below (λ i lt. sym (same i lt)) m h),
+      );
+  under_inherit = b.under_inherit;
+  under_protect = b.under_protect;
+}
+
+-- the same of each, where there are n threads and k mutexes
+pub bounds-are : (n k count mutexes : ℕ) (seen : List Section) (f g : ℕ → List ℕ) (bounds : List Bound) → count ≡ n → mutexes ≡ k →
+    ((m : ℕ) → m < mutexes → f m ≡ g m) → All (IsBound count mutexes seen f) bounds → All (IsBound n k seen g) bounds
+bounds-are n k count mutexes seen f g bounds counted numbered same all =
+    subst (λ c. All (IsBound c k seen g) bounds) counted
+    (subst (λ m. All (IsBound count m seen g) bounds) numbered
+    (All-weaker (IsBound count mutexes seen f) (IsBound count mutexes seen g) (bound-inner mutexes count seen f g same) bounds all))

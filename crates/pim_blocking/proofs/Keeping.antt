@@ -9,10 +9,10 @@ use Rattle.pim_blocking.specs.declared.section.User.{User}
 use Rattle.pim_blocking.specs.Sections.{same_user}
 
 -- those are the same who have the same thread, mutex and level
-same-parts : (k q : User) → same_user k q ≡ (k.thread == q.thread) && ((k.mutex == q.mutex) && (k.level == q.level))
+pub same-parts : (k q : User) → same_user k q ≡ (k.thread == q.thread) && ((k.mutex == q.mutex) && (k.level == q.level))
 same-parts k q = grind arith
 
-same : (k q : User) → same_user k q ≡ true → k ≡ q
+pub same : (k q : User) → same_user k q ≡ true → k ≡ q
 same k q test =
     let parts = and_parts _ _ (sym (same-parts k q) ∙ test) in
     let others = and_parts _ _ parts.1 in

@@ -1,4 +1,4 @@
 pub mod Reaching
 pub mod Bounding
-pub mod Closing
 pub mod Keeping
+pub mod Observing

@@ -1,9 +1,12 @@
 -- What a thread can be blocked for by threads of lower levels: L. Sha, R. Rajkumar, J. P. Lehoczky, Priority Inheritance
 -- Protocols, 1990. The critical sections are those that were observed: a longer one isn't known.
-use Rattle.std.specs.Prelude.{◌≡◌, ◌↔◌, IsTrue, ℕ, zero, suc, ◌+◌, ◌==◌, nat_lt, nat_le, ◌&&◌, ◌||◌, not, Bool, List, filter, fold, max, min}
+use Rattle.std.specs.Prelude.{◌≡◌, ◌↔◌, IsTrue, ℕ, zero, suc, ◌+◌, ◌==◌, nat_lt, nat_le, ◌&&◌, ◌||◌, not, Bool, List, length, filter, fold, max, min, All}
 use Rattle.std.specs.List.{list_any}
-use Rattle.pim_blocking.specs.Reached.{IsReached}
+use Rattle.pim_orders.specs.declared.nesting.Order.{Order}
+use Rattle.pim_blocking.specs.Observed.{AreLongest, KnowsSections, Moment, all_sections}
+use Rattle.pim_blocking.specs.Reached.{IsReached, inner_of}
 use Rattle.pim_blocking.specs.declared.section.Section.{Section}
+use Rattle.pim_blocking.specs.declared.bounds.Blocking.{Blocking}
 use Rattle.pim_blocking.specs.declared.bounds.Bound.{Bound}
 use Rattle.pim_blocking.specs.declared.bounds.Per.{Per}
 use Rattle.pim_blocking.specs.declared.bounds.Per.TheVariants as per
@@ -58,3 +61,15 @@ pub record IsBound (n k : ℕ) (seen : List Section) (inner : ℕ → List ℕ) 
       (capped (sum_below k (longest_of_number per.Mutex (blocking at seen bound.thread bound.level))))
   pub under_protect : bound.under_protect ≡
       longest_in (blocking (is_used_below k seen bound.thread bound.level) seen bound.thread bound.level)
+
+-- Of n threads and k mutexes is known what these facts show: the sections.
+pub record Knows (n k : ℕ) (facts : List Moment) (blocking : Blocking) : Type 0 where
+  pub threads : length blocking.threads.items ≡ n
+  pub sections : KnowsSections k facts blocking.sections
+
+-- Each is a bound by these facts, at this end of the log, if threads took mutexes in these orders: by the longest section of
+-- each user.
+pub record AreBounds (n k : ℕ) (facts : List Moment) (time : ℕ) (orders : List Order) (bounds : List Bound) : Type 0 where
+  pub seen : List Section
+  pub longest : AreLongest (all_sections k facts time) seen
+  pub each : All (IsBound n k seen (inner_of orders)) bounds

@@ -1,3 +1,4 @@
 pub mod Sections
+pub mod Observed
 pub mod Reached
 pub mod Bounds

@@ -1,5 +1,7 @@
 //! What threads were blocked for, and at which levels.
 
+ghost use Rattle.std.specs.Prelude.{◌≡◌, length, IfOk};
+
 use pim_course::{Course, Sources};
 use pim_facts::{Fact, What};
 use std::alloc::{AllocError, Global};
@@ -27,7 +29,9 @@ const NOBODY: u32 = u32::MAX;
 pub(crate) fn blocked_by_thread(
     alloc: Global,
     sources: &Sources,
-) -> Result<Vec<Blocked>, AllocError> {
+) -> Result<Vec<Blocked>, AllocError>
+    ensures { IfOk result (λ blocked. length blocked.items ≡ length sources.now.ids.threads.items) }
+{
     let threads = &sources.ids.threads;
     let mut blocked = vec![in alloc; Blocked::NEVER; threads.len()]?;
     for place in 0..blocked.len() {

@@ -1,6 +1,7 @@
 //! What threads of real-time priority can be blocked for, from what was observed.
-ghost use Rattle.std.specs.Prelude.{◌≡◌, ℕ, ◌<◌, length, IfOk, slice_index_or};
-ghost use Rattle.pim_blocking.specs.Bounds.{IsBound, blocking, blocks, capped, is_used, longest_in, longest_of_number, number_of, sum_below};
+ghost use Rattle.std.specs.Prelude.{◌≡◌, ℕ, ◌<◌, List, [], ◌∷◌, length, All, IfOk, slice_index_or};
+ghost use Rattle.pim_blocking.specs.Observed.{Moment};
+ghost use Rattle.pim_blocking.specs.Bounds.{AreBounds, IsBound, Knows, blocking, blocks, capped, is_used, longest_in, longest_of_number, number_of, sum_below};
 ghost use Rattle.pim_blocking.specs.Reached.{inner_in, is_in};
 
 use crate::blocked::{Blocked, blocked_by_thread};
@@ -58,7 +59,10 @@ impl Blocking {
     /// # Errors
     ///
     /// Returns `AllocError` if out of memory.
-    pub fn new(alloc: Global, sources: &Sources) -> Result<Blocking, AllocError> {
+    pub fn new(alloc: Global, sources: &Sources) -> Result<Blocking, AllocError>
+        ensures { IfOk result
+            (Knows (length sources.now.ids.threads.items) (length sources.now.ids.mutexes.items) []) }
+    {
         Ok(Blocking {
             sections: Sections::new(alloc, sources.ids.mutexes.len())?,
             threads: blocked_by_thread(alloc, sources)?,
@@ -70,7 +74,10 @@ impl Blocking {
     /// # Errors
     ///
     /// Returns `AllocError` if out of memory.
-    pub fn look(&mut self, course: &Course, fact: &Fact, time: u64) -> Result<(), AllocError> {
+    pub fn look(&mut self, course: &Course, fact: &Fact, time: u64) -> Result<(), AllocError>
+        ensures { IfOk result (λ _. (n k : ℕ) (facts : List Moment) → Knows n k facts self.old →
+            Knows n k (record { fact = fact.now; time = time; course = course.now } ∷ facts) self.new) }
+    {
         let thread = fact.thread as usize;
         if thread < self.threads.len() {
             self.threads[thread].look(course, fact, time);
@@ -91,7 +98,10 @@ impl Blocking {
         alloc: Global,
         orders: &[Order],
         time: u64,
-    ) -> Result<Vec<Bound>, AllocError> {
+    ) -> Result<Vec<Bound>, AllocError>
+        ensures { IfOk result (λ bounds. (n k : ℕ) (facts : List Moment) → Knows n k facts self.old →
+            AreBounds n k facts time orders.now bounds.items) }
+    {
         self.sections.end(time)?;
         let seen = self.sections.seen(alloc)?;
         let nested = Nested::of(alloc, orders, self.sections.mutexes())?;
@@ -165,7 +175,11 @@ impl Per {
 }
 
 /// Puts a bound in front of the first smaller one, and keeps the first [`BOUNDS`].
-fn keep(bounds: &mut Vec<Bound>, bound: Bound) -> Result<(), AllocError> {
+fn keep(bounds: &mut Vec<Bound>, bound: Bound) -> Result<(), AllocError>
+    ensures { IfOk result (λ _. (n k : ℕ) (seen : List Section) (inner : ℕ → List ℕ) →
+        All (IsBound n k seen inner) bounds.old.items → IsBound n k seen inner bound →
+        All (IsBound n k seen inner) bounds.new.items) }
+{
     let place = place_of(bounds, bound.under_inherit).min(bounds.len());
     if bound.under_inherit == 0 || place >= BOUNDS {
         return Ok(());

@@ -1,6 +1,8 @@
 //! The longest critical sections of a program.
-ghost use Rattle.std.specs.Prelude.{◌≡◌, ◌-◌, None, OnOk, IfSome, length, slice_index_or};
+ghost use Rattle.std.specs.Prelude.{◌≡◌, ℕ, ◌==◌, ◌&&◌, nat_lt, List, [], ◌∷◌, length, slice_index_or, if◌then◌else◌, Some, None, IfOk, OnOk};
+ghost use Rattle.pim_blocking.specs.Observed.{AreLongest, KeepsAll, KnowsSections, Moment, all_sections, and_ended, open_at, user_of};
 ghost use Rattle.pim_blocking.specs.Sections.{KeepsLongest};
+ghost use Rattle.pim_blocking.specs.declared.section.Section as declared;
 
 use crate::section::{Section, User};
 use pim_course::Course;
@@ -31,7 +33,9 @@ impl Sections {
     /// # Errors
     ///
     /// Returns `AllocError` if out of memory.
-    pub fn new(alloc: Global, mutexes: usize) -> Result<Sections, AllocError> {
+    pub fn new(alloc: Global, mutexes: usize) -> Result<Sections, AllocError>
+        ensures { IfOk result (KnowsSections mutexes []) }
+    {
         Ok(Sections {
             open: vec![in alloc; None; mutexes]?,
             longest: HashMap::new(alloc),
@@ -50,7 +54,10 @@ impl Sections {
     /// # Errors
     ///
     /// Returns `AllocError` if out of memory.
-    pub fn look(&mut self, course: &Course, fact: &Fact, time: u64) -> Result<(), AllocError> {
+    pub fn look(&mut self, course: &Course, fact: &Fact, time: u64) -> Result<(), AllocError>
+        ensures { IfOk result (λ _. (k : ℕ) (facts : List Moment) → KnowsSections k facts self.old →
+            KnowsSections k (record { fact = fact.now; time = time; course = course.now } ∷ facts) self.new) }
+    {
         match fact.what {
             What::Granted => {
                 self.close(fact.mutex as usize, time)?;
@@ -68,7 +75,11 @@ impl Sections {
     /// # Errors
     ///
     /// Returns `AllocError` if out of memory.
-    pub fn end(&mut self, time: u64) -> Result<(), AllocError> {
+    pub fn end(&mut self, time: u64) -> Result<(), AllocError>
+        ensures mutexes { length self.new.open.items ≡ length self.old.open.items }
+        ensures longest { IfOk result (λ _. (k : ℕ) (facts : List Moment) → KnowsSections k facts self.old →
+            KeepsAll (all_sections k facts time) self.new) }
+    {
         for mutex in 0..self.open.len() {
             self.close(mutex, time)?;
         }
@@ -80,7 +91,9 @@ impl Sections {
     /// # Errors
     ///
     /// Returns `AllocError` if out of memory.
-    pub fn seen(&self, alloc: Global) -> Result<Vec<Section>, AllocError> {
+    pub fn seen(&self, alloc: Global) -> Result<Vec<Section>, AllocError>
+        ensures { IfOk result (λ seen. (all : List declared.Section) → KeepsAll all self.now → AreLongest all seen.items) }
+    {
         let mut seen = Vec::new(alloc);
         for (user, lasted) in &self.longest {
             seen.push(Section {
@@ -93,7 +106,13 @@ impl Sections {
     }
 
     /// A section of this user begins.
-    fn open_at(&mut self, user: User, time: u64) {
+    fn open_at(&mut self, user: User, time: u64)
+        ensures longest { self.new.longest ≡ self.old.longest }
+        ensures len { length self.new.open.items ≡ length self.old.open.items }
+        ensures open { (mutex : ℕ) → open_at self.new mutex ≡
+            (if (mutex == user.mutex) && nat_lt mutex (length self.old.open.items) then Some (record { user = user; began = time })
+            else open_at self.old mutex) }
+    {
         let place = user.mutex as usize;
         if place < self.open.len() {
             self.open[place] = Some(Open { user, began: time });
@@ -102,8 +121,10 @@ impl Sections {
 
     /// Ends the section that lasts at a mutex, if there is one.
     fn close(&mut self, mutex: usize, time: u64) -> Result<(), AllocError>
-        ensures { OnOk result (IfSome (slice_index_or self.old.open.items mutex None)
-            (λ section. KeepsLongest self.old self.new section.user (time - section.began))) }
+        ensures len { length self.new.open.items ≡ length self.old.open.items }
+        ensures open { (one : ℕ) → open_at self.new one ≡ (if one == mutex then None else open_at self.old one) }
+        ensures longest { OnOk result ((all : List declared.Section) → KeepsAll all self.old →
+            KeepsAll (and_ended time (open_at self.old mutex) all) self.new) }
     {
         let Some(section) = self.open_of(mutex) else {
             return Ok(());
@@ -114,7 +135,9 @@ impl Sections {
 
     /// No section lasts at a mutex any more.
     fn clear(&mut self, mutex: usize)
-        ensures { self.new.longest ≡ self.old.longest }
+        ensures longest { self.new.longest ≡ self.old.longest }
+        ensures len { length self.new.open.items ≡ length self.old.open.items }
+        ensures open { (one : ℕ) → open_at self.new one ≡ (if one == mutex then None else open_at self.old one) }
     {
         if mutex < self.open.len() {
             self.open[mutex] = None;
@@ -123,7 +146,7 @@ impl Sections {
 
     /// Returns the section that lasts at a mutex.
     fn open_of(&self, mutex: usize) -> Option<Open>
-        ensures { result ≡ slice_index_or self.now.open.items mutex None }
+        ensures { result ≡ open_at self.now mutex }
     {
         self.open.get(mutex).copied().unwrap_or(None)
     }
@@ -144,7 +167,9 @@ impl Sections {
 }
 
 /// Returns the thread and the mutex of a fact, and the thread's level.
-fn user_in(course: &Course, fact: &Fact) -> User {
+fn user_in(course: &Course, fact: &Fact) -> User
+    ensures { (time : ℕ) → result ≡ user_of (record { fact = fact.now; time = time; course = course.now }) }
+{
     User {
         thread: fact.thread,
         mutex: fact.mutex,
