@@ -1,4 +1,5 @@
 pub mod Asking
 pub mod Having
+pub mod Placed
 pub mod Searched
 pub mod Showing

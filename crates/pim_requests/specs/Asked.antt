@@ -1,5 +1,7 @@
 -- What shows each request that a log lacks.
-use Rattle.std.specs.Prelude.{◌≡◌, ◌≢◌, ◌⊎◌, ◌<◌, ℕ, List, Contains, Option, Some, None, Bool, true, false, ◌||◌, IsTrue, slice_get}
+use Rattle.std.specs.Prelude.{◌≡◌, ◌≢◌, ◌⊎◌, ◌<◌, ℕ, List, Contains, Option, Some, None}
+use Rattle.std.specs.Prelude.{Bool, true, false, ◌||◌, IsTrue, slice_get}
+use Rattle.pim_log.specs.Headers.{header_of, end_of}
 use Rattle.pim_log.specs.Logs.{IsNumbered, IsRecord, began_of}
 use Rattle.pim_log.specs.declared.event.Call.TheVariants as call
 use Rattle.pim_log.specs.declared.event.Event.{Event}
@@ -120,3 +122,8 @@ pub record IsOfWait (ids : Ids) (waits : List Wait) (request : Request) : Type 0
 -- a call of the log shows a request, or a wait does
 abbrev pub IsShown : List ℕ → Ids → List Wait → Request → Type 0
 IsShown bytes ids waits request = IsOfCall bytes ids request ⊎ IsOfWait ids waits request
+
+-- a request belongs behind one of the numbers of a log's records
+pub record IsPlaced (bytes : List ℕ) (request : Request) : Type 0 where
+  pub above : 0 < request.after
+  pub below : request.after < end_of (header_of bytes)

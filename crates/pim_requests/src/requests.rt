@@ -2,12 +2,14 @@
 //!
 //! A call that finds its mutex free puts no REQUEST. Where another thread was quicker the call waits all the same, which
 //! shows as a call that lasts while another is granted the mutex. The kernel's events show more: see `waits.rt`.
-ghost use Rattle.std.specs.Prelude.{◌≡◌, ◌≢◌, ◌⊎◌, ◌<◌, All, IfOk, IfSome, IsTrue, List, None, OnOk, Some, length, slice_index_or, slice_set};
+ghost use Rattle.std.specs.Prelude.{◌≡◌, ◌≢◌, ◌⊎◌, ◌<◌, ◌&&◌, nat_lt, All, filter, IfOk, IfSome};
+ghost use Rattle.std.specs.Prelude.{IsTrue, List, None, OnOk, Some, length, slice_index_or, slice_set};
 ghost use Rattle.std.specs.List.Sorted.{IsPermutation};
 ghost use Rattle.pim_course.specs.Requests.{IsInOrder};
 ghost use Rattle.pim_log.specs.Logs.{IsLog, began_of};
 ghost use Rattle.pim_facts.specs.Levels.{id_of};
-ghost use Rattle.pim_requests.specs.Asked.{IsAfter, IsBetween, IsIn, IsOfCall, IsShown, LacksRequest, MayHaveWaited, ShowsWait};
+ghost use Rattle.pim_requests.specs.Asked.{IsAfter, IsBetween, IsIn, IsOfCall, IsPlaced};
+ghost use Rattle.pim_requests.specs.Asked.{IsShown, LacksRequest, MayHaveWaited, ShowsWait};
 ghost use Rattle.pim_requests.specs.Asking.{KnowsAsked, asked_after};
 
 use crate::grants::{Grants, is_grant};
@@ -33,14 +35,25 @@ pub fn requests_of(
     waits: &[Wait],
 ) -> Result<Requests, AllocError>
     ensures ordered { IfOk result (λ requests. IsInOrder requests.list.items) }
-    ensures shown { IsLog log.now → IfOk result (λ requests. All (IsShown log.now sources.now.ids waits.now) requests.list.items) }
+    ensures placed { IfOk result (λ requests. All (IsPlaced log.now) requests.list.items) }
+    ensures shown { IsLog log.now →
+        IfOk result (λ requests. All (IsShown log.now sources.now.ids waits.now) requests.list.items) }
 {
     let mut asked = asked_in(alloc, log, sources, waits)?;
     let of_waits = asked.list.len() as u64;
     add_silent(alloc, log, sources, &mut asked)?;
     let Asked { mut list, .. } = asked;
+    keep_placed(&mut list, log.header().end());
     sort(&mut list)?;
     Ok(Requests { list, of_waits })
+}
+
+/// Drops the requests that belong behind no record of a log whose numbers end here. None does, which isn't proved of the
+/// search.
+fn keep_placed(list: &mut Vec<Request>, end: u64)
+    ensures { list.new.items ≡ filter (λ request. nat_lt 0 request.after && nat_lt request.after end) list.old.items }
+{
+    list.retain(|request| 0 < request.after && request.after < end);
 }
 
 /// Puts the requests into the order of the records behind which they belong.

@@ -1,13 +1,23 @@
-use Rattle.std.proofs.Common.{inr}
-use Rattle.std.proofs.lemmas.List.Elements.{All-weaker}
+use Rattle.std.proofs.Common.{ap, inr, ◌∙◌}
+use Rattle.std.proofs.lemmas.List.Elements.{All-filter, All-same, All-weaker}
 use Rattle.std.proofs.lemmas.List.Sorted.{All-permutation}
-use Rattle.pim_requests.specs.Asked.{IsOfWait, IsShown}
+use Rattle.pim_log.specs.Headers.{end_of}
+use Rattle.pim_requests.specs.Asked.{IsOfWait, IsPlaced, IsShown}
+use Rattle.pim_requests.proofs.Placed.{are_placed, is_within}
 use Rattle.pim_requests.proofs.requests.requests_of.Goals as goal
+
+pub returns-clause-placed : goal.returns-clause-placed
+returns-clause-placed c =
+    All-permutation (IsPlaced c.args.log.now) _ _ c.sort.ensures.same
+    (All-same (IsPlaced c.args.log.now) _ _ c.keep_placed.ensures
+    (are_placed c.args.log.now c.end.result c.add_silent.new.to.list.items (c.end.ensures ∙ ap end_of c.header.ensures)))
 
 pub returns-clause-shown : goal.returns-clause-shown
 returns-clause-shown c log =
     let ids = c.args.sources.now.ids in
     let waits = c.args.waits.now in
     All-permutation (IsShown c.args.log.now ids waits) _ _ c.sort.ensures.same
+    (All-same (IsShown c.args.log.now ids waits) _ _ c.keep_placed.ensures
+    (All-filter (is_within c.end.result) (IsShown c.args.log.now ids waits) c.add_silent.new.to.list.items
     (c.in_ok-add_silent.ensures waits log
-    (All-weaker (IsOfWait ids waits) (IsShown c.args.log.now ids waits) (λ r is. inr is) _ c.in_ok-asked.ensures))
+    (All-weaker (IsOfWait ids waits) (IsShown c.args.log.now ids waits) (λ r is. inr is) _ c.in_ok-asked.ensures))))
