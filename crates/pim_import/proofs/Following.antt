@@ -1,16 +1,20 @@
 -- What is known of the findings on the way through a log.
-use Rattle.std.proofs.Common.{◌≡◌, ◌⊎◌, ℕ, ◌+◌, ◌-◌, ◌<◌, ◌≤◌, ◌==◌, ◌||◌, ◌∙◌, Bool, true, false, cond, List, [], ◌∷◌, ◌++◌, length, get_or, take, map, reverse, slice_get, ap, sym, subst, refl, inl, inr, arith, eq-eqb, Result, Ok, Err}
+use Rattle.std.proofs.Common.{◌≡◌, ◌⊎◌, ℕ, ◌+◌, ◌-◌, ◌<◌, ◌≤◌, ◌==◌, ◌||◌, ◌∙◌, Bool, true, false, cond, List, [], ◌∷◌, ◌++◌}
+use Rattle.std.proofs.Common.{length, get_or, take, map, reverse}
+use Rattle.std.proofs.Common.{slice_get, ap, sym, subst, refl, inl, inr, arith, eq-eqb, Option, Some, None, Result, Ok, Err}
 use Rattle.std.proofs.lemmas.Bool.{eqb-true, lt-ltb}
 use Rattle.std.proofs.lemmas.List.{map-append, reverse-append, take_more}
 use Rattle.std.proofs.lemmas.List.Elements.{All-cons}
-use Rattle.std.specs.Option.{option_map_or}
+use Rattle.std.specs.Option.{option_map_or, unwrap_or}
 use Rattle.std.specs.Prelude.{IfOk, IfSome, slice_index_or}
 use Rattle.pim_course.specs.Going.{HasSameSize, KeepsDepths}
-use Rattle.pim_course.specs.Reading.{Begins, GoesBy, HasRequest}
+use Rattle.pim_course.specs.Reading.{Begins, GoesBy, HasRequest, IsTimeOf}
+use Rattle.pim_course.specs.Requests.{IsBehind}
 use Rattle.pim_course.specs.Told.{added_told, happened_in}
 use Rattle.pim_course.specs.World.{Lead, world_of}
 use Rattle.pim_course.specs.declared.course.Course.{Course}
 use Rattle.pim_course.specs.declared.course.Sources.{Sources}
+use Rattle.pim_course.specs.declared.requests.Request.{Request}
 use Rattle.pim_course.specs.declared.walk.Walk.{Walk}
 use Rattle.pim_facts.specs.Shown.{shown_in}
 use Rattle.pim_facts.specs.declared.fact.Fact.{Fact}
@@ -28,7 +32,9 @@ use Rattle.pim_findings.specs.Waits.{Moment, all_waits, and_fact}
 use Rattle.pim_import.specs.declared.importing.Built.{Built}
 use Rattle.pim_log.specs.Headers.{end_of, header_of}
 use Rattle.pim_findings.specs.declared.findings.Findings.{Findings}
-use Rattle.pim_import.specs.Following.{FollowsLog, HasFollowed, IsLacking, IsOfThread, IsSpared, Knows, facts_of, is_kept, kept_of, moment_of, moments_of, stage_of}
+use Rattle.pim_import.proofs.Adding.{all_added}
+use Rattle.pim_import.specs.Following.{ArePlaced, FollowsLog, HasAdded, HasFollowed, IsLacking, IsOfThread, IsSpared, Knows, Stage}
+use Rattle.pim_import.specs.Following.{facts_of, is_kept, kept_of, moment_of, moments_of, stage_of}
 use Rattle.pim_import.specs.LeftOut.{IsKept}
 use Rattle.pim_import.specs.declared.critical_sections.CriticalSections.{CriticalSections}
 
@@ -42,9 +48,15 @@ either false false false (inr (inr e)) = e
 
 -- a fact that is kept passes the test
 pub kept_true : (sections : CriticalSections) (fact : Fact) → IsKept sections fact → is_kept sections fact ≡ true
-kept_true sections fact (inl none) = either (fact.section == 0) sections.is_all (slice_index_or sections.is_kept.items fact.section true) (inl (eq-eqb fact.section 0 none))
-kept_true sections fact (inr (inl all)) = either (fact.section == 0) sections.is_all (slice_index_or sections.is_kept.items fact.section true) (inr (inl all))
-kept_true sections fact (inr (inr one)) = either (fact.section == 0) sections.is_all (slice_index_or sections.is_kept.items fact.section true) (inr (inr one))
+kept_true sections fact (inl none) =
+    either (fact.section == 0) sections.is_all (slice_index_or sections.is_kept.items fact.section true)
+    (inl (eq-eqb fact.section 0 none))
+kept_true sections fact (inr (inl all)) =
+    either (fact.section == 0) sections.is_all (slice_index_or sections.is_kept.items fact.section true)
+    (inr (inl all))
+kept_true sections fact (inr (inr one)) =
+    either (fact.section == 0) sections.is_all (slice_index_or sections.is_kept.items fact.section true)
+    (inr (inr one))
 
 either_of : (a b c : Bool) → (a || b || c) ≡ true → (a ≡ true) ⊎ ((b ≡ true) ⊎ (c ≡ true))
 either_of true b c e = inl refl
@@ -62,7 +74,9 @@ kept_false sections fact not = go (is_kept sections fact) refl
   where
     go : (b : Bool) → is_kept sections fact ≡ b → is_kept sections fact ≡ false
     go false e = e
-    go true e = absurd (not (is_zero fact.section _ (either_of (fact.section == 0) sections.is_all (slice_index_or sections.is_kept.items fact.section true) e)))
+    go true e =
+        let has : Bool = slice_index_or sections.is_kept.items fact.section true in
+        absurd (not (is_zero fact.section _ (either_of (fact.section == 0) sections.is_all has e)))
 
 pub not_both : (b : Bool) → b ≡ true → b ≡ false → ⊥
 not_both b is isnt = cc
@@ -78,7 +92,8 @@ owns_kept k facts old new same owns =
       mutexes = ap (λ mutexes. length mutexes.items) same ∙ owns.mutexes;
       since = λ mutex lt. ap (λ mutexes. (mutex_at mutexes.items mutex).owned_since) same ∙ owns.since mutex lt;
       longest = λ mutex lt.
-          subst (λ mutexes. IsLongest (ownerships_of facts mutex) (mutex_at mutexes.items mutex).longest) (sym same) (owns.longest mutex lt);
+          subst (λ mutexes. IsLongest (ownerships_of facts mutex) (mutex_at mutexes.items mutex).longest) (sym same)
+          (owns.longest mutex lt);
     }
 
 -- the orders of mutexes are those with one more fact
@@ -138,66 +153,113 @@ moments_more sources course time facts i d lt =
     ∙ reverse-append (map (moment_of sources course time) (take i facts)) (moment_of sources course time (get_or facts i d) ∷ [])
 
 -- a walk that begins went through nothing
-pub follows_begin : (bytes : List ℕ) (sources : Sources) (sections : CriticalSections) (n k : ℕ) (walk : Walk) (found : Findings) →
-    Begins sources.ids walk.course → Knows n k sections [] found → HasFollowed bytes sources sections n k 0 walk found
-follows_begin bytes sources sections n k walk found begins knows =
+pub follows_begin : (bytes : List ℕ) (sources : Sources) (sections : CriticalSections) (n k : ℕ) (walk : Walk)
+    (found : Findings) → Begins sources.ids walk.course → walk.added ≡ 0 → Knows n k sections [] found →
+    HasFollowed bytes sources sections n k 0 0 walk found
+follows_begin bytes sources sections n k walk found begins none knows =
     record {
       time = 0;
       before = [];
-      way = record { number = refl; course = begins };
+      way = record { number = refl; record_time = refl; added = none; course = begins };
       knows = subst (λ shown. Knows n k sections (moments_of sources walk.course 0 shown ++ []) found) (sym begins.shown) knows;
     }
 
 -- one more record
-pub follows_record : (bytes : List ℕ) (sources : Sources) (sections : CriticalSections) (n k number time : ℕ)
-    (old new : Walk) (found looked : Findings) → 1 ≤ number → HasSameSize old.course new.course →
+pub follows_record : (bytes : List ℕ) (sources : Sources) (sections : CriticalSections) (n k number last time : ℕ)
+    (put_at : Option ℕ) (old new : Walk) (found looked : Findings) → 1 ≤ number →
+    time ≡ unwrap_or put_at last → IsTimeOf bytes number put_at → new.added ≡ old.added → HasSameSize old.course new.course →
     IsLacking bytes number old.course new.course ⊎ GoesBy bytes sources number old.course new.course →
     ((facts : List Moment) → Knows n k sections facts found →
     Knows n k sections (moments_of sources new.course time (shown_in new.course.shown) ++ facts) looked) →
-    HasFollowed bytes sources sections n k (number - 1) old found → HasFollowed bytes sources sections n k number new looked
-follows_record bytes sources sections n k number time old new found looked above size shown step f =
+    HasAdded bytes sources sections n k (number - 1) last old found →
+    HasFollowed bytes sources sections n k number time new looked
+follows_record bytes sources sections n k number last time put_at old new found looked
+    above is_time is_put_at added size shown step has =
+    let f = has.followed in
     let is : number ≡ number - 1 + 1 = omega arith in
     record {
       time = time;
-      before = stage_of (number - 1) f.time old ∷ f.before;
-      way = (inl (record { number = is; size = size; shown = shown }), f.way);
-      knows = step (facts_of sources (stage_of (number - 1) f.time old ∷ f.before)) f.knows;
+      before = stage_of (number - 1) last f.time old ∷ f.before;
+      way = (
+        inl (record {
+          number = is;
+          before = has.added;
+          added = added;
+          put_at = put_at;
+          is_put_at = is_put_at;
+          record_time = is_time;
+          time = refl;
+          size = size;
+          shown = shown;
+        }),
+        f.way,
+      );
+      knows = step (facts_of sources (stage_of (number - 1) last f.time old ∷ f.before)) f.knows;
     }
 
--- one more request
-pub follows_request : (bytes : List ℕ) (sources : Sources) (sections : CriticalSections) (n k number time place : ℕ)
-    (old new : Walk) (found looked : Findings) → HasSameSize old.course new.course → KeepsDepths old.course new.course →
-    (IfSome (slice_get sources.requests.list.items place) (HasRequest old.course) →
+-- one more request, which is the next one
+pub follows_request : (bytes : List ℕ) (sources : Sources) (sections : CriticalSections) (n k number last time : ℕ)
+    (put_at : Option ℕ) (request : Request) (old new : Walk) (found looked : Findings) →
+    slice_get sources.requests.list.items old.added ≡ Some request → IsBehind number request →
+    new.added ≡ option_map_or (λ one. old.added + 1) (slice_get sources.requests.list.items old.added) old.added →
+    put_at ≡ option_map_or (λ one. one.time) (slice_get sources.requests.list.items old.added) None →
+    time ≡ unwrap_or put_at last → HasSameSize old.course new.course → KeepsDepths old.course new.course →
+    (IfSome (slice_get sources.requests.list.items old.added) (HasRequest old.course) →
     Lead (shown_in new.course.shown) (world_of old.course) (world_of new.course)) →
-    happened_in new.course ≡ option_map_or (added_told (world_of old.course)) (slice_get sources.requests.list.items place) [] →
+    happened_in new.course ≡
+    option_map_or (added_told (world_of old.course)) (slice_get sources.requests.list.items old.added) [] →
     ((facts : List Moment) → Knows n k sections facts found →
     Knows n k sections (moments_of sources new.course time (shown_in new.course.shown) ++ facts) looked) →
-    HasFollowed bytes sources sections n k number old found → HasFollowed bytes sources sections n k number new looked
-follows_request bytes sources sections n k number time place old new found looked size depths led told step f =
+    HasFollowed bytes sources sections n k number last old found → HasFollowed bytes sources sections n k number last new looked
+follows_request bytes sources sections n k number last time put_at request old new found looked
+    next behind added put is_time size depths led told step f =
+    let its : Option ℕ = request.time in
+    let is_put : put_at ≡ its =
+    put ∙ ap (λ (one : Option Request). option_map_or (λ (r : Request). r.time) one None) next in
     record {
       time = time;
-      before = stage_of number f.time old ∷ f.before;
-      way = (inr (record { number = refl; place = place; size = size; depths = depths; told = told; led = led }), f.way);
-      knows = step (facts_of sources (stage_of number f.time old ∷ f.before)) f.knows;
+      before = stage_of number last f.time old ∷ f.before;
+      way = (
+        inr (record {
+          number = refl;
+          record_time = refl;
+          request = request;
+          next = next;
+          behind = behind;
+          added = added ∙ ap (λ (one : Option Request). option_map_or (λ (r : Request). old.added + 1) one old.added) next;
+          time = is_time ∙ ap (λ (o : Option ℕ). unwrap_or o last) is_put;
+          size = size;
+          depths = depths;
+          told = told ∙ ap (λ (one : Option Request). option_map_or (added_told (world_of old.course)) one []) next;
+          led =
+              subst (λ (one : Option Request). IfSome one (HasRequest old.course) →
+              Lead (shown_in new.course.shown) (world_of old.course) (world_of new.course)) next led;
+        }),
+        f.way,
+      );
+      knows = step (facts_of sources (stage_of number last f.time old ∷ f.before)) f.knows;
     }
 
 -- the log ends
-pub follows_log : (bytes : List ℕ) (sources : Sources) (sections : CriticalSections) (n k ended end : ℕ) (walk : Walk)
-    (found : Findings) (built : Built) → end ≡ end_of (header_of bytes) →
+pub follows_log : (bytes : List ℕ) (sources : Sources) (sections : CriticalSections) (n k ended end last : ℕ) (walk : Walk)
+    (found : Findings) (built : Built) → end ≡ end_of (header_of bytes) → ArePlaced bytes sources.requests.list.items →
     ((facts : List Moment) → Finds n k facts found → AreReported k (all_waits facts ended n) built.findings.waits) →
     built.findings.mutexes ≡ found.mutexes → built.course ≡ walk.course →
     ((facts : List Moment) → HandsOver n k facts found → (mutex : ℕ) → mutex < k →
     AreHandOvers facts mutex (mutex_at built.findings.mutexes.items mutex).hand_overs) →
     ((facts : List Moment) → KnowsOrders n facts found → FindsOpposites facts built.findings) →
     AreCycles (blocker_of walk.course) (threads_of built.findings.deadlocks.items) →
-    HasFollowed bytes sources sections n k (end - 1) walk found → FollowsLog bytes sources sections n k ended built
-follows_log bytes sources sections n k ended end walk found built is waits same course hands opposites deadlocks f =
-    let facts : List Moment = facts_of sources (stage_of (end - 1) f.time walk ∷ f.before) in
+    HasAdded bytes sources sections n k (end - 1) last walk found → FollowsLog bytes sources sections n k ended built
+follows_log bytes sources sections n k ended end last walk found built is placed waits same course hands opposites deadlocks has =
+    let f = has.followed in
+    let stage : Stage = stage_of (end - 1) last f.time walk in
+    let facts : List Moment = facts_of sources (stage ∷ f.before) in
     record {
-      last = stage_of (end - 1) f.time walk;
+      last = stage;
       before = f.before;
       way = f.way;
       number = ap (λ n. n - 1) is;
+      added = all_added bytes sources.requests.list.items end walk.added is placed has.added;
       found = record {
         waits = waits (kept_of sections facts) f.knows.finds;
         owns = owns_kept k (kept_of sections facts) found built.findings same f.knows.owns;

@@ -1,16 +1,20 @@
 -- The way through a log, and what is found of the facts that it shows.
-use Rattle.std.specs.Prelude.{◌≡◌, ◌⊎◌, ◌+◌, ◌-◌, ℕ, ◌<◌, ◌==◌, ◌||◌, Bool, true, List, [], ◌∷◌, ◌++◌, map, reverse, filter, length, slice_get, slice_index_or, IfSome, All}
-use Rattle.std.specs.Option.{option_map_or}
+use Rattle.std.specs.Prelude.{◌≡◌, ◌⊎◌, ◌+◌, ◌-◌, ◌<◌, ◌≤◌, ℕ, ◌==◌, ◌||◌, Bool, true, List, [], ◌∷◌, ◌++◌, map}
+use Rattle.std.specs.Prelude.{reverse, filter, length, slice_get, slice_index_or, Option, Some, All}
+use Rattle.std.specs.Option.{unwrap_or}
 use Rattle.pim_log.specs.Headers.{header_of, end_of}
 use Rattle.pim_facts.specs.Shown.{shown_in}
 use Rattle.pim_facts.specs.declared.fact.Fact.{Fact}
 use Rattle.pim_course.specs.Going.{HasSameSize, KeepsDepths, KeepsSections}
-use Rattle.pim_course.specs.Reading.{Begins, GoesBy, HasRequest, LacksRecord}
+use Rattle.pim_course.specs.Reading.{Begins, GoesBy, HasRequest, IsTimeOf, LacksRecord}
+use Rattle.pim_course.specs.Requests.{IsBehind, IsInOrder}
 use Rattle.pim_course.specs.Told.{added_told, happened_in}
 use Rattle.pim_course.specs.World.{Lead, world_of}
 use Rattle.pim_course.specs.declared.course.Course.{Course}
 use Rattle.pim_course.specs.declared.course.Sources.{Sources}
+use Rattle.pim_course.specs.declared.requests.Request.{Request}
 use Rattle.pim_course.specs.declared.walk.Walk.{Walk}
+use Rattle.pim_requests.specs.Asked.{IsPlaced}
 use Rattle.pim_findings.specs.Cycles.{AreCycles}
 use Rattle.pim_findings.specs.Deadlocks.{blocker_of, threads_of}
 use Rattle.pim_findings.specs.Found.{Finds}
@@ -26,17 +30,27 @@ use Rattle.pim_import.specs.declared.critical_sections.CriticalSections.{Critica
 use Rattle.pim_import.specs.declared.importing.Built.{Built}
 use Rattle.pim_import.specs.declared.importing.Imported.{Imported}
 
--- How far a way through a log has come: the number of the last record, the time of what it went by last, and the course behind
--- that.
+-- How far a way through a log has come: the number of the last record, the time of the last one that has a time, how many
+-- requests that the log lacks were added, the time of what the way went by last, and the course behind that.
 pub record Stage : Type 0 where
   pub number : ℕ
+  pub record_time : ℕ
+  pub added : ℕ
   pub time : ℕ
   pub course : Course
 
--- the way begins: no record is read
+-- the way begins: no record is read, and no request added
 pub record IsBegin (sources : Sources) (stage : Stage) : Type 0 where
   pub number : stage.number ≡ 0
+  pub record_time : stage.record_time ≡ 0
+  pub added : stage.added ≡ 0
   pub course : Begins sources.ids stage.course
+
+-- the first of these requests were added, so many; each other one belongs behind a record with a higher number than this
+pub record AreAdded (requests : List Request) (number added : ℕ) : Type 0 where
+  pub few : added ≤ length requests
+  pub later : (place : ℕ) (request : Request) → added ≤ place → slice_get requests place ≡ Some request →
+      number < request.after
 
 -- no record of a log has a number, and nothing happens
 abbrev pub IsLacking : List ℕ → ℕ → Course → Course → Type 0
@@ -44,22 +58,33 @@ IsLacking bytes number old new =
     LacksRecord bytes number × (shown_in new.shown ≡ []) × (world_of new ≡ world_of old) × KeepsDepths old new
     × KeepsSections old new
 
--- a stage leads to the next by the record with the next number, which shows what it tells
+-- A stage leads to the next by the record with the next number, which shows what it tells: once each request behind the last
+-- record was added. If the log lacks the record, or its time isn't known, that is the time of the one before it.
 pub record GoesByRecord (bytes : List ℕ) (sources : Sources) (from to : Stage) : Type 0 where
   pub number : to.number ≡ from.number + 1
+  pub before : AreAdded sources.requests.list.items from.number from.added
+  pub added : to.added ≡ from.added
+  pub put_at : Option ℕ
+  pub is_put_at : IsTimeOf bytes to.number put_at
+  pub record_time : to.record_time ≡ unwrap_or put_at from.record_time
+  pub time : to.time ≡ to.record_time
   pub size : HasSameSize from.course to.course
   pub shown : IsLacking bytes to.number from.course to.course ⊎ GoesBy bytes sources to.number from.course to.course
 
--- a stage leads to the next by one of the requests that the log lacks, which shows what it tells
+-- A stage leads to the next by the next of the requests that the log lacks, which belongs behind the last record and shows what
+-- it tells. If no wait shows its time, that is the time of the record.
 pub record GoesByRequest (sources : Sources) (from to : Stage) : Type 0 where
   pub number : to.number ≡ from.number
-  pub place : ℕ
+  pub record_time : to.record_time ≡ from.record_time
+  pub request : Request
+  pub next : slice_get sources.requests.list.items from.added ≡ Some request
+  pub behind : IsBehind from.number request
+  pub added : to.added ≡ from.added + 1
+  pub time : to.time ≡ unwrap_or request.time from.record_time
   pub size : HasSameSize from.course to.course
   pub depths : KeepsDepths from.course to.course
-  pub told : happened_in to.course ≡
-      option_map_or (added_told (world_of from.course)) (slice_get sources.requests.list.items place) []
-  pub led : IfSome (slice_get sources.requests.list.items place) (HasRequest from.course) →
-      Lead (shown_in to.course.shown) (world_of from.course) (world_of to.course)
+  pub told : happened_in to.course ≡ added_told (world_of from.course) request
+  pub led : HasRequest from.course request → Lead (shown_in to.course.shown) (world_of from.course) (world_of to.course)
 
 -- A way through a log leads from its begin to this stage, through those before it, of which the latest is first.
 abbrev pub IsWay : List ℕ → Sources → Stage → List Stage → Type 0
@@ -107,16 +132,29 @@ pub record Knows (n k : ℕ) (sections : CriticalSections) (facts : List Moment)
   pub threads : All (IsOfThread n) facts
   pub spared : All (IsSpared sections) facts
 
--- the stage up to which a walk has come
-abbrev pub stage_of : ℕ → ℕ → Walk → Stage
-stage_of number time walk = record { number = number; time = time; course = walk.course }
+-- the stage up to which a walk has come, of which the last record's time and that of what it went by last are known
+abbrev pub stage_of : ℕ → ℕ → ℕ → Walk → Stage
+stage_of number record_time time walk =
+    record { number = number; record_time = record_time; added = walk.added; time = time; course = walk.course }
 
--- A walk went through a log up to the record with this number, and the findings are those of the facts on its way.
-pub record HasFollowed (bytes : List ℕ) (sources : Sources) (sections : CriticalSections) (n k number : ℕ) (walk : Walk) (found : Findings) : Type 0 where
+-- A walk went through a log up to the record with this number and time, and the findings are those of the facts on its way.
+pub record HasFollowed (bytes : List ℕ) (sources : Sources) (sections : CriticalSections) (n k number record_time : ℕ)
+    (walk : Walk) (found : Findings) : Type 0 where
   pub time : ℕ
   pub before : List Stage
-  pub way : IsWay bytes sources (stage_of number time walk) before
-  pub knows : Knows n k sections (facts_of sources (stage_of number time walk ∷ before)) found
+  pub way : IsWay bytes sources (stage_of number record_time time walk) before
+  pub knows : Knows n k sections (facts_of sources (stage_of number record_time time walk ∷ before)) found
+
+-- A walk went through a log, and added each request behind the records so far.
+pub record HasAdded (bytes : List ℕ) (sources : Sources) (sections : CriticalSections) (n k number record_time : ℕ)
+    (walk : Walk) (found : Findings) : Type 0 where
+  pub followed : HasFollowed bytes sources sections n k number record_time walk found
+  pub added : AreAdded sources.requests.list.items number walk.added
+
+-- the requests that a log lacks have the order of the records behind which they belong
+pub record ArePlaced (bytes : List ℕ) (requests : List Request) : Type 0 where
+  pub order : IsInOrder requests
+  pub placed : All (IsPlaced bytes) requests
 
 -- What is found is what these facts show, of threads below n and mutexes below k, at this end of the log: of those that are
 -- kept the waits, the ownerships and the hand-overs, and of all the mutexes that were taken in opposite orders. The
@@ -132,13 +170,15 @@ pub record AreFound (n k : ℕ) (sections : CriticalSections) (ended : ℕ) (fac
   pub threads : All (IsOfThread n) facts
   pub spared : All (IsSpared sections) facts
 
--- There is a way through all records of a log, such that what is found is what the facts on the way show, and the course is
--- that behind the last of them.
-pub record FollowsLog (bytes : List ℕ) (sources : Sources) (sections : CriticalSections) (n k ended : ℕ) (built : Built) : Type 0 where
+-- There is a way through all records of a log and all requests that it lacks, such that what is found is what the facts on the
+-- way show, and the course is that behind the last of them.
+pub record FollowsLog (bytes : List ℕ) (sources : Sources) (sections : CriticalSections) (n k ended : ℕ)
+    (built : Built) : Type 0 where
   pub last : Stage
   pub before : List Stage
   pub way : IsWay bytes sources last before
   pub number : last.number ≡ end_of (header_of bytes) - 1
+  pub added : last.added ≡ length sources.requests.list.items
   pub found : AreFound n k sections ended (facts_of sources (last ∷ before)) last.course built.findings
   pub course : built.course ≡ last.course
 

@@ -2,9 +2,11 @@
 ghost use Rattle.std.specs.Prelude.{◌≡◌, ◌⊎◌, ◌-◌, ◌++◌, ◌∷◌, [], ℕ, List, IfOk, IfErr, IsTrue, All, false};
 ghost use Rattle.pim_log.specs.Headers.{header_of, end_of};
 ghost use Rattle.pim_course.specs.Reading.{Begins};
+ghost use Rattle.pim_course.specs.Requests.{IsInOrder};
 ghost use Rattle.pim_builder.specs.Faults.{NamesOneOf, NamesOnly};
 ghost use Rattle.pim_findings.specs.Waits.{Moment};
-ghost use Rattle.pim_import.specs.Following.{FollowsLog, HasFollowed, IsOfLog, Knows, moment_of, moments_of};
+ghost use Rattle.pim_import.specs.Following.{AreAdded, ArePlaced, FollowsLog, HasAdded, HasFollowed, IsOfLog, Knows};
+ghost use Rattle.pim_import.specs.Following.{moment_of, moments_of};
 ghost use Rattle.pim_facts.specs.Shown.{shown_in};
 ghost use Rattle.pim_builder.specs.Pieces.{AreJoined, HasTimes};
 ghost use Rattle.pim_builder.specs.Showing.{IsSetting, Shows};
@@ -111,7 +113,8 @@ pub fn import_log(
 
 /// Returns what is known of a log before its course is followed.
 fn sources_of(alloc: Global, log: &Log, waits: &[Wait]) -> Result<Sources, ImportFault>
-    ensures { IfErr result (NamesOneOf (end_of (header_of log.now))) }
+    ensures requests { IfOk result (λ sources. ArePlaced log.now sources.requests.list.items) }
+    ensures fault { IfErr result (NamesOneOf (end_of (header_of log.now))) }
 {
     let ids = match Ids::of(alloc, log) {
         Ok(ids) => ids,
@@ -143,7 +146,8 @@ fn build(
     ensures counted { IfOk result (λ built. total built.tally ≡ end_of (header_of log.now) - 1) }
     ensures joined { IfOk result (λ built. AreJoined built.pieces.items) }
     ensures times { IfOk result (λ built. All HasTimes built.pieces.items) }
-    ensures findings { IfOk result (λ built. (n k : ℕ) → Knows n k sections.now [] findings →
+    ensures findings { IfOk result (λ built. (n k : ℕ) → ArePlaced log.now context.now.sources.now.requests.list.items →
+        Knows n k sections.now [] findings →
         FollowsLog log.now context.now.sources.now sections.now n k ended built) }
     ensures fault { IfErr result (NamesOneOf (end_of (header_of log.now))) }
 {
@@ -183,9 +187,9 @@ fn play(
     end: u64,
 ) -> Result<Tally, ImportFault>
     ensures counted { IfOk result (λ tally. total tally ≡ end - 1) }
-    ensures follows { IfOk result (λ _. (n k : ℕ) → Begins context.now.sources.now.ids walk.old.course →
-        Knows n k sections.now [] findings.old →
-        HasFollowed log.now context.now.sources.now sections.now n k (end - 1) walk.new findings.new) }
+    ensures follows { IfOk result (λ _. (n k : ℕ) → Begins context.now.sources.now.ids walk.old.course → walk.old.added ≡ 0 →
+        ArePlaced log.now context.now.sources.now.requests.list.items → Knows n k sections.now [] findings.old →
+        (time : ℕ) × HasAdded log.now context.now.sources.now sections.now n k (end - 1) time walk.new findings.new) }
     ensures fault { IfErr result (NamesOneOf end) }
 {
     let mut tally = Tally::new();
@@ -214,8 +218,11 @@ fn add_requests(
     now: &Now,
 ) -> Result<(), ImportFault>
     ensures follows { IfOk result (λ _. (bytes : List ℕ) (n k : ℕ) →
-        HasFollowed bytes context.now.sources.now sections.now n k now.now.number walk.old findings.old →
-        HasFollowed bytes context.now.sources.now sections.now n k now.now.number walk.new findings.new) }
+        HasFollowed bytes context.now.sources.now sections.now n k now.now.number now.now.time walk.old findings.old →
+        HasFollowed bytes context.now.sources.now sections.now n k now.now.number now.now.time walk.new findings.new) }
+    ensures added { IfOk result (λ _. let requests = context.now.sources.now.requests.list.items in
+        IsInOrder requests → AreAdded requests (now.now.number - 1) walk.old.added →
+        AreAdded requests now.now.number walk.new.added) }
     ensures fault { IfErr result (NamesOnly now.now.number) }
 {
     for _request in 0..walk.missing(context.sources, now.number) {

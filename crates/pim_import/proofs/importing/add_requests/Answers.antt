@@ -1,8 +1,35 @@
+use Rattle.std.proofs.Common.{◌≡◌, ◌+◌, ◌∙◌, ℕ, List, Option, Some, slice_get, ap, subst, sym, arith}
+use Rattle.std.specs.Option.{option_map_or}
+use Rattle.pim_course.specs.declared.requests.Request.{Request}
+use Rattle.pim_import.specs.Following.{AreAdded}
+use Rattle.pim_import.proofs.Adding.{more_added}
 use Rattle.pim_import.proofs.Following.{follows_request}
 use Rattle.pim_import.proofs.importing.add_requests.Goals as goal
 
 pub loop-request-preserved : goal.loop-request-preserved
-loop-request-preserved c bytes n k followed =
-    follows_request bytes c.args.context.now.sources.now c.args.sections.now n k c.args.now.now.number _ c.loop-request.walk.added
-    c.loop-request.walk c.add.new.self c.loop-request.findings c.show.new.findings c.add.ensures.size c.add.ensures.depths
-    c.add.ensures.shown c.add.ensures.told (c.in_ok-_is_used.ensures.finds n k) (c.loop-request.invariant bytes n k followed)
+loop-request-preserved c =
+    let requests : List Request = c.args.context.now.sources.now.requests.list.items in
+    let was : ℕ = c.loop-request.walk.added in
+    let one = c.missing-request-end.ensures.each c.loop-request._request c.loop-request-test.true in
+    let next : slice_get requests was ≡ Some one.0 =
+    subst (λ place. slice_get requests place ≡ Some one.0) (sym c.loop-request.invariant.added) one.1.0 in
+    let added : c.add.new.self.added ≡ was + 1 =
+    c.add.ensures.added ∙ ap (λ (o : Option Request). option_map_or (λ (r : Request). was + 1) o was) next in
+    record {
+      added = omega (arith, added, c.loop-request.invariant.added);
+      follows = λ bytes n k followed.
+          follows_request bytes c.args.context.now.sources.now c.args.sections.now n k c.args.now.now.number c.args.now.now.time
+          c.unwrap_or.result c.add.result one.0 c.loop-request.walk c.add.new.self c.loop-request.findings c.show.new.findings
+          next one.1.1 c.add.ensures.added c.add.ensures.time c.unwrap_or.ensures c.add.ensures.size c.add.ensures.depths
+          c.add.ensures.shown c.add.ensures.told (c.in_ok-_is_used.ensures.finds n k)
+          (c.loop-request.invariant.follows bytes n k followed);
+    }
+
+pub returns-clause-added : goal.returns-clause-added
+returns-clause-added c order added =
+    let requests : List Request = c.args.context.now.sources.now.requests.list.items in
+    let many : ℕ = c.missing-request-end.result in
+    let all : c.args.walk.now.added + many ≡ c.loop-request.walk.added =
+    omega (arith, c.loop-request.invariant.added, c.loop-request-test.false, c.loop-request.auto._request-end) in
+    subst (AreAdded requests c.args.now.now.number) all
+    (more_added requests c.args.now.now.number c.args.walk.now.added many order c.missing-request-end.ensures added)

@@ -1,9 +1,12 @@
-use Rattle.std.proofs.Common.{ℕ, List}
+use Rattle.std.proofs.Common.{◌≡◌, ℕ, ◌+◌, List}
 use Rattle.pim_import.specs.Following.{HasFollowed}
 use Rattle.pim_import.proofs.importing.add_requests.Given as goal
 
 -- the walk went through the requests so far
 abbrev pub invariant-loop-request : goal.invariant-loop-request
-invariant-loop-request l =
-    (bytes : List ℕ) (n k : ℕ) → HasFollowed bytes l.context.sources.now l.sections n k l.now.number l.fn.walk l.fn.findings →
-    HasFollowed bytes l.context.sources.now l.sections n k l.now.number l.walk l.findings
+invariant-loop-request l = record {
+  added : l.walk.added ≡ l.fn.walk.added + l._request;
+  follows : (bytes : List ℕ) (n k : ℕ) →
+      HasFollowed bytes l.context.sources.now l.sections n k l.now.number l.now.time l.fn.walk l.fn.findings →
+      HasFollowed bytes l.context.sources.now l.sections n k l.now.number l.now.time l.walk l.findings;
+}

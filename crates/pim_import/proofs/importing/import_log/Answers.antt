@@ -5,10 +5,12 @@ use Rattle.pim_import.proofs.importing.import_log.Goals as goal
 
 pub returns-clause-findings : goal.returns-clause-findings
 returns-clause-findings c =
+    let ids = c.in_ok-sources.sources.ids in
     record {
       sections = c.in_ok-sections.sections;
       keeps = c.in_ok-sections.ensures;
-      follows = c.in_ok-built.ensures.findings (length c.in_ok-sources.sources.ids.threads.items) (length c.in_ok-sources.sources.ids.mutexes.items)
+      follows = c.in_ok-built.ensures.findings (length ids.threads.items) (length ids.mutexes.items)
+          c.in_ok-sources.ensures.requests
           (record {
             finds = c.in_ok-findings.ensures.waits;
             owns = c.in_ok-findings.ensures.owns;

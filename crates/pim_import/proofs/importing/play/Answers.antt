@@ -1,6 +1,7 @@
-use Rattle.std.proofs.Common.{◌≡◌, ◌+◌, ◌-◌, subst, arith}
+use Rattle.std.proofs.Common.{◌≡◌, ◌+◌, ◌-◌, subst, sym, arith}
+use Rattle.pim_import.proofs.Adding.{none_added}
 use Rattle.pim_import.proofs.Following.{follows_begin, follows_record}
-use Rattle.pim_import.specs.Following.{HasFollowed}
+use Rattle.pim_import.specs.Following.{AreAdded, HasAdded}
 use Rattle.pim_import.proofs.importing.play.Goals as goal
 
 pub loop-number-init : goal.loop-number-init
@@ -8,7 +9,14 @@ loop-number-init c =
     record {
       counted = c.new-tally.ensures;
       within = omega arith;
-      follows = λ n k. follows_begin c.args.log.now c.args.context.now.sources.now c.args.sections.now n k c.args.walk.now c.args.findings.now;
+      follows = λ n k begins none placed knows.
+          let log = c.args.log.now in
+          let sources = c.args.context.now.sources.now in
+          record {
+            followed =
+                follows_begin log sources c.args.sections.now n k c.args.walk.now c.args.findings.now begins none knows;
+            added = none_added log sources.requests.list.items c.args.walk.now.added none placed;
+          };
     }
 
 pub loop-number-preserved : goal.loop-number-preserved
@@ -19,17 +27,31 @@ loop-number-preserved c =
     record {
       counted = omega arith;
       within = omega arith;
-      follows = λ n k begins knows.
+      follows = λ n k begins none placed knows.
           let at : c.loop-number.number ≡ c.loop-number.number + 1 - 1 = omega arith in
-          subst (λ m. HasFollowed log sources sections n k m c.add_requests.new.walk c.add_requests.new.findings) at
-          (c.in_ok-add_requests.ensures.follows log n k
-          (follows_record log sources sections n k c.loop-number.number c.unwrap_or-time.result c.loop-number.walk c.read-moment.new.self
-          c.loop-number.findings c.show.new.findings c.loop-number.auto.number c.read-moment.ensures.size c.read-moment.ensures.shown
-          (c.in_ok-is_used.ensures.finds n k) (c.loop-number.invariant.follows n k begins knows)));
+          let has : HasAdded log sources sections n k (c.loop-number.number - 1) c.loop-number.time c.loop-number.walk
+          c.loop-number.findings =
+          c.loop-number.invariant.follows n k begins none placed knows in
+          let after = c.in_ok-add_requests.ensures in
+          subst (λ m. HasAdded log sources sections n k m c.unwrap_or-time.result c.add_requests.new.walk
+          c.add_requests.new.findings) at
+          (record {
+            followed =
+                after.follows log n k
+                (follows_record log sources sections n k c.loop-number.number c.loop-number.time c.unwrap_or-time.result
+                c.read-moment.result.time c.loop-number.walk c.read-moment.new.self c.loop-number.findings c.show.new.findings
+                c.loop-number.auto.number c.unwrap_or-time.ensures c.read-moment.ensures.time c.read-moment.ensures.added
+                c.read-moment.ensures.size c.read-moment.ensures.shown (c.in_ok-is_used.ensures.finds n k) has);
+            added = after.added placed.order
+                (subst (λ added. AreAdded sources.requests.list.items (c.loop-number.number - 1) added)
+                (sym c.read-moment.ensures.added) has.added);
+          });
     }
 
 pub returns-clause-follows : goal.returns-clause-follows
-returns-clause-follows c n k begins knows =
-    let at : c.loop-number.number - 1 ≡ c.args.end - 1 = omega arith in
-    subst (λ m. HasFollowed c.args.log.now c.args.context.now.sources.now c.args.sections.now n k m c.loop-number.walk c.loop-number.findings)
-    at (c.loop-number.invariant.follows n k begins knows)
+returns-clause-follows c n k begins none placed knows = (
+  c.loop-number.time,
+  let at : c.loop-number.number - 1 ≡ c.args.end - 1 = omega arith in
+      subst (λ m. HasAdded c.args.log.now c.args.context.now.sources.now c.args.sections.now n k m c.loop-number.time
+      c.loop-number.walk c.loop-number.findings) at (c.loop-number.invariant.follows n k begins none placed knows),
+)

@@ -1,6 +1,6 @@
 use Rattle.std.proofs.Common.{◌≡◌, ◌≤◌, ◌-◌, ℕ, [], max}
 use Rattle.pim_course.specs.Reading.{Begins}
-use Rattle.pim_import.specs.Following.{HasFollowed, Knows}
+use Rattle.pim_import.specs.Following.{ArePlaced, HasAdded, Knows}
 use Rattle.pim_import.specs.Tallies.{total}
 use Rattle.pim_import.proofs.importing.play.Given as goal
 
@@ -9,6 +9,7 @@ abbrev pub invariant-loop-number : goal.invariant-loop-number
 invariant-loop-number l = record {
   counted : total l.tally ≡ l.number - 1;
   within : l.number ≤ max 1 l.end;
-  follows : (n k : ℕ) → Begins l.context.sources.now.ids l.fn.walk.course → Knows n k l.sections [] l.fn.findings →
-      HasFollowed l.log l.context.sources.now l.sections n k (l.number - 1) l.walk l.findings;
+  follows : (n k : ℕ) → Begins l.context.sources.now.ids l.fn.walk.course → l.fn.walk.added ≡ 0 →
+      ArePlaced l.log l.context.sources.now.requests.list.items → Knows n k l.sections [] l.fn.findings →
+      HasAdded l.log l.context.sources.now l.sections n k (l.number - 1) l.time l.walk l.findings;
 }

@@ -18,21 +18,25 @@ loop-fact-preserved c =
     let told = c.in_ok-is_used.ensures in
     record {
       left_out =
-          All-more (λ (s : Fact). IsKept c.args.sections.now s ⊎ MayBeLeftOut c.args.walk.now.course c.args.context.now.sources.now s)
+          All-more
+          (λ (s : Fact). IsKept c.args.sections.now s ⊎ MayBeLeftOut c.args.walk.now.course c.args.context.now.sources.now s)
           c.shown-shown.result.now c.loop-fact.fact-index _ c.loop-fact-test.true c.loop-fact.invariant.left_out told.left_out;
       unused = λ none.
           let both = neither c.loop-fact.is_used c.in_ok-is_used.field-0 none in
           All-more (λ (s : Fact). IsSetting s.what ⊎ MayBeLeftOut c.args.walk.now.course c.args.context.now.sources.now s)
-          c.shown-shown.result.now c.loop-fact.fact-index _ c.loop-fact-test.true (c.loop-fact.invariant.unused both.0) (told.unused both.1);
+          c.shown-shown.result.now c.loop-fact.fact-index _ c.loop-fact-test.true (c.loop-fact.invariant.unused both.0)
+          (told.unused both.1);
       finds = λ n k facts knows.
           subst (λ (moments : List Moment). Knows n k c.args.sections.now (moments ++ facts) c.show_fact.new.findings)
-          (sym (moments_more c.args.context.now.sources.now c.args.walk.now.course c.args.now.now.time c.shown-shown.result.now c.loop-fact.fact-index _ c.loop-fact-test.true))
+          (sym (moments_more c.args.context.now.sources.now c.args.walk.now.course c.args.now.now.time
+          c.shown-shown.result.now c.loop-fact.fact-index _ c.loop-fact-test.true))
           (told.finds n k _ (c.loop-fact.invariant.finds n k facts knows));
     }
 
 pub returns-clause-left_out : goal.returns-clause-left_out
 returns-clause-left_out c =
-    subst (All (λ (s : Fact). IsKept c.args.sections.now s ⊎ MayBeLeftOut c.args.walk.now.course c.args.context.now.sources.now s))
+    subst
+    (All (λ (s : Fact). IsKept c.args.sections.now s ⊎ MayBeLeftOut c.args.walk.now.course c.args.context.now.sources.now s))
     (take_all c.loop-fact.fact-index c.shown-shown.result.now c.loop-fact-test.false ∙ c.shown-shown.ensures)
     c.loop-fact.invariant.left_out
 
@@ -44,6 +48,9 @@ returns-clause-unused c none =
 
 pub returns-clause-finds : goal.returns-clause-finds
 returns-clause-finds c n k facts knows =
-    subst (λ (shown : List Fact). Knows n k c.args.sections.now (moments_of c.args.context.now.sources.now c.args.walk.now.course c.args.now.now.time shown ++ facts) c.loop-fact.findings)
+    let sources = c.args.context.now.sources.now in
+    let course = c.args.walk.now.course in
+    subst (λ (shown : List Fact). Knows n k c.args.sections.now (moments_of sources course c.args.now.now.time shown ++ facts)
+    c.loop-fact.findings)
     (take_all c.loop-fact.fact-index c.shown-shown.result.now c.loop-fact-test.false ∙ c.shown-shown.ensures)
     (c.loop-fact.invariant.finds n k facts knows)

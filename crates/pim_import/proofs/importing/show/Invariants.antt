@@ -9,8 +9,12 @@ use Rattle.pim_import.proofs.importing.show.Given as goal
 -- what was shown so far is kept or may be left out, and if none of it is in the trace, what was kept sets a level or a ceiling
 abbrev pub invariant-loop-fact : goal.invariant-loop-fact
 invariant-loop-fact l = record {
-  left_out : All (λ (fact : Fact). IsKept l.sections fact ⊎ MayBeLeftOut l.walk.course l.context.sources.now fact) (take l.fact-index l.shown);
-  unused : l.is_used ≡ false → All (λ (fact : Fact). IsSetting fact.what ⊎ MayBeLeftOut l.walk.course l.context.sources.now fact) (take l.fact-index l.shown);
+  left_out : All (λ (fact : Fact). IsKept l.sections fact ⊎ MayBeLeftOut l.walk.course l.context.sources.now fact)
+      (take l.fact-index l.shown);
+  unused : l.is_used ≡ false →
+      All (λ (fact : Fact). IsSetting fact.what ⊎ MayBeLeftOut l.walk.course l.context.sources.now fact)
+      (take l.fact-index l.shown);
   finds : (n k : ℕ) (facts : List Moment) → Knows n k l.sections facts l.fn.findings →
-      Knows n k l.sections (moments_of l.context.sources.now l.walk.course l.now.time (take l.fact-index l.shown) ++ facts) l.findings;
+      Knows n k l.sections (moments_of l.context.sources.now l.walk.course l.now.time (take l.fact-index l.shown) ++ facts)
+      l.findings;
 }
