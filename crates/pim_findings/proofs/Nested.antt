@@ -1,8 +1,10 @@
--- What is known of the orders of mutexes after one more fact.
+-- What is known of the orders of mutexes, and of critical sections, after one more fact.
 use Rattle.std.proofs.Common.{◌≡◌, ℕ, ◌<◌, cond, List, ◌∷◌, sym, subst}
 use Rattle.std.proofs.lemmas.Bool.{lt-ltb}
 use Rattle.pim_orders.specs.Nestings as nesting
 use Rattle.pim_orders.specs.Seen as nested
+use Rattle.pim_blocking.specs.Bounds as blocking
+use Rattle.pim_findings.specs.Bounds.{KnowsSections, observed_of}
 use Rattle.pim_findings.specs.Orders.{KnowsOrders, nested_of}
 use Rattle.pim_findings.specs.Waits.{Moment}
 use Rattle.pim_findings.specs.declared.findings.Findings.{Findings}
@@ -20,3 +22,10 @@ orders-more n m facts old new below more knows =
 pub orders-kept : (n : ℕ) (facts : List Moment) (old new : Findings) → new.orders ≡ old.orders → KnowsOrders n facts old →
     KnowsOrders n facts new
 orders-kept n facts old new same = subst (nested.Knows n (nested_of facts)) (sym same)
+
+-- ---- critical sections
+
+-- the same facts, and the sections as they were
+pub sections-kept : (n k : ℕ) (facts : List Moment) (old new : Findings) → new.blocking ≡ old.blocking →
+    KnowsSections n k facts old → KnowsSections n k facts new
+sections-kept n k facts old new same = subst (blocking.Knows n k (observed_of facts)) (sym same)

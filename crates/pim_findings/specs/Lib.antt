@@ -10,3 +10,4 @@ pub mod Cycles
 pub mod Walks
 pub mod Deadlocks
 pub mod Orders
+pub mod Bounds

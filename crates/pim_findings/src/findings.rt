@@ -10,6 +10,10 @@ ghost use Rattle.pim_findings.specs.HandOvers.{AreHandOvers, HandsOn, HandsOver,
 ghost use Rattle.pim_findings.specs.Levels.{is_protect};
 ghost use Rattle.pim_findings.specs.Queue.{KeepsQueue, before_at, protects_at, queued_at};
 ghost use Rattle.pim_findings.specs.Ownerships.{IsLongest, Owns, and_since, mutex_at};
+ghost use Rattle.pim_findings.specs.Bounds.{FindsBounds, KnowsSections};
+ghost use Rattle.pim_findings.specs.Orders.{KnowsOrders};
+ghost use Rattle.pim_blocking.specs.Bounds as blocking;
+ghost use Rattle.pim_blocking.specs.Observed as observed;
 ghost use Rattle.pim_orders.specs.Nestings as nesting;
 ghost use Rattle.pim_orders.specs.Opposites.{AreOpposites};
 ghost use Rattle.pim_orders.specs.Seen as nested;
@@ -54,6 +58,8 @@ impl Findings {
         ensures lists { IfOk result (λ found. is_some found.waits.all ≡ lists_waits) }
         ensures waits { IfOk result (λ found. Finds (length sources.now.ids.threads.items) (length sources.now.ids.mutexes.items) [] found) }
         ensures orders { IfOk result (λ found. nested.Knows (length sources.now.ids.threads.items) [] found.orders) }
+        ensures sections { IfOk result (λ found.
+            KnowsSections (length sources.now.ids.threads.items) (length sources.now.ids.mutexes.items) [] found) }
         ensures owns { IfOk result (λ found. Owns (length sources.now.ids.mutexes.items) [] found) }
         ensures hand_overs { IfOk result (λ found.
             HandsOver (length sources.now.ids.threads.items) (length sources.now.ids.mutexes.items) [] found) }
@@ -108,6 +114,8 @@ impl Findings {
         ensures mutexes { self.new.mutexes ≡ self.old.mutexes }
         ensures orders { IfOk result (λ _. (n : ℕ) (facts : List nesting.Moment) → nested.Knows n facts self.old.orders →
             nested.Knows n (nested.and_fact n (record { fact = fact.now; course = course.now }) facts) self.new.orders) }
+        ensures sections { IfOk result (λ _. (n k : ℕ) (facts : List observed.Moment) → blocking.Knows n k facts self.old.blocking →
+            blocking.Knows n k (record { fact = fact.now; time = time; course = course.now } ∷ facts) self.new.blocking) }
     {
         self.blocking.look(course, fact, time)?;
         self.orders.look(course, fact)
@@ -127,6 +135,7 @@ impl Findings {
     ) -> Result<(), AllocError>
         ensures lists { is_some self.new.waits.all ≡ is_some self.old.waits.all }
         ensures orders { self.new.orders ≡ self.old.orders }
+        ensures sections { self.new.blocking ≡ self.old.blocking }
         ensures waits { IfOk result (λ _. (n k : ℕ) (facts : List Moment) → Finds n k facts self.old →
             Finds n k (and_fact n (record {
               fact = fact.now;
@@ -174,6 +183,7 @@ impl Findings {
         ensures lists { is_some self.new.waits.all ≡ is_some self.old.waits.all }
         ensures len { length self.new.waiting.open.items ≡ length self.old.waiting.open.items }
         ensures orders { self.new.orders ≡ self.old.orders }
+        ensures sections { self.new.blocking ≡ self.old.blocking }
         ensures mutexes { self.new.mutexes ≡ self.old.mutexes }
         ensures others { (t : ℕ) → wait_at self.new.waiting t ≡ (if t == thread then None else wait_at self.old.waiting t) }
         ensures queued { (t : ℕ) → queued_at self.new.waiting t ≡ (if t == thread then None else queued_at self.old.waiting t) }
@@ -190,6 +200,7 @@ impl Findings {
     /// A thread has a mutex from now on.
     fn own(&mut self, sources: &Sources, fact: &Fact, time: u64) -> Result<(), AllocError>
         ensures orders { self.new.orders ≡ self.old.orders }
+        ensures sections { self.new.blocking ≡ self.old.blocking }
         ensures waits { KeepsWaits self.old self.new }
         ensures len { length self.new.mutexes.items ≡ length self.old.mutexes.items }
         ensures since { (mutex : ℕ) → mutex < length self.old.mutexes.items →
@@ -239,6 +250,7 @@ impl Findings {
     /// The owner of a mutex has it no more. Keeps who waits for it then, and who is first.
     fn release(&mut self, sources: &Sources, course: &Course, fact: &Fact, time: u64)
         ensures orders { self.new.orders ≡ self.old.orders }
+        ensures sections { self.new.blocking ≡ self.old.blocking }
         ensures waits { KeepsWaits self.old self.new }
         ensures len { length self.new.mutexes.items ≡ length self.old.mutexes.items }
         ensures since { (mutex : ℕ) → mutex < length self.old.mutexes.items →
@@ -293,6 +305,8 @@ impl Findings {
         ensures deadlocks { IfOk result (λ _. AreCycles (blocker_of course.now) (threads_of self.new.deadlocks.items)) }
         ensures opposites { IfOk result (λ _. (n : ℕ) (facts : List nesting.Moment) → nested.Knows n facts self.old.orders →
             AreOpposites (nesting.nestings facts) self.new.opposites.items) }
+        ensures bounds { IfOk result (λ _. (n k : ℕ) (facts : List Moment) → KnowsOrders n facts self.old →
+            KnowsSections n k facts self.old → FindsBounds n k facts time self.new) }
     {
         for thread in 0..self.waiting.threads() {
             self.end_wait(thread, time, true)?;
