@@ -94,8 +94,8 @@ impl Walk {
     /// Goes on by the next request that the log lacks. Returns when it was made, if a wait shows it. If there is no further
     /// request, the way shows nothing.
     pub fn add(&mut self, sources: &Sources) -> Option<u64>
-        ensures added { self.new.added ≡
-            option_map_or (λ request. self.old.added + 1) (slice_get sources.now.requests.list.items self.old.added) self.old.added }
+        ensures added { self.new.added ≡ option_map_or (λ request. self.old.added + 1)
+            (slice_get sources.now.requests.list.items self.old.added) self.old.added }
         ensures time { result ≡
             option_map_or (λ request. request.time) (slice_get sources.now.requests.list.items self.old.added) None }
         ensures size { HasSameSize self.old.course self.new.course }
