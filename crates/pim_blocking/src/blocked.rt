@@ -75,9 +75,8 @@ impl Blocked {
 /// Returns the level of the thread that owned what a thread waits for, as it began to. If that isn't known, it is 0, the
 /// lowest.
 fn awaited_level(course: &Course, thread: u32) -> u8 {
-    let owner = course.thread(thread).awaited_owner;
-    if owner == 0 || owner == thread {
-        return 0;
+    match course.thread(thread).awaited_owner {
+        Some(owner) if owner != thread => course.thread(owner).level,
+        _ => 0,
     }
-    course.thread(owner).level
 }

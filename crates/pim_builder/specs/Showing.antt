@@ -1,6 +1,7 @@
 -- What a trace shows of a fact, by the numbers that threads and mutexes of the log have in it at a time.
 use Rattle.std.specs.Prelude.{◌≡◌, ◌≢◌, ◌⊎◌, ℕ, List, Option, None, Some, MatchOption, if◌then◌else◌}
 use Rattle.std.specs.Prelude.{slice_index_or, unwrap_or}
+use Rattle.std.specs.Option.{option_and_then}
 use Rattle.pim_base.specs.Lists.{nth, holds}
 use Rattle.pim_base.specs.State.{IsTask, IsMutex, base_of, owner_of, protocol_of}
 use Rattle.pim_base.specs.declared.steps.Protocol.{Protocol}
@@ -56,7 +57,7 @@ abbrev pub ShowsWhat : ReplayState → (ℕ → ℕ) → (ℕ → Option ℕ) �
 ShowsWhat r priority tasks Granted task mutex = HoldsOf (λ k. HoldsOf (Has (program_of r) k) mutex) task
 ShowsWhat r priority tasks Waits task mutex = HoldsOf (λ k. HoldsOf (λ n. awaited r k ≡ Some n) mutex) task
 ShowsWhat r priority tasks GaveUp task mutex = HoldsOf (λ k. awaited r k ≡ None) task
-ShowsWhat r priority tasks (Released next) task mutex = HoldsOf (IsPassedOn r (tasks next)) mutex
+ShowsWhat r priority tasks (Released next) task mutex = HoldsOf (IsPassedOn r (option_and_then tasks next)) mutex
 ShowsWhat r priority tasks (Level level) task mutex = HoldsOf (HasBase r (priority level)) task
 ShowsWhat r priority tasks (Ceiling level) task mutex = HoldsOf (HasCeiling r (priority level)) mutex
 

@@ -1,5 +1,6 @@
 //! The trace as it is made: who has which number at a time, and the steps of facts.
 ghost use Rattle.std.specs.Prelude.{IfOk, IfErr, IsTrue, ◌≡◌, All, false};
+ghost use Rattle.std.specs.Option.{option_and_then};
 ghost use Rattle.pim_base.specs.Lists.{holds};
 ghost use Rattle.pim_builder.specs.Faults.{NamesNone, NamesOnly};
 ghost use Rattle.pim_builder.specs.Pieces.{AreJoined, EndWith, HasTimes};
@@ -119,7 +120,7 @@ impl TraceBuilder {
             What::Granted => is_granted(replay, task, mutex),
             What::Waits => is_awaited(replay, task, mutex),
             What::GaveUp => is_done_waiting(replay, task),
-            What::Released(next) => is_released(replay, self.task_of(context, next), mutex),
+            What::Released(next) => is_released(replay, self.next_task(context, next), mutex),
             What::Level(level) => has_base(replay, task, priorities.of_level(level)),
             What::Ceiling(level) => has_ceiling(replay, mutex, priorities.of_level(level)),
         }
@@ -172,7 +173,7 @@ impl TraceBuilder {
             }
             What::Waits => self.pieces.observe(&Observation::Waits(task, mutex), now),
             What::Released(next) => {
-                let next = self.task_of(context, next);
+                let next = self.next_task(context, next);
                 let release = Observation::Released(task, mutex, next);
                 let moved = self.set_aside(Some(task), now)?;
                 self.observe_grant(&next, mutex, &release, now)?;
@@ -287,6 +288,13 @@ impl TraceBuilder {
         } else {
             None
         }
+    }
+
+    /// Returns the number in the trace of the next owner of a mutex, if there is one, and it has it now.
+    fn next_task(&self, context: &Context, next: Option<u32>) -> Option<TaskNo>
+        ensures { result ≡ option_and_then (task_now context.now self.now) next }
+    {
+        self.task_of(context, next?)
     }
 
     /// Returns the number in the trace of a mutex of the log, if it has it now.

@@ -1,5 +1,5 @@
 -- What the loops that begin a course keep.
-use Rattle.std.proofs.Common.{◌≡◌, ℕ, ◌<◌, ◌≤◌, List, [], length, get_or, slice_get, ap, sym, inl, inr, ◌∙◌, arith}
+use Rattle.std.proofs.Common.{◌≡◌, ℕ, ◌<◌, ◌≤◌, List, [], length, get_or, slice_get, None, ap, sym, inl, inr, ◌∙◌, arith}
 use Rattle.std.proofs.Math.Path.{fun_ext}
 use Rattle.std.proofs.lemmas.Bool.{cases_lt}
 use Rattle.std.proofs.lemmas.List.{get_or_past}
@@ -12,7 +12,7 @@ use Rattle.pim_facts.specs.declared.ids.LoggedThread.{LoggedThread}
 use Rattle.pim_course.specs.Courses.{free, idle}
 use Rattle.pim_course.specs.Reading.{Begins, world_before}
 use Rattle.pim_course.specs.Sections.{no_sections, sections_of}
-use Rattle.pim_course.specs.World.{if_any, world_of}
+use Rattle.pim_course.specs.World.{world_of}
 use Rattle.pim_course.specs.declared.course.Course.{Course}
 use Rattle.pim_course.specs.declared.course.CourseMutex.{CourseMutex}
 use Rattle.pim_course.specs.declared.course.CourseThread.{CourseThread}
@@ -22,16 +22,16 @@ use Rattle.pim_course.proofs.Worlds.{worlds}
 -- the mutexes are free, and those below a place have their ceilings
 pub record AreFree (logged : List LoggedMutex) (place : ℕ) (mutexes : List CourseMutex) : Type 0 where
   pub len : length mutexes ≡ length logged
-  pub owner : (m : ℕ) → (get_or mutexes m free).owner ≡ 0
+  pub owner : (m : ℕ) → (get_or mutexes m free).owner ≡ None
   pub depth : (m : ℕ) → (get_or mutexes m free).depth ≡ 0
-  pub section : (m : ℕ) → (get_or mutexes m free).section ≡ 0
+  pub section : (m : ℕ) → (get_or mutexes m free).section ≡ None
   pub ceiling : (m : ℕ) → m < place → (get_or mutexes m free).ceiling ≡ option_map_or (λ is. is.ceiling) (slice_get logged m) 0
 
 -- the threads do nothing, and those below a place have their levels
 pub record AreIdle (logged : List LoggedThread) (place : ℕ) (threads : List CourseThread) : Type 0 where
   pub len : length threads ≡ length logged
-  pub awaits : (t : ℕ) → (get_or threads t idle).awaits ≡ 0
-  pub section : (t : ℕ) → (get_or threads t idle).section ≡ 0
+  pub awaits : (t : ℕ) → (get_or threads t idle).awaits ≡ None
+  pub section : (t : ℕ) → (get_or threads t idle).section ≡ None
   pub level : (t : ℕ) → t < place → (get_or threads t idle).level ≡ option_map_or (λ is. is.level) (slice_get logged t) 0
 
 pub begins : (ids : Ids) (course : Course) (place : ℕ) → AreFree ids.mutexes.items (length ids.mutexes.items) course.mutexes.items →
@@ -40,8 +40,8 @@ pub begins : (ids : Ids) (course : Course) (place : ℕ) → AreFree ids.mutexes
 begins ids course place mutexes threads end none shown =
     record {
       world = worlds (world_before ids) (world_of course)
-          (fun_ext (λ m. ap if_any (mutexes.owner m)))
-          (fun_ext (λ t. ap if_any (threads.awaits t)))
+          (fun_ext (λ m. mutexes.owner m))
+          (fun_ext (λ t. threads.awaits t))
           (fun_ext (λ t. elim (cases_lt t (length ids.threads.items)) [
             | inl lt ↦ threads.level t (omega arith)
             | inr past ↦
@@ -58,8 +58,8 @@ begins ids course place mutexes threads end none shown =
       mutexes = mutexes.len;
       depths = mutexes.depth;
       sections = sections_are no_sections (sections_of course)
-          (fun_ext (λ m. ap if_any (mutexes.section m)))
-          (fun_ext (λ t. ap if_any (threads.section t)))
+          (fun_ext (λ m. mutexes.section m))
+          (fun_ext (λ t. threads.section t))
           none;
       shown = shown;
     }

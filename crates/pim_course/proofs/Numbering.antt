@@ -1,46 +1,46 @@
 -- How facts get the numbers of critical sections, a part of a record after the other.
-use Rattle.std.proofs.Common.{◌≡◌, ◌≢◌, ℕ, ◌+◌, ◌-◌, ◌^◌, ◌<◌, ◌≤◌, cond, Bool, List, [], ◌∷◌, ◌++◌, length, set, Some, None, is_none, sym, refl, ap, ◌∙◌, subst, inl, inr, eq-eqb, arith}
+use Rattle.std.proofs.Common.{◌≡◌, ℕ, ◌+◌, ◌<◌, ◌≤◌, cond, Bool, List, [], ◌∷◌, ◌++◌, length, set, Option, Some, None, is_none, sym, refl, ap, ◌∙◌, subst, inl, inr, eq-eqb, arith}
 use Rattle.std.proofs.Math.Path.{fun_ext}
 use Rattle.std.proofs.lemmas.Bool.{ne_eqb, cases_eq, cases_lt}
 use Rattle.std.proofs.lemmas.List.{length-append}
-use Rattle.std.specs.Option.{unwrap_or}
+use Rattle.std.specs.Option.{option_and, unwrap_or}
 use Rattle.pim_facts.specs.Shown.{shown_in}
 use Rattle.pim_facts.specs.declared.fact.Fact.{Fact}
 use Rattle.pim_facts.specs.declared.fact.What.TheVariants.{Released, Waits}
 use Rattle.pim_course.specs.Courses.{free, idle, mutex_in, thread_in}
 use Rattle.pim_course.specs.Going.{KeepsSections, Numbers}
 use Rattle.pim_course.specs.Sections.{AreNumbered, HasNumberOf, Sections, after_numbered, lasts_at, next_number, number_at, sections_after, sections_of}
-use Rattle.pim_course.specs.World.{but_for, if_any}
+use Rattle.pim_course.specs.World.{but_for}
 use Rattle.pim_course.specs.declared.course.Course.{Course}
 use Rattle.pim_course.specs.declared.course.CourseMutex.{CourseMutex}
 use Rattle.pim_course.specs.declared.course.CourseThread.{CourseThread}
-use Rattle.pim_course.proofs.Worlds.{each, each-put, each-same, is_any}
+use Rattle.pim_course.proofs.Worlds.{each, each-put, each-same}
 
 -- critical sections are the same if all of them says the same
 pub sections_are : (v w : Sections) → w.lasting ≡ v.lasting → w.began ≡ v.began → w.count ≡ v.count → w ≡ v
 sections_are v w lasting began count = λ i. record { lasting = lasting i; began = began i; count = count i }
 
 lasting-kept : (c d : Course) → d.mutexes.items ≡ c.mutexes.items → (sections_of d).lasting ≡ (sections_of c).lasting
-lasting-kept c d e = ap (each (λ z. if_any z.section) free) e
+lasting-kept c d e = ap (each (λ z. z.section) free) e
 
 began-kept : (c d : Course) → d.threads.items ≡ c.threads.items → (sections_of d).began ≡ (sections_of c).began
-began-kept c d e = ap (each (λ y. if_any y.section) idle) e
+began-kept c d e = ap (each (λ y. y.section) idle) e
 
 lasting-same : (c d : Course) (m : ℕ) (z : CourseMutex) → d.mutexes.items ≡ set c.mutexes.items m z →
     z.section ≡ (mutex_in c m).section → (sections_of d).lasting ≡ (sections_of c).lasting
-lasting-same c d m z e same = each-same (λ z. if_any z.section) free c.mutexes.items d.mutexes.items m z e (ap if_any same)
+lasting-same c d m z e same = each-same (λ z. z.section) free c.mutexes.items d.mutexes.items m z e same
 
 began-same : (c d : Course) (t : ℕ) (y : CourseThread) → d.threads.items ≡ set c.threads.items t y →
     y.section ≡ (thread_in c t).section → (sections_of d).began ≡ (sections_of c).began
-began-same c d t y e same = each-same (λ y. if_any y.section) idle c.threads.items d.threads.items t y e (ap if_any same)
+began-same c d t y e same = each-same (λ y. y.section) idle c.threads.items d.threads.items t y e same
 
 lasting-put : (c d : Course) (m : ℕ) (z : CourseMutex) → d.mutexes.items ≡ set c.mutexes.items m z →
-    m < length c.mutexes.items → (sections_of d).lasting ≡ but_for m (if_any z.section) (sections_of c).lasting
-lasting-put c d m z e lt = each-put (λ z. if_any z.section) free c.mutexes.items d.mutexes.items m z e lt
+    m < length c.mutexes.items → (sections_of d).lasting ≡ but_for m (z.section) (sections_of c).lasting
+lasting-put c d m z e lt = each-put (λ z. z.section) free c.mutexes.items d.mutexes.items m z e lt
 
 began-put : (c d : Course) (t : ℕ) (y : CourseThread) → d.threads.items ≡ set c.threads.items t y →
-    t < length c.threads.items → (sections_of d).began ≡ but_for t (if_any y.section) (sections_of c).began
-began-put c d t y e lt = each-put (λ y. if_any y.section) idle c.threads.items d.threads.items t y e lt
+    t < length c.threads.items → (sections_of d).began ≡ but_for t (y.section) (sections_of c).began
+began-put c d t y e lt = each-put (λ y. y.section) idle c.threads.items d.threads.items t y e lt
 
 pub same-thread : (c d : Course) (t : ℕ) (y : CourseThread) → d.threads.items ≡ set c.threads.items t y →
     d.mutexes ≡ c.mutexes → d.sections ≡ c.sections → y.section ≡ (thread_in c t).section → KeepsSections c d
@@ -60,13 +60,6 @@ pub same-both : (c d : Course) (t : ℕ) (y : CourseThread) (m : ℕ) (z : Cours
 same-both c d t y m z threads mutexes count began lasting =
     sections_are (sections_of c) (sections_of d) (lasting-same c d m z mutexes lasting) (began-same c d t y threads began) count
 
-pub next-above : (s : Sections) → next_number s ≢ 0
-next-above s none =
-    elim (cases_lt s.count (2 ^ 32 - 1)) [
-      | inl lt ↦ omega (arith, none)
-      | inr le ↦ omega (arith, none)
-    ]
-
 -- none lasts at the mutex: the next one does from now on
 pub number-next : (s : Sections) (m : ℕ) → s.lasting m ≡ None → number_at s m ≡ next_number s
 number-next s m none = ap (λ o. unwrap_or o (next_number s)) none
@@ -75,13 +68,13 @@ pub number-lasting : (s : Sections) (m n : ℕ) → s.lasting m ≡ Some n → n
 number-lasting s m n lasting = ap (λ o. unwrap_or o (next_number s)) lasting
 
 pub lasts-next : (c d : Course) (m : ℕ) (z : CourseMutex) → d.mutexes.items ≡ set c.mutexes.items m z →
-    d.threads ≡ c.threads → m < length c.mutexes.items → (mutex_in c m).section ≡ 0 → z.section ≡ next_number (sections_of c) →
+    d.threads ≡ c.threads → m < length c.mutexes.items → (mutex_in c m).section ≡ None →
+    z.section ≡ Some (next_number (sections_of c)) →
     d.sections ≡ next_number (sections_of c) → sections_of d ≡ lasts_at (sections_of c) m
 lasts-next c d m z mutexes threads lt section put count =
     let s : Sections = sections_of c in
-    let none : s.lasting m ≡ None = ap if_any section in
-    let is : if_any z.section ≡ Some (number_at s m) =
-    ap if_any put ∙ is_any (next_number s) (next-above s) ∙ sym (ap (λ n. Some n) (number-next s m none)) in
+    let none : s.lasting m ≡ None = section in
+    let is : z.section ≡ Some (number_at s m) = put ∙ sym (ap (λ n. Some n) (number-next s m none)) in
     sections_are (lasts_at s m) (sections_of d)
     (lasting-put c d m z mutexes lt ∙ ap (λ o. but_for m o s.lasting) is)
     (began-kept c d (ap (λ v. v.items) threads))
@@ -103,7 +96,7 @@ lasts-still s m n lasting =
 pub waits-in : (c s d : Course) (t : ℕ) (y : CourseThread) (m : ℕ) (z : CourseMutex) →
     sections_of s ≡ lasts_at (sections_of c) m → d.threads.items ≡ set s.threads.items t y →
     d.mutexes.items ≡ set s.mutexes.items m z → d.sections ≡ s.sections → t < length s.threads.items →
-    if_any y.section ≡ Some (number_at (sections_of c) m) → z.section ≡ (mutex_in s m).section →
+    y.section ≡ Some (number_at (sections_of c) m) → z.section ≡ (mutex_in s m).section →
     sections_of d ≡ sections_after (sections_of c) Waits t m
 waits-in c s d t y m z lasts threads mutexes count lt began lasting =
     sections_are (sections_after (sections_of c) Waits t m) (sections_of d)
@@ -113,23 +106,17 @@ waits-in c s d t y m z lasts threads mutexes count lt began lasting =
     (count ∙ ap (λ x. x.count) lasts)
 
 -- a mutex is released: to nobody, or to a thread that has it next
-pub released-to : (c d : Course) (t m : ℕ) (z : CourseMutex) (next : ℕ) → d.threads.items ≡ c.threads.items →
+pub released-to : (c d : Course) (t m : ℕ) (z : CourseMutex) (next : Option ℕ) → d.threads.items ≡ c.threads.items →
     d.mutexes.items ≡ set c.mutexes.items m z → d.sections ≡ c.sections → m < length c.mutexes.items →
-    (next ≡ 0 → z.section ≡ 0) → (next ≢ 0 → z.section ≡ (mutex_in c m).section) →
+    z.section ≡ option_and next (mutex_in c m).section →
     sections_of d ≡ sections_after (sections_of c) (Released next) t m
-released-to c d t m z next threads mutexes count lt nobody somebody =
+released-to c d t m z None threads mutexes count lt section =
     let s : Sections = sections_of c in
-    let ended : Sections = record s { lasting = but_for m None s.lasting } in
-    elim (cases_eq next 0) [
-      | inl none ↦
-          sections_are ended (sections_of d)
-          (lasting-put c d m z mutexes lt ∙ ap (λ o. but_for m o s.lasting) (ap if_any (nobody none)))
-          (began-kept c d threads) count
-          ∙ sym (ap (λ n. cond (is_none (if_any n)) ended s) none)
-      | inr some ↦
-          sections_are s (sections_of d) (lasting-same c d m z mutexes (somebody some)) (began-kept c d threads) count
-          ∙ sym (ap (λ o. cond (is_none o) ended s) (is_any next some))
-    ]
+    sections_are (record s { lasting = but_for m None s.lasting }) (sections_of d)
+    (lasting-put c d m z mutexes lt ∙ ap (λ o. but_for m o s.lasting) section)
+    (began-kept c d threads) count
+released-to c d t m z (Some next) threads mutexes count lt section =
+    sections_are (sections_of c) (sections_of d) (lasting-same c d m z mutexes section) (began-kept c d threads) count
 
 numbered-more : (facts : List Fact) (from to now : Sections) (fact : Fact) → AreNumbered facts from to → HasNumberOf to fact →
     now ≡ after_numbered to fact → AreNumbered (facts ++ (fact ∷ [])) from now

@@ -1,14 +1,15 @@
 -- What a course tells, a part of a record after the other.
-use Rattle.std.proofs.Common.{◌≡◌, ◌≢◌, ◌⊎◌, ℕ, ◌+◌, ◌==◌, ◌||◌, not, cond, Bool, true, false, List, [], ◌++◌, map, length, Option, Some, None, sym, refl, ap, ◌∙◌, subst, inl, inr, append_assoc, eq-eqb, arith}
-use Rattle.std.proofs.lemmas.Bool.{ne_eqb, cases_eq}
+use Rattle.std.proofs.Common.{◌≡◌, ◌≢◌, ◌⊎◌, ℕ, ◌+◌, ◌==◌, ◌||◌, not, cond, Bool, true, false, List, [], ◌++◌, map, length, Option, Some, None, sym, refl, ap, ◌∙◌, subst, inl, inr, append_assoc, eq-eqb, nat_eq, arith}
+use Rattle.std.proofs.lemmas.Bool.{eqb-false, eqb-true, ne_eqb, cases_eq}
+use Rattle.std.proofs.lemmas.Option.{same_Some}
 use Rattle.std.proofs.lemmas.List.{append-nil, length-append}
-use Rattle.std.specs.Option.{unwrap_or}
+use Rattle.std.specs.Option.{is_some, option_eq}
 use Rattle.pim_facts.specs.Shown.{shown_in}
 use Rattle.pim_course.specs.Going.{Tells}
-use Rattle.pim_course.specs.Told.{Happening, gave_up_told, happened_in, happening, is_it}
-use Rattle.pim_course.specs.World.{World, but_for, if_any}
+use Rattle.pim_course.specs.NextOwners.{is_that}
+use Rattle.pim_course.specs.Told.{Happening, gave_up_told, happened_in, happening, heir_in}
+use Rattle.pim_course.specs.World.{World, but_for}
 use Rattle.pim_course.specs.declared.course.Course.{Course}
-use Rattle.pim_course.proofs.Worlds.{is_any, some_is}
 
 pub if-so : {A : Type 0} (b : Bool) (x y : A) → b ≡ true → cond b x y ≡ x
 if-so b x y e = ap (λ k. cond k x y) e
@@ -35,20 +36,32 @@ not-true a e = ap (λ k. not k) e
 pub not-false : (a : Bool) → a ≡ false → not a ≡ true
 not-false a e = ap (λ k. not k) e
 
-pub any-is : (a : ℕ) → unwrap_or (if_any a) 0 ≡ a
-any-is a =
-    elim (cases_eq a 0) [
-      | inl e ↦ ap (λ k. unwrap_or (if_any k) 0) e ∙ sym e
-      | inr some ↦ ap (λ o. unwrap_or o 0) (is_any a some)
-    ]
+-- what `==` of the code says of a number that there may be
+that-by : (o : Option ℕ) (n : ℕ) → option_eq nat_eq o (Some n) ≡ is_that o n
+that-by None n = refl
+that-by (Some k) n = refl
 
-pub it-is : (a n : ℕ) → a ≡ n → is_it (if_any a) n ≡ true
-it-is a n e = eq-eqb (unwrap_or (if_any a) 0) n (any-is a ∙ e)
+-- the number that there is
+pub that-from : (o : Option ℕ) (n : ℕ) → option_eq nat_eq o (Some n) ≡ true → o ≡ Some n
+that-from None n e = cc
+that-from (Some k) n e = ap (λ j. Some j) (eqb-true k n e)
 
-pub it-isnt : (a n : ℕ) → a ≢ n → is_it (if_any a) n ≡ false
-it-isnt a n other = ne_eqb (unwrap_or (if_any a) 0) n (λ e. other (sym (any-is a) ∙ e))
+pub isnt-that : (o : Option ℕ) (n : ℕ) → option_eq nat_eq o (Some n) ≡ false → o ≡ Some n → ⊥
+isnt-that None n e same = cc
+isnt-that (Some k) n e same = eqb-false k n e (same_Some k n same)
 
-pub gave-up-same : (v w : World) (t but : ℕ) → w.awaits ≡ v.awaits → gave_up_told w t but ≡ gave_up_told v t but
+pub so-that : (o p : Option ℕ) (n : ℕ) → o ≡ p → option_eq nat_eq o (Some n) ≡ true → is_that p n ≡ true
+so-that o p n e is = ap (λ q. is_that q n) (sym e) ∙ sym (that-by o n) ∙ is
+
+pub not-that : (o p : Option ℕ) (n : ℕ) → o ≡ p → option_eq nat_eq o (Some n) ≡ false → is_that p n ≡ false
+not-that o p n e is = ap (λ q. is_that q n) (sym e) ∙ sym (that-by o n) ∙ is
+
+-- there is no number
+pub none-by : (o : Option ℕ) → is_some o ≡ false → o ≡ None
+none-by None e = refl
+none-by (Some n) e = cc
+
+pub gave-up-same : (v w : World) (t : ℕ) (but : Option ℕ) → w.awaits ≡ v.awaits → gave_up_told w t but ≡ gave_up_told v t but
 gave-up-same v w t but e = ap (λ (h : ℕ → Option ℕ). gave_up_told (record v { awaits = h }) t but) e
 
 pub tells-none : (most : ℕ) (told : List Happening) (old new : Course) → new.shown ≡ old.shown → told ≡ [] →
@@ -86,18 +99,21 @@ tells-behind most told old mid new same tells =
     }
 
 -- what the threads await after one gave up
-pub left-by : (v w : World) (t : ℕ) → (w.awaits t ≡ None) ⊎ ((w.awaits t ≡ Some 0) × (v.awaits t ≡ Some 0)) →
-    w.awaits t ≢ Some 0 → ((k : ℕ) → k ≢ t → w.awaits k ≡ v.awaits k) → (n : ℕ) → w.awaits n ≡ but_for t None v.awaits n
-left-by v w t awaits never others n =
+pub left-by : (v w : World) (t : ℕ) → (w.awaits t ≡ None) ⊎ ((w.awaits t ≡ None) × (v.awaits t ≡ None)) →
+    ((k : ℕ) → k ≢ t → w.awaits k ≡ v.awaits k) → (n : ℕ) → w.awaits n ≡ but_for t None v.awaits n
+left-by v w t awaits others n =
     elim (cases_eq n t) [
       | inl at ↦
-          ap w.awaits at ∙ elim awaits [ inl none ↦ none | inr it ↦ absurd (never it.0) ]
+          ap w.awaits at ∙ elim awaits [ inl none ↦ none | inr it ↦ it.0 ]
           ∙ sym (if-so (n == t) None (v.awaits n) (eq-eqb n t at))
       | inr other ↦ others n other ∙ sym (if-not (n == t) None (v.awaits n) (ne_eqb n t other))
     ]
 
-pub never-zero : (a : ℕ) → if_any a ≢ Some 0
-never-zero a e = let none : if_any a ≡ None = ap if_any (some_is a 0 e) in cc
+-- the next owner of a mutex is the same if the threads await the same
+pub heir-same : (v w : World) (m : ℕ) (next : Option ℕ) → ((n : ℕ) → v.awaits n ≡ w.awaits n) →
+    heir_in v m next ≡ heir_in w m next
+heir-same v w m None same = refl
+heir-same v w m (Some n) same = ap (λ o. cond (is_that o m) (Some n) None) (same n)
 
 -- one mutex is locked this often, and each other one as before
 pub depth-put : (m v : ℕ) (d e : ℕ → ℕ) → ((k : ℕ) → k ≢ m → e k ≡ d k) → (k : ℕ) → but_for m v e k ≡ but_for m v d k

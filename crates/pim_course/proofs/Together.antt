@@ -6,9 +6,8 @@ use Rattle.pim_facts.specs.declared.fact.Fact.{Fact}
 use Rattle.pim_facts.specs.declared.fact.What.{What}
 use Rattle.pim_facts.specs.declared.fact.What.TheVariants.{Granted, Waits, GaveUp, Released, Level, Ceiling}
 use Rattle.pim_course.specs.Sections.{AreNumbered, AreTogether, Ends, IsToNobody, IsWithin, Sections, SectionsLaw, after_numbered, lasts_at, next_number, no_sections, number_at, number_of, sections_after}
-use Rattle.pim_course.specs.World.{but_for, if_any}
+use Rattle.pim_course.specs.World.{but_for}
 use Rattle.pim_course.proofs.Numbering.{lasts-still, number-lasting, number-next}
-use Rattle.pim_course.proofs.Worlds.{is_any}
 
 -- a critical section lasts at each mutex only with numbers that there were, and with this one only at mutexes of a kind
 record Only (R : ℕ → Type 0) (s : Sections) (n : ℕ) : Type 0 where
@@ -55,12 +54,9 @@ count-lasts s m lt =
       | inr is ↦ omega (arith, ap (λ x. x.count) (lasts-still s m is.0 is.1))
     ]
 
-count-released : (s : Sections) (next t m : ℕ) → (sections_after s (Released next) t m).count ≡ s.count
-count-released s next t m =
-    elim (none-or (if_any next)) [
-      | inl none ↦ ap (λ o. (cond (is_none o) (ended s m) s).count) none
-      | inr is ↦ ap (λ o. (cond (is_none o) (ended s m) s).count) is.1
-    ]
+count-released : (s : Sections) (next : Option ℕ) (t m : ℕ) → (sections_after s (Released next) t m).count ≡ s.count
+count-released s None t m = refl
+count-released s (Some next) t m = refl
 
 count-step : (s : Sections) (what : What) (t m : ℕ) → (sections_after s what t m).count < 2 ^ 32 - 1 →
     s.count ≤ (sections_after s what t m).count
@@ -115,12 +111,8 @@ step-only R s Granted t m n only lt = lasts-only R s m n only lt
 step-only R s Waits t m n only lt =
     let x = lasts-only R s m n only lt in record { below = x.below; only = x.only }
 step-only R s GaveUp t m n only lt = only
-step-only R s (Released next) t m n only lt =
-    elim (none-or (if_any next)) [
-      | inl none ↦
-          subst (λ x. Only R x n) (sym (ap (λ o. cond (is_none o) (ended s m) s) none)) (ended-only R s m n only)
-      | inr is ↦ subst (λ x. Only R x n) (sym (ap (λ o. cond (is_none o) (ended s m) s) is.1)) only
-    ]
+step-only R s (Released None) t m n only lt = ended-only R s m n only
+step-only R s (Released (Some next)) t m n only lt = only
 step-only R s (Level level) t m n only lt = only
 step-only R s (Ceiling ceiling) t m n only lt = only
 
@@ -170,11 +162,8 @@ apart-step : (s : Sections) (what : What) (t m : ℕ) → Apart s → (sections_
 apart-step s Granted t m apart lt = apart-lasts s m apart lt
 apart-step s Waits t m apart lt = apart-began (lasts_at s m) _ (apart-lasts s m apart lt)
 apart-step s GaveUp t m apart lt = apart
-apart-step s (Released next) t m apart lt =
-    elim (none-or (if_any next)) [
-      | inl none ↦ subst Apart (sym (ap (λ o. cond (is_none o) (ended s m) s) none)) (apart-ended s m apart)
-      | inr is ↦ subst Apart (sym (ap (λ o. cond (is_none o) (ended s m) s) is.1)) apart
-    ]
+apart-step s (Released None) t m apart lt = apart-ended s m apart
+apart-step s (Released (Some next)) t m apart lt = apart
 apart-step s (Level level) t m apart lt = apart
 apart-step s (Ceiling ceiling) t m apart lt = apart
 
@@ -196,14 +185,16 @@ here R s (Released next) t m n only lt live e = only.only m (sym e)
 here R s (Level level) t m n only lt live e = never-some n (sym e)
 here R s (Ceiling ceiling) t m n only lt live e = only.only m (sym e)
 
-has-some : (section n : ℕ) (o : Option ℕ) → section ≢ 0 → section ≡ n → if_any section ≡ o → Some n ≡ o
-has-some section n o some e is = ap (λ j. Some j) (sym e) ∙ sym (is_any section some) ∙ is
+-- the number of a critical section
+number-in : (section : Option ℕ) → section ≢ None → (n : ℕ) × (section ≡ Some n)
+number-in None some = absurd (some refl)
+number-in (Some n) some = (n, refl)
 
 run : (R : ℕ → Type 0) (facts : List Fact) (last : Fact) (s to : Sections) (n : ℕ) → Only R s n →
-    AreNumbered (facts ++ (last ∷ [])) s to → to.count < 2 ^ 32 - 1 → IsWithin last → last.section ≡ n → R last.mutex
+    AreNumbered (facts ++ (last ∷ [])) s to → to.count < 2 ^ 32 - 1 → IsWithin last → last.section ≡ Some n → R last.mutex
 run R [] last s to n only led lt within e =
     here R s last.what last.thread last.mutex n only (below-next last [] s to led.1 lt) within.no_end
-    (has-some last.section n _ within.some e led.0)
+    (sym e ∙ led.0)
 run R (fact ∷ facts) last s to n only led lt within e =
     run R facts last (after_numbered s fact) to n
     (step-only R s fact.what fact.thread fact.mutex n only (below-next fact (facts ++ (last ∷ [])) s to led.1 lt))
@@ -215,20 +206,20 @@ gone : (s : Sections) (what : What) (t k m n : ℕ) → Only (λ j. j ≡ m) s n
 gone s Granted t k m n only at nobody = absurd nobody
 gone s Waits t k m n only at nobody = absurd nobody
 gone s GaveUp t k m n only at nobody = absurd nobody
-gone s (Released next) t k m n only at nobody =
-    subst (λ x. Only (λ _. ⊥) x n) (sym (ap (λ o. cond (is_none o) (ended s k) s) nobody))
-    (record {
+gone s (Released (Some next)) t k m n only at nobody = absurd (cc)
+gone s (Released None) t k m n only at nobody =
+    record {
       below = only.below;
       only = λ j lasting. elim (cases_eq j k) [
         | inl same ↦ never-some n (sym (at-it k None s.lasting j same) ∙ lasting)
         | inr other ↦ other (only.only j (sym (at-other k None s.lasting j other) ∙ lasting) ∙ sym at)
       ];
-    })
+    }
 gone s (Level level) t k m n only at nobody = absurd nobody
 gone s (Ceiling ceiling) t k m n only at nobody = absurd nobody
 
 unended : (facts : List Fact) (last : Fact) (s to : Sections) (m n : ℕ) → Only (λ j. j ≡ m) s n →
-    AreNumbered (facts ++ (last ∷ [])) s to → to.count < 2 ^ 32 - 1 → IsWithin last → last.section ≡ n →
+    AreNumbered (facts ++ (last ∷ [])) s to → to.count < 2 ^ 32 - 1 → IsWithin last → last.section ≡ Some n →
     AllByRecursion (λ fact. Ends m fact → ⊥) facts
 unended [] last s to m n only led lt within e = tt
 unended (fact ∷ facts) last s to m n only led lt within e = (
@@ -279,13 +270,8 @@ stays : (s : Sections) (what : What) (t k m n : ℕ) → s.lasting m ≡ Some n 
 stays s Granted t k m n is live = kept-lasting s k m n is
 stays s Waits t k m n is live = kept-lasting s k m n is
 stays s GaveUp t k m n is live = is
-stays s (Released next) t k m n is live =
-    elim (none-or (if_any next)) [
-      | inl none ↦
-          ap (λ o. (cond (is_none o) (ended s k) s).lasting m) none
-          ∙ at-other k None s.lasting m (λ at. live (sym at) none) ∙ is
-      | inr some ↦ ap (λ o. (cond (is_none o) (ended s k) s).lasting m) some.1 ∙ is
-    ]
+stays s (Released None) t k m n is live = at-other k None s.lasting m (λ at. live (sym at) refl) ∙ is
+stays s (Released (Some next)) t k m n is live = is
 stays s (Level level) t k m n is live = is
 stays s (Ceiling ceiling) t k m n is live = is
 
@@ -310,10 +296,12 @@ last-has s (Ceiling ceiling) t m n p is live e = same-some _ _ (e ∙ is)
 
 stay-run : (facts : List Fact) (last : Fact) (s to : Sections) (m n : ℕ) → s.lasting m ≡ Some n →
     AreNumbered (facts ++ (last ∷ [])) s to → AllByRecursion (λ fact. Ends m fact → ⊥) facts → IsWithin last →
-    last.mutex ≡ m → last.section ≡ n
+    last.mutex ≡ m → last.section ≡ Some n
 stay-run [] last s to m n is led all within e =
-    last-has s last.what last.thread last.mutex n last.section (ap s.lasting e ∙ is) within.no_end
-    (has-some last.section last.section _ within.some refl led.0)
+    let its = number-in last.section within.some in
+    its.1
+    ∙ ap (λ j. Some j)
+    (last-has s last.what last.thread last.mutex n its.0 (ap s.lasting e ∙ is) within.no_end (sym its.1 ∙ led.0))
 stay-run (fact ∷ facts) last s to m n is led all within e =
     stay-run facts last (after_numbered s fact) to m n
     (stays s fact.what fact.thread fact.mutex m n is (λ at nobody. all.0 (record { mutex = at; is = nobody })))
@@ -324,16 +312,16 @@ together : (first last : Fact) (between : List Fact) (s to : Sections) → Apart
     last.section ≡ first.section → AreTogether first between last
 together first last between s to apart led lt one other e =
     let lt' : (after_numbered s first).count < 2 ^ 32 - 1 = below-next first (between ++ (last ∷ [])) s to led.1 lt in
-    let is : Some first.section ≡ number_of s first.what first.thread first.mutex =
-    has-some first.section first.section _ one.some refl led.0 in
-    let only : Only (λ j. j ≡ first.mutex) (after_numbered s first) first.section =
-    first-only s first.what first.thread first.mutex first.section apart lt' one.no_end is in
+    let its = number-in first.section one.some in
+    let is : Some its.0 ≡ number_of s first.what first.thread first.mutex = sym its.1 ∙ led.0 in
+    let only : Only (λ j. j ≡ first.mutex) (after_numbered s first) its.0 =
+    first-only s first.what first.thread first.mutex its.0 apart lt' one.no_end is in
     record {
-      mutex = run (λ j. j ≡ first.mutex) between last (after_numbered s first) to first.section only led.1 lt other e;
+      mutex = run (λ j. j ≡ first.mutex) between last (after_numbered s first) to its.0 only led.1 lt other (e ∙ its.1);
       lasting = (
-        λ ends. run (λ _. ⊥) between last (after_numbered s first) to first.section
-            (first-gone s first.what first.thread first.mutex first.section apart ends.is is) led.1 lt other e,
-        unended between last (after_numbered s first) to first.mutex first.section only led.1 lt other e,
+        λ ends. run (λ _. ⊥) between last (after_numbered s first) to its.0
+            (first-gone s first.what first.thread first.mutex its.0 apart ends.is is) led.1 lt other (e ∙ its.1),
+        unended between last (after_numbered s first) to first.mutex its.0 only led.1 lt other (e ∙ its.1),
       );
     }
 
@@ -341,12 +329,13 @@ pub one-number : (first last : Fact) (between : List Fact) (s to : Sections) →
     AreNumbered (first ∷ (between ++ (last ∷ []))) s to → IsWithin first → IsWithin last →
     AreTogether first between last → last.section ≡ first.section
 one-number first last between s to led one other are =
-    let is : Some first.section ≡ number_of s first.what first.thread first.mutex =
-    has-some first.section first.section _ one.some refl led.0 in
-    stay-run between last (after_numbered s first) to first.mutex first.section
-    (first-lasts s first.what first.thread first.mutex first.section is one.no_end
+    let its = number-in first.section one.some in
+    let is : Some its.0 ≡ number_of s first.what first.thread first.mutex = sym its.1 ∙ led.0 in
+    stay-run between last (after_numbered s first) to first.mutex its.0
+    (first-lasts s first.what first.thread first.mutex its.0 is one.no_end
     (λ nobody. are.lasting.0 (record { mutex = refl; is = nobody })))
     led.1 are.lasting.1 other are.mutex
+    ∙ sym its.1
 
 from-any : (before between : List Fact) (first last : Fact) (s to : Sections) → Apart s →
     AreNumbered (before ++ (first ∷ (between ++ (last ∷ [])))) s to → to.count < 2 ^ 32 - 1 → IsWithin first →

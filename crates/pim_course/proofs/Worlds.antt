@@ -1,12 +1,12 @@
 -- How the world changes as a thread or a mutex is put.
-use Rattle.std.proofs.Common.{◌≡◌, ◌≢◌, ℕ, ◌<◌, cond, List, length, get_or, set, Option, Some, None, sym, ap, ◌∙◌, inl, inr, eq-eqb}
+use Rattle.std.proofs.Common.{◌≡◌, ℕ, ◌<◌, cond, List, length, get_or, set, Option, Some, None, sym, ap, ◌∙◌, inl, inr, eq-eqb}
 use Rattle.std.proofs.Math.Path.{fun_ext}
 use Rattle.std.proofs.lemmas.Bool.{ne_eqb, cases_eq, cases_lt}
 use Rattle.std.proofs.lemmas.Grind.{get_or-set_at}
 use Rattle.std.proofs.lemmas.List.{get_or-set_other, get_or_past, set_past}
 use Rattle.pim_course.specs.Courses.{free, idle, mutex_in, thread_in}
 use Rattle.pim_course.specs.Going.{IsStill}
-use Rattle.pim_course.specs.World.{World, but_for, if_any, world_of}
+use Rattle.pim_course.specs.World.{World, but_for, world_of}
 use Rattle.pim_course.specs.declared.course.Course.{Course}
 use Rattle.pim_course.specs.declared.course.CourseMutex.{CourseMutex}
 use Rattle.pim_course.specs.declared.course.CourseThread.{CourseThread}
@@ -44,20 +44,20 @@ pub put-in : {X : Type 0} (xs same ys : List X) (i : ℕ) (y : X) → xs ≡ sam
 put-in xs same ys i y e put = put ∙ ap (λ l. set l i y) e
 
 pub owner-kept : (c d : Course) → d.mutexes.items ≡ c.mutexes.items → (world_of d).owner ≡ (world_of c).owner
-owner-kept c d e = ap (each (λ z. if_any z.owner) free) e
+owner-kept c d e = ap (each (λ z. z.owner) free) e
 
 pub ceiling-kept : (c d : Course) → d.mutexes.items ≡ c.mutexes.items → (world_of d).ceiling ≡ (world_of c).ceiling
 ceiling-kept c d e = ap (each (λ z. z.ceiling) free) e
 
 pub awaits-kept : (c d : Course) → d.threads.items ≡ c.threads.items → (world_of d).awaits ≡ (world_of c).awaits
-awaits-kept c d e = ap (each (λ y. if_any y.awaits) idle) e
+awaits-kept c d e = ap (each (λ y. y.awaits) idle) e
 
 pub level-kept : (c d : Course) → d.threads.items ≡ c.threads.items → (world_of d).level ≡ (world_of c).level
 level-kept c d e = ap (each (λ y. y.level) idle) e
 
 pub owner-same : (c d : Course) (m : ℕ) (z : CourseMutex) → d.mutexes.items ≡ set c.mutexes.items m z →
     z.owner ≡ (mutex_in c m).owner → (world_of d).owner ≡ (world_of c).owner
-owner-same c d m z e same = each-same (λ z. if_any z.owner) free c.mutexes.items d.mutexes.items m z e (ap if_any same)
+owner-same c d m z e same = each-same (λ z. z.owner) free c.mutexes.items d.mutexes.items m z e same
 
 pub ceiling-same : (c d : Course) (m : ℕ) (z : CourseMutex) → d.mutexes.items ≡ set c.mutexes.items m z →
     z.ceiling ≡ (mutex_in c m).ceiling → (world_of d).ceiling ≡ (world_of c).ceiling
@@ -65,23 +65,23 @@ ceiling-same c d m z e same = each-same (λ z. z.ceiling) free c.mutexes.items d
 
 pub awaits-same : (c d : Course) (t : ℕ) (y : CourseThread) → d.threads.items ≡ set c.threads.items t y →
     y.awaits ≡ (thread_in c t).awaits → (world_of d).awaits ≡ (world_of c).awaits
-awaits-same c d t y e same = each-same (λ y. if_any y.awaits) idle c.threads.items d.threads.items t y e (ap if_any same)
+awaits-same c d t y e same = each-same (λ y. y.awaits) idle c.threads.items d.threads.items t y e same
 
 pub level-same : (c d : Course) (t : ℕ) (y : CourseThread) → d.threads.items ≡ set c.threads.items t y →
     y.level ≡ (thread_in c t).level → (world_of d).level ≡ (world_of c).level
 level-same c d t y e same = each-same (λ y. y.level) idle c.threads.items d.threads.items t y e same
 
 pub owner-put : (c d : Course) (m : ℕ) (z : CourseMutex) → d.mutexes.items ≡ set c.mutexes.items m z →
-    m < length c.mutexes.items → (world_of d).owner ≡ but_for m (if_any z.owner) (world_of c).owner
-owner-put c d m z e lt = each-put (λ z. if_any z.owner) free c.mutexes.items d.mutexes.items m z e lt
+    m < length c.mutexes.items → (world_of d).owner ≡ but_for m (z.owner) (world_of c).owner
+owner-put c d m z e lt = each-put (λ z. z.owner) free c.mutexes.items d.mutexes.items m z e lt
 
 pub ceiling-put : (c d : Course) (m : ℕ) (z : CourseMutex) → d.mutexes.items ≡ set c.mutexes.items m z →
     m < length c.mutexes.items → (world_of d).ceiling ≡ but_for m z.ceiling (world_of c).ceiling
 ceiling-put c d m z e lt = each-put (λ z. z.ceiling) free c.mutexes.items d.mutexes.items m z e lt
 
 pub awaits-put : (c d : Course) (t : ℕ) (y : CourseThread) → d.threads.items ≡ set c.threads.items t y →
-    t < length c.threads.items → (world_of d).awaits ≡ but_for t (if_any y.awaits) (world_of c).awaits
-awaits-put c d t y e lt = each-put (λ y. if_any y.awaits) idle c.threads.items d.threads.items t y e lt
+    t < length c.threads.items → (world_of d).awaits ≡ but_for t (y.awaits) (world_of c).awaits
+awaits-put c d t y e lt = each-put (λ y. y.awaits) idle c.threads.items d.threads.items t y e lt
 
 pub level-put : (c d : Course) (t : ℕ) (y : CourseThread) → d.threads.items ≡ set c.threads.items t y →
     t < length c.threads.items → (world_of d).level ≡ but_for t y.level (world_of c).level
@@ -92,40 +92,28 @@ pub worlds : (v w : World) → w.owner ≡ v.owner → w.awaits ≡ v.awaits →
 worlds v w owner awaits level ceiling =
     λ i. record { owner = owner i; awaits = awaits i; level = level i; ceiling = ceiling i }
 
-pub is_any : (n : ℕ) → n ≢ 0 → if_any n ≡ Some n
-is_any n some = ap (λ b. cond b None (Some n)) (ne_eqb n 0 some)
-
-pub none_is : (n : ℕ) → if_any n ≡ None → n ≡ 0
-none_is n none =
-    elim (cases_eq n 0) [ inl e ↦ e | inr some ↦ let e : if_any n ≡ Some n = is_any n some in cc ]
-
-pub some_is : (n m : ℕ) → if_any n ≡ Some m → n ≡ m
-some_is n m some =
-    elim (cases_eq n 0) [
-      | inl e ↦ let none : if_any n ≡ None = ap if_any e in cc
-      | inr above ↦ let e : if_any n ≡ Some n = is_any n above in cc
-    ]
-
 pub has_mutex : (c : Course) (m t : ℕ) → (world_of c).owner m ≡ Some t → m < length c.mutexes.items
 has_mutex c m t owned =
     elim (cases_lt m (length c.mutexes.items)) [
       | inl lt ↦ lt
       | inr past ↦
-          let none : if_any (mutex_in c m).owner ≡ None =
-          ap (λ z. if_any z.owner) (get_or_past c.mutexes.items m free past) in
+          let none : (mutex_in c m).owner ≡ None =
+          ap (λ z. z.owner) (get_or_past c.mutexes.items m free past) in
           cc
     ]
 
-pub has_thread : (c : Course) (t : ℕ) → (thread_in c t).awaits ≢ 0 → t < length c.threads.items
-has_thread c t some =
+pub has_thread : (c : Course) (t m : ℕ) → (world_of c).awaits t ≡ Some m → t < length c.threads.items
+has_thread c t m awaits =
     elim (cases_lt t (length c.threads.items)) [
       | inl lt ↦ lt
-      | inr past ↦ absurd (some (ap (λ y. y.awaits) (get_or_past c.threads.items t idle past)))
+      | inr past ↦
+          let none : (thread_in c t).awaits ≡ None = ap (λ y. y.awaits) (get_or_past c.threads.items t idle past) in
+          cc
     ]
 
 pub world-awaits : (c d : Course) (t : ℕ) (y : CourseThread) (m : ℕ) (z : CourseMutex) (a : Option ℕ) →
     d.threads.items ≡ set c.threads.items t y → d.mutexes.items ≡ set c.mutexes.items m z → t < length c.threads.items →
-    if_any y.awaits ≡ a → y.level ≡ (thread_in c t).level → z.owner ≡ (mutex_in c m).owner → z.ceiling ≡ (mutex_in c m).ceiling →
+    y.awaits ≡ a → y.level ≡ (thread_in c t).level → z.owner ≡ (mutex_in c m).owner → z.ceiling ≡ (mutex_in c m).ceiling →
     world_of d ≡ record (world_of c) { awaits = but_for t a (world_of c).awaits }
 world-awaits c d t y m z a threads mutexes lt awaits level owner ceiling =
     worlds (record (world_of c) { awaits = but_for t a (world_of c).awaits }) (world_of d)
@@ -136,8 +124,8 @@ world-awaits c d t y m z a threads mutexes lt awaits level owner ceiling =
 
 pub world-taken : (c d : Course) (t : ℕ) (y : CourseThread) (m : ℕ) (z : CourseMutex) (o a : Option ℕ) →
     d.threads.items ≡ set c.threads.items t y → d.mutexes.items ≡ set c.mutexes.items m z →
-    t < length c.threads.items → m < length c.mutexes.items → if_any y.awaits ≡ a → y.level ≡ (thread_in c t).level →
-    if_any z.owner ≡ o → z.ceiling ≡ (mutex_in c m).ceiling →
+    t < length c.threads.items → m < length c.mutexes.items → y.awaits ≡ a → y.level ≡ (thread_in c t).level →
+    z.owner ≡ o → z.ceiling ≡ (mutex_in c m).ceiling →
     world_of d ≡ record (world_of c) { owner = but_for m o (world_of c).owner; awaits = but_for t a (world_of c).awaits }
 world-taken c d t y m z o a threads mutexes lt below awaits level owner ceiling =
     worlds
@@ -149,7 +137,7 @@ world-taken c d t y m z o a threads mutexes lt below awaits level owner ceiling 
 
 pub world-owner : (c d : Course) (m : ℕ) (z : CourseMutex) (o : Option ℕ) →
     d.threads.items ≡ c.threads.items → d.mutexes.items ≡ set c.mutexes.items m z → m < length c.mutexes.items →
-    if_any z.owner ≡ o → z.ceiling ≡ (mutex_in c m).ceiling →
+    z.owner ≡ o → z.ceiling ≡ (mutex_in c m).ceiling →
     world_of d ≡ record (world_of c) { owner = but_for m o (world_of c).owner }
 world-owner c d m z o threads mutexes below owner ceiling =
     worlds (record (world_of c) { owner = but_for m o (world_of c).owner }) (world_of d)

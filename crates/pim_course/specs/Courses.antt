@@ -10,12 +10,31 @@ use Rattle.pim_course.specs.declared.course.Sources.{Sources}
 -- what is known of a free mutex
 abbrev pub free : CourseMutex
 free =
-    record { owner = 0; last_owner = 0; next_owner = 0; taken_at = None; was_tried = false; depth = 0; waiting = 0; section = 0; ceiling = 0 }
+    record {
+      owner = None;
+      last_owner = None;
+      next_owner = None;
+      taken_at = None;
+      was_tried = false;
+      depth = 0;
+      waiting = 0;
+      section = None;
+      ceiling = 0;
+    }
 
 -- a thread that does nothing
 abbrev pub idle : CourseThread
 idle =
-    record { awaits = 0; awaited_owner = 0; owner_at = None; asked_at = None; section = 0; was_above = false; awaits_own = 0; level = 0 }
+    record {
+      awaits = None;
+      awaited_owner = None;
+      owner_at = None;
+      asked_at = None;
+      section = None;
+      was_above = false;
+      awaits_own = None;
+      level = 0;
+    }
 
 -- who owns and awaits a mutex in the course of a program; one that there isn't is free
 abbrev pub mutex_in : Course → ℕ → CourseMutex

@@ -7,7 +7,8 @@ use Rattle.pim_log.specs.declared.record.Record.{Record}
 use Rattle.pim_facts.specs.Levels.{id_of}
 use Rattle.pim_facts.specs.declared.ids.Ids.{Ids}
 use Rattle.pim_course.specs.Kept.{kept_of, never_was}
-use Rattle.pim_course.specs.Told.{depths_of, is_it}
+use Rattle.pim_course.specs.NextOwners.{is_that}
+use Rattle.pim_course.specs.Told.{depths_of}
 use Rattle.pim_course.specs.World.{World, but_for, world_of}
 use Rattle.pim_course.specs.declared.course.Course.{Course}
 use Rattle.pim_course.specs.declared.course.Sources.{Sources}
@@ -22,12 +23,12 @@ depth_again ids depth m = if is_recursive_in ids m then but_for m (min (depth m 
 
 -- a thread is granted a mutex: it is locked once, unless the thread owns it
 abbrev pub depth_granted : Ids → World → (ℕ → ℕ) → ℕ → ℕ → ℕ → ℕ
-depth_granted ids world depth t m = if m == 0 || is_it (world.owner m) t then depth_again ids depth m else but_for m 1 depth
+depth_granted ids world depth t m = if m == 0 || is_that (world.owner m) t then depth_again ids depth m else but_for m 1 depth
 
 -- a thread releases a mutex: it is locked once less, if the thread owns it and isn't refused
 abbrev pub depth_released : Sources → World → (ℕ → ℕ) → ℕ → ℕ → ℕ → ℕ → ℕ
 depth_released sources world depth number t m =
-    if m == 0 || not (is_it (world.owner m) t) || never_was (kept_of sources.next_owners number) then depth
+    if m == 0 || not (is_that (world.owner m) t) || never_was (kept_of sources.next_owners number) then depth
     else but_for m (depth m - 1) depth
 
 -- how often each mutex is locked after an event of a thread that is about a mutex

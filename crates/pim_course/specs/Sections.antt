@@ -6,7 +6,7 @@ use Rattle.pim_facts.specs.declared.fact.Fact.{Fact}
 use Rattle.pim_facts.specs.declared.fact.What.{What}
 use Rattle.pim_facts.specs.declared.fact.What.TheVariants.{Granted, Waits, GaveUp, Released, Level, Ceiling}
 use Rattle.pim_course.specs.Courses.{mutex_in, thread_in}
-use Rattle.pim_course.specs.World.{but_for, if_any}
+use Rattle.pim_course.specs.World.{but_for}
 use Rattle.pim_course.specs.declared.course.Course.{Course}
 
 -- the critical section that lasts at each mutex, the one in which each thread began its last wait, and how many there were
@@ -19,8 +19,8 @@ pub record Sections : Type 0 where
 abbrev pub sections_of : Course → Sections
 sections_of course =
     record {
-      lasting = λ m. if_any (mutex_in course m).section;
-      began = λ t. if_any (thread_in course t).section;
+      lasting = λ m. (mutex_in course m).section;
+      began = λ t. (thread_in course t).section;
       count = course.sections;
     }
 
@@ -63,7 +63,7 @@ sections_after sections Waits t m =
     record (lasts_at sections m) { began = but_for t (Some (number_at sections m)) sections.began }
 sections_after sections GaveUp t m = sections
 sections_after sections (Released next) t m =
-    if is_none (if_any next) then record sections { lasting = but_for m None sections.lasting } else sections
+    if is_none next then record sections { lasting = but_for m None sections.lasting } else sections
 sections_after sections (Level level) t m = sections
 sections_after sections (Ceiling ceiling) t m = sections
 
@@ -73,7 +73,7 @@ after_numbered sections fact = sections_after sections fact.what fact.thread fac
 
 -- a fact has the number of its critical section
 abbrev pub HasNumberOf : Sections → Fact → Type 0
-HasNumberOf sections fact = if_any fact.section ≡ number_of sections fact.what fact.thread fact.mutex
+HasNumberOf sections fact = fact.section ≡ number_of sections fact.what fact.thread fact.mutex
 
 -- the facts have the numbers of their critical sections, and lead from the one state of these to the other
 abbrev pub AreNumbered : List Fact → Sections → Sections → Type 0
@@ -85,7 +85,7 @@ abbrev pub IsToNobody : What → Type 0
 IsToNobody Granted = ⊥
 IsToNobody Waits = ⊥
 IsToNobody GaveUp = ⊥
-IsToNobody (Released next) = if_any next ≡ None
+IsToNobody (Released next) = next ≡ None
 IsToNobody (Level level) = ⊥
 IsToNobody (Ceiling ceiling) = ⊥
 
@@ -96,7 +96,7 @@ pub record Ends (m : ℕ) (fact : Fact) : Type 0 where
 
 -- a fact is in a critical section that lasts at its mutex: it has a number, and isn't the end of a wait
 pub record IsWithin (fact : Fact) : Type 0 where
-  pub some : fact.section ≢ 0
+  pub some : fact.section ≢ None
   pub no_end : fact.what ≢ GaveUp
 
 -- two facts of a log, the one before the other, are in one critical section: that of a mutex, which no fact ended meanwhile

@@ -1,6 +1,6 @@
 -- What a record tells that happened: the table of docs/FINDINGS.md, 'Facts'.
-use Rattle.std.specs.Prelude.{ℕ, ◌==◌, nat_lt, Bool, not, ◌&&◌, ◌||◌, if◌then◌else◌, List, [], ◌∷◌, ◌++◌, map, Option, None, is_none}
-use Rattle.std.specs.Option.{option_map_or, unwrap_or}
+use Rattle.std.specs.Prelude.{ℕ, ◌==◌, nat_lt, not, ◌&&◌, ◌||◌, if◌then◌else◌, List, [], ◌∷◌, ◌++◌, map, Option, Some, None, is_none}
+use Rattle.std.specs.Option.{option_and_then, option_map_or}
 use Rattle.pim_log.specs.declared.event.Event.{Event}
 use Rattle.pim_log.specs.declared.event.Event.TheVariants as event
 use Rattle.pim_log.specs.declared.mutex.Mutex.{Mutex}
@@ -15,6 +15,7 @@ use Rattle.pim_facts.specs.declared.family.Family.{Family}
 use Rattle.pim_facts.specs.declared.family.Family.TheVariants as families
 use Rattle.pim_course.specs.Courses.{family_in, mutex_in}
 use Rattle.pim_course.specs.Kept.{kept_of, never_was, next_by}
+use Rattle.pim_course.specs.NextOwners.{is_that}
 use Rattle.pim_course.specs.World.{World, after, world_of}
 use Rattle.pim_course.specs.declared.course.Course.{Course}
 use Rattle.pim_course.specs.declared.course.Sources.{Sources}
@@ -38,10 +39,6 @@ happened_in course = map happening (shown_in course.shown)
 abbrev pub did : What → ℕ → ℕ → List Happening
 did what t m = record { what = what; thread = t; mutex = m } ∷ []
 
--- whether there is this number; 0 says that there is none
-abbrev pub is_it : Option ℕ → ℕ → Bool
-is_it it n = unwrap_or it 0 == n
-
 -- the level that a priority gives to a thread, if it is another one; 0 is no thread
 abbrev pub level_told : World → ℕ → Priority → List Happening
 level_told world t priority =
@@ -59,44 +56,44 @@ ceiling_told sources world t m said =
     (ceiling_by_log (family_in sources m) said) []
 
 -- a thread gave up what it waits for, unless it is this mutex
-abbrev pub gave_up_told : World → ℕ → ℕ → List Happening
-gave_up_told world t but = option_map_or (λ m. if m == but then [] else did GaveUp t m) (world.awaits t) []
+abbrev pub gave_up_told : World → ℕ → Option ℕ → List Happening
+gave_up_told world t but = option_map_or (λ m. if is_that but m then [] else did GaveUp t m) (world.awaits t) []
 
--- the next owner of a mutex, if it waits for it; else 0
-abbrev pub heir_in : World → ℕ → ℕ → ℕ
-heir_in world m next = if is_it (world.awaits next) m then next else 0
+-- the next owner of a mutex, if it waits for it
+abbrev pub heir_in : World → ℕ → Option ℕ → Option ℕ
+heir_in world m next = option_and_then (λ t. if is_that (world.awaits t) m then Some t else None) next
 
 -- a thread released a mutex, to the next owner if that waits for it
-abbrev pub released_told : World → ℕ → ℕ → ℕ → List Happening
+abbrev pub released_told : World → ℕ → ℕ → Option ℕ → List Happening
 released_told world t m next = did (Released (heir_in world m next)) t m
 
 -- the owner of a mutex released it, if it has one
-abbrev pub freed_told : World → ℕ → ℕ → List Happening
+abbrev pub freed_told : World → ℕ → Option ℕ → List Happening
 freed_told world m next = option_map_or (λ owner. released_told world owner m next) (world.owner m) []
 
 -- a REQUEST: its thread waits, unless it owns the mutex or waits for it
 abbrev pub request_told : Sources → World → ℕ → ℕ → Mutex → List Happening
 request_told sources world t m said =
-    if m == 0 || is_it (world.owner m) t || is_it (world.awaits t) m then []
-    else ceiling_told sources world t m said ++ gave_up_told world t m ++ did Waits t m
+    if m == 0 || is_that (world.owner m) t || is_that (world.awaits t) m then []
+    else ceiling_told sources world t m said ++ gave_up_told world t (Some m) ++ did Waits t m
 
 -- a GRANTED: its thread is granted the mutex, unless it owns it
 abbrev pub grant_told : Sources → World → ℕ → ℕ → Mutex → List Happening
 grant_told sources world t m said =
-    if m == 0 || is_it (world.owner m) t then []
-    else ceiling_told sources world t m said ++ gave_up_told world t m ++ freed_told world m t ++ did Granted t m
+    if m == 0 || is_that (world.owner m) t then []
+    else ceiling_told sources world t m said ++ gave_up_told world t (Some m) ++ freed_told world m (Some t) ++ did Granted t m
 
 -- a FAILED: its thread gave up, if it waits for the mutex
 abbrev pub fail_told : World → ℕ → ℕ → List Happening
-fail_told world t m = if m == 0 || not (is_it (world.awaits t) m) then [] else did GaveUp t m
+fail_told world t m = if m == 0 || not (is_that (world.awaits t) m) then [] else did GaveUp t m
 
 -- a RELEASE: its thread released the mutex, if it owns it, locked it once, and isn't refused. What is kept of it is what the
 -- records behind it say: `Finds` of NextOwners.antt
 abbrev pub release_told : Sources → World → (ℕ → ℕ) → ℕ → ℕ → ℕ → List Happening
 release_told sources world depth number t m =
     let kept = kept_of sources.next_owners number in
-    if m == 0 || not (is_it (world.owner m) t) || never_was kept || nat_lt 1 (depth m) then []
-    else gave_up_told world t 0 ++ released_told (after world GaveUp t m) t m (unwrap_or (next_by kept) 0)
+    if m == 0 || not (is_that (world.owner m) t) || never_was kept || nat_lt 1 (depth m) then []
+    else gave_up_told world t None ++ released_told (after world GaveUp t m) t m (next_by kept)
 
 -- what an event of a thread tells, that is about a mutex or another thread
 abbrev pub event_told : Sources → World → (ℕ → ℕ) → ℕ → ℕ → ℕ → Event → List Happening
@@ -120,6 +117,6 @@ told_by sources course r =
 -- a request that the log lacks tells that its thread waits, if it waits for nothing and doesn't own the mutex
 abbrev pub added_told : World → Request → List Happening
 added_told world request =
-    if is_none (world.awaits request.thread) && not (is_it (world.owner request.mutex) request.thread) then
+    if is_none (world.awaits request.thread) && not (is_that (world.owner request.mutex) request.thread) then
     did Waits request.thread request.mutex
     else []

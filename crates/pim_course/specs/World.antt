@@ -13,16 +13,12 @@ pub record World : Type 0 where
   pub level : ℕ → ℕ
   pub ceiling : ℕ → ℕ
 
--- a number, if there is one: 0 says none
-abbrev pub if_any : ℕ → Option ℕ
-if_any n = if n == 0 then None else Some n
-
 -- the world of a course
 abbrev pub world_of : Course → World
 world_of course =
     record {
-      owner = λ m. if_any (mutex_in course m).owner;
-      awaits = λ t. if_any (thread_in course t).awaits;
+      owner = λ m. (mutex_in course m).owner;
+      awaits = λ t. (thread_in course t).awaits;
       level = λ t. (thread_in course t).level;
       ceiling = λ m. (mutex_in course m).ceiling;
     }

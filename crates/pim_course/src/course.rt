@@ -1,16 +1,17 @@
 //! The course of a recorded program: who owns and awaits what, record by record.
-ghost use Rattle.std.specs.Prelude.{◌≡◌, ◌≢◌, ◌⊎◌, ◌<◌, ℕ, [], length, slice_set, IfOk};
+ghost use Rattle.std.specs.Prelude.{◌≡◌, ◌≢◌, ◌⊎◌, ◌<◌, ℕ, [], length, slice_set, IfOk, IfSome, Some, None};
 ghost use Rattle.std.specs.Option.{option_map_or};
 ghost use Rattle.pim_facts.specs.Levels.{id_of, level_by};
 ghost use Rattle.pim_facts.specs.Shown.{shown_in};
 ghost use Rattle.pim_course.specs.Courses.{family_in, mutex_in, thread_in};
 ghost use Rattle.pim_course.specs.Depths.{depth_again, depth_granted, depth_released, depths_after, is_recursive_in};
+ghost use Rattle.pim_course.specs.NextOwners.{is_that};
 ghost use Rattle.pim_course.specs.Going.{GoesOn, HasSameSize, IsStill, KeepsDepths, KeepsSections, Numbers, Tells};
 ghost use Rattle.pim_course.specs.Reading.{Begins, HasRequest, HasThoseOf, world_at};
 ghost use Rattle.pim_course.specs.Sections.{AreNumbered, lasts_at, number_at, sections_of};
 ghost use Rattle.pim_course.specs.Told.{added_told, ceiling_told, fail_told, gave_up_told, grant_told, level_told, release_told, released_told, request_told};
-ghost use Rattle.pim_course.specs.Told.{ceiling_by_log, depths_of, did, happened_in, heir_in, is_it, told_by};
-ghost use Rattle.pim_course.specs.World.{CanHappen, Lead, but_for, if_any, world_of};
+ghost use Rattle.pim_course.specs.Told.{ceiling_by_log, depths_of, did, happened_in, heir_in, told_by};
+ghost use Rattle.pim_course.specs.World.{CanHappen, Lead, but_for, world_of};
 
 use crate::next_owners::NextOwners;
 use crate::requests::{Request, Requests};
@@ -32,13 +33,13 @@ pub struct Sources {
 /// A mutex in the course of a program.
 #[derive(Clone, Copy, PartialEq, Eq)]
 pub struct CourseMutex {
-    /// Its owner, or 0.
-    pub owner: u32,
-    /// The one before it that isn't its owner any more, or 0.
-    pub last_owner: u32,
+    /// Its owner, if it has one.
+    pub owner: Option<u32>,
+    /// The one before it that isn't its owner any more, if there was one.
+    pub last_owner: Option<u32>,
     /// From a release on until the next grant the thread that is granted it then, if that waits for
-    /// it since before the release. Else 0.
-    pub next_owner: u32,
+    /// it since before the release.
+    pub next_owner: Option<u32>,
     /// The place in the code at which its owner took it, or its last owner if it is free. A number for
     /// [`Log::place`](pim_log::Log::place).
     pub taken_at: Option<u16>,
@@ -49,8 +50,8 @@ pub struct CourseMutex {
     /// How many threads wait for it.
     pub waiting: u32,
     /// The critical section that lasts, up to the next grant if it has a next owner. Where it is
-    /// free, the next one if a thread waits for it. Else 0.
-    pub section: u32,
+    /// free, the next one if a thread waits for it.
+    pub section: Option<u32>,
     /// The level of its ceiling.
     pub ceiling: u8,
 }
@@ -58,20 +59,20 @@ pub struct CourseMutex {
 /// A thread in the course of a program.
 #[derive(Clone, Copy, PartialEq, Eq)]
 pub struct CourseThread {
-    /// The mutex that it waits for, or 0.
-    pub awaits: u32,
-    /// Another thread: the owner of that mutex when it began to wait, or else the last one. 0 if no record says it.
-    pub awaited_owner: u32,
+    /// The mutex that it waits for, if it waits.
+    pub awaits: Option<u32>,
+    /// Another thread: the owner of that mutex when it began to wait, or else the last one, if a record says it.
+    pub awaited_owner: Option<u32>,
     /// The place in the code at which that owner took the mutex, if a record says it.
     pub owner_at: Option<u16>,
     /// The place in the code at which it asked for the mutex that it waits for, or for its own.
     pub asked_at: Option<u16>,
-    /// The critical section in which its wait began.
-    pub section: u32,
+    /// The critical section in which its last wait began, if it waited.
+    pub section: Option<u32>,
     /// Whether its level was above the ceiling of that mutex when it began to wait.
     pub was_above: bool,
-    /// Its own mutex, which it locks again, or 0.
-    pub awaits_own: u32,
+    /// Its own mutex, if it locks that again.
+    pub awaits_own: Option<u32>,
     /// Its level.
     pub level: u8,
 }
@@ -93,26 +94,26 @@ pub struct Course {
 
 /// What isn't known of a mutex.
 const FREE: CourseMutex = CourseMutex {
-    owner: 0,
-    last_owner: 0,
-    next_owner: 0,
+    owner: None,
+    last_owner: None,
+    next_owner: None,
     taken_at: None,
     was_tried: false,
     depth: 0,
     waiting: 0,
-    section: 0,
+    section: None,
     ceiling: 0,
 };
 
 /// A thread at its begin, but for its level.
 const IDLE: CourseThread = CourseThread {
-    awaits: 0,
-    awaited_owner: 0,
+    awaits: None,
+    awaited_owner: None,
     owner_at: None,
     asked_at: None,
-    section: 0,
+    section: None,
     was_above: false,
-    awaits_own: 0,
+    awaits_own: None,
     level: 0,
 };
 
@@ -219,8 +220,8 @@ impl Course {
     {
         let (thread, mutex) = (request.thread, request.mutex);
         let is = self.mutex(mutex);
-        if self.thread(thread).awaits == 0 && is.owner != thread {
-            let owner = first_other(thread, [is.owner, is.last_owner, 0, 0]);
+        if self.thread(thread).awaits.is_none() && is.owner != Some(thread) {
+            let owner = first_other(thread, [is.owner, is.last_owner, None, None]);
             self.ask_at(thread, request.place);
             self.wait(sources, thread, mutex, owner);
         }
@@ -268,7 +269,7 @@ impl Course {
         }
         is.level = level;
         self.put_thread(thread, is);
-        self.shown.add(fact(What::Level(level), thread, 0, 0));
+        self.shown.add(fact(What::Level(level), thread, 0, None));
         LeftOut::Absentee
     }
 
@@ -311,39 +312,39 @@ impl Course {
     }
 
     /// Lets a thread stop waiting whose record shows that it doesn't wait any more, unless it waits for this mutex.
-    fn correct_wait(&mut self, thread: u32, but: u32)
+    fn correct_wait(&mut self, thread: u32, but: Option<u32>)
         ensures size { HasSameSize self.old self.new }
         ensures depths { KeepsDepths self.old self.new }
         ensures sections { Numbers 1 self.old self.new }
         ensures owner { (world_of self.new).owner ≡ (world_of self.old).owner }
         ensures awaits { ((world_of self.new).awaits thread ≡ None) ⊎
-            (((world_of self.new).awaits thread ≡ Some but) × ((world_of self.old).awaits thread ≡ Some but)) }
+            (((world_of self.new).awaits thread ≡ but) × ((world_of self.old).awaits thread ≡ but)) }
         ensures goes { GoesOn 1 self.old self.new }
-        ensures same { 0 < but →
-            is_it ((world_of self.new).awaits thread) but ≡ is_it ((world_of self.old).awaits thread) but }
+        ensures same { (mutex : ℕ) → but ≡ Some mutex →
+            is_that ((world_of self.new).awaits thread) mutex ≡ is_that ((world_of self.old).awaits thread) mutex }
         ensures others { (k : ℕ) → k ≢ thread → (world_of self.new).awaits k ≡ (world_of self.old).awaits k }
         ensures told { Tells 1 (gave_up_told (world_of self.old) thread but) self.old self.new }
     {
-        let awaits = self.thread(thread).awaits;
-        if awaits != 0 && awaits != but {
-            self.stop_waiting(thread);
+        match self.thread(thread).awaits {
+            Some(mutex) if but != Some(mutex) => self.stop_waiting(thread, mutex),
+            _ => {}
         }
     }
 
-    /// A thread stops waiting without the mutex.
-    fn stop_waiting(&mut self, thread: u32)
+    /// A thread stops waiting for this mutex, and doesn't get it.
+    fn stop_waiting(&mut self, thread: u32, mutex: u32)
         ensures size { HasSameSize self.old self.new }
         ensures depths { KeepsDepths self.old self.new }
         ensures sections { Numbers 1 self.old self.new }
         ensures owner { (world_of self.new).owner ≡ (world_of self.old).owner }
         ensures awaits { (world_of self.new).awaits thread ≡ None }
-        ensures goes { (thread_in self.old thread).awaits ≢ 0 → GoesOn 1 self.old self.new }
+        ensures goes { (world_of self.old).awaits thread ≡ Some mutex → GoesOn 1 self.old self.new }
         ensures others { (k : ℕ) → k ≢ thread → (world_of self.new).awaits k ≡ (world_of self.old).awaits k }
-        ensures told { Tells 1 (did What.GaveUp thread (thread_in self.old thread).awaits) self.old self.new }
+        ensures told { Tells 1 (did What.GaveUp thread mutex) self.old self.new }
     {
         let mut is = self.thread(thread);
-        let (mutex, section) = (is.awaits, is.section);
-        is.awaits = 0;
+        let section = is.section;
+        is.awaits = None;
         self.put_thread(thread, is);
         let mut awaited = self.mutex(mutex);
         awaited.waiting = awaited.waiting.saturating_sub(1);
@@ -370,15 +371,15 @@ impl Course {
     {
         let thread = record.thread;
         let is = self.mutex(mutex);
-        if is.owner == thread {
+        if is.owner == Some(thread) {
             self.request_own(sources, record, mutex);
             return LeftOut::Again;
         }
-        if mutex == 0 || self.thread(thread).awaits == mutex {
+        if mutex == 0 || self.thread(thread).awaits == Some(mutex) {
             return LeftOut::Again;
         }
         self.correct_ceiling(sources, thread, said, mutex);
-        self.correct_wait(thread, mutex);
+        self.correct_wait(thread, Some(mutex));
         let owner = owner_asked(sources, record, task.is_some(), &is);
         self.ask_at(thread, record.place);
         self.wait(sources, thread, mutex, owner);
@@ -393,9 +394,9 @@ impl Course {
         ensures still { IsStill self.old self.new }
     {
         let mut own = self.thread(record.thread);
-        own.awaits_own = 0;
+        own.awaits_own = None;
         if !is_recursive(&sources.ids, mutex) {
-            own.awaits_own = mutex;
+            own.awaits_own = Some(mutex);
             own.asked_at = record.place;
         }
         self.put_thread(record.thread, own);
@@ -403,10 +404,10 @@ impl Course {
 
     /// A thread waits for a mutex of this owner. If the mutex is free in the log and has no next
     /// owner, the wait belongs to its next critical section.
-    fn wait(&mut self, sources: &Sources, thread: u32, mutex: u32, owner: u32)
+    fn wait(&mut self, sources: &Sources, thread: u32, mutex: u32, owner: Option<u32>)
         ensures size { HasSameSize self.old self.new }
         ensures depths { KeepsDepths self.old self.new }
-        ensures goes { thread < length self.old.threads.items → 0 < mutex →
+        ensures goes { thread < length self.old.threads.items →
             CanHappen (world_of self.old) What.Waits thread mutex → GoesOn 1 self.old self.new }
         ensures sections { thread < length self.old.threads.items → mutex < length self.old.mutexes.items →
             Numbers 1 self.old self.new }
@@ -416,32 +417,32 @@ impl Course {
         let was_above = self.is_above(sources, thread, mutex);
         let owner_at = self.owner_at(owner, mutex);
         let mut is = self.thread(thread);
-        is.awaits = mutex;
+        is.awaits = Some(mutex);
         is.awaited_owner = owner;
         is.owner_at = owner_at;
-        is.section = section;
+        is.section = Some(section);
         is.was_above = was_above;
         self.put_thread(thread, is);
         let mut awaited = self.mutex(mutex);
         awaited.waiting = awaited.waiting.saturating_add(1);
         self.put_mutex(mutex, awaited);
-        self.shown.add(fact(What::Waits, thread, mutex, section));
+        self.shown
+            .add(fact(What::Waits, thread, mutex, Some(section)));
     }
 
     /// Returns the place at which this owner took a mutex: that of the call in which it waits for it, if its grant comes
     /// late, or else of its last grant.
-    fn owner_at(&self, owner: u32, mutex: u32) -> Option<u16> {
-        let thread = self.thread(owner);
-        if thread.awaits == mutex {
+    fn owner_at(&self, owner: Option<u32>, mutex: u32) -> Option<u16> {
+        let thread = self.thread(owner?);
+        if thread.awaits == Some(mutex) {
             return thread.asked_at;
         }
         let is = self.mutex(mutex);
-        let last = if is.owner == 0 {
-            is.last_owner
+        if owner == is.owner.or(is.last_owner) {
+            is.taken_at
         } else {
-            is.owner
-        };
-        if owner == last { is.taken_at } else { None }
+            None
+        }
     }
 
     /// Returns whether the level of a thread is above the ceiling of a PROTECT mutex.
@@ -456,25 +457,27 @@ impl Course {
         ensures depths { KeepsDepths self.old self.new }
         ensures sections { mutex < length self.old.mutexes.items →
             sections_of self.new ≡ lasts_at (sections_of self.old) mutex }
-        ensures number { if_any result ≡ Some (number_at (sections_of self.old) mutex) }
+        ensures number { result ≡ number_at (sections_of self.old) mutex }
         ensures still { IsStill self.old self.new }
     {
         let mut is = self.mutex(mutex);
-        if is.section == 0 {
-            self.sections = self.sections.saturating_add(1);
-            is.section = self.sections;
-            self.put_mutex(mutex, is);
+        match is.section {
+            Some(section) => section,
+            None => {
+                self.sections = self.sections.saturating_add(1);
+                is.section = Some(self.sections);
+                self.put_mutex(mutex, is);
+                self.sections
+            }
         }
-        is.section
     }
 
     /// A thread has a mutex. Its level isn't above the ceiling, unless it rose, or the ceiling fell, while it waited.
     fn grant(&mut self, sources: &Sources, record: &Record, said: &Mutex, mutex: u32) -> LeftOut
         ensures size { HasSameSize self.old self.new }
-        ensures depths { mutex < length self.old.mutexes.items → 0 < «record».now.thread →
-            (m : ℕ) → depths_of self.new m ≡
+        ensures depths { mutex < length self.old.mutexes.items → (m : ℕ) → depths_of self.new m ≡
             depth_granted sources.now.ids (world_of self.old) (depths_of self.old) «record».now.thread mutex m }
-        ensures goes { 0 < «record».now.thread → «record».now.thread < length self.old.threads.items →
+        ensures goes { «record».now.thread < length self.old.threads.items →
             mutex < length self.old.mutexes.items → GoesOn 4 self.old self.new }
         ensures sections { mutex < length self.old.mutexes.items → Numbers 4 self.old self.new }
         ensures told { Tells 4 (grant_told sources.now (world_of self.old) «record».now.thread mutex said.now) self.old self.new }
@@ -482,13 +485,13 @@ impl Course {
         let thread = record.thread;
         let owner = self.mutex(mutex).owner;
         self.forget_own(thread);
-        if mutex == 0 || owner == thread {
-            return self.grant_again(&sources.ids, thread, mutex);
+        if mutex == 0 || owner == Some(thread) {
+            return self.grant_again(&sources.ids, mutex);
         }
         self.correct_ceiling(sources, thread, said, mutex);
-        self.correct_wait(thread, mutex);
+        self.correct_wait(thread, Some(mutex));
         let is = self.thread(thread);
-        let may_be_above = is.awaits == mutex && !is.was_above;
+        let may_be_above = is.awaits == Some(mutex) && !is.was_above;
         self.is_contradiction = !may_be_above && self.is_above(sources, thread, mutex);
         self.free(owner, mutex, thread);
         self.take(record, mutex);
@@ -496,19 +499,19 @@ impl Course {
     }
 
     /// The owner of a mutex, if it has one, released it before another thread has it.
-    fn free(&mut self, owner: u32, mutex: u32, next: u32)
+    fn free(&mut self, owner: Option<u32>, mutex: u32, next: u32)
         ensures size { HasSameSize self.old self.new }
         ensures depths { (m : ℕ) → m ≢ mutex → depths_of self.new m ≡ depths_of self.old m }
-        ensures owner { if_any owner ≡ (world_of self.old).owner mutex → mutex < length self.old.mutexes.items →
+        ensures owner { owner ≡ (world_of self.old).owner mutex → mutex < length self.old.mutexes.items →
             (world_of self.new).owner mutex ≡ None }
         ensures awaits { (world_of self.new).awaits ≡ (world_of self.old).awaits }
-        ensures goes { if_any owner ≡ (world_of self.old).owner mutex → GoesOn 1 self.old self.new }
-        ensures sections { if_any owner ≡ (world_of self.old).owner mutex → Numbers 1 self.old self.new }
-        ensures told { Tells 1 (option_map_or (λ t. released_told (world_of self.old) t mutex next) (if_any owner) [])
+        ensures goes { owner ≡ (world_of self.old).owner mutex → GoesOn 1 self.old self.new }
+        ensures sections { owner ≡ (world_of self.old).owner mutex → Numbers 1 self.old self.new }
+        ensures told { Tells 1 (option_map_or (λ t. released_told (world_of self.old) t mutex (Some next)) owner [])
             self.old self.new }
     {
-        if owner != 0 {
-            self.hand_over(owner, mutex, next);
+        if let Some(owner) = owner {
+            self.hand_over(owner, mutex, Some(next));
         }
     }
 
@@ -519,20 +522,20 @@ impl Course {
         ensures still { IsStill self.old self.new }
     {
         let mut is = self.thread(thread);
-        is.awaits_own = 0;
+        is.awaits_own = None;
         self.put_thread(thread, is);
     }
 
     /// A thread has once more what it owns. Only of a recursive mutex are the locks counted.
-    fn grant_again(&mut self, ids: &Ids, thread: u32, mutex: u32) -> LeftOut
+    fn grant_again(&mut self, ids: &Ids, mutex: u32) -> LeftOut
         ensures size { HasSameSize self.old self.new }
-        ensures depths { mutex < length self.old.mutexes.items → 0 < thread →
+        ensures depths { mutex < length self.old.mutexes.items →
             (m : ℕ) → depths_of self.new m ≡ depth_again ids.now (depths_of self.old) mutex m }
         ensures sections { KeepsSections self.old self.new }
         ensures still { IsStill self.old self.new }
     {
         let mut is = self.mutex(mutex);
-        if is_recursive(ids, mutex) && thread != 0 {
+        if is_recursive(ids, mutex) {
             is.depth = is.depth.saturating_add(1);
             self.put_mutex(mutex, is);
         }
@@ -544,8 +547,8 @@ impl Course {
         ensures size { HasSameSize self.old self.new }
         ensures depths { mutex < length self.old.mutexes.items →
             (m : ℕ) → depths_of self.new m ≡ but_for mutex 1 (depths_of self.old) m }
-        ensures goes { 0 < «record».now.thread → «record».now.thread < length self.old.threads.items →
-            mutex < length self.old.mutexes.items → 0 < mutex →
+        ensures goes { «record».now.thread < length self.old.threads.items →
+            mutex < length self.old.mutexes.items →
             CanHappen (world_of self.old) What.Granted «record».now.thread mutex → GoesOn 1 self.old self.new }
         ensures sections { mutex < length self.old.mutexes.items → Numbers 1 self.old self.new }
         ensures told { Tells 1 (did What.Granted «record».now.thread mutex) self.old self.new }
@@ -554,20 +557,20 @@ impl Course {
         let section = self.section_of(mutex);
         let mut owner = self.thread(thread);
         let mut is = self.mutex(mutex);
-        let mut since = 0;
-        if owner.awaits == mutex {
+        let mut since = None;
+        if owner.awaits == Some(mutex) {
             since = owner.section;
-            owner.awaits = 0;
+            owner.awaits = None;
             is.waiting = is.waiting.saturating_sub(1);
         }
-        is.owner = thread;
-        is.next_owner = 0;
+        is.owner = Some(thread);
+        is.next_owner = None;
         is.taken_at = record.place;
         is.was_tried = is_trylock(&record.event);
         is.depth = 1;
         self.put_thread(thread, owner);
         self.put_mutex(mutex, is);
-        let granted = fact(What::Granted, thread, mutex, section);
+        let granted = fact(What::Granted, thread, mutex, Some(section));
         self.shown.add(Fact { since, ..granted });
     }
 
@@ -580,26 +583,26 @@ impl Course {
         ensures told { Tells 1 (fail_told (world_of self.old) thread mutex) self.old self.new }
     {
         self.forget_own(thread);
-        if mutex == 0 || self.thread(thread).awaits != mutex {
+        if mutex == 0 || self.thread(thread).awaits != Some(mutex) {
             return LeftOut::Refused;
         }
-        self.stop_waiting(thread);
+        self.stop_waiting(thread, mutex);
         LeftOut::Uncontended
     }
 
     /// A thread releases a mutex.
     fn release(&mut self, sources: &Sources, record: &Record, mutex: u32) -> LeftOut
         ensures size { HasSameSize self.old self.new }
-        ensures depths { 0 < «record».now.thread → (m : ℕ) → depths_of self.new m ≡
+        ensures depths { (m : ℕ) → depths_of self.new m ≡
             depth_released sources.now (world_of self.old) (depths_of self.old) «record».now.number «record».now.thread mutex m }
-        ensures goes { 0 < «record».now.thread → GoesOn 2 self.old self.new }
-        ensures sections { 0 < «record».now.thread → Numbers 2 self.old self.new }
+        ensures goes { GoesOn 2 self.old self.new }
+        ensures sections { Numbers 2 self.old self.new }
         ensures told { Tells 2 (release_told sources.now (world_of self.old) (depths_of self.old) «record».now.number
             «record».now.thread mutex) self.old self.new }
     {
         let thread = record.thread;
         let mut is = self.mutex(mutex);
-        if mutex == 0 || is.owner != thread {
+        if mutex == 0 || is.owner != Some(thread) {
             return LeftOut::NotOwner;
         }
         if sources.next_owners.is_refused(record.number) {
@@ -610,14 +613,14 @@ impl Course {
             self.put_mutex(mutex, is);
             return LeftOut::Again;
         }
-        self.correct_wait(thread, 0);
+        self.correct_wait(thread, None);
         let next = sources.next_owners.next_owner(record.number);
-        self.hand_over(thread, mutex, next.unwrap_or(0));
+        self.hand_over(thread, mutex, next);
         LeftOut::Uncontended
     }
 
     /// A mutex is free, and goes to the next owner if that waits for it.
-    fn hand_over(&mut self, thread: u32, mutex: u32, next: u32)
+    fn hand_over(&mut self, thread: u32, mutex: u32, next: Option<u32>)
         ensures size { HasSameSize self.old self.new }
         ensures depths { mutex < length self.old.mutexes.items →
             (m : ℕ) → depths_of self.new m ≡ but_for mutex 0 (depths_of self.old) m }
@@ -631,55 +634,60 @@ impl Course {
         let mut is = self.mutex(mutex);
         let section = is.section;
         let heir = self.heir(mutex, next);
-        is.owner = 0;
-        is.last_owner = thread;
+        is.owner = None;
+        is.last_owner = Some(thread);
         is.next_owner = heir;
         is.depth = 0;
-        if heir == 0 {
-            is.section = 0;
-        }
+        is.section = heir.and(section);
         self.put_mutex(mutex, is);
         self.shown
             .add(fact(What::Released(heir), thread, mutex, section));
     }
 
-    /// Returns the next owner of a mutex if it waits for it, or else 0.
-    fn heir(&self, mutex: u32, next: u32) -> u32
+    /// Returns the next owner of a mutex, if it waits for it.
+    fn heir(&self, mutex: u32, next: Option<u32>) -> Option<u32>
         ensures { result ≡ heir_in (world_of self.now) mutex next }
     {
-        if self.thread(next).awaits == mutex {
-            next
+        let thread = next?;
+        if self.thread(thread).awaits == Some(mutex) {
+            Some(thread)
         } else {
-            0
+            None
         }
     }
 }
 
-/// Returns who owns the mutex of a REQUEST when it is made, or 0 if no record says it: the thread that it names. If the
+/// Returns who owns the mutex of a REQUEST when it is made, if a record says it: the thread that it names. If the
 /// owner hadn't yet written who it is, or not any more, that is the owner of the log; else who is granted the mutex next,
 /// if its call had begun; else who had it last; else who is granted it next.
-fn owner_asked(sources: &Sources, record: &Record, is_named: bool, mutex: &CourseMutex) -> u32
-    ensures { (result ≡ 0) ⊎ (result ≢ «record».now.thread) }
+fn owner_asked(
+    sources: &Sources,
+    record: &Record,
+    is_named: bool,
+    mutex: &CourseMutex,
+) -> Option<u32>
+    ensures { IfSome result (λ owner. owner ≢ «record».now.thread) }
 {
-    let asked = sources.next_owners.asked_owner(record.number).unwrap_or(0);
+    let asked = sources.next_owners.asked_owner(record.number);
     if is_named {
-        first_other(record.thread, [asked, mutex.owner, 0, 0])
+        first_other(record.thread, [asked, mutex.owner, None, None])
     } else {
-        let next = sources.next_owners.next_granted(record.number).unwrap_or(0);
+        let next = sources.next_owners.next_granted(record.number);
         first_other(record.thread, [mutex.owner, asked, mutex.last_owner, next])
     }
 }
 
-/// Returns the first of these threads that isn't 0 and isn't the one that waits, or 0.
-fn first_other(waiter: u32, threads: [u32; 4]) -> u32
-    ensures { (result ≡ 0) ⊎ (result ≢ waiter) }
+/// Returns the first of these threads that isn't the one that waits.
+fn first_other(waiter: u32, threads: [Option<u32>; 4]) -> Option<u32>
+    ensures { IfSome result (λ owner. owner ≢ waiter) }
 {
     for thread in threads {
-        if thread != 0 && thread != waiter {
-            return thread;
+        match thread {
+            Some(other) if other != waiter => return Some(other),
+            _ => {}
         }
     }
-    0
+    None
 }
 
 /// Returns the protocol of a mutex of the log.
@@ -719,14 +727,14 @@ fn is_recursive(ids: &Ids, mutex: u32) -> bool
     }
 }
 
-fn fact(what: What, thread: u32, mutex: u32, section: u32) -> Fact
-    ensures { result ≡ record { what = what; thread = thread; mutex = mutex; section = section; since = 0 } }
+fn fact(what: What, thread: u32, mutex: u32, section: Option<u32>) -> Fact
+    ensures { result ≡ record { what = what; thread = thread; mutex = mutex; section = section; since = None } }
 {
     Fact {
         what,
         thread,
         mutex,
         section,
-        since: 0,
+        since: None,
     }
 }

@@ -10,8 +10,8 @@ pub enum What {
     Waits,
     /// The thread stopped waiting without the mutex.
     GaveUp,
-    /// The thread released the mutex. This thread, if it isn't 0, waits for it and has it next.
-    Released(u32),
+    /// The thread released the mutex. This thread, if there is one, waits for it and has it next.
+    Released(Option<u32>),
     /// The thread has this level from now on.
     Level(u8),
     /// The PROTECT mutex has this level as its ceiling from now on.
@@ -26,12 +26,12 @@ pub struct Fact {
     pub thread: u32,
     /// The mutex, or 0.
     pub mutex: u32,
-    /// The critical section that it is a part of, or 0. It lasts from when the mutex is granted
-    /// until it is free.
-    pub section: u32,
-    /// Of a grant the critical section in which the thread began to wait for the mutex, or 0 if it
-    /// didn't wait.
-    pub since: u32,
+    /// The critical section that it is a part of, if it is of one. It lasts from when the mutex is
+    /// granted until it is free.
+    pub section: Option<u32>,
+    /// Of a grant the critical section in which the thread began to wait for the mutex, if it
+    /// waited.
+    pub since: Option<u32>,
 }
 
 /// Why a record isn't in the trace.

@@ -20,8 +20,8 @@ const NO_FACT: Fact = Fact {
     what: What::GaveUp,
     thread: 0,
     mutex: 0,
-    section: 0,
-    since: 0,
+    section: None,
+    since: None,
 };
 
 impl Facts {

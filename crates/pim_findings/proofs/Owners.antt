@@ -1,5 +1,6 @@
 -- The owner of a wait is another thread.
-use Rattle.std.proofs.Common.{◌≡◌, ◌≢◌, ℕ, zero, suc, ◌==◌, Bool, true, false, cond, ◌||◌, List, [], ◌∷◌, Option, Some, None, All, IfSome, refl}
+use Rattle.std.proofs.Common.{◌≡◌, ◌≢◌, ℕ, zero, suc, ◌==◌, Bool, true, false, cond, List, [], ◌∷◌, Option, Some, None, All, IfSome, refl}
+use Rattle.std.specs.Option.{option_and_then}
 use Rattle.std.proofs.lemmas.Bool.{eqb-false}
 use Rattle.std.proofs.lemmas.List.Elements.{All-cons, All-nil}
 use Rattle.pim_course.specs.declared.course.Course.{Course}
@@ -11,13 +12,18 @@ use Rattle.pim_findings.specs.Waits.{Moment, after_own, all_waits, and_until, aw
 use Rattle.pim_findings.specs.Laws.{HasOther}
 
 owner_for-other : (course : Course) (t : ℕ) → IfSome (owner_for course t) (λ owner. owner.thread ≢ t)
-owner_for-other course t = go (awaited_by course t == 0) (awaited_by course t == t) refl
+owner_for-other course t = go (awaited_by course t)
   where
-    go : (a b : Bool) → (awaited_by course t == t) ≡ b →
-        IfSome {T = FoundOwner} (cond (a || b) None (Some (record { thread = awaited_by course t; level = level_in course (awaited_by course t); at = place_of_owner course t }))) (λ owner. owner.thread ≢ t)
-    go true b e = tt
-    go false true e = tt
-    go false false e = eqb-false (awaited_by course t) t e
+    found : ℕ → FoundOwner
+    found owner = record { thread = owner; level = level_in course owner; at = place_of_owner course t }
+
+    other : (owner : ℕ) (b : Bool) → (owner == t) ≡ b → IfSome {T = FoundOwner} (cond b None (Some (found owner))) (λ owner. owner.thread ≢ t)
+    other owner true e = tt
+    other owner false e = eqb-false owner t e
+
+    go : (o : Option ℕ) → IfSome (option_and_then (λ owner. cond (owner == t) None (Some (found owner))) o) (λ owner. owner.thread ≢ t)
+    go None = tt
+    go (Some owner) = other owner (owner == t) refl
 
 after_own-other : (m : Moment) (what : What) (wait : Option FoundWait) → IfSome wait HasOther → IfSome (after_own m what wait) HasOther
 after_own-other m Waits wait h = owner_for-other m.course m.fact.thread

@@ -1,6 +1,6 @@
 -- Who waits for whom at the end of a log.
-use Rattle.std.specs.Prelude.{ℕ, ◌==◌, nat_le, ◌||◌, not, List, map, slice_get, if◌then◌else◌, Option, Some, None}
-use Rattle.std.specs.Option.{option_map_or}
+use Rattle.std.specs.Prelude.{ℕ, ◌==◌, nat_le, ◌||◌, List, map, slice_get, if◌then◌else◌, Option, Some, None}
+use Rattle.std.specs.Option.{is_some, option_and_then, option_map_or}
 use Rattle.pim_course.specs.Courses.{mutex_in}
 use Rattle.pim_course.specs.declared.course.Course.{Course}
 use Rattle.pim_course.specs.declared.course.CourseThread.{CourseThread}
@@ -9,9 +9,7 @@ use Rattle.pim_findings.specs.declared.deadlock.Deadlock.{Deadlock}
 -- who blocks a thread: itself, if it asked for its own mutex, or else the owner of the mutex that it waits for
 abbrev pub blocker_by : Course → ℕ → CourseThread → Option ℕ
 blocker_by course t thread =
-    if not (thread.awaits_own == 0) then Some t
-    else if (thread.awaits == 0) || ((mutex_in course thread.awaits).owner == 0) then None
-    else Some (mutex_in course thread.awaits).owner
+    if is_some thread.awaits_own then Some t else option_and_then (λ m. (mutex_in course m).owner) thread.awaits
 
 -- who blocks the thread with this number; 0 is none, nor is the highest u32 or above
 abbrev pub blocker_of : Course → ℕ → Option ℕ

@@ -1,6 +1,6 @@
 -- The waits that facts show.
-use Rattle.std.specs.Prelude.{ℕ, zero, suc, ◌-◌, ◌==◌, nat_lt, ◌&&◌, ◌||◌, Bool, true, false, List, [], ◌∷◌, slice_get, if◌then◌else◌, Option, Some, None}
-use Rattle.std.specs.Option.{option_map_or}
+use Rattle.std.specs.Prelude.{ℕ, zero, suc, ◌-◌, ◌==◌, nat_lt, ◌&&◌, Bool, true, false, List, [], ◌∷◌, slice_get, if◌then◌else◌, Option, Some, None}
+use Rattle.std.specs.Option.{option_and_then, option_map_or}
 use Rattle.pim_facts.specs.declared.fact.Fact.{Fact}
 use Rattle.pim_facts.specs.declared.fact.What.{What}
 use Rattle.pim_facts.specs.declared.fact.What.TheVariants.{Granted, Waits, GaveUp, Released, Level, Ceiling}
@@ -23,9 +23,9 @@ pub record Moment : Type 0 where
 abbrev pub level_in : Course → ℕ → ℕ
 level_in course t = option_map_or (λ thread. thread.level) (slice_get course.threads.items t) 0
 
--- who owned the mutex that a thread waits for as it began to, or 0
-abbrev pub awaited_by : Course → ℕ → ℕ
-awaited_by course t = option_map_or (λ thread. thread.awaited_owner) (slice_get course.threads.items t) 0
+-- who owned the mutex that a thread waits for as it began to, if a record says it
+abbrev pub awaited_by : Course → ℕ → Option ℕ
+awaited_by course t = option_and_then (λ thread. thread.awaited_owner) (slice_get course.threads.items t)
 
 -- the place in the code at which a thread asked for what it waits for
 abbrev pub place_in : Course → ℕ → Option ℕ
@@ -38,9 +38,10 @@ place_of_owner course t = option_map_or (λ thread. thread.owner_at) (slice_get 
 -- that owner, if it is known and another thread, its level, and the place at which it took the mutex
 abbrev pub owner_for : Course → ℕ → Option FoundOwner
 owner_for course t =
-    let owner = awaited_by course t in
-    if (owner == 0) || (owner == t) then None
+    option_and_then (λ owner.
+    if owner == t then None
     else Some (record { thread = owner; level = level_in course owner; at = place_of_owner course t })
+    ) (awaited_by course t)
 
 -- the level of an owner; 0, the lowest, if it isn't known
 abbrev pub level_of_owner : Option FoundOwner → ℕ

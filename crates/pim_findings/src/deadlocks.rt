@@ -48,13 +48,8 @@ fn blocker(course: &Course, thread: u32) -> Option<u32>
         return None;
     }
     let is = course.threads.get(thread as usize)?;
-    if is.awaits_own != 0 {
+    if is.awaits_own.is_some() {
         return Some(thread);
     }
-    let owner = course.mutex(is.awaits).owner;
-    if is.awaits == 0 || owner == 0 {
-        None
-    } else {
-        Some(owner)
-    }
+    course.mutex(is.awaits?).owner
 }

@@ -113,16 +113,14 @@ fn place_of(course: &Course, thread: u32) -> Option<u16>
 fn awaited_owner(course: &Course, thread: u32) -> Option<FoundOwner>
     ensures { result ≡ owner_for course.now thread }
 {
-    let (owner, at) = match course.threads.get(thread as usize) {
-        Some(is) => (is.awaited_owner, is.owner_at),
-        None => (0, None),
-    };
-    if owner == 0 || owner == thread {
+    let is = course.threads.get(thread as usize)?;
+    let owner = is.awaited_owner?;
+    if owner == thread {
         return None;
     }
     Some(FoundOwner {
         thread: owner,
         level: level_of(course, owner),
-        at,
+        at: is.owner_at,
     })
 }

@@ -348,10 +348,7 @@ fn owner_before(course: &Course, fact: &Fact, mutex: u32) -> Option<u32>
     if mutex == fact.mutex {
         return Some(fact.thread);
     }
-    match course.mutex(mutex).owner {
-        0 => None,
-        owner => Some(owner),
-    }
+    course.mutex(mutex).owner
 }
 
 /// Returns whether a thread owned a mutex before the fact's thread releases its own.

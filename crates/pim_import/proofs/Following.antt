@@ -1,8 +1,6 @@
 -- What is known of the findings on the way through a log.
-use Rattle.std.proofs.Common.{◌≡◌, ◌⊎◌, ℕ, ◌+◌, ◌-◌, ◌<◌, ◌≤◌, ◌==◌, ◌||◌, ◌∙◌, Bool, true, false, cond, List, [], ◌∷◌, ◌++◌}
-use Rattle.std.proofs.Common.{length, get_or, take, map, reverse}
-use Rattle.std.proofs.Common.{slice_get, ap, sym, subst, refl, inl, inr, arith, eq-eqb, Option, Some, None, Result, Ok, Err}
-use Rattle.std.proofs.lemmas.Bool.{eqb-true, lt-ltb}
+use Rattle.std.proofs.Common.{◌≡◌, ◌⊎◌, ℕ, ◌+◌, ◌-◌, ◌<◌, ◌≤◌, ◌==◌, ◌||◌, ◌∙◌, Bool, true, false, cond, List, [], ◌∷◌, ◌++◌, length, get_or, take, map, reverse, slice_get, ap, sym, subst, refl, inl, inr, arith, Option, Some, None, Result, Ok, Err}
+use Rattle.std.proofs.lemmas.Bool.{lt-ltb}
 use Rattle.std.proofs.lemmas.List.{map-append, reverse-append, take_more}
 use Rattle.std.proofs.lemmas.List.Elements.{All-cons}
 use Rattle.std.specs.Option.{option_map_or, unwrap_or}
@@ -35,38 +33,36 @@ use Rattle.pim_findings.specs.declared.findings.Findings.{Findings}
 use Rattle.pim_import.proofs.Adding.{all_added}
 use Rattle.pim_import.specs.Following.{ArePlaced, FollowsLog, HasAdded, HasFollowed, IsLacking, IsOfThread, IsSpared, Knows, Stage}
 use Rattle.pim_import.specs.Following.{facts_of, is_kept, kept_of, moment_of, moments_of, stage_of}
-use Rattle.pim_import.specs.LeftOut.{IsKept}
+use Rattle.pim_import.specs.LeftOut.{IsKept, Keeps}
 use Rattle.pim_import.specs.declared.critical_sections.CriticalSections.{CriticalSections}
 
-either : (a b c : Bool) → (a ≡ true) ⊎ ((b ≡ true) ⊎ (c ≡ true)) → (a || b || c) ≡ true
-either true b c any = refl
-either false true c any = refl
-either false false true any = refl
-either false false false (inl e) = e
-either false false false (inr (inl e)) = e
-either false false false (inr (inr e)) = e
+either : (a b : Bool) → (a ≡ true) ⊎ (b ≡ true) → (a || b) ≡ true
+either true b any = refl
+either false true any = refl
+either false false (inl e) = e
+either false false (inr e) = e
+
+either_of : (a b : Bool) → (a || b) ≡ true → (a ≡ true) ⊎ (b ≡ true)
+either_of true b e = inl refl
+either_of false b e = inr e
+
+-- whether a critical section is in the trace
+abbrev keeps : CriticalSections → ℕ → Bool
+keeps sections n = sections.is_all || slice_index_or sections.is_kept.items n true
+
+kept_to : (sections : CriticalSections) (section : Option ℕ) → IfSome section (Keeps sections) →
+    option_map_or (keeps sections) section true ≡ true
+kept_to sections None kept = refl
+kept_to sections (Some n) kept = either sections.is_all (slice_index_or sections.is_kept.items n true) kept
+
+kept_from : (sections : CriticalSections) (section : Option ℕ) → option_map_or (keeps sections) section true ≡ true →
+    IfSome section (Keeps sections)
+kept_from sections None e = tt
+kept_from sections (Some n) e = either_of sections.is_all (slice_index_or sections.is_kept.items n true) e
 
 -- a fact that is kept passes the test
 pub kept_true : (sections : CriticalSections) (fact : Fact) → IsKept sections fact → is_kept sections fact ≡ true
-kept_true sections fact (inl none) =
-    either (fact.section == 0) sections.is_all (slice_index_or sections.is_kept.items fact.section true)
-    (inl (eq-eqb fact.section 0 none))
-kept_true sections fact (inr (inl all)) =
-    either (fact.section == 0) sections.is_all (slice_index_or sections.is_kept.items fact.section true)
-    (inr (inl all))
-kept_true sections fact (inr (inr one)) =
-    either (fact.section == 0) sections.is_all (slice_index_or sections.is_kept.items fact.section true)
-    (inr (inr one))
-
-either_of : (a b c : Bool) → (a || b || c) ≡ true → (a ≡ true) ⊎ ((b ≡ true) ⊎ (c ≡ true))
-either_of true b c e = inl refl
-either_of false true c e = inr (inl refl)
-either_of false false true e = inr (inr refl)
-either_of false false false e = inl e
-
-is_zero : (n : ℕ) (rest : Type 0) → ((n == 0) ≡ true) ⊎ rest → (n ≡ 0) ⊎ rest
-is_zero n rest (inl e) = inl (eqb-true n 0 e)
-is_zero n rest (inr other) = inr other
+kept_true sections fact kept = kept_to sections fact.section kept
 
 -- one that isn't kept doesn't pass it
 pub kept_false : (sections : CriticalSections) (fact : Fact) → (IsKept sections fact → ⊥) → is_kept sections fact ≡ false
@@ -74,9 +70,7 @@ kept_false sections fact not = go (is_kept sections fact) refl
   where
     go : (b : Bool) → is_kept sections fact ≡ b → is_kept sections fact ≡ false
     go false e = e
-    go true e =
-        let has : Bool = slice_index_or sections.is_kept.items fact.section true in
-        absurd (not (is_zero fact.section _ (either_of (fact.section == 0) sections.is_all has e)))
+    go true e = absurd (not (kept_from sections fact.section e))
 
 pub not_both : (b : Bool) → b ≡ true → b ≡ false → ⊥
 not_both b is isnt = cc

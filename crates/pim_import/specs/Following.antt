@@ -1,7 +1,7 @@
 -- The way through a log, and what is found of the facts that it shows.
-use Rattle.std.specs.Prelude.{◌≡◌, ◌⊎◌, ◌+◌, ◌-◌, ◌<◌, ◌≤◌, ℕ, ◌==◌, ◌||◌, Bool, true, List, [], ◌∷◌, ◌++◌, map}
+use Rattle.std.specs.Prelude.{◌≡◌, ◌⊎◌, ◌+◌, ◌-◌, ◌<◌, ◌≤◌, ℕ, ◌||◌, Bool, true, List, [], ◌∷◌, ◌++◌, map}
 use Rattle.std.specs.Prelude.{reverse, filter, length, slice_get, slice_index_or, Option, Some, All}
-use Rattle.std.specs.Option.{unwrap_or}
+use Rattle.std.specs.Option.{option_map_or, unwrap_or}
 use Rattle.pim_log.specs.Headers.{header_of, end_of}
 use Rattle.pim_facts.specs.Shown.{shown_in}
 use Rattle.pim_facts.specs.declared.fact.Fact.{Fact}
@@ -108,7 +108,8 @@ facts_of sources (stage ∷ before) =
 
 -- whether a fact is of a critical section that is in the trace, or of none
 abbrev pub is_kept : CriticalSections → Fact → Bool
-is_kept sections fact = fact.section == 0 || sections.is_all || slice_index_or sections.is_kept.items fact.section true
+is_kept sections fact =
+    option_map_or (λ section. sections.is_all || slice_index_or sections.is_kept.items section true) fact.section true
 
 -- the facts that are in the trace
 abbrev pub kept_of : CriticalSections → List Moment → List Moment

@@ -1,5 +1,5 @@
 -- Which critical sections are in the trace.
-use Rattle.std.specs.Prelude.{◌≡◌, ◌⊎◌, ◌↔◌, ◌+◌, ◌≤◌, ℕ, Bool, IsTrue, List, [], ◌∷◌, length}
+use Rattle.std.specs.Prelude.{◌≡◌, ◌⊎◌, ◌↔◌, ◌+◌, ◌≤◌, ℕ, Bool, IsTrue, List, [], ◌∷◌, length, Some}
 use Rattle.pim_log.specs.Headers.{header_of, end_of}
 use Rattle.pim_course.specs.declared.course.Sources.{Sources}
 use Rattle.pim_findings.specs.Waits.{Moment}
@@ -9,7 +9,7 @@ use Rattle.pim_import.specs.declared.critical_sections.CriticalSections.{Critica
 -- the critical section with a number must be kept: one of these facts is of it, and must stay
 abbrev pub MustBeKept : ℕ → List Moment → Type 0
 MustBeKept n [] = ⊥
-MustBeKept n (m ∷ facts) = ((m.fact.section ≡ n) × MustStay m.course m.sources m.fact) ⊎ MustBeKept n facts
+MustBeKept n (m ∷ facts) = ((m.fact.section ≡ Some n) × MustStay m.course m.sources m.fact) ⊎ MustBeKept n facts
 
 -- how many numbers the critical sections of a log can have, with the 0 of none: one a record and a request that it lacks
 abbrev pub room_of : List ℕ → Sources → ℕ

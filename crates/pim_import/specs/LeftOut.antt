@@ -1,5 +1,5 @@
 -- What a trace may be without: facts that change no priority.
-use Rattle.std.specs.Prelude.{◌≡◌, ◌≢◌, ◌↔◌, ℕ, ◌⊎◌, true, IsTrue, List, [], ◌∷◌, ◌++◌, slice_index_or}
+use Rattle.std.specs.Prelude.{◌≡◌, ◌≢◌, ◌↔◌, ℕ, ◌⊎◌, true, IsTrue, List, [], ◌∷◌, ◌++◌, slice_index_or, None, IfSome}
 use Rattle.pim_facts.specs.declared.family.Family.{Family}
 use Rattle.pim_facts.specs.declared.fact.Fact.{Fact}
 use Rattle.pim_facts.specs.declared.fact.What.{What}
@@ -19,12 +19,12 @@ pub record IsUnawaited (family : Family) (mutex : CourseMutex) : Type 0 where
 
 -- nobody owns the mutex, and it goes to no waiter
 pub record IsFree (mutex : CourseMutex) : Type 0 where
-  pub no_owner : mutex.owner ≡ 0
-  pub no_next_owner : mutex.next_owner ≡ 0
+  pub no_owner : mutex.owner ≡ None
+  pub no_next_owner : mutex.next_owner ≡ None
 
 -- the thread didn't wait for the mutex before the critical section that it is granted
 abbrev pub IsNotHandedOver : Fact → Type 0
-IsNotHandedOver fact = (fact.since ≡ 0) ⊎ (fact.since ≡ fact.section)
+IsNotHandedOver fact = (fact.since ≡ None) ⊎ (fact.since ≡ fact.section)
 
 -- What happened to a mutex, which is as the record leaves it, changes no priority: it gets or loses an owner while it is
 -- unawaited, or somebody begins or stops to wait for it, or it has another ceiling, while it is free.
@@ -51,7 +51,7 @@ Keeps sections n = IsTrue sections.is_all ⊎ IsTrue (slice_index_or sections.is
 
 -- the fact is of a critical section that is in the trace, or of none
 abbrev pub IsKept : CriticalSections → Fact → Type 0
-IsKept sections fact = (fact.section ≡ 0) ⊎ Keeps sections fact.section
+IsKept sections fact = IfSome fact.section (Keeps sections)
 
 -- What is left out is whole: of two facts in one critical section, the one before the other, both are kept or none is.
 abbrev pub WholeLaw : Type 0

@@ -1,5 +1,5 @@
 //! Which critical sections are in the trace.
-ghost use Rattle.std.specs.Prelude.{◌≡◌, ◌⊎◌, ◌↔◌, ◌++◌, ℕ, Bool, List, All, IfOk, IsTrue};
+ghost use Rattle.std.specs.Prelude.{◌≡◌, ◌⊎◌, ◌↔◌, ◌++◌, ℕ, Bool, List, All, IfOk, IfSome, IsTrue, Some};
 ghost use Rattle.pim_facts.specs.Shown.{shown_in};
 ghost use Rattle.pim_findings.specs.Waits.{Moment};
 ghost use Rattle.pim_import.specs.Following.{KeepsThoseOfLog, moments_of};
@@ -64,7 +64,7 @@ impl CriticalSections {
     /// waits: a wait is found also where no record says who owns the mutex, or where its owner is
     /// about to release it.
     fn look(&mut self, walk: &Walk, sources: &Sources)
-        ensures kept { All (λ fact. MustStay walk.now.course sources.now fact → Keeps self.new fact.section)
+        ensures kept { All (λ fact. MustStay walk.now.course sources.now fact → IsKept self.new fact)
             (shown_in walk.now.course.shown) }
         ensures still { (n : ℕ) → Keeps self.old n → Keeps self.new n }
         ensures exact { (is_all : Bool) (room time : ℕ) (facts : List Moment) → KeepsThoseOf is_all room facts self.old →
@@ -79,12 +79,15 @@ impl CriticalSections {
         }
     }
 
-    /// Keeps a critical section.
-    fn keep(&mut self, section: u32)
-        ensures kept { Keeps self.new section }
+    /// Keeps a critical section, if there is one.
+    fn keep(&mut self, section: Option<u32>)
+        ensures kept { IfSome section (Keeps self.new) }
         ensures still { (n : ℕ) → Keeps self.old n → Keeps self.new n }
-        ensures only { (n : ℕ) → Keeps self.new n → Keeps self.old n ⊎ (n ≡ section) }
+        ensures only { (n : ℕ) → Keeps self.new n → Keeps self.old n ⊎ (section ≡ Some n) }
     {
+        let Some(section) = section else {
+            return;
+        };
         if (section as usize) < self.is_kept.len() {
             self.is_kept[section as usize] = true;
         }
@@ -94,7 +97,10 @@ impl CriticalSections {
     pub fn has(&self, fact: &Fact) -> bool
         ensures { IsTrue result ↔ IsKept self.now fact.now }
     {
-        fact.section == 0 || self.keeps(fact.section)
+        match fact.section {
+            Some(section) => self.keeps(section),
+            None => true,
+        }
     }
 
     /// Returns whether a critical section is in the trace. One that nothing is known of is.

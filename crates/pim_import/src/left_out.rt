@@ -43,7 +43,7 @@ fn changes_no_priority(family: Family, mutex: &CourseMutex, fact: &Fact) -> bool
 fn is_free(mutex: &CourseMutex) -> bool
     ensures { IsTrue result ↔ IsFree mutex.now }
 {
-    mutex.owner == 0 && mutex.next_owner == 0
+    mutex.owner.is_none() && mutex.next_owner.is_none()
 }
 
 /// Returns whether nobody waits for the mutex, and it isn't a PROTECT one.
@@ -58,5 +58,5 @@ fn is_unawaited(family: Family, mutex: &CourseMutex) -> bool
 fn is_not_handed_over(fact: &Fact) -> bool
     ensures { IsTrue result ↔ IsNotHandedOver fact.now }
 {
-    fact.since == 0 || fact.since == fact.section
+    fact.since.is_none() || fact.since == fact.section
 }

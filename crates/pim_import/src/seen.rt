@@ -12,8 +12,8 @@ use std::alloc::{AllocError, Global};
 struct Appearing {
     /// The number of the record.
     number: u64,
-    /// The number of the critical section.
-    section: u32,
+    /// The number of the critical section, if it is of one.
+    section: Option<u32>,
     thread: u32,
     /// The level of the thread then.
     level: u8,
@@ -127,17 +127,21 @@ fn stay(participants: &mut Participants, course: &Course, sections: &CriticalSec
     let mutexes = participants.mutexes.len().min(u32::MAX as usize) as u32;
     for mutex in 1..mutexes {
         let is = course.mutex(mutex);
-        if is.owner != 0 && sections.keeps(is.section) {
-            last_to_the_end(&mut participants.threads, is.owner);
-            last_to_the_end(&mut participants.mutexes, mutex);
+        if let (Some(owner), Some(section)) = (is.owner, is.section) {
+            if sections.keeps(section) {
+                last_to_the_end(&mut participants.threads, owner);
+                last_to_the_end(&mut participants.mutexes, mutex);
+            }
         }
     }
     let threads = participants.threads.len().min(u32::MAX as usize) as u32;
     for thread in 1..threads {
         let is = course.thread(thread);
-        if is.awaits != 0 && sections.keeps(is.section) {
-            last_to_the_end(&mut participants.threads, thread);
-            last_to_the_end(&mut participants.mutexes, is.awaits);
+        if let (Some(mutex), Some(section)) = (is.awaits, is.section) {
+            if sections.keeps(section) {
+                last_to_the_end(&mut participants.threads, thread);
+                last_to_the_end(&mut participants.mutexes, mutex);
+            }
         }
     }
 }

@@ -101,13 +101,7 @@ pub fn put_mutex(out: &mut Out, told: &Told, mutex: u32) {
 /// Returns the mutex that a thread waits for at the end, which may be its own.
 pub fn awaited_at_the_end(told: &Told, thread: u32) -> Option<u32> {
     let is = told.imported.built.course.thread(thread);
-    if is.awaits_own != 0 {
-        Some(is.awaits_own)
-    } else if is.awaits != 0 {
-        Some(is.awaits)
-    } else {
-        None
-    }
+    is.awaits_own.or(is.awaits)
 }
 
 /// Returns the protocol of a mutex.

@@ -273,9 +273,11 @@ fn put_blocked(out: &mut Out, told: &Told, thread: u32) {
         let is = course.mutex(mutex);
         out.put(" for ");
         put_mutex(out, told, mutex);
-        out.put(" of ");
-        put_thread(out, told, is.owner);
-        put_code(out, told, TOOK_AT, is.owner, is.taken_at);
+        if let Some(owner) = is.owner {
+            out.put(" of ");
+            put_thread(out, told, owner);
+            put_code(out, told, TOOK_AT, owner, is.taken_at);
+        }
     }
 }
 

@@ -285,7 +285,9 @@ fn put_blocked(alloc: Global, out: &mut JsonOut, told: &Told, thread: u32) {
     if let Some(mutex) = awaited_at_the_end(told, thread) {
         let is = course.mutex(mutex);
         put_number(out, told, "mutex", mutex);
-        put_at(alloc, out, told, "owner_at", is.owner, is.taken_at);
+        if let Some(owner) = is.owner {
+            put_at(alloc, out, told, "owner_at", owner, is.taken_at);
+        }
     }
     out.end_object();
 }

@@ -1,4 +1,4 @@
-//! The numbers of threads, mutexes and processes. In other crates 0 stands for none.
+//! The numbers of processes. In other crates 0 stands for none.
 
 /// Returns this number, or `None` if it stands for none.
 pub fn unless_zero(number: u32) -> Option<u32> {

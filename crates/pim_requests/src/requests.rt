@@ -13,7 +13,6 @@ ghost use Rattle.pim_requests.specs.Asked.{IsShown, LacksRequest, MayHaveWaited,
 ghost use Rattle.pim_requests.specs.Asking.{KnowsAsked, asked_after};
 
 use crate::grants::{Grants, is_grant};
-use crate::ids::unless_zero;
 use crate::waits::{Asked, Wait, asked_in};
 use pim_course::lists::{get, set};
 use pim_course::{Request, Requests, Sources, Walk};
@@ -85,9 +84,9 @@ fn add_silent(alloc: Global, log: &Log, sources: &Sources, to: &mut Asked) -> Re
         let (thread, mutex) = (record.thread, ids.of_record(number));
         let own = get(&last, thread);
         add_call(log, ids, &grants, &mut asked, &record, own, to)?;
-        let before = unless_zero(walk.course.mutex(mutex).owner);
+        let before = walk.course.mutex(mutex).owner;
         let _moment = walk.read(log, sources, number);
-        let owner = unless_zero(walk.course.mutex(mutex).owner);
+        let owner = walk.course.mutex(mutex).owner;
         grants.pass(&record, mutex, before, owner);
         if record.time.is_some() {
             set(&mut last, thread, Some(number));

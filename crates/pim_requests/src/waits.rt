@@ -208,8 +208,8 @@ impl Search {
         let Some((thread, mutex)) = self.find(sources, wait) else {
             return Ok(());
         };
-        let owner = unless_zero(course.mutex(mutex).owner);
-        let awaits = unless_zero(course.thread(thread).awaits);
+        let owner = course.mutex(mutex).owner;
+        let awaits = course.thread(thread).awaits;
         if owner == Some(thread) || awaits.is_some() || self.is_pending(thread) {
             return Ok(());
         }

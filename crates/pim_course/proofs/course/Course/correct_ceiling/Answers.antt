@@ -2,7 +2,6 @@ use Rattle.std.proofs.Common.{ap, ◌∙◌}
 use Rattle.pim_course.proofs.Worlds.{owner-same, world-ceiling}
 use Rattle.pim_course.proofs.Leading.{goes-added}
 use Rattle.pim_course.proofs.Numbering.{numbers-added, same-mutex}
-use Rattle.pim_course.specs.World.{if_any}
 use Rattle.pim_course.proofs.course.Course.correct_ceiling.Goals as goal
 
 pub returns-clause-owner : goal.returns-clause-owner
@@ -21,7 +20,7 @@ pub returns-clause-sections : goal.returns-clause-sections
 returns-clause-sections c =
     numbers-added c.args.self.now c.put_mutex.new.self _ _ _ c.fact-corrected.ensures
     (ap (λ d. d.shown) c.put_mutex.ensures.rest) c.add.ensures.shown c.add.ensures.full
-    (ap (λ z. if_any z.section) c.mutex-is.ensures)
+    (ap (λ z. z.section) c.mutex-is.ensures)
     (same-mutex c.args.self.now c.put_mutex.new.self _ _ c.put_mutex.ensures.mutexes
     (ap (λ d. d.threads) c.put_mutex.ensures.rest) (ap (λ d. d.sections) c.put_mutex.ensures.rest)
     (ap (λ z. z.section) c.mutex-is.ensures))

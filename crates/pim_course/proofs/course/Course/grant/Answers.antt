@@ -3,18 +3,19 @@ use Rattle.std.specs.Option.{option_map_or}
 use Rattle.std.proofs.Common.{cond, [], ℕ, Option, ◌≡◌, ◌⊎◌, ◌<◌, Some, None, length, inl, inr, refl, ap, sym, ◌∙◌, arith}
 use Rattle.pim_facts.specs.declared.fact.What.TheVariants.{Granted, Released}
 use Rattle.pim_course.specs.Depths.{depth_again}
-use Rattle.pim_course.specs.Told.{depths_of, ceiling_told, did, freed_told, gave_up_told, is_it, released_told}
-use Rattle.pim_course.specs.World.{but_for, if_any, world_of}
+use Rattle.pim_course.specs.NextOwners.{is_that}
+use Rattle.pim_course.specs.Told.{depths_of, ceiling_told, did, freed_told, gave_up_told, released_told}
+use Rattle.pim_course.specs.World.{but_for, world_of}
 use Rattle.pim_course.specs.Going.{IsStill}
 use Rattle.pim_course.specs.declared.course.CourseMutex.{CourseMutex}
 use Rattle.pim_course.specs.declared.course.Course.{Course}
-use Rattle.pim_course.proofs.Telling.{depth-put, gave-up-same, if-not, it-isnt, neither, tells-behind, tells-same, tells-then}
+use Rattle.pim_course.proofs.Telling.{depth-put, gave-up-same, if-not, neither, not-that, tells-behind, tells-same, tells-then}
 use Rattle.pim_course.proofs.Leading.{goes-marked, goes-still, goes-then}
 use Rattle.pim_course.proofs.Numbering.{numbers-marked, numbers-none, numbers-then}
 use Rattle.pim_course.proofs.course.Course.grant.Goals as goal
 
 pub returns-clause-goes : goal.returns-clause-goes
-returns-clause-goes c above lt below =
+returns-clause-goes c lt below =
     let t = c.args.record.now.thread in
     let m = c.args.mutex in
     let old : Course = c.args.self.now in
@@ -26,8 +27,8 @@ returns-clause-goes c above lt below =
     let in_f : m < length f.mutexes.items = omega (arith, c.forget_own.ensures.size.mutexes) in
     let in_b : m < length b.mutexes.items =
     omega (arith, c.correct_ceiling.ensures.size.mutexes, c.correct_wait.ensures.size.mutexes) in
-    let owned : if_any c.mutex-owner.result.owner ≡ (world_of b).owner m =
-    ap (λ z. if_any z.owner) c.mutex-owner.ensures
+    let owned : c.mutex-owner.result.owner ≡ (world_of b).owner m =
+    ap (λ z. z.owner) c.mutex-owner.ensures
     ∙ sym (ap (λ h. h m) (c.correct_wait.ensures.owner ∙ c.correct_ceiling.ensures.owner
     ∙ ap (λ w. w.owner) c.forget_own.ensures.still.world)) in
     let awaits : ((world_of g).awaits t ≡ None) ⊎ ((world_of g).awaits t ≡ Some m) =
@@ -40,7 +41,7 @@ returns-clause-goes c above lt below =
     (goes-then 1 2 a b new c.correct_wait.ensures.goes
     (goes-marked 2 c.if-not-may_be_above.self b new
     (goes-then 1 1 _ g new (c.free.ensures.goes owned)
-    (c.take.ensures.goes above
+    (c.take.ensures.goes
     (omega (
       arith,
       c.forget_own.ensures.size.threads,
@@ -49,7 +50,6 @@ returns-clause-goes c above lt below =
       c.free.ensures.size.threads,
     ))
     (omega (arith, c.free.ensures.size.mutexes))
-    (omega (arith, c.if-mutex-eq0.false))
     (c.free.ensures.owner owned in_b, awaits))))))
 
 pub returns-clause-told : goal.returns-clause-told
@@ -64,29 +64,29 @@ returns-clause-told c =
     let new : Course = c.take.new.self in
     let still : IsStill old f = c.forget_own.ensures.still in
     let said = ceiling_told c.args.sources.now (world_of old) t m c.args.said.now in
-    let gone = gave_up_told (world_of old) t m in
-    let freed = freed_told (world_of old) m t in
+    let gone = gave_up_told (world_of old) t (Some m) in
+    let freed = freed_told (world_of old) m (Some t) in
     let awaits : (world_of a).awaits ≡ (world_of old).awaits = c.correct_ceiling.ensures.awaits ∙ ap (λ w. w.awaits) still.world in
-    let is : is_it ((world_of b).awaits t) m ≡ is_it ((world_of old).awaits t) m =
-    c.correct_wait.ensures.same (omega (arith, c.if-mutex-eq0.false)) ∙ ap (λ (h : ℕ → Option ℕ). is_it (h t) m) awaits in
+    let is : is_that ((world_of b).awaits t) m ≡ is_that ((world_of old).awaits t) m =
+    c.correct_wait.ensures.same m refl ∙ ap (λ (h : ℕ → Option ℕ). is_that (h t) m) awaits in
     tells-same 4 _ _ old new
     (sym (if-not _ _ _ (neither _ _ (ne_eqb m 0 (λ e. omega (arith, e, c.if-mutex-eq0.false)))
-    (it-isnt _ _ (λ e. c.if-owner-thread.false (ap (λ z. z.owner) c.mutex-owner.ensures ∙ e))))))
+    (not-that _ _ _ (ap (λ z. z.owner) c.mutex-owner.ensures) (grind (arith, c.eq.ensures, c.if-eq.false, c.if-eq.ensures))))))
     (tells-then 3 1 _ (did Granted t m) old g new
     (tells-then 2 1 _ freed old b g
     (tells-then 1 1 said gone old a b
     (tells-behind 1 said old f a still.shown
     (tells-same 1 _ said f a (ap (λ w. ceiling_told c.args.sources.now w t m c.args.said.now) still.world)
     c.correct_ceiling.ensures.told))
-    (tells-same 1 _ gone a b (gave-up-same (world_of old) (world_of a) t m awaits) c.correct_wait.ensures.told))
+    (tells-same 1 _ gone a b (gave-up-same (world_of old) (world_of a) t (Some m) awaits) c.correct_wait.ensures.told))
     (tells-same 1 _ freed b g
-    (ap (λ so. option_map_or (λ o. did (Released (cond so t 0)) o m) (if_any c.mutex-owner.result.owner) []) is
-    ∙ ap (λ (z : CourseMutex). option_map_or (λ o. released_told (world_of old) o m t) (if_any z.owner) []) c.mutex-owner.ensures)
+    (ap (λ so. option_map_or (λ o. did (Released (cond so (Some t) None)) o m) c.mutex-owner.result.owner []) is
+    ∙ ap (λ (z : CourseMutex). option_map_or (λ o. released_told (world_of old) o m (Some t)) z.owner []) c.mutex-owner.ensures)
     (tells-behind 1 _ b _ g refl c.free.ensures.told)))
     c.take.ensures.told)
 
 pub returns-clause-depths : goal.returns-clause-depths
-returns-clause-depths c below above k =
+returns-clause-depths c below k =
     let t = c.args.record.now.thread in
     let m = c.args.mutex in
     let old : Course = c.args.self.now in
@@ -104,7 +104,7 @@ returns-clause-depths c below above k =
     ∙ c.forget_own.ensures.depths j) k
     ∙ sym (ap (λ is. cond is (depth_again c.args.sources.now.ids (depths_of old) m) once k)
     (neither _ _ (ne_eqb m 0 (λ e. omega (arith, e, c.if-mutex-eq0.false)))
-    (it-isnt _ _ (λ e. c.if-owner-thread.false (ap (λ z. z.owner) c.mutex-owner.ensures ∙ e)))))
+    (not-that _ _ _ (ap (λ z. z.owner) c.mutex-owner.ensures) (grind (arith, c.eq.ensures, c.if-eq.false, c.if-eq.ensures)))))
 
 pub returns-clause-sections : goal.returns-clause-sections
 returns-clause-sections c below =
@@ -115,8 +115,8 @@ returns-clause-sections c below =
     let b : Course = c.correct_wait.new.self in
     let g : Course = c.free.new.self in
     let new : Course = c.take.new.self in
-    let owned : if_any c.mutex-owner.result.owner ≡ (world_of b).owner m =
-    ap (λ z. if_any z.owner) c.mutex-owner.ensures
+    let owned : c.mutex-owner.result.owner ≡ (world_of b).owner m =
+    ap (λ z. z.owner) c.mutex-owner.ensures
     ∙ sym (ap (λ h. h m) (c.correct_wait.ensures.owner ∙ c.correct_ceiling.ensures.owner
     ∙ ap (λ w. w.owner) c.forget_own.ensures.still.world)) in
     numbers-then 0 4 old f new (numbers-none 0 old f c.forget_own.ensures.still.shown c.forget_own.ensures.sections)

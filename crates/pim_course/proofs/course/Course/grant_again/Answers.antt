@@ -3,14 +3,14 @@ use Rattle.pim_course.proofs.Worlds.{still-mutex}
 use Rattle.pim_course.proofs.Numbering.{same-mutex}
 use Rattle.pim_course.proofs.course.Course.grant_again.Goals as goal
 
-pub returns-then-thread-ne0-clause-still : goal.returns-then-thread-ne0-clause-still
-returns-then-thread-ne0-clause-still c =
+pub returns-then-is_recursive-clause-still : goal.returns-then-is_recursive-clause-still
+returns-then-is_recursive-clause-still c =
     still-mutex _ _ _ _ c.put_mutex.ensures.mutexes
     (ap (λ d. d.threads) c.put_mutex.ensures.rest) (ap (λ d. d.shown) c.put_mutex.ensures.rest)
     (ap (λ z. z.owner) c.mutex-is.ensures) (ap (λ z. z.ceiling) c.mutex-is.ensures)
 
-pub returns-then-thread-ne0-clause-sections : goal.returns-then-thread-ne0-clause-sections
-returns-then-thread-ne0-clause-sections c =
+pub returns-then-is_recursive-clause-sections : goal.returns-then-is_recursive-clause-sections
+returns-then-is_recursive-clause-sections c =
     same-mutex c.args.self.now c.put_mutex.new.self _ _ c.put_mutex.ensures.mutexes
     (ap (λ d. d.threads) c.put_mutex.ensures.rest) (ap (λ d. d.sections) c.put_mutex.ensures.rest)
     (ap (λ z. z.section) c.mutex-is.ensures)

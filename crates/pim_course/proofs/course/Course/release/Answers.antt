@@ -1,25 +1,25 @@
-use Rattle.std.proofs.Common.{ℕ, ◌<◌, ◌-◌, length, ◌≡◌, ◌++◌, cond, ap, sym, ◌∙◌, arith}
+use Rattle.std.proofs.Common.{ℕ, ◌<◌, ◌-◌, length, ◌≡◌, ◌++◌, cond, Some, None, refl, eq-eqb, ap, sym, ◌∙◌, arith}
 use Rattle.std.proofs.lemmas.Bool.{le-ltb, ne_eqb}
-use Rattle.std.specs.Option.{unwrap_or}
 use Rattle.pim_facts.specs.declared.fact.What.TheVariants.{GaveUp, Released}
-use Rattle.pim_course.specs.Told.{depths_of, did, gave_up_told, heir_in, is_it}
-use Rattle.pim_course.specs.World.{but_for, World, after, world_of, if_any}
+use Rattle.pim_course.specs.NextOwners.{is_that}
+use Rattle.pim_course.specs.Told.{depths_of, did, gave_up_told, heir_in}
+use Rattle.pim_course.specs.World.{but_for, World, after, world_of}
 use Rattle.pim_course.specs.Courses.{mutex_in}
 use Rattle.pim_course.specs.declared.course.Course.{Course}
-use Rattle.pim_course.proofs.Telling.{depth-put, if-not, it-is, left-by, neither, never-zero, none-of, not-true, tells-same, tells-then}
-use Rattle.pim_course.proofs.Worlds.{has_mutex, is_any}
+use Rattle.pim_course.proofs.Telling.{depth-put, heir-same, if-not, left-by, neither, none-of, not-true, so-that, that-from, tells-same, tells-then}
+use Rattle.pim_course.proofs.Worlds.{has_mutex}
 use Rattle.pim_course.proofs.Leading.{goes-then}
 use Rattle.pim_course.proofs.Numbering.{numbers-then}
 use Rattle.pim_course.proofs.course.Course.release.Goals as goal
 
 pub returns-clause-goes : goal.returns-clause-goes
-returns-clause-goes c above =
-    let owner : c.mutex-is.result.owner ≡ c.args.record.now.thread = omega arith in
+returns-clause-goes c =
+    let owner : c.mutex-is.result.owner ≡ Some c.args.record.now.thread =
+    that-from _ _ (grind (arith, c.ne.ensures, c.if-ne.false, c.if-ne.ensures)) in
     goes-then 1 1 c.args.self.now c.correct_wait.new.self c.hand_over.new.self c.correct_wait.ensures.goes
     (c.hand_over.ensures.goes
     (ap (λ f. f c.args.mutex) c.correct_wait.ensures.owner
-    ∙ ap (λ z. if_any z.owner) (sym c.mutex-is.ensures) ∙ ap if_any owner
-    ∙ is_any c.args.record.now.thread (λ e. omega (arith, e))))
+    ∙ ap (λ z. z.owner) (sym c.mutex-is.ensures) ∙ owner))
 
 pub returns-clause-told : goal.returns-clause-told
 returns-clause-told c =
@@ -29,28 +29,31 @@ returns-clause-told c =
     let b : Course = c.correct_wait.new.self in
     let new : Course = c.hand_over.new.self in
     let gone : World = after (world_of old) GaveUp t m in
-    let n = c.unwrap_or.result in
+    let n = c.next_owner-next.result in
     let heir : heir_in (world_of b) m n ≡ heir_in gone m n =
-    ap (λ o. cond (is_it o m) n 0)
-    (left-by (world_of old) (world_of b) t c.correct_wait.ensures.awaits (never-zero _) c.correct_wait.ensures.others n) in
+    heir-same (world_of b) gone m n
+    (left-by (world_of old) (world_of b) t c.correct_wait.ensures.awaits c.correct_wait.ensures.others) in
     tells-same 2 _ _ old new
-    (ap (λ next. gave_up_told (world_of old) t 0 ++ did (Released next) t m) (heir
-    ∙ ap (heir_in gone m) (c.unwrap_or.ensures ∙ ap (λ o. unwrap_or o 0) c.next_owner-next.ensures))
+    (ap (λ next. gave_up_told (world_of old) t None ++ did (Released next) t m) (heir
+    ∙ ap (heir_in gone m) c.next_owner-next.ensures)
     ∙ sym (if-not _ _ _ (none-of _ _ _
     (neither _ _ (ne_eqb m 0 (λ e. omega (arith, e, c.if-mutex-eq0.false)))
-    (not-true _ (it-is _ _ (ap (λ z. z.owner) (sym c.mutex-is.ensures) ∙ omega arith))))
+    (not-true _ (so-that _ _ _ (ap (λ z. z.owner) c.mutex-is.ensures)
+    (grind (arith, c.ne.ensures, c.if-ne.false, c.if-ne.ensures)))))
     (sym c.is_refused.ensures ∙ c.if-is_refused.false)
     (le-ltb 1 (mutex_in old m).depth (omega (arith, ap (λ z. z.depth) c.mutex-is.ensures))))))
     (tells-then 1 1 _ _ old b new c.correct_wait.ensures.told c.hand_over.ensures.told)
 
 pub returns-clause-depths : goal.returns-clause-depths
-returns-clause-depths c above k =
+returns-clause-depths c k =
     let t = c.args.record.now.thread in
     let m = c.args.mutex in
     let old : Course = c.args.self.now in
     let b : Course = c.correct_wait.new.self in
-    let owner : (mutex_in old m).owner ≡ t = ap (λ z. z.owner) (sym c.mutex-is.ensures) ∙ omega arith in
-    let below : m < length old.mutexes.items = has_mutex old m t (ap if_any owner ∙ is_any t (λ e. omega (arith, e))) in
+    let owner : (mutex_in old m).owner ≡ Some t =
+    ap (λ z. z.owner) (sym c.mutex-is.ensures)
+    ∙ that-from _ _ (grind (arith, c.ne.ensures, c.if-ne.false, c.if-ne.ensures)) in
+    let below : m < length old.mutexes.items = has_mutex old m t owner in
     let less : 0 ≡ depths_of old m - 1 = omega (arith, ap (λ z. z.depth) c.mutex-is.ensures) in
     let freed : ℕ → ℕ = but_for m (depths_of old m - 1) (depths_of old) in
     c.hand_over.ensures.depths (omega (arith, c.correct_wait.ensures.size.mutexes)) k
@@ -58,14 +61,14 @@ returns-clause-depths c above k =
     ∙ ap (λ v. but_for m v (depths_of old) k) less
     ∙ sym (ap (λ is. cond is (depths_of old) freed k) (none-of _ _ _
     (ne_eqb m 0 (λ e. omega (arith, e, c.if-mutex-eq0.false)))
-    (not-true _ (it-is _ _ owner))
+    (not-true _ (ap (λ o. is_that o t) owner ∙ eq-eqb t t refl))
     (sym c.is_refused.ensures ∙ c.if-is_refused.false)))
 
 pub returns-clause-sections : goal.returns-clause-sections
-returns-clause-sections c above =
-    let owner : c.mutex-is.result.owner ≡ c.args.record.now.thread = omega arith in
+returns-clause-sections c =
+    let owner : c.mutex-is.result.owner ≡ Some c.args.record.now.thread =
+    that-from _ _ (grind (arith, c.ne.ensures, c.if-ne.false, c.if-ne.ensures)) in
     numbers-then 1 1 c.args.self.now c.correct_wait.new.self c.hand_over.new.self c.correct_wait.ensures.sections
     (c.hand_over.ensures.sections
     (ap (λ f. f c.args.mutex) c.correct_wait.ensures.owner
-    ∙ ap (λ z. if_any z.owner) (sym c.mutex-is.ensures) ∙ ap if_any owner
-    ∙ is_any c.args.record.now.thread (λ e. omega (arith, e))))
+    ∙ ap (λ z. z.owner) (sym c.mutex-is.ensures) ∙ owner))

@@ -1,12 +1,11 @@
 use Rattle.std.proofs.lemmas.Bool.{ne_eqb}
-use Rattle.std.proofs.Common.{◌≡◌, None, inl, inr, ap, sym, subst, ◌∙◌, arith}
+use Rattle.std.proofs.Common.{◌≡◌, Some, None, inl, inr, ap, sym, subst, ◌∙◌, arith}
 use Rattle.pim_facts.specs.declared.fact.What.TheVariants.{Waits}
 use Rattle.pim_course.specs.Told.{ceiling_told, gave_up_told}
 use Rattle.pim_course.specs.Going.{IsStill}
 use Rattle.pim_course.specs.World.{CanHappen, world_of}
 use Rattle.pim_course.specs.declared.course.Course.{Course}
-use Rattle.pim_course.proofs.Telling.{gave-up-same, if-not, it-isnt, none-of, tells-behind, tells-same, tells-then}
-use Rattle.pim_course.proofs.Worlds.{some_is}
+use Rattle.pim_course.proofs.Telling.{gave-up-same, if-not, isnt-that, none-of, not-that, tells-behind, tells-same, tells-then}
 use Rattle.pim_course.proofs.Leading.{goes-still, goes-then}
 use Rattle.pim_course.proofs.Numbering.{numbers-none, numbers-then}
 use Rattle.pim_course.proofs.course.Course.request.Goals as goal
@@ -22,8 +21,8 @@ returns-clause-goes c lt below =
     elim c.correct_wait.ensures.awaits [
       | inl none ↦ none
       | inr it ↦
-          absurd (c.if-thread-mutex.false (ap (λ y. y.awaits) c.thread.ensures
-          ∙ some_is _ _ (sym (ap (λ f. f t) c.correct_ceiling.ensures.awaits) ∙ it.1)))
+          absurd (isnt-that _ _ (grind (arith, c.eq-else-mutex-eq0.ensures, c.if-eq-2.false, c.if-eq-2.ensures))
+          (ap (λ y. y.awaits) c.thread.ensures ∙ sym (ap (λ f. f t) c.correct_ceiling.ensures.awaits) ∙ it.1))
     ] in
     let owner : (world_of b).owner c.args.mutex ≡ (world_of c.args.self.now).owner c.args.mutex =
     ap (λ f. f c.args.mutex) (c.correct_wait.ensures.owner ∙ c.correct_ceiling.ensures.owner) in
@@ -32,9 +31,11 @@ returns-clause-goes c lt below =
     (goes-then 0 1 b d c.wait.new.self (goes-still b d still)
     (c.wait.ensures.goes
     (omega (arith, c.correct_ceiling.ensures.size.threads, c.correct_wait.ensures.size.threads, c.ask_at.ensures.size.threads))
-    (omega (arith, c.if-mutex-eq0.false))
-    (subst (λ w. CanHappen w Waits t c.args.mutex) (sym still.world)
-    (awaits, λ e. c.if-is-thread.false (ap (λ z. z.owner) c.mutex-is.ensures ∙ some_is _ _ (sym owner ∙ e)))))))
+    (subst (λ w. CanHappen w Waits t c.args.mutex) (sym still.world) (
+      awaits,
+      λ e. isnt-that _ _ (grind (arith, c.eq.ensures, c.if-eq.false, c.if-eq.ensures))
+          (ap (λ z. z.owner) c.mutex-is.ensures ∙ sym owner ∙ e),
+    )))))
 
 pub returns-clause-told : goal.returns-clause-told
 returns-clause-told c =
@@ -46,14 +47,16 @@ returns-clause-told c =
     let d : Course = c.ask_at.new.self in
     let new : Course = c.wait.new.self in
     let said = ceiling_told c.args.sources.now (world_of old) t m c.args.said.now in
-    let gone = gave_up_told (world_of old) t m in
+    let gone = gave_up_told (world_of old) t (Some m) in
     tells-same 3 _ _ old new
     (sym (if-not _ _ _ (none-of _ _ _ (ne_eqb m 0 (λ e. omega (arith, e, c.if-mutex-eq0.false)))
-    (it-isnt _ _ (λ e. c.if-is-thread.false (ap (λ z. z.owner) c.mutex-is.ensures ∙ e)))
-    (it-isnt _ _ (λ e. c.if-thread-mutex.false (ap (λ y. y.awaits) c.thread.ensures ∙ e))))))
+    (not-that _ _ _ (ap (λ z. z.owner) c.mutex-is.ensures) (grind (arith, c.eq.ensures, c.if-eq.false, c.if-eq.ensures)))
+    (not-that _ _ _ (ap (λ y. y.awaits) c.thread.ensures)
+    (grind (arith, c.eq-else-mutex-eq0.ensures, c.if-eq-2.false, c.if-eq-2.ensures))))))
     (tells-then 2 1 _ _ old b new
     (tells-then 1 1 said gone old a b c.correct_ceiling.ensures.told
-    (tells-same 1 _ gone a b (gave-up-same (world_of old) (world_of a) t m c.correct_ceiling.ensures.awaits) c.correct_wait.ensures.told))
+    (tells-same 1 _ gone a b (gave-up-same (world_of old) (world_of a) t (Some m) c.correct_ceiling.ensures.awaits)
+    c.correct_wait.ensures.told))
     (tells-behind 1 _ b d new c.ask_at.ensures.still.shown c.wait.ensures.told))
 
 pub returns-clause-sections : goal.returns-clause-sections

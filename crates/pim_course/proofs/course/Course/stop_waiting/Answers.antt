@@ -1,9 +1,8 @@
-use Rattle.std.proofs.Common.{◌≡◌, Some, None, get_or, refl, ap, sym, ◌∙◌}
+use Rattle.std.proofs.Common.{◌≡◌, None, get_or, refl, ap, ◌∙◌}
 use Rattle.pim_course.specs.Courses.{free}
-use Rattle.pim_course.proofs.Worlds.{has_thread, is_any, owner-kept, owner-same, put-in, world-awaits}
+use Rattle.pim_course.proofs.Worlds.{has_thread, owner-kept, owner-same, put-in, world-awaits}
 use Rattle.pim_course.proofs.Leading.{goes-added}
 use Rattle.pim_course.proofs.Numbering.{numbers-added, same-both}
-use Rattle.pim_course.specs.World.{if_any}
 use Rattle.pim_course.proofs.course.Course.stop_waiting.Goals as goal
 
 pub returns-clause-owner : goal.returns-clause-owner
@@ -13,19 +12,19 @@ returns-clause-owner c =
     ∙ owner-kept c.args.self.now c.put_thread.new.self (ap (λ d. d.mutexes.items) c.put_thread.ensures.rest)
 
 pub returns-clause-goes : goal.returns-clause-goes
-returns-clause-goes c some =
+returns-clause-goes c awaits =
     let items : c.put_thread.new.self.mutexes.items ≡ c.args.self.now.mutexes.items =
     ap (λ d. d.mutexes.items) c.put_thread.ensures.rest in
     goes-added c.args.self.now c.put_mutex.new.self _ _ _ c.fact.ensures
     (ap (λ d. d.shown) c.put_mutex.ensures.rest ∙ ap (λ d. d.shown) c.put_thread.ensures.rest)
     c.add.ensures.shown c.add.ensures.full
-    (is_any _ some ∙ ap (λ y. Some y.awaits) (sym c.thread-is.ensures))
-    (world-awaits c.args.self.now c.put_mutex.new.self c.args.thread _ c.thread-is.result.awaits _ None
+    awaits
+    (world-awaits c.args.self.now c.put_mutex.new.self c.args.thread _ c.args.mutex _ None
     (ap (λ d. d.threads.items) c.put_mutex.ensures.rest ∙ c.put_thread.ensures.threads)
     (put-in c.put_thread.new.self.mutexes.items c.args.self.now.mutexes.items _ _ _ items c.put_mutex.ensures.mutexes)
-    (has_thread c.args.self.now c.args.thread some) refl (ap (λ y. y.level) c.thread-is.ensures)
-    (ap (λ z. z.owner) c.mutex-awaited.ensures ∙ ap (λ l. (get_or l c.thread-is.result.awaits free).owner) items)
-    (ap (λ z. z.ceiling) c.mutex-awaited.ensures ∙ ap (λ l. (get_or l c.thread-is.result.awaits free).ceiling) items))
+    (has_thread c.args.self.now c.args.thread c.args.mutex awaits) refl (ap (λ y. y.level) c.thread-is.ensures)
+    (ap (λ z. z.owner) c.mutex-awaited.ensures ∙ ap (λ l. (get_or l c.args.mutex free).owner) items)
+    (ap (λ z. z.ceiling) c.mutex-awaited.ensures ∙ ap (λ l. (get_or l c.args.mutex free).ceiling) items))
 
 pub returns-clause-sections : goal.returns-clause-sections
 returns-clause-sections c =
@@ -34,10 +33,10 @@ returns-clause-sections c =
     numbers-added c.args.self.now c.put_mutex.new.self _ _ _ c.fact.ensures
     (ap (λ d. d.shown) c.put_mutex.ensures.rest ∙ ap (λ d. d.shown) c.put_thread.ensures.rest)
     c.add.ensures.shown c.add.ensures.full
-    (ap (λ y. if_any y.section) c.thread-is.ensures)
-    (same-both c.args.self.now c.put_mutex.new.self c.args.thread _ c.thread-is.result.awaits _
+    (ap (λ y. y.section) c.thread-is.ensures)
+    (same-both c.args.self.now c.put_mutex.new.self c.args.thread _ c.args.mutex _
     (ap (λ d. d.threads.items) c.put_mutex.ensures.rest ∙ c.put_thread.ensures.threads)
     (put-in c.put_thread.new.self.mutexes.items c.args.self.now.mutexes.items _ _ _ items c.put_mutex.ensures.mutexes)
     (ap (λ d. d.sections) c.put_mutex.ensures.rest ∙ ap (λ d. d.sections) c.put_thread.ensures.rest)
     (ap (λ y. y.section) c.thread-is.ensures)
-    (ap (λ z. z.section) c.mutex-awaited.ensures ∙ ap (λ l. (get_or l c.thread-is.result.awaits free).section) items))
+    (ap (λ z. z.section) c.mutex-awaited.ensures ∙ ap (λ l. (get_or l c.args.mutex free).section) items))

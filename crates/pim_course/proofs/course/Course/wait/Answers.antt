@@ -1,16 +1,16 @@
-use Rattle.std.proofs.Common.{◌≡◌, Some, get_or, ap, sym, subst, ◌∙◌, arith}
+use Rattle.std.proofs.Common.{◌≡◌, Some, get_or, refl, ap, sym, subst, ◌∙◌, arith}
 use Rattle.pim_facts.specs.declared.fact.What.TheVariants.{Waits}
 use Rattle.pim_course.specs.Courses.{free}
 use Rattle.pim_course.specs.Going.{IsStill}
 use Rattle.pim_course.specs.World.{CanHappen}
 use Rattle.pim_course.specs.declared.course.Course.{Course}
-use Rattle.pim_course.proofs.Worlds.{is_any, put-in, world-awaits}
+use Rattle.pim_course.proofs.Worlds.{put-in, world-awaits}
 use Rattle.pim_course.proofs.Leading.{goes-added, goes-still, goes-then}
 use Rattle.pim_course.proofs.Numbering.{numbers-added, waits-in}
 use Rattle.pim_course.proofs.course.Course.wait.Goals as goal
 
 pub returns-clause-goes : goal.returns-clause-goes
-returns-clause-goes c lt above possible =
+returns-clause-goes c lt possible =
     let s : Course = c.section_of-section.new.self in
     let still : IsStill c.args.self.now s = c.section_of-section.ensures.still in
     let items : c.put_thread.new.self.mutexes.items ≡ s.mutexes.items =
@@ -23,7 +23,7 @@ returns-clause-goes c lt above possible =
     (world-awaits s c.put_mutex.new.self c.args.thread _ c.args.mutex _ (Some c.args.mutex)
     (ap (λ d. d.threads.items) c.put_mutex.ensures.rest ∙ c.put_thread.ensures.threads)
     (put-in c.put_thread.new.self.mutexes.items s.mutexes.items _ _ _ items c.put_mutex.ensures.mutexes)
-    (omega (arith, c.section_of-section.ensures.size.threads)) (is_any c.args.mutex (λ e. omega (arith, e)))
+    (omega (arith, c.section_of-section.ensures.size.threads)) refl
     (ap (λ y. y.level) c.thread-is.ensures)
     (ap (λ z. z.owner) c.mutex-awaited.ensures ∙ ap (λ l. (get_or l c.args.mutex free).owner) items)
     (ap (λ z. z.ceiling) c.mutex-awaited.ensures ∙ ap (λ l. (get_or l c.args.mutex free).ceiling) items)))
@@ -38,12 +38,12 @@ returns-clause-sections c lt below =
     numbers-added old c.put_mutex.new.self _ _ _ c.fact.ensures
     (ap (λ d. d.shown) c.put_mutex.ensures.rest ∙ ap (λ d. d.shown) c.put_thread.ensures.rest ∙ still.shown)
     c.add.ensures.shown c.add.ensures.full
-    c.section_of-section.ensures.number
+    (ap (λ n. Some n) c.section_of-section.ensures.number)
     (waits-in old s c.put_mutex.new.self c.args.thread _ c.args.mutex _
     (c.section_of-section.ensures.sections below)
     (ap (λ d. d.threads.items) c.put_mutex.ensures.rest ∙ c.put_thread.ensures.threads)
     (put-in c.put_thread.new.self.mutexes.items s.mutexes.items _ _ _ items c.put_mutex.ensures.mutexes)
     (ap (λ d. d.sections) c.put_mutex.ensures.rest ∙ ap (λ d. d.sections) c.put_thread.ensures.rest)
     (omega (arith, c.section_of-section.ensures.size.threads))
-    c.section_of-section.ensures.number
+    (ap (λ n. Some n) c.section_of-section.ensures.number)
     (ap (λ z. z.section) c.mutex-awaited.ensures ∙ ap (λ l. (get_or l c.args.mutex free).section) items))

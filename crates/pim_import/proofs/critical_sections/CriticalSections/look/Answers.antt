@@ -3,7 +3,7 @@ use lib.Seq.{take_all}
 use Rattle.pim_facts.specs.declared.fact.Fact.{Fact}
 use Rattle.pim_import.specs.Following.{moments_of}
 use Rattle.pim_import.specs.KeptSections.{KeepsThoseOf}
-use Rattle.pim_import.specs.LeftOut.{Keeps, MustStay}
+use Rattle.pim_import.specs.LeftOut.{Keeps, MustStay, IsKept}
 use Rattle.pim_import.specs.declared.critical_sections.CriticalSections.{CriticalSections}
 use Rattle.pim_import.proofs.Keeping.{kept-more}
 use Rattle.pim_import.proofs.KeptSections.{keeps-more}
@@ -22,7 +22,7 @@ loop-fact-preserved c =
           kept-more (λ fact. MustStay c.args.walk.now.course c.args.sources.now fact) c.shown-shown.result.now
           c.loop-fact.fact-index _ c.loop-fact.self c.if-must_stay.self c.loop-fact-test.true still
           (λ must. elim c.if-must_stay.branch [
-            | then-must_stay w ↦ subst (λ (s : CriticalSections). Keeps s _) (sym w.self-is) w.keep.ensures.kept
+            | then-must_stay w ↦ subst (λ (s : CriticalSections). IsKept s _) (sym w.self-is) w.keep.ensures.kept
             | else-must_stay w ↦ absurd (cc (c.must_stay.ensures.1 must, w.if-must_stay.false))
           ])
           c.loop-fact.invariant.kept;
@@ -44,7 +44,7 @@ loop-fact-preserved c =
 
 pub returns-clause-kept : goal.returns-clause-kept
 returns-clause-kept c =
-    subst (All (λ (fact : Fact). MustStay c.args.walk.now.course c.args.sources.now fact → Keeps c.loop-fact.self fact.section))
+    subst (All (λ (fact : Fact). MustStay c.args.walk.now.course c.args.sources.now fact → IsKept c.loop-fact.self fact))
     (take_all c.loop-fact.fact-index c.shown-shown.result.now c.loop-fact-test.false ∙ c.shown-shown.ensures)
     c.loop-fact.invariant.kept
 
