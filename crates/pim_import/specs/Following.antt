@@ -46,7 +46,7 @@ pub record IsBegin (sources : Sources) (stage : Stage) : Type 0 where
   pub added : stage.added ≡ 0
   pub course : Begins sources.ids stage.course
 
--- the first of these requests were added, so many; each other one belongs behind a record with a higher number than this
+-- this many of the requests were added, the first ones; each other one belongs behind a record with a higher number
 pub record AreAdded (requests : List Request) (number added : ℕ) : Type 0 where
   pub few : added ≤ length requests
   pub later : (place : ℕ) (request : Request) → added ≤ place → slice_get requests place ≡ Some request →
