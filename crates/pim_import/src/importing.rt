@@ -69,11 +69,11 @@ pub struct Imported {
 ///
 /// # Errors
 ///
-/// Returns `Contradiction` with the number of the first record that contradicts those before it,
-/// `TooManyThreads` with the number of the first record of a thread above
-/// [`MAX_THREADS`](pim_facts::MAX_THREADS), `Crowded` if more threads or mutexes take part at one
-/// time than a trace has numbers for, `TooManyPriorities` if the threads and ceilings have more
-/// than 99 of them, and `Memory` if out of memory.
+/// Returns `Contradiction` with the number of the first record that contradicts those before it, or
+/// tells of a thread that no record names, `TooManyThreads` with the number of the first record of
+/// a thread above [`MAX_THREADS`](pim_facts::MAX_THREADS), `Crowded` if more threads or mutexes take
+/// part at one time than a trace has numbers for, `TooManyPriorities` if the threads and ceilings
+/// have more than 99 of them, and `Memory` if out of memory.
 #[tactic(auto, using(crate::proofs::Naming::names_none_of))]
 pub fn import_log(
     alloc: Global,
