@@ -1,23 +1,28 @@
 -- Which critical sections are in the trace, on the way through a log.
-use Rattle.std.proofs.Common.{◌≡◌, ◌⊎◌, ℕ, ◌+◌, ◌-◌, ◌<◌, ◌≤◌, Bool, true, false, List, [], ◌∷◌, ◌++◌, length, get_or, replicate, take, subst, sym, ap, refl, ◌∙◌, inl, inr, arith}
+use Rattle.std.proofs.Common.{◌≡◌, ◌⊎◌, ℕ, ◌+◌, ◌-◌, ◌<◌, ◌≤◌, Bool, true, false, List, [], ◌∷◌, ◌++◌, length}
+use Rattle.std.proofs.Common.{get_or, replicate, take, subst, sym, ap, refl, ◌∙◌, inl, inr, arith, Option, Some}
 use Rattle.std.proofs.lemmas.Bool.{cases_lt}
 use Rattle.std.proofs.lemmas.List.{get_or-replicate, get_or_past, length-replicate}
-use Rattle.std.specs.Option.{option_map_or}
+use Rattle.std.specs.Option.{option_map_or, unwrap_or}
 use Rattle.std.specs.Prelude.{IfSome, IsTrue, slice_get}
 use Rattle.pim_course.specs.Going.{HasSameSize, KeepsDepths}
-use Rattle.pim_course.specs.Reading.{Begins, GoesBy, HasRequest}
+use Rattle.pim_course.specs.Reading.{Begins, GoesBy, HasRequest, IsTimeOf}
+use Rattle.pim_course.specs.Requests.{IsBehind}
 use Rattle.pim_course.specs.Told.{added_told, happened_in}
 use Rattle.pim_course.specs.World.{Lead, world_of}
 use Rattle.pim_course.specs.declared.course.Course.{Course}
 use Rattle.pim_course.specs.declared.course.Sources.{Sources}
+use Rattle.pim_course.specs.declared.requests.Request.{Request}
 use Rattle.pim_course.specs.declared.walk.Walk.{Walk}
 use Rattle.pim_facts.specs.Shown.{shown_in}
 use Rattle.pim_facts.specs.declared.fact.Fact.{Fact}
 use Rattle.pim_findings.specs.Waits.{Moment}
-use Rattle.pim_import.specs.Following.{IsLacking, IsWay, KeepsThoseOfLog, Stage, facts_of, moment_of, moments_of, stage_of}
+use Rattle.pim_import.specs.Following.{AreAdded, ArePlaced, IsLacking, IsWay, KeepsThoseOfLog, Stage}
+use Rattle.pim_import.specs.Following.{facts_of, moment_of, moments_of, stage_of}
+use Rattle.pim_import.proofs.Adding.{all_added}
 use Rattle.pim_import.proofs.Following.{moments_more}
 use Rattle.pim_import.specs.KeptSections.{KeepsThoseOf, MustBeKept, room_of}
-use Rattle.pim_import.specs.LeftOut.{Keeps, MustStay}
+use Rattle.pim_import.specs.LeftOut.{IsKept, Keeps, MustStay}
 use Rattle.pim_import.specs.declared.critical_sections.CriticalSections.{CriticalSections}
 use Rattle.pim_log.specs.Headers.{end_of, header_of}
 
@@ -30,19 +35,19 @@ one-more is_all room n m facts (inr (inr past)) = inr (inr past)
 
 -- a fact that must stay keeps its critical section
 pub keeps-with : (is_all : Bool) (room : ℕ) (m : Moment) (facts : List Moment) (old new : CriticalSections) →
-    MustStay m.course m.sources m.fact → Keeps new m.fact.section → ((n : ℕ) → Keeps old n → Keeps new n) →
-    ((n : ℕ) → Keeps new n → Keeps old n ⊎ (n ≡ m.fact.section)) →
+    MustStay m.course m.sources m.fact → IsKept new m.fact → ((n : ℕ) → Keeps old n → Keeps new n) →
+    ((n : ℕ) → Keeps new n → Keeps old n ⊎ (m.fact.section ≡ Some n)) →
     KeepsThoseOf is_all room facts old → KeepsThoseOf is_all room (m ∷ facts) new
 keeps-with is_all room m facts old new must kept still only are n =
     (λ keeps. from (only n keeps), λ why. to why)
   where
-    from : Keeps old n ⊎ (n ≡ m.fact.section) → IsTrue is_all ⊎ (MustBeKept n (m ∷ facts) ⊎ (room ≤ n))
+    from : Keeps old n ⊎ (m.fact.section ≡ Some n) → IsTrue is_all ⊎ (MustBeKept n (m ∷ facts) ⊎ (room ≤ n))
     from (inl was) = one-more is_all room n m facts ((are n).0 was)
-    from (inr same) = inr (inl (inl (sym same, must)))
+    from (inr same) = inr (inl (inl (same, must)))
 
     to : IsTrue is_all ⊎ (MustBeKept n (m ∷ facts) ⊎ (room ≤ n)) → Keeps new n
     to (inl all) = still n ((are n).1 (inl all))
-    to (inr (inl (inl here))) = subst (Keeps new) here.0 kept
+    to (inr (inl (inl here))) = subst (λ section. IfSome section (Keeps new)) here.0 kept
     to (inr (inl (inr there))) = still n ((are n).1 (inr (inl there)))
     to (inr (inr past)) = still n ((are n).1 (inr (inr past)))
 
@@ -60,10 +65,10 @@ keeps-without is_all room m facts sections need are n =
     to (inr (inr past)) = (are n).1 (inr (inr past))
 
 -- a fact of a critical section was looked at: it must stay and keeps the section, or it needn't and nothing changes
-abbrev pub IsLooked : Type 0 → ℕ → CriticalSections → CriticalSections → Type 0
+abbrev pub IsLooked : Type 0 → Option ℕ → CriticalSections → CriticalSections → Type 0
 IsLooked Must section before after =
-    (Must × Keeps after section × ((n : ℕ) → Keeps before n → Keeps after n)
-    × ((n : ℕ) → Keeps after n → Keeps before n ⊎ (n ≡ section)))
+    (Must × IfSome section (Keeps after) × ((n : ℕ) → Keeps before n → Keeps after n)
+    × ((n : ℕ) → Keeps after n → Keeps before n ⊎ (section ≡ Some n)))
     ⊎ ((Must → ⊥) × (after ≡ before))
 
 -- so it is of one more of the facts that a course shows
@@ -116,20 +121,23 @@ keeps-begin is_all room sections all none n =
 -- must keep.
 pub record HasLooked (bytes : List ℕ) (sources : Sources) (is_all : Bool) (number : ℕ) (walk : Walk)
     (sections : CriticalSections) : Type 0 where
+  pub record_time : ℕ
   pub time : ℕ
   pub before : List Stage
-  pub way : IsWay bytes sources (stage_of number time walk) before
-  pub keeps : KeepsThoseOf is_all (room_of bytes sources) (facts_of sources (stage_of number time walk ∷ before)) sections
+  pub way : IsWay bytes sources (stage_of number record_time time walk) before
+  pub keeps : KeepsThoseOf is_all (room_of bytes sources)
+      (facts_of sources (stage_of number record_time time walk ∷ before)) sections
 
 -- it begins
 pub looks-begin : (bytes : List ℕ) (sources : Sources) (is_all : Bool) (walk : Walk) (sections : CriticalSections) →
-    Begins sources.ids walk.course → KeepsThoseOf is_all (room_of bytes sources) [] sections →
+    Begins sources.ids walk.course → walk.added ≡ 0 → KeepsThoseOf is_all (room_of bytes sources) [] sections →
     HasLooked bytes sources is_all 0 walk sections
-looks-begin bytes sources is_all walk sections begins keeps =
+looks-begin bytes sources is_all walk sections begins none keeps =
     record {
+      record_time = 0;
       time = 0;
       before = [];
-      way = record { number = refl; course = begins };
+      way = record { number = refl; record_time = refl; added = none; course = begins };
       keeps = subst (λ shown. KeepsThoseOf is_all (room_of bytes sources) (moments_of sources walk.course 0 shown ++ []) sections)
           (sym begins.shown) keeps;
     }
@@ -141,47 +149,89 @@ LooksAt is_all room sources walk old new =
     KeepsThoseOf is_all room (moments_of sources walk.course time (shown_in walk.course.shown) ++ facts) new
 
 -- one more record
-pub looks-record : (bytes : List ℕ) (sources : Sources) (is_all : Bool) (number : ℕ) (old new : Walk)
-    (before after : CriticalSections) → 1 ≤ number → HasSameSize old.course new.course →
+pub looks-record : (bytes : List ℕ) (sources : Sources) (is_all : Bool) (number : ℕ) (put_at : Option ℕ) (old new : Walk)
+    (before after : CriticalSections) → 1 ≤ number → IsTimeOf bytes number put_at → new.added ≡ old.added →
+    HasSameSize old.course new.course →
     IsLacking bytes number old.course new.course ⊎ GoesBy bytes sources number old.course new.course →
     LooksAt is_all (room_of bytes sources) sources new before after →
+    AreAdded sources.requests.list.items (number - 1) old.added →
     HasLooked bytes sources is_all (number - 1) old before → HasLooked bytes sources is_all number new after
-looks-record bytes sources is_all number old new before after above size shown looks has =
+looks-record bytes sources is_all number put_at old new before after above is_put_at added size shown looks all has =
     let is : number ≡ number - 1 + 1 = omega arith in
-    let from : Stage = stage_of (number - 1) has.time old in
+    let from : Stage = stage_of (number - 1) has.record_time has.time old in
+    let time : ℕ = unwrap_or put_at has.record_time in
     record {
-      time = 0;
+      record_time = time;
+      time = time;
       before = from ∷ has.before;
-      way = (inl (record { number = is; size = size; shown = shown }), has.way);
-      keeps = looks 0 (facts_of sources (from ∷ has.before)) has.keeps;
+      way = (
+        inl (record {
+          number = is;
+          before = all;
+          added = added;
+          put_at = put_at;
+          is_put_at = is_put_at;
+          record_time = refl;
+          time = refl;
+          size = size;
+          shown = shown;
+        }),
+        has.way,
+      );
+      keeps = looks time (facts_of sources (from ∷ has.before)) has.keeps;
     }
 
--- one more request
-pub looks-request : (bytes : List ℕ) (sources : Sources) (is_all : Bool) (number place : ℕ) (old new : Walk)
-    (before after : CriticalSections) → HasSameSize old.course new.course → KeepsDepths old.course new.course →
-    (IfSome (slice_get sources.requests.list.items place) (HasRequest old.course) →
+-- one more request, which is the next one
+pub looks-request : (bytes : List ℕ) (sources : Sources) (is_all : Bool) (number : ℕ) (request : Request) (old new : Walk)
+    (before after : CriticalSections) →
+    slice_get sources.requests.list.items old.added ≡ Some request → IsBehind number request →
+    new.added ≡ option_map_or (λ one. old.added + 1) (slice_get sources.requests.list.items old.added) old.added →
+    HasSameSize old.course new.course → KeepsDepths old.course new.course →
+    (IfSome (slice_get sources.requests.list.items old.added) (HasRequest old.course) →
     Lead (shown_in new.course.shown) (world_of old.course) (world_of new.course)) →
-    happened_in new.course ≡ option_map_or (added_told (world_of old.course)) (slice_get sources.requests.list.items place) [] →
+    happened_in new.course ≡
+    option_map_or (added_told (world_of old.course)) (slice_get sources.requests.list.items old.added) [] →
     LooksAt is_all (room_of bytes sources) sources new before after →
     HasLooked bytes sources is_all number old before → HasLooked bytes sources is_all number new after
-looks-request bytes sources is_all number place old new before after size depths led told looks has =
-    let from : Stage = stage_of number has.time old in
+looks-request bytes sources is_all number request old new before after next behind added size depths led told looks has =
+    let from : Stage = stage_of number has.record_time has.time old in
+    let time : ℕ = unwrap_or request.time has.record_time in
     record {
-      time = 0;
+      record_time = has.record_time;
+      time = time;
       before = from ∷ has.before;
-      way = (inr (record { number = refl; place = place; size = size; depths = depths; told = told; led = led }), has.way);
-      keeps = looks 0 (facts_of sources (from ∷ has.before)) has.keeps;
+      way = (
+        inr (record {
+          number = refl;
+          record_time = refl;
+          request = request;
+          next = next;
+          behind = behind;
+          added = added ∙ ap (λ (one : Option Request). option_map_or (λ (r : Request). old.added + 1) one old.added) next;
+          time = refl;
+          size = size;
+          depths = depths;
+          told = told ∙ ap (λ (one : Option Request). option_map_or (added_told (world_of old.course)) one []) next;
+          led =
+              subst (λ (one : Option Request). IfSome one (HasRequest old.course) →
+              Lead (shown_in new.course.shown) (world_of old.course) (world_of new.course)) next led;
+        }),
+        has.way,
+      );
+      keeps = looks time (facts_of sources (from ∷ has.before)) has.keeps;
     }
 
 -- the log ends
 pub looks-log : (bytes : List ℕ) (sources : Sources) (is_all : Bool) (end : ℕ) (walk : Walk) (sections : CriticalSections) →
-    end ≡ end_of (header_of bytes) → HasLooked bytes sources is_all (end - 1) walk sections →
+    end ≡ end_of (header_of bytes) → ArePlaced bytes sources.requests.list.items →
+    AreAdded sources.requests.list.items (end - 1) walk.added → HasLooked bytes sources is_all (end - 1) walk sections →
     KeepsThoseOfLog bytes sources is_all sections
-looks-log bytes sources is_all end walk sections is has =
+looks-log bytes sources is_all end walk sections is placed all has =
     record {
-      last = stage_of (end - 1) has.time walk;
+      last = stage_of (end - 1) has.record_time has.time walk;
       before = has.before;
       way = has.way;
       number = ap (λ n. n - 1) is;
+      added = all_added bytes sources.requests.list.items end walk.added is placed all;
       keeps = has.keeps;
     }

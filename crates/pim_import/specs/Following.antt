@@ -183,13 +183,14 @@ pub record FollowsLog (bytes : List ℕ) (sources : Sources) (sections : Critica
   pub found : AreFound n k sections ended (facts_of sources (last ∷ before)) last.course built.findings
   pub course : built.course ≡ last.course
 
--- There is a way through all records of a log, such that the critical sections in the trace are exactly those of which a fact on
+-- There is a way through all records of a log and all requests that it lacks, such that the critical sections in the trace are exactly those of which a fact on
 -- the way must stay: a thread begins to wait in it, or the fact may change a priority; or all, if that is asked for.
 pub record KeepsThoseOfLog (bytes : List ℕ) (sources : Sources) (is_all : Bool) (sections : CriticalSections) : Type 0 where
   pub last : Stage
   pub before : List Stage
   pub way : IsWay bytes sources last before
   pub number : last.number ≡ end_of (header_of bytes) - 1
+  pub added : last.added ≡ length sources.requests.list.items
   pub keeps : KeepsThoseOf is_all (room_of bytes sources) (facts_of sources (last ∷ before)) sections
 
 -- The findings are those of the log, with the threads and mutexes that it names, of the facts of the critical sections in the

@@ -11,7 +11,8 @@ abbrev pub MustBeKept : ℕ → List Moment → Type 0
 MustBeKept n [] = ⊥
 MustBeKept n (m ∷ facts) = ((m.fact.section ≡ Some n) × MustStay m.course m.sources m.fact) ⊎ MustBeKept n facts
 
--- how many numbers the critical sections of a log can have, with the 0 of none: one a record and a request that it lacks
+-- the numbers of the critical sections of a log are below this: from 1 on, at most one of each record and each request that
+-- it lacks
 abbrev pub room_of : List ℕ → Sources → ℕ
 room_of bytes sources = end_of (header_of bytes) + length sources.requests.list.items
 

@@ -2,7 +2,7 @@
 ghost use Rattle.std.specs.Prelude.{◌≡◌, ◌⊎◌, ◌↔◌, ◌++◌, ℕ, Bool, List, All, IfOk, IfSome, IsTrue, Some};
 ghost use Rattle.pim_facts.specs.Shown.{shown_in};
 ghost use Rattle.pim_findings.specs.Waits.{Moment};
-ghost use Rattle.pim_import.specs.Following.{KeepsThoseOfLog, moments_of};
+ghost use Rattle.pim_import.specs.Following.{ArePlaced, KeepsThoseOfLog, moments_of};
 ghost use Rattle.pim_import.specs.KeptSections.{KeepsThoseOf};
 ghost use Rattle.pim_import.specs.LeftOut.{IsKept, Keeps, MustStay};
 
@@ -36,7 +36,8 @@ impl CriticalSections {
         sources: &Sources,
         is_all: bool,
     ) -> Result<(CriticalSections, Participants), AllocError>
-        ensures { IfOk result (λ found. KeepsThoseOfLog log.now sources.now is_all found.0) }
+        ensures { ArePlaced log.now sources.now.requests.list.items →
+            IfOk result (λ found. KeepsThoseOfLog log.now sources.now is_all found.0) }
     {
         let end = log.header().end();
         let room = (end as usize).saturating_add(sources.requests.list.len());

@@ -8,7 +8,7 @@ returns-clause-findings c =
     let ids = c.in_ok-sources.sources.ids in
     record {
       sections = c.in_ok-sections.sections;
-      keeps = c.in_ok-sections.ensures;
+      keeps = c.in_ok-sections.ensures c.in_ok-sources.ensures.requests;
       follows = c.in_ok-built.ensures.findings (length ids.threads.items) (length ids.mutexes.items)
           c.in_ok-sources.ensures.requests
           (record {

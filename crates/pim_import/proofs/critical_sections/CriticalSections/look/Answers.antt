@@ -33,7 +33,7 @@ loop-fact-preserved c =
           (elim c.if-must_stay.branch [
             | then-must_stay w ↦ inl (
               c.must_stay.ensures.0 w.if-must_stay.true,
-              subst (λ (s : CriticalSections). Keeps s _) (sym w.self-is) w.keep.ensures.kept,
+              subst (λ (s : CriticalSections). IsKept s _) (sym w.self-is) w.keep.ensures.kept,
               still,
               (λ n keeps. w.keep.ensures.only n (subst (λ (s : CriticalSections). Keeps s n) w.self-is keeps)),
             )

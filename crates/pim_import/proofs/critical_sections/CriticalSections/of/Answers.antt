@@ -1,32 +1,79 @@
-use Rattle.std.proofs.Common.{◌≡◌, ◌-◌, ◌∙◌, ap, refl, rules, subst, arith}
+use Rattle.std.proofs.Common.{◌≡◌, ◌+◌, ◌-◌, ◌∙◌, ℕ, List, Option, Some, slice_get, ap, sym, refl, rules, subst, arith}
+use Rattle.std.specs.Option.{option_map_or}
 use Rattle.pim_log.specs.Headers.{end_of}
+use Rattle.pim_course.specs.declared.requests.Request.{Request}
+use Rattle.pim_import.proofs.Adding.{more_added, none_added}
 use Rattle.pim_import.proofs.KeptSections.{HasLooked, keeps-begin, looks-begin, looks-log, looks-record, looks-request}
+use Rattle.pim_import.specs.Following.{AreAdded}
 use Rattle.pim_import.proofs.critical_sections.CriticalSections.of.Goals as goal
 
 pub loop-number-init : goal.loop-number-init
 loop-number-init c =
     record {
       within = omega arith;
-      looked = looks-begin c.args.log.now c.args.sources.now c.args.is_all _ _ c.in_ok-walk.ensures
+      looked = λ placed.
+          looks-begin c.args.log.now c.args.sources.now c.args.is_all _ _ c.in_ok-walk.ensures.begins c.in_ok-walk.ensures.added
           (keeps-begin c.args.is_all _ (record { is_kept = c.in_ok-vec.field-0; is_all = c.args.is_all }) refl (search rules));
+      added = λ placed.
+          none_added c.args.log.now c.args.sources.now.requests.list.items _ c.in_ok-walk.ensures.added placed;
+    }
+
+pub loop-request-init : goal.loop-request-init
+loop-request-init c =
+    record {
+      added = omega arith;
+      looked = λ placed.
+          looks-record c.args.log.now c.args.sources.now c.args.is_all c.loop-number.number c.read-moment.result.time
+          c.loop-number.walk c.read-moment.new.self c.loop-number.sections c.look.new.self c.loop-number.auto.number
+          c.read-moment.ensures.time c.read-moment.ensures.added c.read-moment.ensures.size c.read-moment.ensures.shown
+          (c.look.ensures.exact c.args.is_all _) (c.loop-number.invariant.added placed) (c.loop-number.invariant.looked placed);
     }
 
 pub loop-request-preserved : goal.loop-request-preserved
 loop-request-preserved c =
-    looks-request c.args.log.now c.args.sources.now c.args.is_all c.loop-number.number _ c.loop-request.walk c.add-time.new.self
-    c.loop-request.sections c.look-in-loop-request.new.self c.add-time.ensures.size c.add-time.ensures.depths
-    c.add-time.ensures.shown c.add-time.ensures.told (c.look-in-loop-request.ensures.exact c.args.is_all _) c.loop-request.invariant
+    let requests : List Request = c.args.sources.now.requests.list.items in
+    let was : ℕ = c.loop-request.walk.added in
+    let one = c.missing-request-end.ensures.each c.loop-request._request c.loop-request-test.true in
+    let next : slice_get requests was ≡ Some one.0 =
+    subst (λ place. slice_get requests place ≡ Some one.0) (sym c.loop-request.invariant.added) one.1.0 in
+    let added : c.add-time.new.self.added ≡ was + 1 =
+    c.add-time.ensures.added ∙ ap (λ (o : Option Request). option_map_or (λ (r : Request). was + 1) o was) next in
+    record {
+      added = omega (arith, added, c.loop-request.invariant.added);
+      looked = λ placed.
+          looks-request c.args.log.now c.args.sources.now c.args.is_all c.loop-number.number one.0 c.loop-request.walk
+          c.add-time.new.self c.loop-request.sections c.look-in-loop-request.new.self next one.1.1 c.add-time.ensures.added
+          c.add-time.ensures.size c.add-time.ensures.depths c.add-time.ensures.shown c.add-time.ensures.told
+          (c.look-in-loop-request.ensures.exact c.args.is_all _) (c.loop-request.invariant.looked placed);
+    }
 
-pub loop-request-init : goal.loop-request-init
-loop-request-init c =
-    looks-record c.args.log.now c.args.sources.now c.args.is_all c.loop-number.number c.loop-number.walk c.read-moment.new.self
-    c.loop-number.sections c.look.new.self c.loop-number.auto.number c.read-moment.ensures.size c.read-moment.ensures.shown
-    (c.look.ensures.exact c.args.is_all _) c.loop-number.invariant.looked
+pub loop-number-preserved : goal.loop-number-preserved
+loop-number-preserved c =
+    let requests : List Request = c.args.sources.now.requests.list.items in
+    let number : ℕ = c.loop-number.number in
+    let at : number ≡ number + 1 - 1 = omega arith in
+    let read : ℕ = c.read-moment.new.self.added in
+    let many : ℕ = c.missing-request-end.result in
+    let all : read + many ≡ c.loop-request.walk.added =
+    omega (arith, c.loop-request.invariant.added, c.loop-request-test.false, c.loop-request.auto._request-end) in
+    record {
+      within = omega arith;
+      looked = λ placed.
+          subst (λ n. HasLooked c.args.log.now c.args.sources.now c.args.is_all n c.loop-request.walk c.loop-request.sections) at
+          (c.loop-request.invariant.looked placed);
+      added = λ placed.
+          subst (λ n. AreAdded requests n c.loop-request.walk.added) at
+          (subst (AreAdded requests number) all
+          (more_added requests number read many placed.order c.missing-request-end.ensures
+          (subst (AreAdded requests (number - 1)) (sym c.read-moment.ensures.added) (c.loop-number.invariant.added placed))));
+    }
 
 pub returns : goal.returns
-returns c =
+returns c placed =
+    let requests : List Request = c.args.sources.now.requests.list.items in
     let at : c.loop-number.number - 1 ≡ c.end-end.result - 1 = omega arith in
     looks-log c.args.log.now c.args.sources.now c.args.is_all _ c.loop-number.walk c.loop-number.sections
-    (c.end-end.ensures ∙ ap end_of c.header.ensures)
+    (c.end-end.ensures ∙ ap end_of c.header.ensures) placed
+    (subst (λ n. AreAdded requests n c.loop-number.walk.added) at (c.loop-number.invariant.added placed))
     (subst (λ n. HasLooked c.args.log.now c.args.sources.now c.args.is_all n c.loop-number.walk c.loop-number.sections) at
-    c.loop-number.invariant.looked)
+    (c.loop-number.invariant.looked placed))
