@@ -18,7 +18,8 @@ use Rattle.pim_facts.specs.Shown.{shown_in}
 use Rattle.pim_facts.specs.declared.fact.Fact.{Fact}
 use Rattle.pim_findings.proofs.Following.{finds-kept}
 use Rattle.pim_findings.proofs.Handing.{handed-kept}
-use Rattle.pim_findings.proofs.Nested.{orders-kept}
+use Rattle.pim_findings.proofs.Nested.{orders-kept, sections-kept}
+use Rattle.pim_findings.specs.Bounds.{FindsBounds, KnowsSections}
 use Rattle.pim_findings.specs.Cycles.{AreCycles}
 use Rattle.pim_findings.specs.Deadlocks.{blocker_of, threads_of}
 use Rattle.pim_findings.specs.Found.{Finds, KeepsWaits}
@@ -95,12 +96,16 @@ abbrev pub OrdersMore : Moment → Findings → Findings → Type 0
 OrdersMore m old new =
     (n : ℕ) (facts : List Moment) → m.fact.thread < n → KnowsOrders n facts old → KnowsOrders n (m ∷ facts) new
 
+-- the critical sections are those with one more fact
+abbrev pub SectionsMore : Moment → Findings → Findings → Type 0
+SectionsMore m old new = (n k : ℕ) (facts : List Moment) → KnowsSections n k facts old → KnowsSections n k (m ∷ facts) new
+
 -- one more fact, of a thread of the log, which isn't kept
 pub knows_without : (n k : ℕ) (sections : CriticalSections) (m : Moment) (facts : List Moment) (old new : Findings) →
     m.fact.thread < length old.waiting.open.items → is_kept sections m.fact ≡ false → IsSpared sections m →
-    KeepsWaits old new → new.mutexes ≡ old.mutexes → new.waiting ≡ old.waiting → OrdersMore m old new →
+    KeepsWaits old new → new.mutexes ≡ old.mutexes → new.waiting ≡ old.waiting → OrdersMore m old new → SectionsMore m old new →
     Knows n k sections facts old → Knows n k sections (m ∷ facts) new
-knows_without n k sections m facts old new inside is spared keeps same waiting orders knows =
+knows_without n k sections m facts old new inside is spared keeps same waiting orders shown knows =
     let rest : List Moment = kept_of sections facts in
     let below : m.fact.thread < n = subst (λ l. m.fact.thread < l) knows.finds.threads inside in
     record {
@@ -109,6 +114,7 @@ knows_without n k sections m facts old new inside is spared keeps same waiting o
       hand_overs = subst (λ b. HandsOver n k (cond b (m ∷ rest) rest) new) (sym is)
           (handed-kept n k rest old new same waiting knows.hand_overs);
       orders = orders n facts below knows.orders;
+      observed = shown n k facts knows.observed;
       threads = All-cons (IsOfThread n) m facts below knows.threads;
       spared = All-cons (IsSpared sections) m facts spared knows.spared;
     }
@@ -116,12 +122,13 @@ knows_without n k sections m facts old new inside is spared keeps same waiting o
 -- one more fact, of a thread of the log, which is kept
 pub knows_with : (n k : ℕ) (sections : CriticalSections) (m : Moment) (facts : List Moment) (old mid new : Findings) →
     m.fact.thread < length old.waiting.open.items → IsKept sections m.fact →
-    KeepsWaits old mid → mid.mutexes ≡ old.mutexes → mid.waiting ≡ old.waiting → OrdersMore m old mid → new.orders ≡ mid.orders →
+    KeepsWaits old mid → mid.mutexes ≡ old.mutexes → mid.waiting ≡ old.waiting → OrdersMore m old mid → SectionsMore m old mid →
+    new.orders ≡ mid.orders → new.blocking ≡ mid.blocking →
     ((rest : List Moment) → Finds n k rest mid → Finds n k (and_fact n m rest) new) →
     ((rest : List Moment) → Owns k rest mid → Owns k (m ∷ rest) new) →
     ((rest : List Moment) → m.fact.thread < n → HandsOver n k rest mid → HandsOver n k (m ∷ rest) new) →
     Knows n k sections facts old → Knows n k sections (m ∷ facts) new
-knows_with n k sections m facts old mid new inside is keeps same waiting orders still finds owns hands knows =
+knows_with n k sections m facts old mid new inside is keeps same waiting orders shown still stays finds owns hands knows =
     let rest : List Moment = kept_of sections facts in
     let below : m.fact.thread < n = subst (λ l. m.fact.thread < l) knows.finds.threads inside in
     let kept = kept_true sections m.fact is in
@@ -133,6 +140,7 @@ knows_with n k sections m facts old mid new inside is keeps same waiting orders 
       hand_overs = subst (λ b. HandsOver n k (cond b (m ∷ rest) rest) new) (sym kept)
           (hands rest below (handed-kept n k rest old mid same waiting knows.hand_overs));
       orders = orders-kept n (m ∷ facts) mid new still (orders n facts below knows.orders);
+      observed = sections-kept n k (m ∷ facts) mid new stays (shown n k facts knows.observed);
       threads = All-cons (IsOfThread n) m facts below knows.threads;
       spared = All-cons (IsSpared sections) m facts (inl is) knows.spared;
     }
@@ -242,9 +250,12 @@ pub follows_log : (bytes : List ℕ) (sources : Sources) (sections : CriticalSec
     ((facts : List Moment) → HandsOver n k facts found → (mutex : ℕ) → mutex < k →
     AreHandOvers facts mutex (mutex_at built.findings.mutexes.items mutex).hand_overs) →
     ((facts : List Moment) → KnowsOrders n facts found → FindsOpposites facts built.findings) →
+    ((facts : List Moment) → KnowsOrders n facts found → KnowsSections n k facts found →
+    FindsBounds n k facts ended built.findings) →
     AreCycles (blocker_of walk.course) (threads_of built.findings.deadlocks.items) →
     HasAdded bytes sources sections n k (end - 1) last walk found → FollowsLog bytes sources sections n k ended built
-follows_log bytes sources sections n k ended end last walk found built is placed waits same course hands opposites deadlocks has =
+follows_log bytes sources sections n k ended end last walk found built is placed waits same course hands opposites bounds
+    deadlocks has =
     let f = has.followed in
     let stage : Stage = stage_of (end - 1) last f.time walk in
     let facts : List Moment = facts_of sources (stage ∷ f.before) in
@@ -259,6 +270,7 @@ follows_log bytes sources sections n k ended end last walk found built is placed
         owns = owns_kept k (kept_of sections facts) found built.findings same f.knows.owns;
         hand_overs = hands (kept_of sections facts) f.knows.hand_overs;
         opposites = opposites facts f.knows.orders;
+        bounds = bounds facts f.knows.orders f.knows.observed;
         deadlocks = deadlocks;
         threads = f.knows.threads;
         spared = f.knows.spared;

@@ -15,6 +15,7 @@ use Rattle.pim_course.specs.declared.course.Sources.{Sources}
 use Rattle.pim_course.specs.declared.requests.Request.{Request}
 use Rattle.pim_course.specs.declared.walk.Walk.{Walk}
 use Rattle.pim_requests.specs.Asked.{IsPlaced}
+use Rattle.pim_findings.specs.Bounds.{FindsBounds, KnowsSections}
 use Rattle.pim_findings.specs.Cycles.{AreCycles}
 use Rattle.pim_findings.specs.Deadlocks.{blocker_of, threads_of}
 use Rattle.pim_findings.specs.Found.{Finds}
@@ -124,12 +125,13 @@ abbrev pub IsSpared : CriticalSections → Moment → Type 0
 IsSpared sections m = IsKept sections m.fact ⊎ MayBeLeftOut m.course m.sources m.fact
 
 -- The findings are those of these facts, of threads below n and mutexes below k: of those that are kept the waits, the
--- ownerships and the hand-overs, and of all the orders of mutexes. What isn't kept may be left out.
+-- ownerships and the hand-overs, and of all the orders of mutexes and the critical sections. What isn't kept may be left out.
 pub record Knows (n k : ℕ) (sections : CriticalSections) (facts : List Moment) (found : Findings) : Type 0 where
   pub finds : Finds n k (kept_of sections facts) found
   pub owns : Owns k (kept_of sections facts) found
   pub hand_overs : HandsOver n k (kept_of sections facts) found
   pub orders : KnowsOrders n facts found
+  pub observed : KnowsSections n k facts found
   pub threads : All (IsOfThread n) facts
   pub spared : All (IsSpared sections) facts
 
@@ -158,8 +160,8 @@ pub record ArePlaced (bytes : List ℕ) (requests : List Request) : Type 0 where
   pub placed : All (IsPlaced bytes) requests
 
 -- What is found is what these facts show, of threads below n and mutexes below k, at this end of the log: of those that are
--- kept the waits, the ownerships and the hand-overs, and of all the mutexes that were taken in opposite orders. The
--- deadlocks are those of the last course. What isn't kept may be left out.
+-- kept the waits, the ownerships and the hand-overs, and of all the mutexes that were taken in opposite orders, and bounds of
+-- what threads can be blocked for. The deadlocks are those of the last course. What isn't kept may be left out.
 pub record AreFound (n k : ℕ) (sections : CriticalSections) (ended : ℕ) (facts : List Moment) (last : Course) (found : Findings)
     : Type 0 where
   pub waits : AreReported k (all_waits (kept_of sections facts) ended n) found.waits
@@ -167,6 +169,7 @@ pub record AreFound (n k : ℕ) (sections : CriticalSections) (ended : ℕ) (fac
   pub hand_overs : (mutex : ℕ) → mutex < k →
       AreHandOvers (kept_of sections facts) mutex (mutex_at found.mutexes.items mutex).hand_overs
   pub opposites : FindsOpposites facts found
+  pub bounds : FindsBounds n k facts ended found
   pub deadlocks : AreCycles (blocker_of last) (threads_of found.deadlocks.items)
   pub threads : All (IsOfThread n) facts
   pub spared : All (IsSpared sections) facts

@@ -16,4 +16,5 @@ returns-clause-findings c n k placed knows =
     c.play.new.walk c.play.new.findings _ (c.end-end.ensures ∙ ap end_of c.header.ensures) placed
     (λ facts. c.in_ok-end.ensures.waits n k facts) c.end.ensures.mutexes refl
     (λ facts. c.end.ensures.hand_overs n k facts)
-    (λ facts. c.in_ok-end.ensures.opposites n (nested_of facts)) c.in_ok-end.ensures.deadlocks has.1
+    (λ facts. c.in_ok-end.ensures.opposites n (nested_of facts))
+    (λ facts. c.in_ok-end.ensures.bounds n k facts) c.in_ok-end.ensures.deadlocks has.1

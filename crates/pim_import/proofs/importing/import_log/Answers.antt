@@ -16,6 +16,7 @@ returns-clause-findings c =
             owns = c.in_ok-findings.ensures.owns;
             hand_overs = c.in_ok-findings.ensures.hand_overs;
             orders = c.in_ok-findings.ensures.orders;
+            observed = c.in_ok-findings.ensures.sections;
             threads = All-nil (IsOfThread (length c.in_ok-sources.sources.ids.threads.items));
             spared = All-nil (IsSpared c.in_ok-sections.sections);
           });

@@ -1,5 +1,6 @@
 use Rattle.std.proofs.Common.{inr}
 use Rattle.pim_findings.proofs.Nested.{orders-more}
+use Rattle.pim_findings.specs.Bounds.{observed_of}
 use Rattle.pim_findings.specs.Waits.{Moment}
 use Rattle.pim_import.proofs.Following.{if_ok, kept_false, not_both, knows_with, knows_without}
 use Rattle.pim_import.specs.Following.{moment_of}
@@ -13,7 +14,9 @@ returns-then-has-clause-finds c =
     (c.has_thread.ensures.0 c.if-not-has_thread.false) (c.has.ensures.0 c.if-has.true)
     c.observe.ensures.waits c.observe.ensures.mutexes c.observe.ensures.waiting
     (λ n facts below. orders-more n m facts c.args.findings.now c.observe.new.self below c.in_ok-observe.ensures.orders)
-    c.look.ensures.orders (c.in_ok-look.ensures.waits n k) (c.in_ok-look.ensures.owns k) (c.in_ok-look.ensures.hand_overs n k))
+    (λ n k facts. c.in_ok-observe.ensures.sections n k (observed_of facts))
+    c.look.ensures.orders c.look.ensures.sections
+    (c.in_ok-look.ensures.waits n k) (c.in_ok-look.ensures.owns k) (c.in_ok-look.ensures.hand_overs n k))
 
 pub returns-clause-finds : goal.returns-clause-finds
 returns-clause-finds c n k facts =
@@ -24,3 +27,4 @@ returns-clause-finds c n k facts =
     (inr (c.may_be_left_out.ensures.0 c.if-not-may_be_left_out.false)) c.observe.ensures.waits c.observe.ensures.mutexes
     c.observe.ensures.waiting
     (λ n facts below. orders-more n m facts c.args.findings.now c.observe.new.self below c.in_ok-observe.ensures.orders)
+    (λ n k facts. c.in_ok-observe.ensures.sections n k (observed_of facts))
