@@ -1,5 +1,5 @@
 -- What keeps a critical section in the trace.
-use Rattle.std.proofs.Common.{ℕ, ◌+◌, ◌<◌, Option, Some, None, IfSome, List, length, All, get_or, take}
+use Rattle.std.proofs.Common.{◌≡◌, ℕ, ◌+◌, ◌<◌, Option, Some, None, IfSome, List, length, All, get_or, take, subst, sym}
 use Rattle.std.proofs.lemmas.List.Elements.{All-more}
 use Rattle.pim_facts.specs.declared.fact.Fact.{Fact}
 use Rattle.pim_import.specs.LeftOut.{IsKept, Keeps}
@@ -10,6 +10,11 @@ still-kept : (before after : CriticalSections) (section : Option ℕ) → ((n : 
     IfSome section (Keeps before) → IfSome section (Keeps after)
 still-kept before after None still kept = tt
 still-kept before after (Some n) still kept = still n kept
+
+-- the same is kept by the same
+pub kept-same : (section : Option ℕ) (after before : CriticalSections) → after ≡ before → IfSome section (Keeps before) →
+    IfSome section (Keeps after)
+kept-same section after before same = subst (λ sections. IfSome section (Keeps sections)) (sym same)
 
 -- one more fact keeps its critical section if it must, and those that were kept still are
 pub kept-more : (Must : Fact → Type 0) (facts : List Fact) (i : ℕ) (d : Fact) (before after : CriticalSections) →

@@ -186,8 +186,9 @@ pub record FollowsLog (bytes : List ℕ) (sources : Sources) (sections : Critica
   pub found : AreFound n k sections ended (facts_of sources (last ∷ before)) last.course built.findings
   pub course : built.course ≡ last.course
 
--- There is a way through all records of a log and all requests that it lacks, such that the critical sections in the trace are exactly those of which a fact on
--- the way must stay: a thread begins to wait in it, or the fact may change a priority; or all, if that is asked for.
+-- There is a way through all records of a log and all requests that it lacks, such that the critical sections in the trace
+-- are exactly those of which a fact on the way must stay: a thread begins to wait in it, or the fact may change a priority; or
+-- all, if that is asked for.
 pub record KeepsThoseOfLog (bytes : List ℕ) (sources : Sources) (is_all : Bool) (sections : CriticalSections) : Type 0 where
   pub last : Stage
   pub before : List Stage

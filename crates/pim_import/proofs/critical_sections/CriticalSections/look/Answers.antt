@@ -1,11 +1,11 @@
-use Rattle.std.proofs.Common.{◌∙◌, ◌++◌, ℕ, List, All, IfSome, subst, sym, inl, inr}
+use Rattle.std.proofs.Common.{◌∙◌, ◌++◌, ℕ, List, All, subst, sym, inl, inr}
 use lib.Seq.{take_all}
 use Rattle.pim_facts.specs.declared.fact.Fact.{Fact}
 use Rattle.pim_import.specs.Following.{moments_of}
 use Rattle.pim_import.specs.KeptSections.{KeepsThoseOf}
 use Rattle.pim_import.specs.LeftOut.{Keeps, MustStay, IsKept}
 use Rattle.pim_import.specs.declared.critical_sections.CriticalSections.{CriticalSections}
-use Rattle.pim_import.proofs.Keeping.{kept-more}
+use Rattle.pim_import.proofs.Keeping.{kept-more, kept-same}
 use Rattle.pim_import.proofs.KeptSections.{keeps-more}
 use Rattle.pim_import.proofs.critical_sections.CriticalSections.look.Goals as goal
 use Rattle.pim_import.proofs.critical_sections.CriticalSections.look.Goals.{then-must_stay, else-must_stay}
@@ -22,7 +22,7 @@ loop-fact-preserved c =
           kept-more (λ fact. MustStay c.args.walk.now.course c.args.sources.now fact) c.shown-shown.result.now
           c.loop-fact.fact-index _ c.loop-fact.self c.if-must_stay.self c.loop-fact-test.true still
           (λ must. elim c.if-must_stay.branch [
-            | then-must_stay w ↦ subst (λ (s : CriticalSections). IfSome _ (Keeps s)) (sym w.self-is) w.keep.ensures.kept
+            | then-must_stay w ↦ kept-same _ _ _ w.self-is w.keep.ensures.kept
             | else-must_stay w ↦ absurd (cc (c.must_stay.ensures.1 must, w.if-must_stay.false))
           ])
           c.loop-fact.invariant.kept;
@@ -33,7 +33,7 @@ loop-fact-preserved c =
           (elim c.if-must_stay.branch [
             | then-must_stay w ↦ inl (
               c.must_stay.ensures.0 w.if-must_stay.true,
-              subst (λ (s : CriticalSections). IfSome _ (Keeps s)) (sym w.self-is) w.keep.ensures.kept,
+              kept-same _ _ _ w.self-is w.keep.ensures.kept,
               still,
               (λ n keeps. w.keep.ensures.only n (subst (λ (s : CriticalSections). Keeps s n) w.self-is keeps)),
             )
