@@ -62,7 +62,7 @@ pub record IsBound (n k : ℕ) (seen : List Section) (inner : ℕ → List ℕ) 
   pub under_protect : bound.under_protect ≡
       longest_in (blocking (is_used_below k seen bound.thread bound.level) seen bound.thread bound.level)
 
--- Of n threads and k mutexes is known what these facts show: the sections.
+-- What is known of n threads and k mutexes are the sections that these facts show.
 pub record Knows (n k : ℕ) (facts : List Moment) (blocking : Blocking) : Type 0 where
   pub threads : length blocking.threads.items ≡ n
   pub sections : KnowsSections k facts blocking.sections

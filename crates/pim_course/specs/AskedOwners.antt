@@ -1,4 +1,5 @@
--- Whose a mutex is as a thread asks for it, by the records behind its REQUEST: docs/FINDINGS.md, 'The owner of a wait'.
+-- Whose a mutex is as a thread asks for it, as far as the records behind its REQUEST say it: docs/FINDINGS.md, 'The owner of
+-- a wait'. That the owner by the log, or the last one, comes before or behind that isn't said here.
 --
 -- Each list of records here is in the order of their numbers, so its first record is the next one.
 use Rattle.std.specs.Prelude.{◌≡◌, ◌⊎◌, ◌+◌, ◌-◌, ◌^◌, ◌<◌, ◌≤◌, ℕ, ◌==◌, nat_lt, Bool, false, true, ◌&&◌, ◌||◌, if◌then◌else◌, List, [], ◌∷◌, length, slice_get, slice_index_or, find, is_some, IsSome, IfSome, Option, Some, None}
@@ -68,7 +69,7 @@ abbrev pub named_kept : Ids → ℕ → ℕ → ℕ → List Record → Kept
 named_kept ids m t task behind =
     Owner (option_and_then (λ next. if has_task ids task next then Some next else None) (next_other ids m t behind))
 
--- a thread may own a mutex of a process: it is of the process, or processes share the mutex
+-- a thread may own a mutex for which one of this process asks: it is of that process, too, or processes share the mutex
 pub record MayOwn (ids : Ids) (m process t : ℕ) : Type 0 where
   pub above : 0 < t
   pub few : t ≤ 2 ^ 22
@@ -81,8 +82,8 @@ abbrev pub asked_task : Event → Option (Option ℕ)
 asked_task (event.Request _ task) = Some task
 asked_task _ = None
 
--- this is kept of a REQUEST of a mutex, that names this task or none: if it names one, a thread that may own the mutex, or else
--- what is kept if there is none. That the thread is the last one that began with the task before isn't said.
+-- this is kept of a REQUEST of a mutex, that names this task or none: if it names one, a thread that may own the mutex, or what
+-- is kept if there is none. Which of both isn't said, nor that the thread is the last one that began with the task before.
 abbrev pub IsAskedBy : Ids → ℕ → Record → List Record → Kept → Option ℕ → Type 0
 IsAskedBy ids m r behind kept None = kept ≡ unnamed_kept ids m r.thread r.time behind
 IsAskedBy ids m r behind kept (Some task) =

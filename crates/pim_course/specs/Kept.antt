@@ -1,4 +1,4 @@
--- What is kept of a release, in four bytes.
+-- What is kept of a release or a request, in four bytes.
 use Rattle.std.specs.Prelude.{ℕ, ◌^◌, ◌-◌, ◌==◌, nat_lt, Bool, true, false, if◌then◌else◌, slice_index_or, Option, Some, None}
 use Rattle.pim_course.specs.declared.next_owners.NextOwners.{NextOwners}
 use Rattle.pim_course.specs.declared.next_owners.Kept.{Kept}

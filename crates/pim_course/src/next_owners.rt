@@ -96,8 +96,9 @@ impl Kept {
 
 impl NextOwners {
     /// Returns who owns each mutex after each of its releases, and as each of its requests is made. Takes four bytes a
-    /// record. What it says of a release or a request is proved to be what the records behind it say, but not which thread
-    /// last began with the task that a request names.
+    /// record. What it says of a release, and of a request that names no task, is proved to be what the records behind it
+    /// say. Of a request that names a task it is a thread that may own the mutex, or what they say if there is none; which
+    /// of both isn't proved.
     ///
     /// # Errors
     ///

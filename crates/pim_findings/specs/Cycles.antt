@@ -18,7 +18,7 @@ pub data Enters (next : ℕ → Option ℕ) (cycle : List ℕ) : ℕ → ℕ →
   entered : {t : ℕ} → Contains cycle t → Enters next cycle t t
   leads_on : {t u first : ℕ} → (Contains cycle t → ⊥) → next t ≡ Some u → Enters next cycle u first → Enters next cycle t first
 
--- the lowest number that leads into a cycle, which is listed from the number on that this one leads to
+-- the lowest number that leads into a cycle; the cycle is listed from where the way from it enters
 pub record IsLowest (next : ℕ → Option ℕ) (cycle : List ℕ) (t : ℕ) : Type 0 where
   pub enters : Enters next cycle t (slice_index cycle 0)
   pub lowest : (u first : ℕ) → Enters next cycle u first → t ≤ u

@@ -3,7 +3,7 @@
 /// A cycle of waits.
 #[derive(Drop)]
 pub struct Deadlock {
-    /// Each waits for a mutex of the next, and the last for one of the first. The lowest thread of which a chain of owners
-    /// leads to them leads to the first.
+    /// Each waits for a mutex of the next, and the last for one of the first. The first is where the chain of owners from
+    /// the lowest thread enters that leads to them.
     pub threads: Vec<u32>,
 }

@@ -1,5 +1,5 @@
 -- What is known of the findings on the way through a log.
-use Rattle.std.proofs.Common.{◌≡◌, ◌⊎◌, ℕ, ◌+◌, ◌-◌, ◌<◌, ◌≤◌, ◌==◌, ◌||◌, ◌∙◌, Bool, true, false, cond, List, [], ◌∷◌, ◌++◌, length, get_or, take, map, reverse, slice_get, ap, sym, subst, refl, inl, inr, arith, Option, Some, None, Result, Ok, Err}
+use Rattle.std.proofs.Common.{◌≡◌, ◌⊎◌, ℕ, ◌+◌, ◌-◌, ◌<◌, ◌≤◌, ◌||◌, ◌∙◌, Bool, true, false, cond, List, [], ◌∷◌, ◌++◌, length, get_or, take, map, reverse, slice_get, ap, sym, subst, refl, inl, inr, arith, Option, Some, None, Result, Ok, Err}
 use Rattle.std.proofs.lemmas.Bool.{lt-ltb}
 use Rattle.std.proofs.lemmas.List.{map-append, reverse-append, take_more}
 use Rattle.std.proofs.lemmas.List.Elements.{All-cons}
@@ -8,6 +8,7 @@ use Rattle.std.specs.Prelude.{IfOk, IfSome, slice_index_or}
 use Rattle.pim_course.specs.Going.{HasSameSize, KeepsDepths}
 use Rattle.pim_course.specs.Reading.{Begins, GoesBy, HasRequest, IsTimeOf}
 use Rattle.pim_course.specs.Requests.{IsBehind}
+use Rattle.pim_course.specs.Sections.{AreNumbered, sections_of}
 use Rattle.pim_course.specs.Told.{added_told, happened_in}
 use Rattle.pim_course.specs.World.{Lead, world_of}
 use Rattle.pim_course.specs.declared.course.Course.{Course}
@@ -15,6 +16,7 @@ use Rattle.pim_course.specs.declared.course.Sources.{Sources}
 use Rattle.pim_course.specs.declared.requests.Request.{Request}
 use Rattle.pim_course.specs.declared.walk.Walk.{Walk}
 use Rattle.pim_facts.specs.Shown.{shown_in}
+use Rattle.pim_requests.specs.Laws.{HasBoth}
 use Rattle.pim_facts.specs.declared.fact.Fact.{Fact}
 use Rattle.pim_findings.proofs.Following.{finds-kept}
 use Rattle.pim_findings.proofs.Handing.{handed-kept}
@@ -208,13 +210,15 @@ pub follows_request : (bytes : List ℕ) (sources : Sources) (sections : Critica
     time ≡ unwrap_or put_at last → HasSameSize old.course new.course → KeepsDepths old.course new.course →
     (IfSome (slice_get sources.requests.list.items old.added) (HasRequest old.course) →
     Lead (shown_in new.course.shown) (world_of old.course) (world_of new.course)) →
+    (IfSome (slice_get sources.requests.list.items old.added) (HasBoth old.course) →
+    AreNumbered (shown_in new.course.shown) (sections_of old.course) (sections_of new.course)) →
     happened_in new.course ≡
     option_map_or (added_told (world_of old.course)) (slice_get sources.requests.list.items old.added) [] →
     ((facts : List Moment) → Knows n k sections facts found →
     Knows n k sections (moments_of sources new.course time (shown_in new.course.shown) ++ facts) looked) →
     HasFollowed bytes sources sections n k number last old found → HasFollowed bytes sources sections n k number last new looked
 follows_request bytes sources sections n k number last time put_at request old new found looked
-    next behind added put is_time size depths led told step f =
+    next behind added put is_time size depths led numbered told step f =
     let its : Option ℕ = request.time in
     let is_put : put_at ≡ its =
     put ∙ ap (λ (one : Option Request). option_map_or (λ (r : Request). r.time) one None) next in
@@ -236,6 +240,9 @@ follows_request bytes sources sections n k number last time put_at request old n
           led =
               subst (λ (one : Option Request). IfSome one (HasRequest old.course) →
               Lead (shown_in new.course.shown) (world_of old.course) (world_of new.course)) next led;
+          sections =
+              subst (λ (one : Option Request). IfSome one (HasBoth old.course) →
+              AreNumbered (shown_in new.course.shown) (sections_of old.course) (sections_of new.course)) next numbered;
         }),
         f.way,
       );

@@ -8,6 +8,7 @@ use Rattle.std.specs.Prelude.{IfSome, IsTrue, slice_get}
 use Rattle.pim_course.specs.Going.{HasSameSize, KeepsDepths}
 use Rattle.pim_course.specs.Reading.{Begins, GoesBy, HasRequest, IsTimeOf}
 use Rattle.pim_course.specs.Requests.{IsBehind}
+use Rattle.pim_course.specs.Sections.{AreNumbered, sections_of}
 use Rattle.pim_course.specs.Told.{added_told, happened_in}
 use Rattle.pim_course.specs.World.{Lead, world_of}
 use Rattle.pim_course.specs.declared.course.Course.{Course}
@@ -15,6 +16,7 @@ use Rattle.pim_course.specs.declared.course.Sources.{Sources}
 use Rattle.pim_course.specs.declared.requests.Request.{Request}
 use Rattle.pim_course.specs.declared.walk.Walk.{Walk}
 use Rattle.pim_facts.specs.Shown.{shown_in}
+use Rattle.pim_requests.specs.Laws.{HasBoth}
 use Rattle.pim_facts.specs.declared.fact.Fact.{Fact}
 use Rattle.pim_findings.specs.Waits.{Moment}
 use Rattle.pim_import.specs.Following.{AreAdded, ArePlaced, IsLacking, IsWay, KeepsThoseOfLog, Stage}
@@ -189,11 +191,13 @@ pub looks-request : (bytes : List ℕ) (sources : Sources) (is_all : Bool) (numb
     HasSameSize old.course new.course → KeepsDepths old.course new.course →
     (IfSome (slice_get sources.requests.list.items old.added) (HasRequest old.course) →
     Lead (shown_in new.course.shown) (world_of old.course) (world_of new.course)) →
+    (IfSome (slice_get sources.requests.list.items old.added) (HasBoth old.course) →
+    AreNumbered (shown_in new.course.shown) (sections_of old.course) (sections_of new.course)) →
     happened_in new.course ≡
     option_map_or (added_told (world_of old.course)) (slice_get sources.requests.list.items old.added) [] →
     LooksAt is_all (room_of bytes sources) sources new before after →
     HasLooked bytes sources is_all number old before → HasLooked bytes sources is_all number new after
-looks-request bytes sources is_all number request old new before after next behind added size depths led told looks has =
+looks-request bytes sources is_all number request old new before after next behind added size depths led numbered told looks has =
     let from : Stage = stage_of number has.record_time has.time old in
     let time : ℕ = unwrap_or request.time has.record_time in
     record {
@@ -215,6 +219,9 @@ looks-request bytes sources is_all number request old new before after next behi
           led =
               subst (λ (one : Option Request). IfSome one (HasRequest old.course) →
               Lead (shown_in new.course.shown) (world_of old.course) (world_of new.course)) next led;
+          sections =
+              subst (λ (one : Option Request). IfSome one (HasBoth old.course) →
+              AreNumbered (shown_in new.course.shown) (sections_of old.course) (sections_of new.course)) next numbered;
         }),
         has.way,
       );

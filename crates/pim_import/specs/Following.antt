@@ -3,18 +3,25 @@ use Rattle.std.specs.Prelude.{◌≡◌, ◌⊎◌, ◌+◌, ◌-◌, ◌<◌, �
 use Rattle.std.specs.Prelude.{reverse, filter, length, slice_get, slice_index_or, Option, Some, All}
 use Rattle.std.specs.Option.{option_map_or, unwrap_or}
 use Rattle.pim_log.specs.Headers.{header_of, end_of}
+use Rattle.pim_log.specs.Logs.{IsLog}
+use Rattle.pim_facts.specs.Covering.{Covers}
 use Rattle.pim_facts.specs.Shown.{shown_in}
 use Rattle.pim_facts.specs.declared.fact.Fact.{Fact}
 use Rattle.pim_course.specs.Going.{HasSameSize, KeepsDepths, KeepsSections}
 use Rattle.pim_course.specs.Reading.{Begins, GoesBy, HasRequest, IsTimeOf, LacksRecord}
 use Rattle.pim_course.specs.Requests.{IsBehind, IsInOrder}
+use Rattle.pim_course.specs.AskedOwners.{FindsAskedFrom}
+use Rattle.pim_course.specs.NextOwners.{FindsFrom}
+use Rattle.pim_course.specs.Sections.{AreNumbered, sections_of}
 use Rattle.pim_course.specs.Told.{added_told, happened_in}
 use Rattle.pim_course.specs.World.{Lead, world_of}
 use Rattle.pim_course.specs.declared.course.Course.{Course}
 use Rattle.pim_course.specs.declared.course.Sources.{Sources}
 use Rattle.pim_course.specs.declared.requests.Request.{Request}
 use Rattle.pim_course.specs.declared.walk.Walk.{Walk}
-use Rattle.pim_requests.specs.Asked.{IsPlaced}
+use Rattle.pim_requests.specs.Asked.{IsPlaced, IsShown}
+use Rattle.pim_requests.specs.Laws.{HasBoth}
+use Rattle.pim_requests.specs.declared.waits.Wait.{Wait}
 use Rattle.pim_findings.specs.Bounds.{FindsBounds, KnowsSections}
 use Rattle.pim_findings.specs.Cycles.{AreCycles}
 use Rattle.pim_findings.specs.Deadlocks.{blocker_of, threads_of}
@@ -60,7 +67,7 @@ IsLacking bytes number old new =
     × KeepsSections old new
 
 -- A stage leads to the next by the record with the next number, which shows what it tells: once each request behind the last
--- record was added. If the log lacks the record, or its time isn't known, that is the time of the one before it.
+-- record was added. If the log lacks the record, or its time isn't known, the time is that of the one before it.
 pub record GoesByRecord (bytes : List ℕ) (sources : Sources) (from to : Stage) : Type 0 where
   pub number : to.number ≡ from.number + 1
   pub before : AreAdded sources.requests.list.items from.number from.added
@@ -73,7 +80,7 @@ pub record GoesByRecord (bytes : List ℕ) (sources : Sources) (from to : Stage)
   pub shown : IsLacking bytes to.number from.course to.course ⊎ GoesBy bytes sources to.number from.course to.course
 
 -- A stage leads to the next by the next of the requests that the log lacks, which belongs behind the last record and shows what
--- it tells. If no wait shows its time, that is the time of the record.
+-- it tells. If no wait shows when it was made, the time is that of the record.
 pub record GoesByRequest (sources : Sources) (from to : Stage) : Type 0 where
   pub number : to.number ≡ from.number
   pub record_time : to.record_time ≡ from.record_time
@@ -86,6 +93,8 @@ pub record GoesByRequest (sources : Sources) (from to : Stage) : Type 0 where
   pub depths : KeepsDepths from.course to.course
   pub told : happened_in to.course ≡ added_told (world_of from.course) request
   pub led : HasRequest from.course request → Lead (shown_in to.course.shown) (world_of from.course) (world_of to.course)
+  pub sections : HasBoth from.course request →
+      AreNumbered (shown_in to.course.shown) (sections_of from.course) (sections_of to.course)
 
 -- A way through a log leads from its begin to this stage, through those before it, of which the latest is first.
 abbrev pub IsWay : List ℕ → Sources → Stage → List Stage → Type 0
@@ -197,9 +206,18 @@ pub record KeepsThoseOfLog (bytes : List ℕ) (sources : Sources) (is_all : Bool
   pub added : last.added ≡ length sources.requests.list.items
   pub keeps : KeepsThoseOf is_all (room_of bytes sources) (facts_of sources (last ∷ before)) sections
 
--- The findings are those of the log, with the threads and mutexes that it names, of the facts of the critical sections in the
--- trace.
-pub record IsOfLog (bytes : List ℕ) (is_all : Bool) (imported : Imported) : Type 0 where
+-- What is found first is that of a log: whom each record is about, who has a mutex next, and the requests that the log lacks,
+-- which its calls or these waits show.
+pub record AreOfLog (bytes : List ℕ) (waits : List Wait) (sources : Sources) : Type 0 where
+  pub covers : Covers sources.ids bytes
+  pub releases : FindsFrom bytes sources.ids sources.next_owners 1
+  pub asked : FindsAskedFrom bytes sources.ids sources.next_owners 1
+  pub requests : All (IsShown bytes sources.ids waits) sources.requests.list.items
+
+-- The findings are those of the log, with the threads and mutexes that it names, of the facts of critical sections that are
+-- kept so.
+pub record IsOfLog (bytes : List ℕ) (waits : List Wait) (is_all : Bool) (imported : Imported) : Type 0 where
+  pub sources : IsLog bytes → AreOfLog bytes waits imported.sources
   pub sections : CriticalSections
   pub keeps : KeepsThoseOfLog bytes imported.sources is_all sections
   pub follows : FollowsLog bytes imported.sources sections (length imported.sources.ids.threads.items)

@@ -11,8 +11,8 @@ abbrev pub MustBeKept : ℕ → List Moment → Type 0
 MustBeKept n [] = ⊥
 MustBeKept n (m ∷ facts) = ((m.fact.section ≡ Some n) × MustStay m.course m.sources m.fact) ⊎ MustBeKept n facts
 
--- the numbers of the critical sections of a log are below this: from 1 on, at most one of each record and each request that
--- it lacks
+-- for so many numbers it is kept whether the critical section is in the trace: one for each record and each request that the
+-- log lacks, from 1 on. That no critical section has a higher number isn't said.
 abbrev pub room_of : List ℕ → Sources → ℕ
 room_of bytes sources = end_of (header_of bytes) + length sources.requests.list.items
 

@@ -1,11 +1,12 @@
 //! From a log to the pieces of a trace.
 ghost use Rattle.std.specs.Prelude.{◌≡◌, ◌⊎◌, ◌-◌, ◌++◌, ◌∷◌, [], ℕ, List, IfOk, IfErr, IsTrue, All, false};
 ghost use Rattle.pim_log.specs.Headers.{header_of, end_of};
+ghost use Rattle.pim_log.specs.Logs.{IsLog};
 ghost use Rattle.pim_course.specs.Reading.{Begins};
 ghost use Rattle.pim_course.specs.Requests.{IsInOrder};
 ghost use Rattle.pim_builder.specs.Faults.{NamesOneOf, NamesOnly};
 ghost use Rattle.pim_findings.specs.Waits.{Moment};
-ghost use Rattle.pim_import.specs.Following.{AreAdded, ArePlaced, FollowsLog, HasAdded, HasFollowed, IsOfLog, Knows};
+ghost use Rattle.pim_import.specs.Following.{AreAdded, AreOfLog, ArePlaced, FollowsLog, HasAdded, HasFollowed, IsOfLog, Knows};
 ghost use Rattle.pim_import.specs.Following.{moment_of, moments_of};
 ghost use Rattle.pim_facts.specs.Shown.{shown_in};
 ghost use Rattle.pim_builder.specs.Pieces.{AreJoined, HasTimes};
@@ -70,7 +71,7 @@ pub struct Imported {
 /// # Errors
 ///
 /// Returns `Contradiction` with the number of the first record that contradicts those before it, or
-/// tells of a thread that no record names, `TooManyThreads` with the number of the first record of
+/// tells of a thread with a number above all of the log's, `TooManyThreads` with the number of the first record of
 /// a thread above [`MAX_THREADS`](pim_facts::MAX_THREADS), `Crowded` if more threads or mutexes take
 /// part at one time than a trace has numbers for, `TooManyPriorities` if the threads and ceilings
 /// have more than 99 of them, and `Memory` if out of memory.
@@ -84,7 +85,7 @@ pub fn import_log(
     ensures counted { IfOk result (λ imported. total imported.built.tally ≡ end_of (header_of log.now) - 1) }
     ensures joined { IfOk result (λ imported. AreJoined imported.built.pieces.items) }
     ensures times { IfOk result (λ imported. All HasTimes imported.built.pieces.items) }
-    ensures findings { IfOk result (IsOfLog log.now options.keeps_all) }
+    ensures findings { IfOk result (IsOfLog log.now waits.now options.keeps_all) }
     ensures fault { IfErr result (NamesOneOf (end_of (header_of log.now))) }
 {
     let sources = sources_of(alloc, log, waits)?;
@@ -113,6 +114,7 @@ pub fn import_log(
 
 /// Returns what is known of a log before its course is followed.
 fn sources_of(alloc: Global, log: &Log, waits: &[Wait]) -> Result<Sources, ImportFault>
+    ensures of_log { IsLog log.now → IfOk result (AreOfLog log.now waits.now) }
     ensures requests { IfOk result (λ sources. ArePlaced log.now sources.requests.list.items) }
     ensures fault { IfErr result (NamesOneOf (end_of (header_of log.now))) }
 {
@@ -274,7 +276,7 @@ fn show(
 ///
 /// # Errors
 ///
-/// Returns `Contradiction` if the record contradicts those before it, or the log has no such thread,
+/// Returns `Contradiction` if the record contradicts those before it, or the thread's number is above all of the log's,
 /// and `Memory` if out of memory.
 fn show_fact(
     context: &Context,

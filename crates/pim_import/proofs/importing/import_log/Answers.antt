@@ -7,6 +7,7 @@ pub returns-clause-findings : goal.returns-clause-findings
 returns-clause-findings c =
     let ids = c.in_ok-sources.sources.ids in
     record {
+      sources = c.in_ok-sources.ensures.of_log;
       sections = c.in_ok-sections.sections;
       keeps = c.in_ok-sections.ensures c.in_ok-sources.ensures.requests;
       follows = c.in_ok-built.ensures.findings (length ids.threads.items) (length ids.mutexes.items)

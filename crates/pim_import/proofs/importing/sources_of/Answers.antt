@@ -1,0 +1,11 @@
+use Rattle.pim_import.proofs.importing.sources_of.Goals as goal
+
+pub returns-clause-of_log : goal.returns-clause-of_log
+returns-clause-of_log c is =
+    let covers = c.in-Ok.ensures.covers is in
+    record {
+      covers = covers;
+      releases = c.in_ok-next_owners.ensures.releases covers;
+      asked = c.in_ok-next_owners.ensures.requests covers;
+      requests = c.in_ok-sources.ensures.shown is;
+    }
