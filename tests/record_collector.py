@@ -153,6 +153,8 @@ def short_threads(reader, broken, folder):
     """A short thread takes a block of the disk, and no room of more."""
     running = Running(folder, PROGRAMS / "rounds", "threads", "100", options=["--size", "4"])
     for number in range(6):
+        # What a chunk of an ended thread doesn't take is room once the collector has seen the end.
+        until(lambda: running.path.exists() and number_in(running.path, 32) - number_in(running.path, 192) >= 100)
         running.says("go")
         until(lambda: number_in(running.path, 192) > 100 * (number + 1))  # a chunk of each thread
     status = running.end()[0]
