@@ -20,7 +20,7 @@ use Rattle.pim_facts.specs.Levels.{id_of}
 use Rattle.pim_facts.specs.declared.ids.Ids.{Ids}
 
 -- a log has one record with a number
-same-slot : (bytes : List ℕ) (s t n : ℕ) → IsLog bytes → IsNumbered bytes s n → IsNumbered bytes t n → s ≡ t
+pub same-slot : (bytes : List ℕ) (s t n : ℕ) → IsLog bytes → IsNumbered bytes s n → IsNumbered bytes t n → s ≡ t
 same-slot bytes s t n log a b = elim (cases_lt s t) [
   | inl lt ↦ absurd ((log.slots t b.slot).own (record { number = n; earlier = s; before = lt; first = a; again = b }))
   | inr ge ↦ elim (cases_lt t s) [
@@ -161,6 +161,20 @@ lacks bytes n ids none read = record {
         absurd (none slot (subst (λ k. IsNumbered bytes slot k) e num))
   ];
 }
+
+-- when a log ended is none of it
+pub later : (bytes : List ℕ) (n : ℕ) (old new : Ids) (ended : ℕ) → new ≡ record old { ended = ended } → HasRead bytes n old →
+    HasRead bytes n new
+later bytes n old new ended is read =
+    let same : HasRead bytes n (record old { ended = ended }) =
+    record {
+      room = read.room;
+      mutexes = read.mutexes;
+      covers = λ log slot number r lt numbered is.
+          let was : HasThoseOf old r (id_of old number) = read.covers log slot number r lt numbered is in
+          record { above = was.above; few = was.few; thread = was.thread; about = was.about };
+    } in
+    subst (HasRead bytes n) (sym is) same
 
 -- behind a record
 pub reads : (bytes : List ℕ) (n : ℕ) (old mid new : Ids) (r : Record) (id : ℕ) →

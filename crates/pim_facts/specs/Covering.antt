@@ -37,11 +37,12 @@ CoversBelow end ids bytes =
 abbrev pub Covers : Ids → List ℕ → Type 0
 Covers ids bytes = CoversBelow (end_of (header_of bytes)) ids bytes
 
--- nobody is lost, and whom the records are about stays
+-- nobody is lost, and whom the records are about stays, and so does when the log ended
 pub record Grows (old new : Ids) : Type 0 where
   pub threads : length old.threads.items ≤ length new.threads.items
   pub mutexes : length old.mutexes.items ≤ length new.mutexes.items
   pub about : new.of_record ≡ old.of_record
+  pub ended : new.ended ≡ old.ended
 
 -- the records of a log with numbers below one were read
 pub record HasRead (bytes : List ℕ) (end : ℕ) (ids : Ids) : Type 0 where

@@ -2,3 +2,4 @@ pub mod Faults
 pub mod Shown
 pub mod Levels
 pub mod Covering
+pub mod Ending

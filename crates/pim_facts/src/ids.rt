@@ -4,6 +4,7 @@ ghost use Rattle.pim_log.specs.Headers.{header_of, end_of};
 ghost use Rattle.pim_log.specs.Logs.{IsLog};
 ghost use Rattle.pim_facts.specs.Covering.{Covers, Grows, HasMutex, HasNumber, HasRead, HasThread};
 ghost use Rattle.pim_facts.specs.Levels.{id_of, first_level};
+ghost use Rattle.pim_facts.specs.Ending.{EndsAt, EndsBelow, later_of};
 ghost use Rattle.pim_facts.specs.Faults.{NamesOneOf, NamesOnly};
 
 use crate::family::{Family, ceiling_in, family_in};
@@ -64,7 +65,7 @@ pub struct Ids {
     of_record: Vec<u32>,
     /// Which levels the log has.
     pub levels: [bool; 101],
-    /// The latest time of a record: CLOCK_MONOTONIC in nanoseconds.
+    /// The latest time of a record, or when the log began if that is later: CLOCK_MONOTONIC in nanoseconds.
     pub ended: u64,
 }
 
@@ -105,6 +106,7 @@ impl Ids {
     pub fn of(alloc: Global, log: &Log) -> Result<Ids, IdsFault>
         ensures fault { IfErr result (NamesOneOf (end_of (header_of log.now))) }
         ensures covers { IsLog log.now → IfOk result (λ ids. Covers ids log.now) }
+        ensures ended { IsLog log.now → IfOk result (λ ids. EndsAt log.now ids.ended) }
     {
         let mut ids = Ids::new(alloc, log)?;
         let mut places = Places {
@@ -121,7 +123,8 @@ impl Ids {
 
     /// Returns that nothing is known yet.
     fn new(alloc: Global, log: &Log) -> Result<Ids, AllocError>
-        ensures { IfOk result (HasRead log.now 1) }
+        ensures read { IfOk result (HasRead log.now 1) }
+        ensures ended { IfOk result (λ ids. EndsBelow 1 log.now ids.ended) }
     {
         let mut threads = Vec::new(alloc);
         threads.push(NO_THREAD)?;
@@ -179,11 +182,14 @@ impl Ids {
     fn read_record(&mut self, places: &mut Places, log: &Log, number: u64) -> Result<(), IdsFault>
         ensures fault { IfErr result (NamesOneOf (end_of (header_of log.now))) }
         ensures read { HasRead log.now number self.old → IfOk result (λ _. HasRead log.now (number + 1) self.new) }
+        ensures ended { IsLog log.now → EndsBelow number log.now self.old.ended →
+            IfOk result (λ _. EndsBelow (number + 1) log.now self.new.ended) }
     {
         let record = match log.record(number) {
             Some(record) => record,
             None => return Ok(()),
         };
+        self.read_time(record.time);
         let id = self.read(places, &record)?;
         self.put(number, id);
         Ok(())
@@ -198,15 +204,15 @@ impl Ids {
         ensures about { 0 < length self.old.mutexes.items → IfOk result (HasNumber self.new «record».now.event) }
     {
         self.read_thread(record)?;
-        self.read_time(record.time);
         match record.event.mutex() {
             Some(mutex) => Ok(self.read_mutex(places, record, &mutex)?),
             None => self.read_other(places, record),
         }
     }
 
+    /// Keeps the latest time.
     fn read_time(&mut self, time: Option<u64>)
-        ensures { Grows self.old self.new }
+        ensures { self.new ≡ record self.old { ended = later_of time self.old.ended } }
     {
         if let Some(time) = time {
             self.ended = self.ended.max(time);

@@ -250,18 +250,18 @@ follows_request bytes sources sections n k number last time put_at request old n
     }
 
 -- the log ends
-pub follows_log : (bytes : List ℕ) (sources : Sources) (sections : CriticalSections) (n k ended end last : ℕ) (walk : Walk)
+pub follows_log : (bytes : List ℕ) (sources : Sources) (sections : CriticalSections) (n k end last : ℕ) (walk : Walk)
     (found : Findings) (built : Built) → end ≡ end_of (header_of bytes) → ArePlaced bytes sources.requests.list.items →
-    ((facts : List Moment) → Finds n k facts found → AreReported k (all_waits facts ended n) built.findings.waits) →
+    ((facts : List Moment) → Finds n k facts found → AreReported k (all_waits facts sources.ids.ended n) built.findings.waits) →
     built.findings.mutexes ≡ found.mutexes → built.course ≡ walk.course →
     ((facts : List Moment) → HandsOver n k facts found → (mutex : ℕ) → mutex < k →
     AreHandOvers facts mutex (mutex_at built.findings.mutexes.items mutex).hand_overs) →
     ((facts : List Moment) → KnowsOrders n facts found → FindsOpposites facts built.findings) →
     ((facts : List Moment) → KnowsOrders n facts found → KnowsSections n k facts found →
-    FindsBounds n k facts ended built.findings) →
+    FindsBounds n k facts sources.ids.ended built.findings) →
     AreCycles (blocker_of walk.course) (threads_of built.findings.deadlocks.items) →
-    HasAdded bytes sources sections n k (end - 1) last walk found → FollowsLog bytes sources sections n k ended built
-follows_log bytes sources sections n k ended end last walk found built is placed waits same course hands opposites bounds
+    HasAdded bytes sources sections n k (end - 1) last walk found → FollowsLog bytes sources sections n k built
+follows_log bytes sources sections n k end last walk found built is placed waits same course hands opposites bounds
     deadlocks has =
     let f = has.followed in
     let stage : Stage = stage_of (end - 1) last f.time walk in

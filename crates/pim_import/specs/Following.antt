@@ -5,6 +5,7 @@ use Rattle.std.specs.Option.{option_map_or, unwrap_or}
 use Rattle.pim_log.specs.Headers.{header_of, end_of}
 use Rattle.pim_log.specs.Logs.{IsLog}
 use Rattle.pim_facts.specs.Covering.{Covers}
+use Rattle.pim_facts.specs.Ending.{EndsAt}
 use Rattle.pim_facts.specs.Shown.{shown_in}
 use Rattle.pim_facts.specs.declared.fact.Fact.{Fact}
 use Rattle.pim_course.specs.Going.{HasSameSize, KeepsDepths, KeepsSections}
@@ -185,14 +186,14 @@ pub record AreFound (n k : ℕ) (sections : CriticalSections) (ended : ℕ) (fac
 
 -- There is a way through all records of a log and all requests that it lacks, such that what is found is what the facts on the
 -- way show, and the course is that behind the last of them.
-pub record FollowsLog (bytes : List ℕ) (sources : Sources) (sections : CriticalSections) (n k ended : ℕ)
-    (built : Built) : Type 0 where
+pub record FollowsLog (bytes : List ℕ) (sources : Sources) (sections : CriticalSections) (n k : ℕ) (built : Built)
+    : Type 0 where
   pub last : Stage
   pub before : List Stage
   pub way : IsWay bytes sources last before
   pub number : last.number ≡ end_of (header_of bytes) - 1
   pub added : last.added ≡ length sources.requests.list.items
-  pub found : AreFound n k sections ended (facts_of sources (last ∷ before)) last.course built.findings
+  pub found : AreFound n k sections sources.ids.ended (facts_of sources (last ∷ before)) last.course built.findings
   pub course : built.course ≡ last.course
 
 -- There is a way through all records of a log and all requests that it lacks, such that the critical sections in the trace
@@ -206,10 +207,11 @@ pub record KeepsThoseOfLog (bytes : List ℕ) (sources : Sources) (is_all : Bool
   pub added : last.added ≡ length sources.requests.list.items
   pub keeps : KeepsThoseOf is_all (room_of bytes sources) (facts_of sources (last ∷ before)) sections
 
--- What is found first is that of a log: whom each record is about, who has a mutex next, and the requests that the log lacks,
--- which its calls or these waits show.
+-- What is found first is that of a log: whom each record is about, when the log ended, who has a mutex next, and the requests
+-- that the log lacks, which its calls or these waits show.
 pub record AreOfLog (bytes : List ℕ) (waits : List Wait) (sources : Sources) : Type 0 where
   pub covers : Covers sources.ids bytes
+  pub ended : EndsAt bytes sources.ids.ended
   pub releases : FindsFrom bytes sources.ids sources.next_owners 1
   pub asked : FindsAskedFrom bytes sources.ids sources.next_owners 1
   pub requests : All (IsShown bytes sources.ids waits) sources.requests.list.items
@@ -221,4 +223,4 @@ pub record IsOfLog (bytes : List ℕ) (waits : List Wait) (is_all : Bool) (impor
   pub sections : CriticalSections
   pub keeps : KeepsThoseOfLog bytes imported.sources is_all sections
   pub follows : FollowsLog bytes imported.sources sections (length imported.sources.ids.threads.items)
-      (length imported.sources.ids.mutexes.items) imported.ended imported.built
+      (length imported.sources.ids.mutexes.items) imported.built

@@ -60,8 +60,6 @@ pub struct Imported {
     pub numbering: Numbering,
     /// Their priorities.
     pub priorities: Priorities,
-    /// The time of the log's last record: CLOCK_MONOTONIC in nanoseconds.
-    pub ended: u64,
 }
 
 /// Makes a trace of a log, and finds what it shows. The waits are those that the kernel's events
@@ -94,7 +92,6 @@ pub fn import_log(
         return Err(ImportFault::TooManyPriorities);
     };
     let numbering = Numbering::of(alloc, &sources, &participants)?;
-    let ended = sources.ids.ended;
     let context = Context {
         sources: &sources,
         priorities: &priorities,
@@ -102,13 +99,12 @@ pub fn import_log(
         numbering: &numbering,
     };
     let findings = Findings::new(alloc, &sources, options.lists_waits)?;
-    let built = build(alloc, log, &context, &sections, findings, ended)?;
+    let built = build(alloc, log, &context, &sections, findings)?;
     Ok(Imported {
         built,
         sources,
         numbering,
         priorities,
-        ended,
     })
 }
 
@@ -143,14 +139,13 @@ fn build(
     context: &Context,
     sections: &CriticalSections,
     findings: Findings,
-    ended: u64,
 ) -> Result<Built, ImportFault>
     ensures counted { IfOk result (λ built. total built.tally ≡ end_of (header_of log.now) - 1) }
     ensures joined { IfOk result (λ built. AreJoined built.pieces.items) }
     ensures times { IfOk result (λ built. All HasTimes built.pieces.items) }
     ensures findings { IfOk result (λ built. (n k : ℕ) → ArePlaced log.now context.now.sources.now.requests.list.items →
         Knows n k sections.now [] findings →
-        FollowsLog log.now context.now.sources.now sections.now n k ended built) }
+        FollowsLog log.now context.now.sources.now sections.now n k built) }
     ensures fault { IfErr result (NamesOneOf (end_of (header_of log.now))) }
 {
     let sources = context.sources;
@@ -167,7 +162,7 @@ fn build(
         &mut findings,
         end,
     )?;
-    findings.end(alloc, &walk.course, ended)?;
+    findings.end(alloc, &walk.course, sources.ids.ended)?;
     let (pieces, appearances) = builder.end()?;
     Ok(Built {
         pieces,

@@ -12,7 +12,7 @@ returns-in_err-end-clause-fault c =
 pub returns-clause-findings : goal.returns-clause-findings
 returns-clause-findings c n k placed knows =
     let has = c.in_ok-tally.ensures.follows n k c.in_ok-walk.ensures.begins c.in_ok-walk.ensures.added placed knows in
-    follows_log c.args.log.now c.args.context.now.sources.now c.args.sections.now n k c.args.ended c.end-end.result has.0
+    follows_log c.args.log.now c.args.context.now.sources.now c.args.sections.now n k c.end-end.result has.0
     c.play.new.walk c.play.new.findings _ (c.end-end.ensures ∙ ap end_of c.header.ensures) placed
     (λ facts. c.in_ok-end.ensures.waits n k facts) c.end.ensures.mutexes refl
     (λ facts. c.end.ensures.hand_overs n k facts)

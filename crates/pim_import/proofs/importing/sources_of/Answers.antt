@@ -5,6 +5,7 @@ returns-clause-of_log c is =
     let covers = c.in-Ok.ensures.covers is in
     record {
       covers = covers;
+      ended = c.in-Ok.ensures.ended is;
       releases = c.in_ok-next_owners.ensures.releases covers;
       asked = c.in_ok-next_owners.ensures.requests covers;
       requests = c.in_ok-sources.ensures.shown is;

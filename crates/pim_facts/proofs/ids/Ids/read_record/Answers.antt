@@ -1,11 +1,22 @@
-use Rattle.pim_facts.proofs.Covered.{lacks, reads}
+use Rattle.std.proofs.Common.{ap, ◌∙◌}
+use Rattle.pim_facts.proofs.Covered.{later, lacks, reads}
+use Rattle.pim_facts.proofs.Ended as ended
 use Rattle.pim_facts.proofs.ids.Ids.read_record.Goals as goal
 
 pub returns-in-None-clause-read : goal.returns-in-None-clause-read
 returns-in-None-clause-read c = lacks c.args.log.now c.args.number c.args.self.now c.in-None.ensures
 
+pub returns-in-None-clause-ended : goal.returns-in-None-clause-ended
+returns-in-None-clause-ended c log = ended.lacks c.args.log.now c.args.number c.args.self.now.ended c.in-None.ensures
+
 pub returns-clause-read : goal.returns-clause-read
 returns-clause-read c read =
-    reads c.args.log.now c.args.number c.args.self.now c.read.new.self c.put.new.self c.in-Some.record c.in_ok-id.id
-    c.in-Some.ensures c.read.ensures.grown c.in_ok-id.ensures.thread c.in_ok-id.ensures.few (c.in_ok-id.ensures.about read.mutexes)
-    c.put.ensures.about c.put.ensures.rest read
+    let was : _ = later c.args.log.now c.args.number c.args.self.now c.read_time.new.self _ c.read_time.ensures read in
+    reads c.args.log.now c.args.number c.read_time.new.self c.read.new.self c.put.new.self c.in-Some.record c.in_ok-id.id
+    c.in-Some.ensures c.read.ensures.grown c.in_ok-id.ensures.thread c.in_ok-id.ensures.few (c.in_ok-id.ensures.about was.mutexes)
+    c.put.ensures.about c.put.ensures.rest was
+
+pub returns-clause-ended : goal.returns-clause-ended
+returns-clause-ended c log =
+    ended.reads c.args.log.now c.args.number c.args.self.now.ended c.put.new.self.ended c.in-Some.record log c.in-Some.ensures
+    (ap (λ d. d.ended) c.put.ensures.rest ∙ c.read.ensures.grown.ended ∙ ap (λ d. d.ended) c.read_time.ensures)
