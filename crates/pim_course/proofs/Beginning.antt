@@ -24,6 +24,8 @@ pub record AreFree (logged : List LoggedMutex) (place : ℕ) (mutexes : List Cou
   pub len : length mutexes ≡ length logged
   pub owner : (m : ℕ) → (get_or mutexes m free).owner ≡ None
   pub depth : (m : ℕ) → (get_or mutexes m free).depth ≡ 0
+  pub next : (m : ℕ) → (get_or mutexes m free).next_owner ≡ None
+  pub waiting : (m : ℕ) → (get_or mutexes m free).waiting ≡ 0
   pub section : (m : ℕ) → (get_or mutexes m free).section ≡ None
   pub ceiling : (m : ℕ) → m < place → (get_or mutexes m free).ceiling ≡ option_map_or (λ is. is.ceiling) (slice_get logged m) 0
 
@@ -59,6 +61,8 @@ begins ids course place mutexes threads end none shown =
       depths = mutexes.depth;
       sections = sections_are no_sections (sections_of course)
           (fun_ext (λ m. mutexes.section m))
+          (fun_ext (λ m. mutexes.next m))
+          (fun_ext (λ m. mutexes.waiting m))
           (fun_ext (λ t. threads.section t))
           none;
       shown = shown;

@@ -1,5 +1,5 @@
 -- What a course tells, a part of a record after the other.
-use Rattle.std.proofs.Common.{◌≡◌, ◌≢◌, ◌⊎◌, ℕ, ◌+◌, ◌==◌, ◌||◌, not, cond, Bool, true, false, List, [], ◌++◌, map, length, Option, Some, None, sym, refl, ap, ◌∙◌, subst, inl, inr, append_assoc, eq-eqb, nat_eq, arith}
+use Rattle.std.proofs.Common.{◌≡◌, ◌≢◌, ◌⊎◌, ℕ, ◌+◌, ◌==◌, ◌||◌, not, cond, Bool, true, false, List, [], ◌++◌, map, length, Option, Some, None, is_none, sym, refl, ap, ◌∙◌, subst, inl, inr, append_assoc, eq-eqb, nat_eq, arith}
 use Rattle.std.proofs.lemmas.Bool.{eqb-false, eqb-true, ne_eqb, cases_eq}
 use Rattle.std.proofs.lemmas.Option.{same_Some}
 use Rattle.std.proofs.lemmas.List.{append-nil, length-append}
@@ -55,6 +55,15 @@ so-that o p n e is = ap (λ q. is_that q n) (sym e) ∙ sym (that-by o n) ∙ is
 
 pub not-that : (o p : Option ℕ) (n : ℕ) → o ≡ p → option_eq nat_eq o (Some n) ≡ false → is_that p n ≡ false
 not-that o p n e is = ap (λ q. is_that q n) (sym e) ∙ sym (that-by o n) ∙ is
+
+-- what `is_some` of the code says of a number that there may be
+pub waited : (o p : Option ℕ) → o ≡ p → is_some o ≡ true → is_none p ≡ false
+waited None p e is = cc
+waited (Some n) p e is = ap is_none (sym e)
+
+pub no-wait : (o p : Option ℕ) → o ≡ p → is_some o ≡ false → is_none p ≡ true
+no-wait None p e is = ap is_none (sym e)
+no-wait (Some n) p e is = cc
 
 -- there is no number
 pub none-by : (o : Option ℕ) → is_some o ≡ false → o ≡ None

@@ -55,8 +55,7 @@ count-lasts s m lt =
     ]
 
 count-released : (s : Sections) (next : Option ℕ) (t m : ℕ) → (sections_after s (Released next) t m).count ≡ s.count
-count-released s None t m = refl
-count-released s (Some next) t m = refl
+count-released s next t m = refl
 
 count-step : (s : Sections) (what : What) (t m : ℕ) → (sections_after s what t m).count < 2 ^ 32 - 1 →
     s.count ≤ (sections_after s what t m).count
@@ -107,12 +106,14 @@ ended-only R s m n only =
 
 step-only : (R : ℕ → Type 0) (s : Sections) (what : What) (t m n : ℕ) → Only R s n →
     (sections_after s what t m).count < 2 ^ 32 - 1 → Only R (sections_after s what t m) n
-step-only R s Granted t m n only lt = lasts-only R s m n only lt
+step-only R s Granted t m n only lt =
+    let x = lasts-only R s m n only lt in record { below = x.below; only = x.only }
 step-only R s Waits t m n only lt =
     let x = lasts-only R s m n only lt in record { below = x.below; only = x.only }
-step-only R s GaveUp t m n only lt = only
-step-only R s (Released None) t m n only lt = ended-only R s m n only
-step-only R s (Released (Some next)) t m n only lt = only
+step-only R s GaveUp t m n only lt = record { below = only.below; only = only.only }
+step-only R s (Released None) t m n only lt =
+    let x = ended-only R s m n only in record { below = x.below; only = x.only }
+step-only R s (Released (Some next)) t m n only lt = record { below = only.below; only = only.only }
 step-only R s (Level level) t m n only lt = only
 step-only R s (Ceiling ceiling) t m n only lt = only
 
@@ -153,17 +154,29 @@ apart-ended s j apart =
       ];
     }
 
-apart-began : (s : Sections) (began : ℕ → Option ℕ) → Apart s → Apart (record s { began = began })
-apart-began s began apart =
-    record { only = λ m n lasting. let x = apart.only m n lasting in record { below = x.below; only = x.only } }
+-- nothing but which critical sections last, and how many there were, counts for that
+apart-same : (s x : Sections) → x.lasting ≡ s.lasting → x.count ≡ s.count → Apart s → Apart x
+apart-same s x lasting count apart =
+    record {
+      only = λ m n is.
+          let y = apart.only m n (sym (ap (λ h. h m) lasting) ∙ is) in
+          record {
+            below = omega (arith, y.below, count);
+            only = λ k so. y.only k (sym (ap (λ h. h k) lasting) ∙ so);
+          };
+    }
 
 apart-step : (s : Sections) (what : What) (t m : ℕ) → Apart s → (sections_after s what t m).count < 2 ^ 32 - 1 →
     Apart (sections_after s what t m)
-apart-step s Granted t m apart lt = apart-lasts s m apart lt
-apart-step s Waits t m apart lt = apart-began (lasts_at s m) _ (apart-lasts s m apart lt)
-apart-step s GaveUp t m apart lt = apart
-apart-step s (Released None) t m apart lt = apart-ended s m apart
-apart-step s (Released (Some next)) t m apart lt = apart
+apart-step s Granted t m apart lt =
+    apart-same (lasts_at s m) (sections_after s Granted t m) refl refl (apart-lasts s m apart lt)
+apart-step s Waits t m apart lt =
+    apart-same (lasts_at s m) (sections_after s Waits t m) refl refl (apart-lasts s m apart lt)
+apart-step s GaveUp t m apart lt = apart-same s (sections_after s GaveUp t m) refl refl apart
+apart-step s (Released None) t m apart lt =
+    apart-same (ended s m) (sections_after s (Released None) t m) refl refl (apart-ended s m apart)
+apart-step s (Released (Some next)) t m apart lt =
+    apart-same s (sections_after s (Released (Some next)) t m) refl refl apart
 apart-step s (Level level) t m apart lt = apart
 apart-step s (Ceiling ceiling) t m apart lt = apart
 
@@ -194,7 +207,7 @@ run : (R : ℕ → Type 0) (facts : List Fact) (last : Fact) (s to : Sections) (
     AreNumbered (facts ++ (last ∷ [])) s to → to.count < 2 ^ 32 - 1 → IsWithin last → last.section ≡ Some n → R last.mutex
 run R [] last s to n only led lt within e =
     here R s last.what last.thread last.mutex n only (below-next last [] s to led.1 lt) within.no_end
-    (sym e ∙ led.0)
+    (sym e ∙ led.0.section)
 run R (fact ∷ facts) last s to n only led lt within e =
     run R facts last (after_numbered s fact) to n
     (step-only R s fact.what fact.thread fact.mutex n only (below-next fact (facts ++ (last ∷ [])) s to led.1 lt))
@@ -234,7 +247,9 @@ unended (fact ∷ facts) last s to m n only led lt within e = (
 first-only : (s : Sections) (what : What) (t m n : ℕ) → Apart s → (sections_after s what t m).count < 2 ^ 32 - 1 →
     what ≢ GaveUp → Some n ≡ number_of s what t m → Only (λ j. j ≡ m) (sections_after s what t m) n
 first-only s Granted t m n apart lt live e =
-    (apart-lasts s m apart lt).only m n (at-it m (Some (number_at s m)) s.lasting m refl ∙ sym e)
+    let x : Only (λ j. j ≡ m) (lasts_at s m) n =
+    (apart-lasts s m apart lt).only m n (at-it m (Some (number_at s m)) s.lasting m refl ∙ sym e) in
+    record { below = x.below; only = x.only }
 first-only s Waits t m n apart lt live e =
     let x : Only (λ j. j ≡ m) (lasts_at s m) n =
     (apart-lasts s m apart lt).only m n (at-it m (Some (number_at s m)) s.lasting m refl ∙ sym e) in
@@ -301,7 +316,7 @@ stay-run [] last s to m n is led all within e =
     let its = number-in last.section within.some in
     its.1
     ∙ ap (λ j. Some j)
-    (last-has s last.what last.thread last.mutex n its.0 (ap s.lasting e ∙ is) within.no_end (sym its.1 ∙ led.0))
+    (last-has s last.what last.thread last.mutex n its.0 (ap s.lasting e ∙ is) within.no_end (sym its.1 ∙ led.0.section))
 stay-run (fact ∷ facts) last s to m n is led all within e =
     stay-run facts last (after_numbered s fact) to m n
     (stays s fact.what fact.thread fact.mutex m n is (λ at nobody. all.0 (record { mutex = at; is = nobody })))
@@ -313,7 +328,7 @@ together : (first last : Fact) (between : List Fact) (s to : Sections) → Apart
 together first last between s to apart led lt one other e =
     let lt' : (after_numbered s first).count < 2 ^ 32 - 1 = below-next first (between ++ (last ∷ [])) s to led.1 lt in
     let its = number-in first.section one.some in
-    let is : Some its.0 ≡ number_of s first.what first.thread first.mutex = sym its.1 ∙ led.0 in
+    let is : Some its.0 ≡ number_of s first.what first.thread first.mutex = sym its.1 ∙ led.0.section in
     let only : Only (λ j. j ≡ first.mutex) (after_numbered s first) its.0 =
     first-only s first.what first.thread first.mutex its.0 apart lt' one.no_end is in
     record {
@@ -330,7 +345,7 @@ pub one-number : (first last : Fact) (between : List Fact) (s to : Sections) →
     AreTogether first between last → last.section ≡ first.section
 one-number first last between s to led one other are =
     let its = number-in first.section one.some in
-    let is : Some its.0 ≡ number_of s first.what first.thread first.mutex = sym its.1 ∙ led.0 in
+    let is : Some its.0 ≡ number_of s first.what first.thread first.mutex = sym its.1 ∙ led.0.section in
     stay-run between last (after_numbered s first) to first.mutex its.0
     (first-lasts s first.what first.thread first.mutex its.0 is one.no_end
     (λ nobody. are.lasting.0 (record { mutex = refl; is = nobody })))

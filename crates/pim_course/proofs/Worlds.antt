@@ -1,5 +1,5 @@
 -- How the world changes as a thread or a mutex is put.
-use Rattle.std.proofs.Common.{◌≡◌, ℕ, ◌<◌, cond, List, length, get_or, set, Option, Some, None, sym, ap, ◌∙◌, inl, inr, eq-eqb}
+use Rattle.std.proofs.Common.{◌≡◌, ℕ, ◌<◌, ◌≤◌, cond, List, length, get_or, set, Option, Some, None, sym, ap, ◌∙◌, inl, inr, eq-eqb}
 use Rattle.std.proofs.Math.Path.{fun_ext}
 use Rattle.std.proofs.lemmas.Bool.{ne_eqb, cases_eq, cases_lt}
 use Rattle.std.proofs.lemmas.Grind.{get_or-set_at}
@@ -38,6 +38,21 @@ each-same f d xs ys i y e same =
         | inr other ↦ ap f (ap (λ l. get_or l k d) e ∙ get_or-set_other xs i k y d other)
       ]
     ])
+
+-- where there is none to be put, the field is that of the default
+pub each-any : {X A : Type 0} (f : X → A) (d : X) (xs ys : List X) (i : ℕ) (y : X) (v : A) → ys ≡ set xs i y → f y ≡ v →
+    (length xs ≤ i → f (get_or xs i d) ≡ v) → each f d ys ≡ but_for i v (each f d xs)
+each-any f d xs ys i y v e is past =
+    elim (cases_lt i (length xs)) [
+      | inl lt ↦ each-put f d xs ys i y e lt ∙ ap (λ a. but_for i a (each f d xs)) is
+      | inr le ↦
+          fun_ext (λ k. ap (λ l. f (get_or l k d)) (e ∙ set_past xs i y le)
+          ∙ elim (cases_eq k i) [
+            | inl same ↦
+                ap (λ j. f (get_or xs j d)) same ∙ past le ∙ sym (ap (λ b. cond b v (f (get_or xs k d))) (eq-eqb k i same))
+            | inr other ↦ sym (ap (λ b. cond b v (f (get_or xs k d))) (ne_eqb k i other))
+          ])
+    ]
 
 -- an element was put in the list, or in one that is the same
 pub put-in : {X : Type 0} (xs same ys : List X) (i : ℕ) (y : X) → xs ≡ same → ys ≡ set xs i y → ys ≡ set same i y

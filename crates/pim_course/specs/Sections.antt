@@ -9,9 +9,12 @@ use Rattle.pim_course.specs.Courses.{mutex_in, thread_in}
 use Rattle.pim_course.specs.World.{but_for}
 use Rattle.pim_course.specs.declared.course.Course.{Course}
 
--- the critical section that lasts at each mutex, the one in which each thread began its last wait, and how many there were
+-- the critical section that lasts at each mutex, the thread that it was handed over to, up to the next grant, and how many wait
+-- for it; the critical section in which each thread that waits began to; and how many critical sections there were
 pub record Sections : Type 0 where
   pub lasting : ℕ → Option ℕ
+  pub next : ℕ → Option ℕ
+  pub waiting : ℕ → ℕ
   pub began : ℕ → Option ℕ
   pub count : ℕ
 
@@ -20,13 +23,15 @@ abbrev pub sections_of : Course → Sections
 sections_of course =
     record {
       lasting = λ m. (mutex_in course m).section;
+      next = λ m. (mutex_in course m).next_owner;
+      waiting = λ m. (mutex_in course m).waiting;
       began = λ t. (thread_in course t).section;
       count = course.sections;
     }
 
 -- as a log begins there was none
 abbrev pub no_sections : Sections
-no_sections = record { lasting = λ m. None; began = λ t. None; count = 0 }
+no_sections = record { lasting = λ m. None; next = λ m. None; waiting = λ m. 0; began = λ t. None; count = 0 }
 
 -- the number of the next critical section: they count from 1 on, and from the 2 ^ 32 - 1st on all have that number
 abbrev pub next_number : Sections → ℕ
@@ -55,15 +60,40 @@ number_of sections (Released next) t m = sections.lasting m
 number_of sections (Level level) t m = None
 number_of sections (Ceiling ceiling) t m = sections.lasting m
 
+-- the critical section in which the thread began to wait that this happens to: of a grant, if its thread waited
+abbrev pub since_of : Sections → What → ℕ → Option ℕ
+since_of sections Granted t = sections.began t
+since_of sections _ t = None
+
+-- one thread more waits for the mutex, up to 2 ^ 32 - 1 of them
+abbrev pub one_more_at : ℕ → (ℕ → ℕ) → ℕ → ℕ
+one_more_at m waiting = but_for m (min (waiting m + 1) (2 ^ 32 - 1)) waiting
+
+-- one thread less
+abbrev pub one_less_at : ℕ → (ℕ → ℕ) → ℕ → ℕ
+one_less_at m waiting = but_for m (waiting m - 1) waiting
+
 -- the critical sections after this happened: a grant or a wait begins one if none lasts, and a release ends it, unless the
--- mutex is handed over
+-- mutex is handed over; a wait begins in the one of its mutex, and lasts until its thread is granted a mutex or gives up
 abbrev pub sections_after : Sections → What → ℕ → ℕ → Sections
-sections_after sections Granted t m = lasts_at sections m
+sections_after sections Granted t m =
+    record (lasts_at sections m) {
+      next = but_for m None sections.next;
+      waiting = if is_none (sections.began t) then sections.waiting else one_less_at m sections.waiting;
+      began = but_for t None sections.began;
+    }
 sections_after sections Waits t m =
-    record (lasts_at sections m) { began = but_for t (Some (number_at sections m)) sections.began }
-sections_after sections GaveUp t m = sections
+    record (lasts_at sections m) {
+      waiting = one_more_at m sections.waiting;
+      began = but_for t (Some (number_at sections m)) sections.began;
+    }
+sections_after sections GaveUp t m =
+    record sections { waiting = one_less_at m sections.waiting; began = but_for t None sections.began }
 sections_after sections (Released next) t m =
-    if is_none next then record sections { lasting = but_for m None sections.lasting } else sections
+    record sections {
+      lasting = if is_none next then but_for m None sections.lasting else sections.lasting;
+      next = but_for m next sections.next;
+    }
 sections_after sections (Level level) t m = sections
 sections_after sections (Ceiling ceiling) t m = sections
 
@@ -71,14 +101,15 @@ sections_after sections (Ceiling ceiling) t m = sections
 abbrev pub after_numbered : Sections → Fact → Sections
 after_numbered sections fact = sections_after sections fact.what fact.thread fact.mutex
 
--- a fact has the number of its critical section
-abbrev pub HasNumberOf : Sections → Fact → Type 0
-HasNumberOf sections fact = fact.section ≡ number_of sections fact.what fact.thread fact.mutex
+-- a fact has the number of its critical section, and a grant the one of that in which its thread began to wait, if it waited
+pub record HasNumbersOf (sections : Sections) (fact : Fact) : Type 0 where
+  pub section : fact.section ≡ number_of sections fact.what fact.thread fact.mutex
+  pub since : fact.since ≡ since_of sections fact.what fact.thread
 
 -- the facts have the numbers of their critical sections, and lead from the one state of these to the other
 abbrev pub AreNumbered : List Fact → Sections → Sections → Type 0
 AreNumbered [] from to = to ≡ from
-AreNumbered (fact ∷ facts) from to = HasNumberOf from fact × AreNumbered facts (after_numbered from fact) to
+AreNumbered (fact ∷ facts) from to = HasNumbersOf from fact × AreNumbered facts (after_numbered from fact) to
 
 -- nobody has the mutex next
 abbrev pub IsToNobody : What → Type 0

@@ -67,7 +67,7 @@ pub struct CourseThread {
     pub owner_at: Option<u16>,
     /// The place in the code at which it asked for the mutex that it waits for, or for its own.
     pub asked_at: Option<u16>,
-    /// The critical section in which its last wait began, if it waited.
+    /// The critical section in which its wait began, if it waits.
     pub section: Option<u32>,
     /// Whether its level was above the ceiling of that mutex when it began to wait.
     pub was_above: bool,
@@ -345,6 +345,7 @@ impl Course {
         let mut is = self.thread(thread);
         let section = is.section;
         is.awaits = None;
+        is.section = None;
         self.put_thread(thread, is);
         let mut awaited = self.mutex(mutex);
         awaited.waiting = awaited.waiting.saturating_sub(1);
@@ -557,12 +558,12 @@ impl Course {
         let section = self.section_of(mutex);
         let mut owner = self.thread(thread);
         let mut is = self.mutex(mutex);
-        let mut since = None;
-        if owner.awaits == Some(mutex) {
-            since = owner.section;
-            owner.awaits = None;
+        let since = owner.section;
+        if since.is_some() {
             is.waiting = is.waiting.saturating_sub(1);
         }
+        owner.awaits = None;
+        owner.section = None;
         is.owner = Some(thread);
         is.next_owner = None;
         is.taken_at = record.place;

@@ -1,4 +1,4 @@
-use Rattle.std.proofs.Common.{ap, ◌∙◌}
+use Rattle.std.proofs.Common.{ap, refl, ◌∙◌}
 use Rattle.pim_course.proofs.Worlds.{owner-same, world-ceiling}
 use Rattle.pim_course.proofs.Leading.{goes-added}
 use Rattle.pim_course.proofs.Numbering.{numbers-added, same-mutex}
@@ -20,7 +20,11 @@ pub returns-clause-sections : goal.returns-clause-sections
 returns-clause-sections c =
     numbers-added c.args.self.now c.put_mutex.new.self _ _ _ c.fact-corrected.ensures
     (ap (λ d. d.shown) c.put_mutex.ensures.rest) c.add.ensures.shown c.add.ensures.full
-    (ap (λ z. z.section) c.mutex-is.ensures)
+    (record { section = ap (λ z. z.section) c.mutex-is.ensures; since = refl })
     (same-mutex c.args.self.now c.put_mutex.new.self _ _ c.put_mutex.ensures.mutexes
     (ap (λ d. d.threads) c.put_mutex.ensures.rest) (ap (λ d. d.sections) c.put_mutex.ensures.rest)
-    (ap (λ z. z.section) c.mutex-is.ensures))
+    (record {
+      section = ap (λ z. z.section) c.mutex-is.ensures;
+      next = ap (λ z. z.next_owner) c.mutex-is.ensures;
+      waiting = ap (λ z. z.waiting) c.mutex-is.ensures;
+    }))

@@ -13,4 +13,8 @@ pub returns-then-is_recursive-clause-sections : goal.returns-then-is_recursive-c
 returns-then-is_recursive-clause-sections c =
     same-mutex c.args.self.now c.put_mutex.new.self _ _ c.put_mutex.ensures.mutexes
     (ap (λ d. d.threads) c.put_mutex.ensures.rest) (ap (λ d. d.sections) c.put_mutex.ensures.rest)
-    (ap (λ z. z.section) c.mutex-is.ensures)
+    (record {
+      section = ap (λ z. z.section) c.mutex-is.ensures;
+      next = ap (λ z. z.next_owner) c.mutex-is.ensures;
+      waiting = ap (λ z. z.waiting) c.mutex-is.ensures;
+    })

@@ -19,9 +19,10 @@ returns-clause-sections c owned =
     let old : Course = c.args.self.now in
     numbers-added old c.put_mutex.new.self _ _ _ c.fact.ensures (ap (λ d. d.shown) c.put_mutex.ensures.rest)
     c.add.ensures.shown c.add.ensures.full
-    (ap (λ z. z.section) c.mutex-is.ensures)
+    (record { section = ap (λ z. z.section) c.mutex-is.ensures; since = refl })
     (released-to old c.put_mutex.new.self c.args.thread c.args.mutex _ c.heir-heir.result
     (ap (λ d. d.threads.items) c.put_mutex.ensures.rest) c.put_mutex.ensures.mutexes
     (ap (λ d. d.sections) c.put_mutex.ensures.rest)
     (has_mutex old c.args.mutex c.args.thread owned)
-    (c.and-is.ensures ∙ ap (λ z. option_and c.heir-heir.result z.section) c.mutex-is.ensures))
+    (c.and-is.ensures ∙ ap (λ z. option_and c.heir-heir.result z.section) c.mutex-is.ensures)
+    refl (ap (λ z. z.waiting) c.mutex-is.ensures))

@@ -9,7 +9,7 @@ use Rattle.pim_course.specs.declared.course.Course.{Course}
 use Rattle.pim_course.proofs.Telling.{depth-put, heir-same, if-not, left-by, neither, none-of, not-true, so-that, that-from, tells-same, tells-then}
 use Rattle.pim_course.proofs.Worlds.{has_mutex}
 use Rattle.pim_course.proofs.Leading.{goes-then}
-use Rattle.pim_course.proofs.Numbering.{numbers-then}
+use Rattle.pim_course.proofs.Numbering.{numbers-none, numbers-then, same-mutex}
 use Rattle.pim_course.proofs.course.Course.release.Goals as goal
 
 pub returns-clause-goes : goal.returns-clause-goes
@@ -63,6 +63,17 @@ returns-clause-depths c k =
     (ne_eqb m 0 (λ e. omega (arith, e, c.if-mutex-eq0.false)))
     (not-true _ (ap (λ o. is_that o t) owner ∙ eq-eqb t t refl))
     (sym c.is_refused.ensures ∙ c.if-is_refused.false)))
+
+pub returns-then-is-gt1-clause-sections : goal.returns-then-is-gt1-clause-sections
+returns-then-is-gt1-clause-sections c =
+    numbers-none 2 c.args.self.now c.put_mutex.new.self (ap (λ d. d.shown) c.put_mutex.ensures.rest)
+    (same-mutex c.args.self.now c.put_mutex.new.self _ _ c.put_mutex.ensures.mutexes
+    (ap (λ d. d.threads) c.put_mutex.ensures.rest) (ap (λ d. d.sections) c.put_mutex.ensures.rest)
+    (record {
+      section = ap (λ z. z.section) c.mutex-is.ensures;
+      next = ap (λ z. z.next_owner) c.mutex-is.ensures;
+      waiting = ap (λ z. z.waiting) c.mutex-is.ensures;
+    }))
 
 pub returns-clause-sections : goal.returns-clause-sections
 returns-clause-sections c =

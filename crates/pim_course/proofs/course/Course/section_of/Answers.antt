@@ -18,4 +18,5 @@ returns-in-None-clause-sections c lt =
     let next : c.saturating_add-self.result ≡ next_number (sections_of c.args.self.now) = c.saturating_add-self.ensures in
     lasts-next c.args.self.now c.put_mutex.new.self c.args.mutex _ c.put_mutex.ensures.mutexes
     (ap (λ d. d.threads) c.put_mutex.ensures.rest) lt none (ap (λ n. Some n) next)
+    (ap (λ z. z.next_owner) c.mutex-is.ensures) (ap (λ z. z.waiting) c.mutex-is.ensures)
     (ap (λ d. d.sections) c.put_mutex.ensures.rest ∙ next)

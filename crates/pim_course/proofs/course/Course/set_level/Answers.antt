@@ -15,7 +15,7 @@ returns-clause-goes c lt =
 pub returns-clause-sections : goal.returns-clause-sections
 returns-clause-sections c =
     numbers-added c.args.self.now c.put_thread.new.self _ _ _ c.fact.ensures (ap (λ d. d.shown) c.put_thread.ensures.rest)
-    c.add.ensures.shown c.add.ensures.full refl
+    c.add.ensures.shown c.add.ensures.full (record { section = refl; since = refl })
     (same-thread c.args.self.now c.put_thread.new.self _ _ c.put_thread.ensures.threads
     (ap (λ d. d.mutexes) c.put_thread.ensures.rest) (ap (λ d. d.sections) c.put_thread.ensures.rest)
     (ap (λ y. y.section) c.thread-is.ensures))

@@ -1,8 +1,8 @@
-use Rattle.std.proofs.Common.{◌≡◌, None, get_or, refl, ap, ◌∙◌}
+use Rattle.std.proofs.Common.{◌≡◌, ◌-◌, None, get_or, refl, ap, ◌∙◌}
 use Rattle.pim_course.specs.Courses.{free}
 use Rattle.pim_course.proofs.Worlds.{has_thread, owner-kept, owner-same, put-in, world-awaits}
 use Rattle.pim_course.proofs.Leading.{goes-added}
-use Rattle.pim_course.proofs.Numbering.{numbers-added, same-both}
+use Rattle.pim_course.proofs.Numbering.{gave-up, numbers-added}
 use Rattle.pim_course.proofs.course.Course.stop_waiting.Goals as goal
 
 pub returns-clause-owner : goal.returns-clause-owner
@@ -33,10 +33,13 @@ returns-clause-sections c =
     numbers-added c.args.self.now c.put_mutex.new.self _ _ _ c.fact.ensures
     (ap (λ d. d.shown) c.put_mutex.ensures.rest ∙ ap (λ d. d.shown) c.put_thread.ensures.rest)
     c.add.ensures.shown c.add.ensures.full
-    (ap (λ y. y.section) c.thread-is.ensures)
-    (same-both c.args.self.now c.put_mutex.new.self c.args.thread _ c.args.mutex _
+    (record { section = ap (λ y. y.section) c.thread-is.ensures; since = refl })
+    (gave-up c.args.self.now c.put_mutex.new.self c.args.thread _ c.args.mutex _
     (ap (λ d. d.threads.items) c.put_mutex.ensures.rest ∙ c.put_thread.ensures.threads)
     (put-in c.put_thread.new.self.mutexes.items c.args.self.now.mutexes.items _ _ _ items c.put_mutex.ensures.mutexes)
     (ap (λ d. d.sections) c.put_mutex.ensures.rest ∙ ap (λ d. d.sections) c.put_thread.ensures.rest)
-    (ap (λ y. y.section) c.thread-is.ensures)
-    (ap (λ z. z.section) c.mutex-awaited.ensures ∙ ap (λ l. (get_or l c.args.mutex free).section) items))
+    refl
+    (ap (λ z. z.section) c.mutex-awaited.ensures ∙ ap (λ l. (get_or l c.args.mutex free).section) items)
+    (ap (λ z. z.next_owner) c.mutex-awaited.ensures ∙ ap (λ l. (get_or l c.args.mutex free).next_owner) items)
+    (c.saturating_sub.ensures
+    ∙ ap (λ z. z.waiting - 1) (c.mutex-awaited.ensures ∙ ap (λ l. get_or l c.args.mutex free) items)))

@@ -1,4 +1,4 @@
-use Rattle.std.proofs.Common.{◌≡◌, Some, None, inl, inr, refl, ap, sym, subst, ◌∙◌, arith}
+use Rattle.std.proofs.Common.{◌≡◌, ◌-◌, cond, Some, None, is_none, refl, ap, sym, subst, ◌∙◌, arith}
 use Rattle.pim_facts.specs.declared.fact.Fact.{Fact}
 use Rattle.pim_facts.specs.declared.fact.What.TheVariants.{Granted}
 use Rattle.pim_course.specs.Courses.{mutex_in, thread_in}
@@ -6,11 +6,11 @@ use Rattle.pim_course.specs.Going.{IsStill}
 use Rattle.pim_course.specs.World.{CanHappen, world_of}
 use Rattle.pim_course.specs.declared.course.Course.{Course}
 use Rattle.pim_course.proofs.Worlds.{put-in, world-taken}
-use Rattle.pim_course.proofs.Telling.{isnt-that}
+use Rattle.pim_course.proofs.Telling.{if-not, if-so, no-wait, waited}
 use Rattle.pim_course.proofs.Leading.{goes-added, goes-still, goes-then}
-use Rattle.pim_course.proofs.Numbering.{numbers-added, same-both}
+use Rattle.pim_course.proofs.Numbering.{granted-in, numbers-added}
 use Rattle.pim_course.proofs.course.Course.take.Goals as goal
-use Rattle.pim_course.proofs.course.Course.take.Goals.{then-eq, else-eq}
+use Rattle.pim_course.proofs.course.Course.take.Goals.{then-is_some, else-is_some}
 
 pub returns-clause-goes : goal.returns-clause-goes
 returns-clause-goes c lt below possible =
@@ -20,61 +20,57 @@ returns-clause-goes c lt below possible =
     subst (λ w. CanHappen w Granted c.args.record.now.thread c.args.mutex) (sym still.world) possible in
     let items : c.put_thread.new.self.mutexes.items ≡ s.mutexes.items =
     ap (λ d. d.mutexes.items) c.put_thread.ensures.rest in
-    let none : c.if-eq.owner.awaits ≡ None =
-    elim c.if-eq.branch [
-      | then-eq w ↦ ap (λ y. y.awaits) w.owner-is
-      | else-eq w ↦
-          elim can.1 [
-            | inl idle ↦ ap (λ y. y.awaits) w.owner-is ∙ ap (λ y. y.awaits) c.thread-owner.ensures ∙ idle
-            | inr it ↦
-                absurd (isnt-that _ _ (grind (arith, c.eq.ensures, w.if-eq.false, w.if-eq.ensures))
-                (ap (λ y. y.awaits) c.thread-owner.ensures ∙ it))
-          ]
-    ] in
-    let level : c.if-eq.owner.level ≡ (thread_in s c.args.record.now.thread).level =
-    elim c.if-eq.branch [
-      | then-eq w ↦ ap (λ y. y.level) w.owner-is ∙ ap (λ y. y.level) c.thread-owner.ensures
-      | else-eq w ↦ ap (λ y. y.level) w.owner-is ∙ ap (λ y. y.level) c.thread-owner.ensures
-    ] in
-    let ceiling : c.if-eq.is.ceiling ≡ (mutex_in s c.args.mutex).ceiling =
-    elim c.if-eq.branch [
-      | then-eq w ↦ ap (λ z. z.ceiling) w.is-is ∙ ap (λ z. z.ceiling) c.mutex-is.ensures
-      | else-eq w ↦ ap (λ z. z.ceiling) w.is-is ∙ ap (λ z. z.ceiling) c.mutex-is.ensures
+    let ceiling : c.if-is_some.is.ceiling ≡ (mutex_in s c.args.mutex).ceiling =
+    elim c.if-is_some.branch [
+      | then-is_some w ↦ ap (λ z. z.ceiling) w.is-is ∙ ap (λ z. z.ceiling) c.mutex-is.ensures
+      | else-is_some w ↦ ap (λ z. z.ceiling) w.is-is ∙ ap (λ z. z.ceiling) c.mutex-is.ensures
     ] in
     goes-then 0 1 c.args.self.now s _ (goes-still c.args.self.now s still)
-    (goes-added s c.put_mutex.new.self _ _ _ (ap (λ (f : Fact). record f { since = c.if-eq.since }) c.fact-granted.ensures)
+    (goes-added s c.put_mutex.new.self _ _ _ (ap (λ (f : Fact). record f { since = c.thread-owner.result.section }) c.fact-granted.ensures)
     (ap (λ d. d.shown) c.put_mutex.ensures.rest ∙ ap (λ d. d.shown) c.put_thread.ensures.rest)
     c.add.ensures.shown c.add.ensures.full can
     (world-taken s c.put_mutex.new.self c.args.record.now.thread _ c.args.mutex _ (Some c.args.record.now.thread) None
     (ap (λ d. d.threads.items) c.put_mutex.ensures.rest ∙ c.put_thread.ensures.threads)
     (put-in c.put_thread.new.self.mutexes.items s.mutexes.items _ _ _ items c.put_mutex.ensures.mutexes)
     (omega (arith, c.section_of-section.ensures.size.threads)) (omega (arith, c.section_of-section.ensures.size.mutexes))
-    none level refl ceiling))
+    refl (ap (λ y. y.level) c.thread-owner.ensures) refl ceiling))
 
 pub returns-clause-sections : goal.returns-clause-sections
 returns-clause-sections c below =
     let old : Course = c.args.self.now in
     let s : Course = c.section_of-section.new.self in
     let still : IsStill old s = c.section_of-section.ensures.still in
+    let t = c.args.record.now.thread in
+    let m = c.args.mutex in
     let items : c.put_thread.new.self.mutexes.items ≡ s.mutexes.items =
     ap (λ d. d.mutexes.items) c.put_thread.ensures.rest in
-    let began : c.if-eq.owner.section ≡ (thread_in s c.args.record.now.thread).section =
-    elim c.if-eq.branch [
-      | then-eq w ↦ ap (λ y. y.section) w.owner-is ∙ ap (λ y. y.section) c.thread-owner.ensures
-      | else-eq w ↦ ap (λ y. y.section) w.owner-is ∙ ap (λ y. y.section) c.thread-owner.ensures
-    ] in
-    let lasting : c.if-eq.is.section ≡ (mutex_in s c.args.mutex).section =
-    elim c.if-eq.branch [
-      | then-eq w ↦ ap (λ z. z.section) w.is-is ∙ ap (λ z. z.section) c.mutex-is.ensures
-      | else-eq w ↦ ap (λ z. z.section) w.is-is ∙ ap (λ z. z.section) c.mutex-is.ensures
+    let alike : (c.if-is_some.is.section ≡ (mutex_in s m).section) × (c.if-is_some.is.waiting ≡
+    cond (is_none (thread_in s t).section) (mutex_in s m).waiting ((mutex_in s m).waiting - 1)) =
+    elim c.if-is_some.branch [
+      | then-is_some w ↦ (
+        ap (λ z. z.section) w.is-is ∙ ap (λ z. z.section) c.mutex-is.ensures,
+        ap (λ z. z.waiting) w.is-is ∙ w.saturating_sub.ensures ∙ ap (λ z. z.waiting - 1) c.mutex-is.ensures
+            ∙ sym (if-not (is_none (thread_in s t).section) _ _ (waited _ _ (ap (λ y. y.section) c.thread-owner.ensures)
+            (sym c.is_some.ensures ∙ w.if-is_some.true))),
+      )
+      | else-is_some w ↦ (
+        ap (λ z. z.section) w.is-is ∙ ap (λ z. z.section) c.mutex-is.ensures,
+        ap (λ z. z.waiting) w.is-is ∙ ap (λ z. z.waiting) c.mutex-is.ensures
+            ∙ sym (if-so (is_none (thread_in s t).section) _ _ (no-wait _ _ (ap (λ y. y.section) c.thread-owner.ensures)
+            (sym c.is_some.ensures ∙ w.if-is_some.false))),
+      )
     ] in
     numbers-added old c.put_mutex.new.self _ _ _
-    (ap (λ (f : Fact). record f { since = c.if-eq.since }) c.fact-granted.ensures)
+    (ap (λ (f : Fact). record f { since = c.thread-owner.result.section }) c.fact-granted.ensures)
     (ap (λ d. d.shown) c.put_mutex.ensures.rest ∙ ap (λ d. d.shown) c.put_thread.ensures.rest ∙ still.shown)
-    c.add.ensures.shown c.add.ensures.full (ap (λ n. Some n) c.section_of-section.ensures.number)
-    (same-both s c.put_mutex.new.self c.args.record.now.thread _ c.args.mutex _
+    c.add.ensures.shown c.add.ensures.full
+    (record {
+      section = ap (λ n. Some n) c.section_of-section.ensures.number;
+      since = ap (λ y. y.section) c.thread-owner.ensures ∙ ap (λ x. x.began t) (c.section_of-section.ensures.sections below);
+    })
+    (granted-in old s c.put_mutex.new.self t _ m _ (c.section_of-section.ensures.sections below)
     (ap (λ d. d.threads.items) c.put_mutex.ensures.rest ∙ c.put_thread.ensures.threads)
     (put-in c.put_thread.new.self.mutexes.items s.mutexes.items _ _ _ items c.put_mutex.ensures.mutexes)
     (ap (λ d. d.sections) c.put_mutex.ensures.rest ∙ ap (λ d. d.sections) c.put_thread.ensures.rest)
-    began lasting
-    ∙ c.section_of-section.ensures.sections below)
+    (omega (arith, c.section_of-section.ensures.size.mutexes))
+    refl alike.0 refl alike.1)

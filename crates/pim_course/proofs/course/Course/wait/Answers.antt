@@ -1,4 +1,4 @@
-use Rattle.std.proofs.Common.{◌≡◌, Some, get_or, refl, ap, sym, subst, ◌∙◌, arith}
+use Rattle.std.proofs.Common.{◌≡◌, ◌+◌, ◌-◌, ◌^◌, min, Some, get_or, refl, ap, sym, subst, ◌∙◌, arith}
 use Rattle.pim_facts.specs.declared.fact.What.TheVariants.{Waits}
 use Rattle.pim_course.specs.Courses.{free}
 use Rattle.pim_course.specs.Going.{IsStill}
@@ -38,12 +38,16 @@ returns-clause-sections c lt below =
     numbers-added old c.put_mutex.new.self _ _ _ c.fact.ensures
     (ap (λ d. d.shown) c.put_mutex.ensures.rest ∙ ap (λ d. d.shown) c.put_thread.ensures.rest ∙ still.shown)
     c.add.ensures.shown c.add.ensures.full
-    (ap (λ n. Some n) c.section_of-section.ensures.number)
+    (record { section = ap (λ n. Some n) c.section_of-section.ensures.number; since = refl })
     (waits-in old s c.put_mutex.new.self c.args.thread _ c.args.mutex _
     (c.section_of-section.ensures.sections below)
     (ap (λ d. d.threads.items) c.put_mutex.ensures.rest ∙ c.put_thread.ensures.threads)
     (put-in c.put_thread.new.self.mutexes.items s.mutexes.items _ _ _ items c.put_mutex.ensures.mutexes)
     (ap (λ d. d.sections) c.put_mutex.ensures.rest ∙ ap (λ d. d.sections) c.put_thread.ensures.rest)
     (omega (arith, c.section_of-section.ensures.size.threads))
+    (omega (arith, c.section_of-section.ensures.size.mutexes))
     (ap (λ n. Some n) c.section_of-section.ensures.number)
-    (ap (λ z. z.section) c.mutex-awaited.ensures ∙ ap (λ l. (get_or l c.args.mutex free).section) items))
+    (ap (λ z. z.section) c.mutex-awaited.ensures ∙ ap (λ l. (get_or l c.args.mutex free).section) items)
+    (ap (λ z. z.next_owner) c.mutex-awaited.ensures ∙ ap (λ l. (get_or l c.args.mutex free).next_owner) items)
+    (c.saturating_add.ensures
+    ∙ ap (λ z. min (z.waiting + 1) (2 ^ 32 - 1)) (c.mutex-awaited.ensures ∙ ap (λ l. get_or l c.args.mutex free) items)))
