@@ -1,3 +1,4 @@
 pub mod IndexLemmas
 pub mod FoundLemmas
 pub mod UsedLemmas
+pub mod Saying
