@@ -40,7 +40,7 @@ has-number ids course n (event.Waited _ _ _) all h = tt
 has-number ids course n (event.Give _ _) all h = tt
 has-number ids course n (event.Frame _) all h = tt
 
-has-those : (bytes : List ℕ) (ids : Ids) (course : Course) (slot number : ℕ) (r : Record) → covering.Covers ids bytes →
+pub has-those : (bytes : List ℕ) (ids : Ids) (course : Course) (slot number : ℕ) (r : Record) → covering.Covers ids bytes →
     HasAllOf ids course → number < end_of (header_of bytes) → IsNumbered bytes slot number → IsRecord bytes slot r →
     HasThoseOf course r (id_of ids number)
 has-those bytes ids course slot number r covers all below numbered is =

@@ -5,5 +5,6 @@ pub mod Covered
 pub mod Telling
 pub mod Numbering
 pub mod Together
+pub mod Counting
 pub mod NextOwning
 pub mod AskedOwning

@@ -8,4 +8,5 @@ pub mod Reading
 pub mod Requests
 pub mod Sections
 pub mod Told
+pub mod Waiting
 pub mod World

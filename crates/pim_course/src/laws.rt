@@ -2,6 +2,7 @@
 
 ghost use Rattle.pim_course.specs.Reading.{ReadingLaw};
 ghost use Rattle.pim_course.specs.Sections.{SectionsLaw};
+ghost use Rattle.pim_course.specs.Waiting.{CountedLaw};
 
 /// The facts of each record of a log are possible, one after the other, in the world that the records before it made, and
 /// make the next one. Each mutex is locked then as often as the record says. The facts have the numbers of their critical
@@ -14,4 +15,9 @@ pub fn reading_law()
 /// release by which nobody has that next; and only then, as long as there were fewer than 2^32 - 1 critical sections.
 pub fn sections_law()
     ensures { SectionsLaw }
+{}
+
+/// At each mutex it is counted how many threads wait for it.
+pub fn counted_law()
+    ensures { CountedLaw }
 {}

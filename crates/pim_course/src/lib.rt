@@ -26,7 +26,7 @@ mod requests;
 mod walk;
 
 pub use course::{Course, CourseMutex, CourseThread, Sources, family_of};
-pub use laws::{reading_law, sections_law};
+pub use laws::{counted_law, reading_law, sections_law};
 pub use next_owners::NextOwners;
 pub use requests::{Request, Requests};
 pub use walk::{Moment, Walk};
