@@ -10,12 +10,14 @@ use Rattle.pim_facts.specs.declared.ids.Ids.{Ids}
 use Rattle.pim_facts.specs.declared.ids.LoggedMutex.{LoggedMutex}
 use Rattle.pim_facts.specs.declared.ids.LoggedThread.{LoggedThread}
 use Rattle.pim_course.specs.Courses.{free, idle}
+use Rattle.pim_course.specs.Details.{details_of, mutex_details, no_details, thread_details}
 use Rattle.pim_course.specs.Reading.{Begins, world_before}
 use Rattle.pim_course.specs.Sections.{no_sections, sections_of}
 use Rattle.pim_course.specs.World.{world_of}
 use Rattle.pim_course.specs.declared.course.Course.{Course}
 use Rattle.pim_course.specs.declared.course.CourseMutex.{CourseMutex}
 use Rattle.pim_course.specs.declared.course.CourseThread.{CourseThread}
+use Rattle.pim_course.proofs.Detailing.{details_are}
 use Rattle.pim_course.proofs.Numbering.{sections_are}
 use Rattle.pim_course.proofs.Worlds.{worlds}
 
@@ -27,6 +29,7 @@ pub record AreFree (logged : List LoggedMutex) (place : ℕ) (mutexes : List Cou
   pub next : (m : ℕ) → (get_or mutexes m free).next_owner ≡ None
   pub waiting : (m : ℕ) → (get_or mutexes m free).waiting ≡ 0
   pub section : (m : ℕ) → (get_or mutexes m free).section ≡ None
+  pub details : (m : ℕ) → mutex_details (get_or mutexes m free) ≡ mutex_details free
   pub ceiling : (m : ℕ) → m < place → (get_or mutexes m free).ceiling ≡ option_map_or (λ is. is.ceiling) (slice_get logged m) 0
 
 -- the threads do nothing, and those below a place have their levels
@@ -34,6 +37,7 @@ pub record AreIdle (logged : List LoggedThread) (place : ℕ) (threads : List Co
   pub len : length threads ≡ length logged
   pub awaits : (t : ℕ) → (get_or threads t idle).awaits ≡ None
   pub section : (t : ℕ) → (get_or threads t idle).section ≡ None
+  pub details : (t : ℕ) → thread_details (get_or threads t idle) ≡ thread_details idle
   pub level : (t : ℕ) → t < place → (get_or threads t idle).level ≡ option_map_or (λ is. is.level) (slice_get logged t) 0
 
 pub begins : (ids : Ids) (course : Course) (place : ℕ) → AreFree ids.mutexes.items (length ids.mutexes.items) course.mutexes.items →
@@ -65,5 +69,6 @@ begins ids course place mutexes threads end none shown =
           (fun_ext (λ m. mutexes.waiting m))
           (fun_ext (λ t. threads.section t))
           none;
+      details = details_are no_details (details_of course) (fun_ext (λ m. mutexes.details m)) (fun_ext (λ t. threads.details t));
       shown = shown;
     }

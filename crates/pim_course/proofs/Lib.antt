@@ -4,6 +4,8 @@ pub mod Leading
 pub mod Covered
 pub mod Telling
 pub mod Numbering
+pub mod Detailing
+pub mod Finding
 pub mod Together
 pub mod Counting
 pub mod NextOwning

@@ -1,5 +1,5 @@
 -- What a course tells, a part of a record after the other.
-use Rattle.std.proofs.Common.{◌≡◌, ◌≢◌, ◌⊎◌, ℕ, ◌+◌, ◌==◌, ◌||◌, not, cond, Bool, true, false, List, [], ◌++◌, map, length, Option, Some, None, is_none, sym, refl, ap, ◌∙◌, subst, inl, inr, append_assoc, eq-eqb, nat_eq, arith}
+use Rattle.std.proofs.Common.{◌≡◌, ◌≢◌, ◌⊎◌, ℕ, ◌+◌, ◌==◌, ◌||◌, not, cond, Bool, true, false, List, [], ◌++◌, map, length, Option, Some, None, is_none, sym, refl, ap, ◌∙◌, subst, inl, inr, append_assoc, eq-eqb, nat_eq, arith, ◌&&◌}
 use Rattle.std.proofs.lemmas.Bool.{eqb-false, eqb-true, ne_eqb, cases_eq}
 use Rattle.std.proofs.lemmas.Option.{same_Some}
 use Rattle.std.proofs.lemmas.List.{append-nil, length-append}
@@ -29,6 +29,9 @@ neither a b e f = ap (λ k. k || b) e ∙ f
 
 pub none-of : (a b c : Bool) → a ≡ false → b ≡ false → c ≡ false → (a || b || c) ≡ false
 none-of a b c e f g = ap (λ k. k || b || c) e ∙ ap (λ k. k || c) f ∙ g
+
+pub both : (a b : Bool) → a ≡ true → b ≡ true → (a && b) ≡ true
+both a b e f = ap (λ k. k && b) e ∙ f
 
 pub not-true : (a : Bool) → a ≡ true → not a ≡ false
 not-true a e = ap (λ k. not k) e

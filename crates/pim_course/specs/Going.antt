@@ -1,6 +1,7 @@
 -- How a course goes on by a part of a record.
 use Rattle.std.specs.Prelude.{◌≡◌, ℕ, ◌+◌, ◌≤◌, List, ◌++◌, length}
 use Rattle.pim_facts.specs.Shown.{shown_in}
+use Rattle.pim_course.specs.Details.{details_of}
 use Rattle.pim_course.specs.Sections.{AreNumbered, Sections, sections_of}
 use Rattle.pim_course.specs.Told.{Happening, depths_of, happened_in}
 use Rattle.pim_course.specs.World.{World, Lead, world_of}
@@ -40,3 +41,7 @@ KeepsSections old new = sections_of new ≡ sections_of old
 -- each mutex is locked as often as before
 abbrev pub KeepsDepths : Course → Course → Type 0
 KeepsDepths old new = (m : ℕ) → depths_of new m ≡ depths_of old m
+
+-- what is known beside the facts is as before
+abbrev pub KeepsDetails : Course → Course → Type 0
+KeepsDetails old new = details_of new ≡ details_of old

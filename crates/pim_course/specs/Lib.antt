@@ -1,6 +1,7 @@
 pub mod AskedOwners
 pub mod Courses
 pub mod Depths
+pub mod Details
 pub mod Going
 pub mod Kept
 pub mod NextOwners

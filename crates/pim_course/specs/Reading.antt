@@ -12,6 +12,7 @@ use Rattle.pim_facts.specs.Levels.{first_level, id_of, level_by}
 use Rattle.pim_facts.specs.Shown.{shown_in}
 use Rattle.pim_facts.specs.declared.ids.Ids.{Ids}
 use Rattle.pim_course.specs.Depths.{depths_after}
+use Rattle.pim_course.specs.Details.{details_after, details_of, no_details}
 use Rattle.pim_course.specs.Sections.{AreNumbered, no_sections, sections_of}
 use Rattle.pim_course.specs.Told.{depths_of, happened_in, told_by}
 use Rattle.pim_course.specs.World.{Lead, World, but_for, world_of}
@@ -35,6 +36,7 @@ pub record Begins (ids : Ids) (course : Course) : Type 0 where
   pub mutexes : length course.mutexes.items ≡ length ids.mutexes.items
   pub depths : (m : ℕ) → depths_of course m ≡ 0
   pub sections : sections_of course ≡ no_sections
+  pub details : details_of course ≡ no_details
   pub shown : shown_in course.shown ≡ []
 
 -- the world in which an event of a thread happens: the thread's first record tells the level that it has, which is no fact
@@ -92,6 +94,7 @@ pub record GoesBy (bytes : List ℕ) (sources : Sources) (number : ℕ) (old new
   pub led : HasThoseOf old found (id_of sources.ids number) → Lead (shown_in new.shown) (world_at old found) (world_of new)
   pub sections : HasThoseOf old found (id_of sources.ids number) →
       AreNumbered (shown_in new.shown) (sections_of old) (sections_of new)
+  pub details : HasThoseOf old found (id_of sources.ids number) → details_of new ≡ details_after sources old found
 
 -- a course has the threads and mutexes of a log
 pub record HasAllOf (ids : Ids) (course : Course) : Type 0 where

@@ -1,15 +1,18 @@
 //! The course of a recorded program: who owns and awaits what, record by record.
 ghost use Rattle.std.specs.Prelude.{◌≡◌, ◌≢◌, ◌⊎◌, ◌<◌, ℕ, [], length, slice_set, IfOk, IfSome, Some, None};
-ghost use Rattle.std.specs.Option.{option_map_or};
+ghost use Rattle.std.specs.Option.{option_and_then, option_map_or};
 ghost use Rattle.pim_facts.specs.Levels.{id_of, level_by};
 ghost use Rattle.pim_facts.specs.Shown.{shown_in};
 ghost use Rattle.pim_course.specs.Courses.{family_in, mutex_in, thread_in};
 ghost use Rattle.pim_course.specs.Depths.{depth_again, depth_granted, depth_released, depths_after, is_recursive_in};
+ghost use Rattle.pim_course.specs.Details.{added_details, asked, details_after, details_granted, details_of, details_released, details_requested};
+ghost use Rattle.pim_course.specs.Details.{first_other, freed, is_trylock, own_asked, own_forgotten, owners_asked, place_of_owner, released, taken, wait_begun};
 ghost use Rattle.pim_course.specs.NextOwners.{is_that};
-ghost use Rattle.pim_course.specs.Going.{GoesOn, HasSameSize, IsStill, KeepsDepths, KeepsSections, Numbers, Tells};
+ghost use Rattle.pim_course.specs.Going.{GoesOn, HasSameSize, IsStill, KeepsDepths, KeepsDetails, KeepsSections, Numbers, Tells};
 ghost use Rattle.pim_course.specs.Reading.{Begins, HasRequest, HasThoseOf, world_at};
 ghost use Rattle.pim_course.specs.Sections.{AreNumbered, lasts_at, number_at, sections_of};
 ghost use Rattle.pim_course.specs.Told.{added_told, ceiling_told, fail_told, gave_up_told, grant_told, level_told, release_told, released_told, request_told};
+ghost use Rattle.pim_course.specs.Kept.{kept_of};
 ghost use Rattle.pim_course.specs.Told.{ceiling_by_log, depths_of, did, happened_in, heir_in, told_by};
 ghost use Rattle.pim_course.specs.World.{CanHappen, Lead, but_for, world_of};
 
@@ -192,6 +195,8 @@ impl Course {
             shown_in self.old.shown ≡ [] →
             AreNumbered (shown_in self.new.shown) (sections_of self.old) (sections_of self.new) }
         ensures told { shown_in self.old.shown ≡ [] → happened_in self.new ≡ told_by sources.now self.old «record».now }
+        ensures details { HasThoseOf self.old «record».now (id_of sources.now.ids «record».now.number) →
+            details_of self.new ≡ details_after sources.now self.old «record».now }
     {
         let id = sources.ids.of_record(record.number);
         self.is_contradiction = false;
@@ -217,6 +222,8 @@ impl Course {
             shown_in self.old.shown ≡ [] →
             AreNumbered (shown_in self.new.shown) (sections_of self.old) (sections_of self.new) }
         ensures told { shown_in self.old.shown ≡ [] → happened_in self.new ≡ added_told (world_of self.old) request.now }
+        ensures details { HasRequest self.old request.now →
+            details_of self.new ≡ added_details (world_of self.old) (details_of self.old) request.now }
     {
         let (thread, mutex) = (request.thread, request.mutex);
         let is = self.mutex(mutex);
@@ -233,6 +240,8 @@ impl Course {
         ensures depths { KeepsDepths self.old self.new }
         ensures sections { KeepsSections self.old self.new }
         ensures still { IsStill self.old self.new }
+        ensures details { thread < length self.old.threads.items →
+            details_of self.new ≡ asked thread place (details_of self.old) }
     {
         let mut is = self.thread(thread);
         is.asked_at = place;
@@ -248,6 +257,7 @@ impl Course {
         ensures level { thread < length self.old.threads.items →
             world_of self.new ≡
             record (world_of self.old) { level = but_for thread (level_by priority 0) (world_of self.old).level } }
+        ensures details { KeepsDetails self.old self.new }
     {
         let mut is = self.thread(thread);
         is.level = level_of(priority, 0);
@@ -261,6 +271,7 @@ impl Course {
         ensures sections { Numbers 1 self.old self.new }
         ensures goes { thread < length self.old.threads.items → GoesOn 1 self.old self.new }
         ensures told { Tells 1 (level_told (world_of self.old) thread priority) self.old self.new }
+        ensures details { KeepsDetails self.old self.new }
     {
         let mut is = self.thread(thread);
         let level = level_of(priority, is.level);
@@ -279,6 +290,7 @@ impl Course {
         ensures sections { Numbers 1 self.old self.new }
         ensures goes { mutex < length self.old.mutexes.items → GoesOn 1 self.old self.new }
         ensures told { Tells 1 (ceiling_told sources.now (world_of self.old) thread mutex said.now) self.old self.new }
+        ensures details { KeepsDetails self.old self.new }
     {
         if self.correct_ceiling(sources, thread, said, mutex) {
             LeftOut::Uncontended
@@ -296,6 +308,7 @@ impl Course {
         ensures awaits { (world_of self.new).awaits ≡ (world_of self.old).awaits }
         ensures goes { mutex < length self.old.mutexes.items → GoesOn 1 self.old self.new }
         ensures told { Tells 1 (ceiling_told sources.now (world_of self.old) thread mutex said.now) self.old self.new }
+        ensures details { KeepsDetails self.old self.new }
     {
         let Some(ceiling) = ceiling_of(sources, said, mutex) else {
             return false;
@@ -324,6 +337,7 @@ impl Course {
             is_that ((world_of self.new).awaits thread) mutex ≡ is_that ((world_of self.old).awaits thread) mutex }
         ensures others { (k : ℕ) → k ≢ thread → (world_of self.new).awaits k ≡ (world_of self.old).awaits k }
         ensures told { Tells 1 (gave_up_told (world_of self.old) thread but) self.old self.new }
+        ensures details { KeepsDetails self.old self.new }
     {
         match self.thread(thread).awaits {
             Some(mutex) if but != Some(mutex) => self.stop_waiting(thread, mutex),
@@ -341,6 +355,7 @@ impl Course {
         ensures goes { (world_of self.old).awaits thread ≡ Some mutex → GoesOn 1 self.old self.new }
         ensures others { (k : ℕ) → k ≢ thread → (world_of self.new).awaits k ≡ (world_of self.old).awaits k }
         ensures told { Tells 1 (did What.GaveUp thread mutex) self.old self.new }
+        ensures details { KeepsDetails self.old self.new }
     {
         let mut is = self.thread(thread);
         let section = is.section;
@@ -369,6 +384,8 @@ impl Course {
         ensures sections { «record».now.thread < length self.old.threads.items → mutex < length self.old.mutexes.items →
             Numbers 3 self.old self.new }
         ensures told { Tells 3 (request_told sources.now (world_of self.old) «record».now.thread mutex said.now) self.old self.new }
+        ensures details { «record».now.thread < length self.old.threads.items →
+            details_of self.new ≡ details_requested sources.now (world_of self.old) (details_of self.old) «record».now task mutex }
     {
         let thread = record.thread;
         let is = self.mutex(mutex);
@@ -393,6 +410,8 @@ impl Course {
         ensures depths { KeepsDepths self.old self.new }
         ensures sections { KeepsSections self.old self.new }
         ensures still { IsStill self.old self.new }
+        ensures details { «record».now.thread < length self.old.threads.items → details_of self.new ≡
+            own_asked sources.now.ids «record».now.thread mutex «record».now.place (details_of self.old) }
     {
         let mut own = self.thread(record.thread);
         own.awaits_own = None;
@@ -413,6 +432,8 @@ impl Course {
         ensures sections { thread < length self.old.threads.items → mutex < length self.old.mutexes.items →
             Numbers 1 self.old self.new }
         ensures told { Tells 1 (did What.Waits thread mutex) self.old self.new }
+        ensures details { thread < length self.old.threads.items →
+            details_of self.new ≡ wait_begun (world_of self.old) thread mutex owner (details_of self.old) }
     {
         let section = self.section_of(mutex);
         let was_above = self.is_above(sources, thread, mutex);
@@ -433,7 +454,9 @@ impl Course {
 
     /// Returns the place at which this owner took a mutex: that of the call in which it waits for it, if its grant comes
     /// late, or else of its last grant.
-    fn owner_at(&self, owner: Option<u32>, mutex: u32) -> Option<u16> {
+    fn owner_at(&self, owner: Option<u32>, mutex: u32) -> Option<u16>
+        ensures { result ≡ option_and_then (place_of_owner (world_of self.now) (details_of self.now) mutex) owner }
+    {
         let thread = self.thread(owner?);
         if thread.awaits == Some(mutex) {
             return thread.asked_at;
@@ -460,6 +483,7 @@ impl Course {
             sections_of self.new ≡ lasts_at (sections_of self.old) mutex }
         ensures number { result ≡ number_at (sections_of self.old) mutex }
         ensures still { IsStill self.old self.new }
+        ensures details { KeepsDetails self.old self.new }
     {
         let mut is = self.mutex(mutex);
         match is.section {
@@ -482,6 +506,8 @@ impl Course {
             mutex < length self.old.mutexes.items → GoesOn 4 self.old self.new }
         ensures sections { mutex < length self.old.mutexes.items → Numbers 4 self.old self.new }
         ensures told { Tells 4 (grant_told sources.now (world_of self.old) «record».now.thread mutex said.now) self.old self.new }
+        ensures details { «record».now.thread < length self.old.threads.items → mutex < length self.old.mutexes.items →
+            details_of self.new ≡ details_granted (world_of self.old) (details_of self.old) «record».now mutex }
     {
         let thread = record.thread;
         let owner = self.mutex(mutex).owner;
@@ -510,6 +536,8 @@ impl Course {
         ensures sections { owner ≡ (world_of self.old).owner mutex → Numbers 1 self.old self.new }
         ensures told { Tells 1 (option_map_or (λ t. released_told (world_of self.old) t mutex (Some next)) owner [])
             self.old self.new }
+        ensures details { mutex < length self.old.mutexes.items →
+            details_of self.new ≡ freed owner mutex (details_of self.old) }
     {
         if let Some(owner) = owner {
             self.hand_over(owner, mutex, Some(next));
@@ -521,6 +549,8 @@ impl Course {
         ensures depths { KeepsDepths self.old self.new }
         ensures sections { KeepsSections self.old self.new }
         ensures still { IsStill self.old self.new }
+        ensures details { thread < length self.old.threads.items →
+            details_of self.new ≡ own_forgotten thread (details_of self.old) }
     {
         let mut is = self.thread(thread);
         is.awaits_own = None;
@@ -534,6 +564,7 @@ impl Course {
             (m : ℕ) → depths_of self.new m ≡ depth_again ids.now (depths_of self.old) mutex m }
         ensures sections { KeepsSections self.old self.new }
         ensures still { IsStill self.old self.new }
+        ensures details { KeepsDetails self.old self.new }
     {
         let mut is = self.mutex(mutex);
         if is_recursive(ids, mutex) {
@@ -553,6 +584,8 @@ impl Course {
             CanHappen (world_of self.old) What.Granted «record».now.thread mutex → GoesOn 1 self.old self.new }
         ensures sections { mutex < length self.old.mutexes.items → Numbers 1 self.old self.new }
         ensures told { Tells 1 (did What.Granted «record».now.thread mutex) self.old self.new }
+        ensures details { mutex < length self.old.mutexes.items →
+            details_of self.new ≡ taken «record».now mutex (details_of self.old) }
     {
         let thread = record.thread;
         let section = self.section_of(mutex);
@@ -582,6 +615,8 @@ impl Course {
         ensures sections { Numbers 1 self.old self.new }
         ensures goes { GoesOn 1 self.old self.new }
         ensures told { Tells 1 (fail_told (world_of self.old) thread mutex) self.old self.new }
+        ensures details { thread < length self.old.threads.items →
+            details_of self.new ≡ own_forgotten thread (details_of self.old) }
     {
         self.forget_own(thread);
         if mutex == 0 || self.thread(thread).awaits != Some(mutex) {
@@ -600,6 +635,8 @@ impl Course {
         ensures sections { Numbers 2 self.old self.new }
         ensures told { Tells 2 (release_told sources.now (world_of self.old) (depths_of self.old) «record».now.number
             «record».now.thread mutex) self.old self.new }
+        ensures details { details_of self.new ≡ details_released sources.now (world_of self.old) (depths_of self.old)
+            (details_of self.old) «record».now.number «record».now.thread mutex }
     {
         let thread = record.thread;
         let mut is = self.mutex(mutex);
@@ -631,6 +668,8 @@ impl Course {
         ensures goes { (world_of self.old).owner mutex ≡ Some thread → GoesOn 1 self.old self.new }
         ensures sections { (world_of self.old).owner mutex ≡ Some thread → Numbers 1 self.old self.new }
         ensures told { Tells 1 (released_told (world_of self.old) thread mutex next) self.old self.new }
+        ensures details { mutex < length self.old.mutexes.items →
+            details_of self.new ≡ released thread mutex (details_of self.old) }
     {
         let mut is = self.mutex(mutex);
         let section = is.section;
@@ -667,7 +706,9 @@ fn owner_asked(
     is_named: bool,
     mutex: &CourseMutex,
 ) -> Option<u32>
-    ensures { IfSome result (λ owner. owner ≢ «record».now.thread) }
+    ensures other { IfSome result (λ owner. owner ≢ «record».now.thread) }
+    ensures first { result ≡ first_other «record».now.thread
+        (owners_asked (kept_of sources.now.next_owners «record».now.number) is_named mutex.now.owner mutex.now.last_owner) }
 {
     let asked = sources.next_owners.asked_owner(record.number);
     if is_named {
@@ -680,7 +721,8 @@ fn owner_asked(
 
 /// Returns the first of these threads that isn't the one that waits.
 fn first_other(waiter: u32, threads: [Option<u32>; 4]) -> Option<u32>
-    ensures { IfSome result (λ owner. owner ≢ waiter) }
+    ensures other { IfSome result (λ owner. owner ≢ waiter) }
+    ensures first { result ≡ first_other waiter threads }
 {
     for thread in threads {
         match thread {
@@ -702,7 +744,9 @@ pub fn family_of(sources: &Sources, mutex: u32) -> Family
 }
 
 /// Returns whether an event is the grant of a mutex by a trylock.
-fn is_trylock(event: &Event) -> bool {
+fn is_trylock(event: &Event) -> bool
+    ensures { result ≡ is_trylock event.now }
+{
     match event {
         Event::Granted { call, .. } => *call == Call::TryLock,
         _ => false,

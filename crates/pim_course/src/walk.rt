@@ -2,7 +2,8 @@
 ghost use Rattle.std.specs.Prelude.{◌≡◌, ◌⊎◌, ◌+◌, ◌<◌, [], length, IfOk, IfSome, None, slice_get};
 ghost use Rattle.std.specs.Option.{option_map_or};
 ghost use Rattle.pim_facts.specs.Shown.{shown_in};
-ghost use Rattle.pim_course.specs.Going.{HasSameSize, KeepsDepths, KeepsSections};
+ghost use Rattle.pim_course.specs.Details.{added_details, details_of};
+ghost use Rattle.pim_course.specs.Going.{HasSameSize, KeepsDepths, KeepsDetails, KeepsSections};
 ghost use Rattle.pim_course.specs.Reading.{Begins, GoesBy, HasRequest, IsTimeOf, LacksRecord};
 ghost use Rattle.pim_course.specs.Requests.{AreBehind};
 ghost use Rattle.pim_course.specs.Sections.{AreNumbered, sections_of};
@@ -62,7 +63,7 @@ impl Walk {
         ensures time { IsTimeOf log.now number result.time }
         ensures shown { (LacksRecord log.now number × (shown_in self.new.course.shown ≡ [])
             × (world_of self.new.course ≡ world_of self.old.course) × KeepsDepths self.old.course self.new.course
-            × KeepsSections self.old.course self.new.course)
+            × KeepsSections self.old.course self.new.course × KeepsDetails self.old.course self.new.course)
             ⊎ GoesBy log.now sources.now number self.old.course self.new.course }
     {
         self.course.shown.clear();
@@ -105,6 +106,9 @@ impl Walk {
         ensures sections { IfSome (slice_get sources.now.requests.list.items self.old.added)
             (λ request. HasRequest self.old.course request × (request.mutex < length self.old.course.mutexes.items)) →
             AreNumbered (shown_in self.new.course.shown) (sections_of self.old.course) (sections_of self.new.course) }
+        ensures details { IfSome (slice_get sources.now.requests.list.items self.old.added)
+            (λ request. HasRequest self.old.course request → details_of self.new.course ≡
+            added_details (world_of self.old.course) (details_of self.old.course) request) }
         ensures told { happened_in self.new.course ≡
             option_map_or (added_told (world_of self.old.course)) (slice_get sources.now.requests.list.items self.old.added) [] }
     {

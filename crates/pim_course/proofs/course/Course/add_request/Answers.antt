@@ -1,11 +1,14 @@
-use Rattle.std.proofs.Common.{ap, not, sym, subst, ◌∙◌, arith}
+use Rattle.std.proofs.Common.{ℕ, [], ◌∷◌, Option, ap, not, sym, subst, ◌∙◌, arith}
 use Rattle.pim_facts.specs.declared.fact.What.TheVariants.{Waits}
 use Rattle.pim_course.specs.Going.{IsStill}
-use Rattle.pim_course.specs.World.{CanHappen}
+use Rattle.pim_course.specs.World.{CanHappen, world_of}
 use Rattle.pim_course.specs.declared.course.Course.{Course}
-use Rattle.pim_course.proofs.Telling.{isnt-that, none-by}
+use Rattle.pim_course.proofs.Telling.{both, if-so, isnt-that, none-by, not-false, not-that}
 use Rattle.pim_course.proofs.Leading.{goes-still, goes-then, led-by}
 use Rattle.pim_course.proofs.Numbering.{numbered-by, numbers-none, numbers-then}
+use Rattle.std.specs.Option.{is_none}
+use Rattle.pim_course.specs.Details.{Details, asked, details_of, first_other, wait_begun}
+use Rattle.pim_course.specs.declared.course.CourseMutex.{CourseMutex}
 use Rattle.pim_course.proofs.course.Course.add_request.Goals as goal
 
 pub returns-then-ne-clause-shown : goal.returns-then-ne-clause-shown
@@ -30,3 +33,22 @@ returns-then-ne-clause-sections c has below none =
     (c.wait.ensures.sections (omega (arith, has.thread, c.ask_at.ensures.size.threads))
     (omega (arith, below, c.ask_at.ensures.size.mutexes))))
     none
+
+pub returns-then-ne-clause-details : goal.returns-then-ne-clause-details
+returns-then-ne-clause-details c has =
+    let request = c.args.request.now in
+    let t = request.thread in
+    let m = request.mutex in
+    let old : Course = c.args.self.now in
+    let d : Course = c.ask_at.new.self in
+    let owner : Option ℕ = c.first_other-owner.result in
+    let there : Details = asked t request.place (details_of old) in
+    c.wait.ensures.details (omega (arith, has.thread, c.ask_at.ensures.size.threads))
+    ∙ ap (wait_begun (world_of d) t m owner) (c.ask_at.ensures.details has.thread)
+    ∙ ap (λ w. wait_begun w t m owner there) c.ask_at.ensures.still.world
+    ∙ ap (λ o. wait_begun (world_of old) t m o there) (c.first_other-owner.ensures.first
+    ∙ ap (λ (z : CourseMutex). first_other t (z.owner ∷ z.last_owner ∷ [])) c.mutex-is.ensures)
+    ∙ sym (if-so _ _ _ (both _ _
+    (ap is_none (ap (λ y. y.awaits) (sym c.thread.ensures) ∙ none-by _ (c.is_none.ensures ∙ ap not c.if-is_none.true)))
+    (not-false _ (not-that _ _ _ (ap (λ z. z.owner) c.mutex-is.ensures)
+    (grind (arith, c.ne.ensures, c.if-ne.true, c.if-ne.ensures))))))

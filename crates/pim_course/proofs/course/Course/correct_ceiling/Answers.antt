@@ -2,6 +2,9 @@ use Rattle.std.proofs.Common.{ap, refl, ◌∙◌}
 use Rattle.pim_course.proofs.Worlds.{owner-same, world-ceiling}
 use Rattle.pim_course.proofs.Leading.{goes-added}
 use Rattle.pim_course.proofs.Numbering.{numbers-added, same-mutex}
+use Rattle.pim_course.specs.Details.{mutex_details}
+use Rattle.pim_course.specs.declared.course.CourseMutex.{CourseMutex}
+use Rattle.pim_course.proofs.Detailing.{keeps-mutex}
 use Rattle.pim_course.proofs.course.Course.correct_ceiling.Goals as goal
 
 pub returns-clause-owner : goal.returns-clause-owner
@@ -28,3 +31,8 @@ returns-clause-sections c =
       next = ap (λ z. z.next_owner) c.mutex-is.ensures;
       waiting = ap (λ z. z.waiting) c.mutex-is.ensures;
     }))
+
+pub returns-clause-details : goal.returns-clause-details
+returns-clause-details c =
+    keeps-mutex c.args.self.now c.put_mutex.new.self _ _ c.put_mutex.ensures.mutexes
+    (ap (λ d. d.threads) c.put_mutex.ensures.rest) (ap (λ (z : CourseMutex). mutex_details z) c.mutex-is.ensures)

@@ -12,6 +12,7 @@ use Rattle.pim_course.specs.declared.course.Course.{Course}
 use Rattle.pim_course.proofs.Telling.{depth-put, gave-up-same, if-not, neither, not-that, tells-behind, tells-same, tells-then}
 use Rattle.pim_course.proofs.Leading.{goes-marked, goes-still, goes-then}
 use Rattle.pim_course.proofs.Numbering.{numbers-marked, numbers-none, numbers-then}
+use Rattle.pim_course.specs.Details.{Details, details_of, freed, own_forgotten, taken}
 use Rattle.pim_course.proofs.course.Course.grant.Goals as goal
 
 pub returns-clause-goes : goal.returns-clause-goes
@@ -131,3 +132,32 @@ returns-clause-sections c below =
       c.correct_wait.ensures.size.mutexes,
       c.free.ensures.size.mutexes,
     )))))))
+
+pub returns-clause-details : goal.returns-clause-details
+returns-clause-details c lt below =
+    let r = c.args.record.now in
+    let m = c.args.mutex in
+    let old : Course = c.args.self.now in
+    let forgotten : Details = own_forgotten r.thread (details_of old) in
+    c.take.ensures.details (omega (
+      arith,
+      below,
+      c.correct_ceiling.ensures.size.mutexes,
+      c.correct_wait.ensures.size.mutexes,
+      c.forget_own.ensures.size.mutexes,
+      c.free.ensures.size.mutexes,
+    ))
+    ∙ ap (taken r m) (
+    c.free.ensures.details (omega (
+      arith,
+      below,
+      c.correct_ceiling.ensures.size.mutexes,
+      c.correct_wait.ensures.size.mutexes,
+      c.forget_own.ensures.size.mutexes,
+    ))
+    ∙ ap (freed c.mutex-owner.result.owner m)
+    (c.correct_wait.ensures.details ∙ c.correct_ceiling.ensures.details ∙ c.forget_own.ensures.details lt)
+    ∙ ap (λ (z : CourseMutex). freed z.owner m forgotten) c.mutex-owner.ensures
+    )
+    ∙ sym (if-not _ _ _ (neither _ _ (ne_eqb m 0 (λ e. omega (arith, e, c.if-mutex-eq0.false)))
+    (not-that _ _ _ (ap (λ z. z.owner) c.mutex-owner.ensures) (grind (arith, c.eq.ensures, c.if-eq.false, c.if-eq.ensures)))))

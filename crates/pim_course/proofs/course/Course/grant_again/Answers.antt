@@ -1,6 +1,9 @@
 use Rattle.std.proofs.Common.{ap}
 use Rattle.pim_course.proofs.Worlds.{still-mutex}
 use Rattle.pim_course.proofs.Numbering.{same-mutex}
+use Rattle.pim_course.specs.Details.{mutex_details}
+use Rattle.pim_course.specs.declared.course.CourseMutex.{CourseMutex}
+use Rattle.pim_course.proofs.Detailing.{keeps-mutex}
 use Rattle.pim_course.proofs.course.Course.grant_again.Goals as goal
 
 pub returns-then-is_recursive-clause-still : goal.returns-then-is_recursive-clause-still
@@ -18,3 +21,8 @@ returns-then-is_recursive-clause-sections c =
       next = ap (λ z. z.next_owner) c.mutex-is.ensures;
       waiting = ap (λ z. z.waiting) c.mutex-is.ensures;
     })
+
+pub returns-then-is_recursive-clause-details : goal.returns-then-is_recursive-clause-details
+returns-then-is_recursive-clause-details c =
+    keeps-mutex c.args.self.now c.put_mutex.new.self _ _ c.put_mutex.ensures.mutexes
+    (ap (λ d. d.threads) c.put_mutex.ensures.rest) (ap (λ (z : CourseMutex). mutex_details z) c.mutex-is.ensures)

@@ -1,9 +1,12 @@
-use Rattle.std.proofs.Common.{None, refl, ap, ◌∙◌}
+use Rattle.std.proofs.Common.{None, Some, refl, ap, ◌∙◌}
 use Rattle.std.specs.Option.{option_and}
 use Rattle.pim_course.specs.declared.course.Course.{Course}
 use Rattle.pim_course.proofs.Worlds.{has_mutex, world-owner}
 use Rattle.pim_course.proofs.Leading.{goes-added}
 use Rattle.pim_course.proofs.Numbering.{numbers-added, released-to}
+use Rattle.pim_course.specs.Details.{mutex_details}
+use Rattle.pim_course.specs.declared.course.CourseMutex.{CourseMutex}
+use Rattle.pim_course.proofs.Detailing.{puts-mutex}
 use Rattle.pim_course.proofs.course.Course.hand_over.Goals as goal
 
 pub returns-clause-goes : goal.returns-clause-goes
@@ -26,3 +29,9 @@ returns-clause-sections c owned =
     (has_mutex old c.args.mutex c.args.thread owned)
     (c.and-is.ensures ∙ ap (λ z. option_and c.heir-heir.result z.section) c.mutex-is.ensures)
     refl (ap (λ z. z.waiting) c.mutex-is.ensures))
+
+pub returns-clause-details : goal.returns-clause-details
+returns-clause-details c below =
+    puts-mutex c.args.self.now c.put_mutex.new.self _ _ _ c.put_mutex.ensures.mutexes
+    (ap (λ d. d.threads) c.put_mutex.ensures.rest) below
+    (ap (λ (z : CourseMutex). record (mutex_details z) { last_owner = Some c.args.thread }) c.mutex-is.ensures)

@@ -1,15 +1,18 @@
 use Rattle.std.proofs.Common.{ℕ, ◌<◌, ◌-◌, length, ◌≡◌, ◌++◌, cond, Some, None, refl, eq-eqb, ap, sym, ◌∙◌, arith}
-use Rattle.std.proofs.lemmas.Bool.{le-ltb, ne_eqb}
+use Rattle.std.proofs.lemmas.Bool.{le-ltb, lt-ltb, ne_eqb}
 use Rattle.pim_facts.specs.declared.fact.What.TheVariants.{GaveUp, Released}
 use Rattle.pim_course.specs.NextOwners.{is_that}
 use Rattle.pim_course.specs.Told.{depths_of, did, gave_up_told, heir_in}
 use Rattle.pim_course.specs.World.{but_for, World, after, world_of}
 use Rattle.pim_course.specs.Courses.{mutex_in}
 use Rattle.pim_course.specs.declared.course.Course.{Course}
-use Rattle.pim_course.proofs.Telling.{depth-put, heir-same, if-not, left-by, neither, none-of, not-true, so-that, that-from, tells-same, tells-then}
+use Rattle.pim_course.proofs.Telling.{depth-put, heir-same, if-not, if-so, left-by, neither, none-of, not-true, right-of, so-that, that-from, tells-same, tells-then}
 use Rattle.pim_course.proofs.Worlds.{has_mutex}
 use Rattle.pim_course.proofs.Leading.{goes-then}
 use Rattle.pim_course.proofs.Numbering.{numbers-none, numbers-then, same-mutex}
+use Rattle.pim_course.specs.Details.{mutex_details, released}
+use Rattle.pim_course.specs.declared.course.CourseMutex.{CourseMutex}
+use Rattle.pim_course.proofs.Detailing.{keeps-mutex}
 use Rattle.pim_course.proofs.course.Course.release.Goals as goal
 
 pub returns-clause-goes : goal.returns-clause-goes
@@ -83,3 +86,28 @@ returns-clause-sections c =
     (c.hand_over.ensures.sections
     (ap (λ f. f c.args.mutex) c.correct_wait.ensures.owner
     ∙ ap (λ z. z.owner) (sym c.mutex-is.ensures) ∙ owner))
+
+pub returns-clause-details : goal.returns-clause-details
+returns-clause-details c =
+    let t = c.args.record.now.thread in
+    let m = c.args.mutex in
+    let old : Course = c.args.self.now in
+    let owner : (mutex_in old m).owner ≡ Some t =
+    ap (λ z. z.owner) (sym c.mutex-is.ensures)
+    ∙ that-from _ _ (grind (arith, c.ne.ensures, c.if-ne.false, c.if-ne.ensures)) in
+    let below : m < length old.mutexes.items = has_mutex old m t owner in
+    c.hand_over.ensures.details (omega (arith, c.correct_wait.ensures.size.mutexes))
+    ∙ ap (released t m) c.correct_wait.ensures.details
+    ∙ sym (if-not _ _ _ (none-of _ _ _
+    (neither _ _ (ne_eqb m 0 (λ e. omega (arith, e, c.if-mutex-eq0.false)))
+    (not-true _ (ap (λ o. is_that o t) owner ∙ eq-eqb t t refl)))
+    (sym c.is_refused.ensures ∙ c.if-is_refused.false)
+    (le-ltb 1 (mutex_in old m).depth (omega (arith, ap (λ z. z.depth) c.mutex-is.ensures)))))
+
+pub returns-then-is-gt1-clause-details : goal.returns-then-is-gt1-clause-details
+returns-then-is-gt1-clause-details c =
+    let m = c.args.mutex in
+    let old : Course = c.args.self.now in
+    keeps-mutex old c.put_mutex.new.self _ _ c.put_mutex.ensures.mutexes
+    (ap (λ d. d.threads) c.put_mutex.ensures.rest) (ap (λ (z : CourseMutex). mutex_details z) c.mutex-is.ensures)
+    ∙ sym (if-so _ _ _ (right-of _ _ (lt-ltb 1 (mutex_in old m).depth (omega (arith, ap (λ z. z.depth) c.mutex-is.ensures)))))

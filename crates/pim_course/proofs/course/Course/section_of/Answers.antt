@@ -3,6 +3,9 @@ use Rattle.pim_course.proofs.Worlds.{still-mutex}
 use Rattle.pim_course.proofs.Numbering.{lasts-next}
 use Rattle.pim_course.specs.Sections.{next_number, sections_of}
 use Rattle.pim_course.specs.Courses.{mutex_in}
+use Rattle.pim_course.specs.Details.{mutex_details}
+use Rattle.pim_course.specs.declared.course.CourseMutex.{CourseMutex}
+use Rattle.pim_course.proofs.Detailing.{keeps-mutex}
 use Rattle.pim_course.proofs.course.Course.section_of.Goals as goal
 
 pub returns-in-None-clause-still : goal.returns-in-None-clause-still
@@ -20,3 +23,8 @@ returns-in-None-clause-sections c lt =
     (ap (λ d. d.threads) c.put_mutex.ensures.rest) lt none (ap (λ n. Some n) next)
     (ap (λ z. z.next_owner) c.mutex-is.ensures) (ap (λ z. z.waiting) c.mutex-is.ensures)
     (ap (λ d. d.sections) c.put_mutex.ensures.rest ∙ next)
+
+pub returns-in-None-clause-details : goal.returns-in-None-clause-details
+returns-in-None-clause-details c =
+    keeps-mutex c.args.self.now c.put_mutex.new.self _ _ c.put_mutex.ensures.mutexes
+    (ap (λ d. d.threads) c.put_mutex.ensures.rest) (ap (λ (z : CourseMutex). mutex_details z) c.mutex-is.ensures)

@@ -3,6 +3,10 @@ use Rattle.pim_course.specs.Courses.{free}
 use Rattle.pim_course.proofs.Worlds.{has_thread, owner-kept, owner-same, put-in, world-awaits}
 use Rattle.pim_course.proofs.Leading.{goes-added}
 use Rattle.pim_course.proofs.Numbering.{gave-up, numbers-added}
+use Rattle.pim_course.specs.Details.{mutex_details, thread_details}
+use Rattle.pim_course.specs.declared.course.CourseMutex.{CourseMutex}
+use Rattle.pim_course.specs.declared.course.CourseThread.{CourseThread}
+use Rattle.pim_course.proofs.Detailing.{keeps-both}
 use Rattle.pim_course.proofs.course.Course.stop_waiting.Goals as goal
 
 pub returns-clause-owner : goal.returns-clause-owner
@@ -43,3 +47,14 @@ returns-clause-sections c =
     (ap (λ z. z.next_owner) c.mutex-awaited.ensures ∙ ap (λ l. (get_or l c.args.mutex free).next_owner) items)
     (c.saturating_sub.ensures
     ∙ ap (λ z. z.waiting - 1) (c.mutex-awaited.ensures ∙ ap (λ l. get_or l c.args.mutex free) items)))
+
+pub returns-clause-details : goal.returns-clause-details
+returns-clause-details c =
+    let items : c.put_thread.new.self.mutexes.items ≡ c.args.self.now.mutexes.items =
+    ap (λ d. d.mutexes.items) c.put_thread.ensures.rest in
+    keeps-both c.args.self.now c.put_mutex.new.self c.args.thread _ c.args.mutex _
+    (ap (λ d. d.threads.items) c.put_mutex.ensures.rest ∙ c.put_thread.ensures.threads)
+    (put-in c.put_thread.new.self.mutexes.items c.args.self.now.mutexes.items _ _ _ items c.put_mutex.ensures.mutexes)
+    (ap (λ (y : CourseThread). thread_details y) c.thread-is.ensures)
+    (ap (λ (z : CourseMutex). mutex_details z) c.mutex-awaited.ensures
+    ∙ ap (λ l. mutex_details (get_or l c.args.mutex free)) items)

@@ -5,10 +5,13 @@ use Rattle.pim_course.specs.Courses.{mutex_in, thread_in}
 use Rattle.pim_course.specs.Going.{IsStill}
 use Rattle.pim_course.specs.World.{CanHappen, world_of}
 use Rattle.pim_course.specs.declared.course.Course.{Course}
+use Rattle.pim_course.specs.declared.course.CourseThread.{CourseThread}
 use Rattle.pim_course.proofs.Worlds.{put-in, world-taken}
 use Rattle.pim_course.proofs.Telling.{if-not, if-so, no-wait, waited}
 use Rattle.pim_course.proofs.Leading.{goes-added, goes-still, goes-then}
 use Rattle.pim_course.proofs.Numbering.{granted-in, numbers-added}
+use Rattle.pim_course.specs.Details.{taken, thread_details}
+use Rattle.pim_course.proofs.Detailing.{puts-taken}
 use Rattle.pim_course.proofs.course.Course.take.Goals as goal
 use Rattle.pim_course.proofs.course.Course.take.Goals.{then-is_some, else-is_some}
 
@@ -74,3 +77,23 @@ returns-clause-sections c below =
     (ap (λ d. d.sections) c.put_mutex.ensures.rest ∙ ap (λ d. d.sections) c.put_thread.ensures.rest)
     (omega (arith, c.section_of-section.ensures.size.mutexes))
     refl alike.0 refl alike.1)
+
+pub returns-clause-details : goal.returns-clause-details
+returns-clause-details c below =
+    let r = c.args.record.now in
+    let m = c.args.mutex in
+    let s : Course = c.section_of-section.new.self in
+    let items : c.put_thread.new.self.mutexes.items ≡ s.mutexes.items =
+    ap (λ d. d.mutexes.items) c.put_thread.ensures.rest in
+    let last : c.if-is_some.is.last_owner ≡ (mutex_in s m).last_owner =
+    elim c.if-is_some.branch [
+      | then-is_some w ↦ ap (λ z. z.last_owner) w.is-is ∙ ap (λ z. z.last_owner) c.mutex-is.ensures
+      | else-is_some w ↦ ap (λ z. z.last_owner) w.is-is ∙ ap (λ z. z.last_owner) c.mutex-is.ensures
+    ] in
+    puts-taken s c.put_mutex.new.self r.thread _ m _ _
+    (ap (λ d. d.threads.items) c.put_mutex.ensures.rest ∙ c.put_thread.ensures.threads)
+    (put-in c.put_thread.new.self.mutexes.items s.mutexes.items _ _ _ items c.put_mutex.ensures.mutexes)
+    (omega (arith, below, c.section_of-section.ensures.size.mutexes))
+    (ap (λ (y : CourseThread). thread_details y) c.thread-owner.ensures)
+    (λ i. record { last_owner = last i; taken_at = r.place; was_tried = c.is_trylock.ensures i })
+    ∙ ap (taken r m) c.section_of-section.ensures.details
