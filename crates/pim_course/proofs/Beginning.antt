@@ -1,5 +1,5 @@
 -- What the loops that begin a course keep.
-use Rattle.std.proofs.Common.{◌≡◌, ℕ, ◌<◌, ◌≤◌, List, [], length, get_or, slice_get, None, ap, sym, inl, inr, ◌∙◌, arith}
+use Rattle.std.proofs.Common.{◌≡◌, ℕ, ◌<◌, ◌≤◌, List, [], length, get_or, slice_get, None, false, ap, sym, inl, inr, ◌∙◌, arith}
 use Rattle.std.proofs.Math.Path.{fun_ext}
 use Rattle.std.proofs.lemmas.Bool.{cases_lt}
 use Rattle.std.proofs.lemmas.List.{get_or_past}
@@ -42,8 +42,8 @@ pub record AreIdle (logged : List LoggedThread) (place : ℕ) (threads : List Co
 
 pub begins : (ids : Ids) (course : Course) (place : ℕ) → AreFree ids.mutexes.items (length ids.mutexes.items) course.mutexes.items →
     AreIdle ids.threads.items place course.threads.items → length ids.threads.items ≤ place → course.sections ≡ 0 →
-    shown_in course.shown ≡ [] → Begins ids course
-begins ids course place mutexes threads end none shown =
+    shown_in course.shown ≡ [] → course.is_contradiction ≡ false → Begins ids course
+begins ids course place mutexes threads end none shown still =
     record {
       world = worlds (world_before ids) (world_of course)
           (fun_ext (λ m. mutexes.owner m))
@@ -69,6 +69,7 @@ begins ids course place mutexes threads end none shown =
           (fun_ext (λ m. mutexes.waiting m))
           (fun_ext (λ t. threads.section t))
           none;
-      details = details_are no_details (details_of course) (fun_ext (λ m. mutexes.details m)) (fun_ext (λ t. threads.details t));
+      details = details_are no_details (details_of course) (fun_ext (λ m. mutexes.details m)) (fun_ext (λ t. threads.details t))
+          still;
       shown = shown;
     }

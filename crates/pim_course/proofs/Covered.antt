@@ -54,4 +54,4 @@ has-those bytes ids course slot number r covers all below numbered is =
 pub reading : ReadingLaw
 reading bytes sources number old new covers all below goes =
     let those = has-those bytes sources.ids old goes.slot number goes.found covers all below goes.numbered goes.is in
-    (goes.led those, goes.depths those, goes.sections those)
+    (goes.led those, goes.depths those, goes.sections those, goes.details those)

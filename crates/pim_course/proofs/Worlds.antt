@@ -1,5 +1,5 @@
 -- How the world changes as a thread or a mutex is put.
-use Rattle.std.proofs.Common.{◌≡◌, ℕ, ◌<◌, ◌≤◌, cond, List, length, get_or, set, Option, Some, None, sym, ap, ◌∙◌, inl, inr, eq-eqb}
+use Rattle.std.proofs.Common.{◌≡◌, ℕ, ◌<◌, ◌≤◌, cond, List, length, get_or, set, Option, Some, None, sym, ap, ◌∙◌, inl, inr, eq-eqb, refl}
 use Rattle.std.proofs.Math.Path.{fun_ext}
 use Rattle.std.proofs.lemmas.Bool.{ne_eqb, cases_eq, cases_lt}
 use Rattle.std.proofs.lemmas.Grind.{get_or-set_at}
@@ -134,6 +134,18 @@ world-awaits c d t y m z a threads mutexes lt awaits level owner ceiling =
     worlds (record (world_of c) { awaits = but_for t a (world_of c).awaits }) (world_of d)
     (owner-same c d m z mutexes owner)
     (awaits-put c d t y threads lt ∙ ap (λ a. but_for t a (world_of c).awaits) awaits)
+    (level-same c d t y threads level)
+    (ceiling-same c d m z mutexes ceiling)
+
+-- a thread is put with its level, and a mutex with its owner and its ceiling: nothing changes but what the thread awaits
+pub world-left : (c d : Course) (t : ℕ) (y : CourseThread) (m : ℕ) (z : CourseMutex) →
+    d.threads.items ≡ set c.threads.items t y → d.mutexes.items ≡ set c.mutexes.items m z →
+    y.level ≡ (thread_in c t).level → z.owner ≡ (mutex_in c m).owner → z.ceiling ≡ (mutex_in c m).ceiling →
+    world_of d ≡ record (world_of c) { awaits = (world_of d).awaits }
+world-left c d t y m z threads mutexes level owner ceiling =
+    worlds (record (world_of c) { awaits = (world_of d).awaits }) (world_of d)
+    (owner-same c d m z mutexes owner)
+    refl
     (level-same c d t y threads level)
     (ceiling-same c d m z mutexes ceiling)
 

@@ -1,18 +1,21 @@
--- What is known beside the facts after each record: the owners of waits, and places in the code. docs/FINDINGS.md, 'The owner
--- of a wait' and 'Where in the code'.
+-- What is known beside the facts after each record: the owners of waits, places in the code, and whether the record contradicts
+-- those before it. docs/FINDINGS.md, 'Facts', 'The owner of a wait' and 'Where in the code'.
 use Rattle.std.specs.Prelude.{ℕ, ◌==◌, nat_lt, Bool, true, false, not, ◌&&◌, ◌||◌, if◌then◌else◌, List, [], ◌∷◌, find, is_none, is_some, Option, Some, None}
-use Rattle.std.specs.Option.{option_and_then, option_flatten, option_map_or, option_or}
+use Rattle.std.specs.Option.{option_and_then, option_flatten, option_map_or, option_or, unwrap_or}
 use Rattle.pim_log.specs.declared.event.Call.TheVariants.{TryLock}
 use Rattle.pim_log.specs.declared.event.Event.{Event}
 use Rattle.pim_log.specs.declared.event.Event.TheVariants as event
+use Rattle.pim_log.specs.declared.mutex.Mutex.{Mutex}
 use Rattle.pim_log.specs.declared.record.Record.{Record}
 use Rattle.pim_facts.specs.Levels.{id_of}
+use Rattle.pim_facts.specs.declared.family.Family.{Family}
+use Rattle.pim_facts.specs.declared.family.Family.TheVariants as families
 use Rattle.pim_facts.specs.declared.ids.Ids.{Ids}
-use Rattle.pim_course.specs.Courses.{mutex_in, thread_in}
+use Rattle.pim_course.specs.Courses.{family_in, mutex_in, thread_in}
 use Rattle.pim_course.specs.Depths.{is_recursive_in}
 use Rattle.pim_course.specs.Kept.{granted_by_kept, kept_of, never_was, next_by}
 use Rattle.pim_course.specs.NextOwners.{is_that}
-use Rattle.pim_course.specs.Told.{depths_of}
+use Rattle.pim_course.specs.Told.{ceiling_by_log, depths_of}
 use Rattle.pim_course.specs.World.{World, but_for, world_of}
 use Rattle.pim_course.specs.declared.course.Course.{Course}
 use Rattle.pim_course.specs.declared.course.CourseMutex.{CourseMutex}
@@ -28,18 +31,20 @@ pub record OfMutex : Type 0 where
   pub taken_at : Option ℕ
   pub was_tried : Bool
 
--- what is known of a thread: who had the mutex as it began to wait, where that took it, and where the thread asked; and its own
--- mutex, if it locks that again
+-- what is known of a thread: who had the mutex as it began to wait, where that took it, where the thread asked, and whether its
+-- level was above the ceiling then; and its own mutex, if it locks that again
 pub record OfThread : Type 0 where
   pub awaited_owner : Option ℕ
   pub owner_at : Option ℕ
   pub asked_at : Option ℕ
+  pub was_above : Bool
   pub awaits_own : Option ℕ
 
--- what is known of each mutex and each thread
+-- what is known of each mutex and each thread, and whether the last record contradicts those before it
 pub record Details : Type 0 where
   pub mutexes : ℕ → OfMutex
   pub threads : ℕ → OfThread
+  pub is_contradiction : Bool
 
 -- the details of a mutex
 abbrev pub mutex_details : CourseMutex → OfMutex
@@ -48,19 +53,31 @@ mutex_details is = record { last_owner = is.last_owner; taken_at = is.taken_at; 
 -- the details of a thread
 abbrev pub thread_details : CourseThread → OfThread
 thread_details is =
-    record { awaited_owner = is.awaited_owner; owner_at = is.owner_at; asked_at = is.asked_at; awaits_own = is.awaits_own }
+    record {
+      awaited_owner = is.awaited_owner;
+      owner_at = is.owner_at;
+      asked_at = is.asked_at;
+      was_above = is.was_above;
+      awaits_own = is.awaits_own;
+    }
 
 -- the details in the course of a program
 abbrev pub details_of : Course → Details
 details_of course =
-    record { mutexes = λ m. mutex_details (mutex_in course m); threads = λ t. thread_details (thread_in course t) }
+    record {
+      mutexes = λ m. mutex_details (mutex_in course m);
+      threads = λ t. thread_details (thread_in course t);
+      is_contradiction = course.is_contradiction;
+    }
 
 -- as a log begins nothing is known
 abbrev pub no_details : Details
 no_details =
     record {
       mutexes = λ m. record { last_owner = None; taken_at = None; was_tried = false };
-      threads = λ t. record { awaited_owner = None; owner_at = None; asked_at = None; awaits_own = None };
+      threads =
+          λ t. record { awaited_owner = None; owner_at = None; asked_at = None; was_above = false; awaits_own = None };
+      is_contradiction = false;
     }
 
 -- this is known of a mutex, and what was known of all others
@@ -109,13 +126,30 @@ place_of_owner world details m owner =
 abbrev pub asked : ℕ → Option ℕ → Details → Details
 asked t place details = with_thread t (record (details.threads t) { asked_at = place }) details
 
+-- the world with the ceiling that a record says of its mutex
+abbrev pub corrected : Sources → World → ℕ → Mutex → World
+corrected sources world m said =
+    record world {
+      ceiling = but_for m (unwrap_or (ceiling_by_log (family_in sources m) said) (world.ceiling m)) world.ceiling;
+    }
+
+-- whether a mutex is a PROTECT one
+abbrev pub is_protect : Family → Bool
+is_protect families.Protect = true
+is_protect _ = false
+
+-- whether the level of a thread is above the ceiling of a PROTECT mutex
+abbrev pub is_above : Sources → World → ℕ → ℕ → Bool
+is_above sources world t m = is_protect (family_in sources m) && nat_lt (world.ceiling m) (world.level t)
+
 -- a thread begins to wait for a mutex that this owner has
-abbrev pub wait_begun : World → ℕ → ℕ → Option ℕ → Details → Details
-wait_begun world t m owner details =
+abbrev pub wait_begun : Sources → World → ℕ → ℕ → Option ℕ → Details → Details
+wait_begun sources world t m owner details =
     with_thread t
     (record (details.threads t) {
       awaited_owner = owner;
       owner_at = option_and_then (place_of_owner world details m) owner;
+      was_above = is_above sources world t m;
     })
     details
 
@@ -147,18 +181,30 @@ abbrev pub taken : Record → ℕ → Details → Details
 taken r m details =
     with_mutex m (record (details.mutexes m) { taken_at = r.place; was_tried = is_trylock r.event }) details
 
+-- whether a grant contradicts the records before it: the level of the thread is above the ceiling, unless it waited for the
+-- mutex, and its level wasn't above as it began to
+abbrev pub is_contradicted : Sources → World → ℕ → ℕ → Details → Bool
+is_contradicted sources world t m details =
+    not (is_that (world.awaits t) m && not (details.threads t).was_above) && is_above sources world t m
+
 -- a REQUEST: its thread asks for its own mutex, or begins to wait, unless it waits for the mutex
-abbrev pub details_requested : Sources → World → Details → Record → Option ℕ → ℕ → Details
-details_requested sources world details r task m =
+abbrev pub details_requested : Sources → World → Details → Record → Mutex → Option ℕ → ℕ → Details
+details_requested sources world details r said task m =
     if is_that (world.owner m) r.thread then own_asked sources.ids r.thread m r.place details
     else if m == 0 || is_that (world.awaits r.thread) m then details
-    else wait_begun world r.thread m (owner_asked sources world details r task m) (asked r.thread r.place details)
+    else
+    wait_begun sources (corrected sources world m said) r.thread m (owner_asked sources world details r task m)
+    (asked r.thread r.place details)
 
--- a GRANTED: its thread doesn't wait for its own mutex, and takes it from the owner, unless it is that
-abbrev pub details_granted : World → Details → Record → ℕ → Details
-details_granted world details r m =
-    if m == 0 || is_that (world.owner m) r.thread then own_forgotten r.thread details
-    else taken r m (freed (world.owner m) m (own_forgotten r.thread details))
+-- a GRANTED: its thread doesn't wait for its own mutex. Unless it owns the mutex, the owner released that, and the thread took it
+abbrev pub details_granted : Sources → World → Details → Record → Mutex → ℕ → Details
+details_granted sources world details r said m =
+    let forgotten = own_forgotten r.thread details in
+    if m == 0 || is_that (world.owner m) r.thread then forgotten
+    else
+    taken r m (freed (world.owner m) m (record forgotten {
+      is_contradiction = is_contradicted sources (corrected sources world m said) r.thread m forgotten;
+    }))
 
 -- a RELEASE: its thread released the mutex, if it owns it, locked it once, and isn't refused
 abbrev pub details_released : Sources → World → (ℕ → ℕ) → Details → ℕ → ℕ → ℕ → Details
@@ -169,8 +215,9 @@ details_released sources world depth details number t m =
 
 -- what is known after this event of a record, which is about a mutex
 abbrev pub details_by : Sources → World → (ℕ → ℕ) → Details → Record → ℕ → Event → Details
-details_by sources world depth details r m (event.Request _ task) = details_requested sources world details r task m
-details_by sources world depth details r m (event.Granted _ _ _) = details_granted world details r m
+details_by sources world depth details r m (event.Request said task) =
+    details_requested sources world details r said task m
+details_by sources world depth details r m (event.Granted said _ _) = details_granted sources world details r said m
 details_by sources world depth details r m (event.Failed _ _ _) = own_forgotten r.thread details
 details_by sources world depth details r m (event.Release _ _) =
     details_released sources world depth details r.number r.thread m
@@ -179,15 +226,16 @@ details_by sources world depth details r m _ = details
 -- what is known after a record in the course of a program
 abbrev pub details_after : Sources → Course → Record → Details
 details_after sources course r =
-    details_by sources (world_of course) (depths_of course) (details_of course) r (id_of sources.ids r.number) r.event
+    details_by sources (world_of course) (depths_of course) (record (details_of course) { is_contradiction = false }) r
+    (id_of sources.ids r.number) r.event
 
 -- what is known after a request that the log lacks: its thread begins to wait, if it waits for nothing and doesn't own the mutex,
 -- for the owner or the last one
-abbrev pub added_details : World → Details → Request → Details
-added_details world details request =
+abbrev pub added_details : Sources → World → Details → Request → Details
+added_details sources world details request =
     let t = request.thread in
     let m = request.mutex in
     if is_none (world.awaits t) && not (is_that (world.owner m) t) then
-    wait_begun world t m (first_other t (world.owner m ∷ (details.mutexes m).last_owner ∷ []))
+    wait_begun sources world t m (first_other t (world.owner m ∷ (details.mutexes m).last_owner ∷ []))
     (asked t request.place details)
     else details

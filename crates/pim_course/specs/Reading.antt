@@ -28,8 +28,8 @@ first_ceiling ids m = option_map_or (λ mutex. mutex.ceiling) (slice_get ids.mut
 abbrev pub world_before : Ids → World
 world_before ids = record { owner = λ m. None; awaits = λ t. None; level = first_level ids; ceiling = first_ceiling ids }
 
--- a course begins: it has the threads and mutexes of a log, no mutex is locked, there was no critical section, and nothing is
--- shown yet
+-- a course begins: it has the threads and mutexes of a log, no mutex is locked, there was no critical section, nothing is known
+-- beside the facts, and nothing is shown yet
 pub record Begins (ids : Ids) (course : Course) : Type 0 where
   pub world : world_of course ≡ world_before ids
   pub threads : length course.threads.items ≡ length ids.threads.items
@@ -83,7 +83,7 @@ IsTimeOf bytes number time = (LacksRecord bytes number × (time ≡ None)) ⊎ H
 
 -- a course goes on by the record of a log with this number: it shows then what the record tells. If the course has those of
 -- the record, that leads from the world in which it is read to the one behind it, each mutex is locked as often as it says,
--- and what is shown has the numbers of the critical sections
+-- what is shown has the numbers of the critical sections, and what is known beside the facts is what the record says
 pub record GoesBy (bytes : List ℕ) (sources : Sources) (number : ℕ) (old new : Course) : Type 0 where
   pub slot : ℕ
   pub found : Record
@@ -102,11 +102,12 @@ pub record HasAllOf (ids : Ids) (course : Course) : Type 0 where
   pub mutexes : length course.mutexes.items ≡ length ids.mutexes.items
 
 -- what a record of a log shows leads from the world in which it is read to the one behind it, each mutex is locked then as
--- often as the record says, and what is shown has the numbers of the critical sections, in a course that has the threads and
--- mutexes of the log
+-- often as the record says, what is shown has the numbers of the critical sections, and what is known beside the facts is what
+-- the record says, in a course that has the threads and mutexes of the log
 abbrev pub ReadingLaw : Type 0
 ReadingLaw = (bytes : List ℕ) (sources : Sources) (number : ℕ) (old new : Course) → Covers sources.ids bytes →
     HasAllOf sources.ids old → number < end_of (header_of bytes) → (goes : GoesBy bytes sources number old new) →
     Lead (shown_in new.shown) (world_at old goes.found) (world_of new)
     × ((m : ℕ) → depths_of new m ≡ depths_after sources old goes.found m)
     × AreNumbered (shown_in new.shown) (sections_of old) (sections_of new)
+    × (details_of new ≡ details_after sources old goes.found)

@@ -1,12 +1,12 @@
 //! The course of a recorded program: who owns and awaits what, record by record.
 ghost use Rattle.std.specs.Prelude.{◌≡◌, ◌≢◌, ◌⊎◌, ◌<◌, ℕ, [], length, slice_set, IfOk, IfSome, Some, None};
-ghost use Rattle.std.specs.Option.{option_and_then, option_map_or};
+ghost use Rattle.std.specs.Option.{option_and_then, option_map_or, unwrap_or};
 ghost use Rattle.pim_facts.specs.Levels.{id_of, level_by};
 ghost use Rattle.pim_facts.specs.Shown.{shown_in};
 ghost use Rattle.pim_course.specs.Courses.{family_in, mutex_in, thread_in};
 ghost use Rattle.pim_course.specs.Depths.{depth_again, depth_granted, depth_released, depths_after, is_recursive_in};
 ghost use Rattle.pim_course.specs.Details.{added_details, asked, details_after, details_granted, details_of, details_released, details_requested};
-ghost use Rattle.pim_course.specs.Details.{first_other, freed, is_trylock, own_asked, own_forgotten, owners_asked, place_of_owner, released, taken, wait_begun};
+ghost use Rattle.pim_course.specs.Details.{first_other, freed, is_above, is_contradicted, is_trylock, own_asked, own_forgotten, owners_asked, place_of_owner, released, taken, wait_begun};
 ghost use Rattle.pim_course.specs.NextOwners.{is_that};
 ghost use Rattle.pim_course.specs.Going.{GoesOn, HasSameSize, IsStill, KeepsDepths, KeepsDetails, KeepsSections, Numbers, Tells};
 ghost use Rattle.pim_course.specs.Reading.{Begins, HasRequest, HasThoseOf, world_at};
@@ -223,7 +223,7 @@ impl Course {
             AreNumbered (shown_in self.new.shown) (sections_of self.old) (sections_of self.new) }
         ensures told { shown_in self.old.shown ≡ [] → happened_in self.new ≡ added_told (world_of self.old) request.now }
         ensures details { HasRequest self.old request.now →
-            details_of self.new ≡ added_details (world_of self.old) (details_of self.old) request.now }
+            details_of self.new ≡ added_details sources.now (world_of self.old) (details_of self.old) request.now }
     {
         let (thread, mutex) = (request.thread, request.mutex);
         let is = self.mutex(mutex);
@@ -309,6 +309,9 @@ impl Course {
         ensures goes { mutex < length self.old.mutexes.items → GoesOn 1 self.old self.new }
         ensures told { Tells 1 (ceiling_told sources.now (world_of self.old) thread mutex said.now) self.old self.new }
         ensures details { KeepsDetails self.old self.new }
+        ensures level { (world_of self.new).level ≡ (world_of self.old).level }
+        ensures ceiling { mutex < length self.old.mutexes.items → (world_of self.new).ceiling mutex ≡
+            unwrap_or (ceiling_by_log (family_in sources.now mutex) said.now) ((world_of self.old).ceiling mutex) }
     {
         let Some(ceiling) = ceiling_of(sources, said, mutex) else {
             return false;
@@ -338,6 +341,7 @@ impl Course {
         ensures others { (k : ℕ) → k ≢ thread → (world_of self.new).awaits k ≡ (world_of self.old).awaits k }
         ensures told { Tells 1 (gave_up_told (world_of self.old) thread but) self.old self.new }
         ensures details { KeepsDetails self.old self.new }
+        ensures rest { world_of self.new ≡ record (world_of self.old) { awaits = (world_of self.new).awaits } }
     {
         match self.thread(thread).awaits {
             Some(mutex) if but != Some(mutex) => self.stop_waiting(thread, mutex),
@@ -356,6 +360,7 @@ impl Course {
         ensures others { (k : ℕ) → k ≢ thread → (world_of self.new).awaits k ≡ (world_of self.old).awaits k }
         ensures told { Tells 1 (did What.GaveUp thread mutex) self.old self.new }
         ensures details { KeepsDetails self.old self.new }
+        ensures rest { world_of self.new ≡ record (world_of self.old) { awaits = (world_of self.new).awaits } }
     {
         let mut is = self.thread(thread);
         let section = is.section;
@@ -384,8 +389,9 @@ impl Course {
         ensures sections { «record».now.thread < length self.old.threads.items → mutex < length self.old.mutexes.items →
             Numbers 3 self.old self.new }
         ensures told { Tells 3 (request_told sources.now (world_of self.old) «record».now.thread mutex said.now) self.old self.new }
-        ensures details { «record».now.thread < length self.old.threads.items →
-            details_of self.new ≡ details_requested sources.now (world_of self.old) (details_of self.old) «record».now task mutex }
+        ensures details { «record».now.thread < length self.old.threads.items → mutex < length self.old.mutexes.items →
+            details_of self.new ≡ details_requested sources.now (world_of self.old) (details_of self.old) «record».now
+            said.now task mutex }
     {
         let thread = record.thread;
         let is = self.mutex(mutex);
@@ -433,7 +439,7 @@ impl Course {
             Numbers 1 self.old self.new }
         ensures told { Tells 1 (did What.Waits thread mutex) self.old self.new }
         ensures details { thread < length self.old.threads.items →
-            details_of self.new ≡ wait_begun (world_of self.old) thread mutex owner (details_of self.old) }
+            details_of self.new ≡ wait_begun sources.now (world_of self.old) thread mutex owner (details_of self.old) }
     {
         let section = self.section_of(mutex);
         let was_above = self.is_above(sources, thread, mutex);
@@ -470,7 +476,9 @@ impl Course {
     }
 
     /// Returns whether the level of a thread is above the ceiling of a PROTECT mutex.
-    fn is_above(&self, sources: &Sources, thread: u32, mutex: u32) -> bool {
+    fn is_above(&self, sources: &Sources, thread: u32, mutex: u32) -> bool
+        ensures { result ≡ is_above sources.now (world_of self.now) thread mutex }
+    {
         family_of(sources, mutex) == Family::Protect
             && self.thread(thread).level > self.mutex(mutex).ceiling
     }
@@ -507,7 +515,8 @@ impl Course {
         ensures sections { mutex < length self.old.mutexes.items → Numbers 4 self.old self.new }
         ensures told { Tells 4 (grant_told sources.now (world_of self.old) «record».now.thread mutex said.now) self.old self.new }
         ensures details { «record».now.thread < length self.old.threads.items → mutex < length self.old.mutexes.items →
-            details_of self.new ≡ details_granted (world_of self.old) (details_of self.old) «record».now mutex }
+            details_of self.new ≡ details_granted sources.now (world_of self.old) (details_of self.old) «record».now
+            said.now mutex }
     {
         let thread = record.thread;
         let owner = self.mutex(mutex).owner;
@@ -517,12 +526,19 @@ impl Course {
         }
         self.correct_ceiling(sources, thread, said, mutex);
         self.correct_wait(thread, Some(mutex));
-        let is = self.thread(thread);
-        let may_be_above = is.awaits == Some(mutex) && !is.was_above;
-        self.is_contradiction = !may_be_above && self.is_above(sources, thread, mutex);
+        self.is_contradiction = self.is_contradicted(sources, thread, mutex);
         self.free(owner, mutex, thread);
         self.take(record, mutex);
         LeftOut::Uncontended
+    }
+
+    /// Returns whether the level of a thread that has a mutex is above the ceiling, and was so when it began to wait, if it did.
+    fn is_contradicted(&self, sources: &Sources, thread: u32, mutex: u32) -> bool
+        ensures { result ≡ is_contradicted sources.now (world_of self.now) thread mutex (details_of self.now) }
+    {
+        let is = self.thread(thread);
+        let may_be_above = is.awaits == Some(mutex) && !is.was_above;
+        !may_be_above && self.is_above(sources, thread, mutex)
     }
 
     /// The owner of a mutex, if it has one, released it before another thread has it.

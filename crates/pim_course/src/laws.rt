@@ -6,7 +6,7 @@ ghost use Rattle.pim_course.specs.Waiting.{CountedLaw};
 
 /// The facts of each record of a log are possible, one after the other, in the world that the records before it made, and
 /// make the next one. Each mutex is locked then as often as the record says. The facts have the numbers of their critical
-/// sections.
+/// sections. Whose each mutex is that a thread waits for, and where in the code, is what the record says.
 pub fn reading_law()
     ensures { ReadingLaw }
 {}

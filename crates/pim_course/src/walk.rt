@@ -108,7 +108,7 @@ impl Walk {
             AreNumbered (shown_in self.new.course.shown) (sections_of self.old.course) (sections_of self.new.course) }
         ensures details { IfSome (slice_get sources.now.requests.list.items self.old.added)
             (λ request. HasRequest self.old.course request → details_of self.new.course ≡
-            added_details (world_of self.old.course) (details_of self.old.course) request) }
+            added_details sources.now (world_of self.old.course) (details_of self.old.course) request) }
         ensures told { happened_in self.new.course ≡
             option_map_or (added_told (world_of self.old.course)) (slice_get sources.now.requests.list.items self.old.added) [] }
     {

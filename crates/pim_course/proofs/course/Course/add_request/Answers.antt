@@ -36,6 +36,7 @@ returns-then-ne-clause-sections c has below none =
 
 pub returns-then-ne-clause-details : goal.returns-then-ne-clause-details
 returns-then-ne-clause-details c has =
+    let sources = c.args.sources.now in
     let request = c.args.request.now in
     let t = request.thread in
     let m = request.mutex in
@@ -44,9 +45,9 @@ returns-then-ne-clause-details c has =
     let owner : Option ℕ = c.first_other-owner.result in
     let there : Details = asked t request.place (details_of old) in
     c.wait.ensures.details (omega (arith, has.thread, c.ask_at.ensures.size.threads))
-    ∙ ap (wait_begun (world_of d) t m owner) (c.ask_at.ensures.details has.thread)
-    ∙ ap (λ w. wait_begun w t m owner there) c.ask_at.ensures.still.world
-    ∙ ap (λ o. wait_begun (world_of old) t m o there) (c.first_other-owner.ensures.first
+    ∙ ap (wait_begun sources (world_of d) t m owner) (c.ask_at.ensures.details has.thread)
+    ∙ ap (λ w. wait_begun sources w t m owner there) c.ask_at.ensures.still.world
+    ∙ ap (λ o. wait_begun sources (world_of old) t m o there) (c.first_other-owner.ensures.first
     ∙ ap (λ (z : CourseMutex). first_other t (z.owner ∷ z.last_owner ∷ [])) c.mutex-is.ensures)
     ∙ sym (if-so _ _ _ (both _ _
     (ap is_none (ap (λ y. y.awaits) (sym c.thread.ensures) ∙ none-by _ (c.is_none.ensures ∙ ap not c.if-is_none.true)))

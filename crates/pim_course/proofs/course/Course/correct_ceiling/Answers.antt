@@ -1,5 +1,5 @@
 use Rattle.std.proofs.Common.{ap, refl, ◌∙◌}
-use Rattle.pim_course.proofs.Worlds.{owner-same, world-ceiling}
+use Rattle.pim_course.proofs.Worlds.{owner-same, world-ceiling, level-kept}
 use Rattle.pim_course.proofs.Leading.{goes-added}
 use Rattle.pim_course.proofs.Numbering.{numbers-added, same-mutex}
 use Rattle.pim_course.specs.Details.{mutex_details}
@@ -36,3 +36,8 @@ pub returns-clause-details : goal.returns-clause-details
 returns-clause-details c =
     keeps-mutex c.args.self.now c.put_mutex.new.self _ _ c.put_mutex.ensures.mutexes
     (ap (λ d. d.threads) c.put_mutex.ensures.rest) (ap (λ (z : CourseMutex). mutex_details z) c.mutex-is.ensures)
+    (ap (λ d. d.is_contradiction) c.put_mutex.ensures.rest)
+
+pub returns-clause-level : goal.returns-clause-level
+returns-clause-level c =
+    level-kept c.args.self.now c.put_mutex.new.self (ap (λ d. d.threads.items) c.put_mutex.ensures.rest)

@@ -26,3 +26,4 @@ pub returns-then-is_recursive-clause-details : goal.returns-then-is_recursive-cl
 returns-then-is_recursive-clause-details c =
     keeps-mutex c.args.self.now c.put_mutex.new.self _ _ c.put_mutex.ensures.mutexes
     (ap (λ d. d.threads) c.put_mutex.ensures.rest) (ap (λ (z : CourseMutex). mutex_details z) c.mutex-is.ensures)
+    (ap (λ d. d.is_contradiction) c.put_mutex.ensures.rest)

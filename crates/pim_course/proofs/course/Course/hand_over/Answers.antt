@@ -35,3 +35,4 @@ returns-clause-details c below =
     puts-mutex c.args.self.now c.put_mutex.new.self _ _ _ c.put_mutex.ensures.mutexes
     (ap (λ d. d.threads) c.put_mutex.ensures.rest) below
     (ap (λ (z : CourseMutex). record (mutex_details z) { last_owner = Some c.args.thread }) c.mutex-is.ensures)
+    (ap (λ d. d.is_contradiction) c.put_mutex.ensures.rest)

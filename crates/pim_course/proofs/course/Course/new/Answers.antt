@@ -10,4 +10,4 @@ returns c =
       omega (arith, c.loop-place-2-test.false, c.len-place-end-2.ensures, c.in_ok-threads.ensures.len, c.len-2.ensures),
       grind (arith, common_steps, c.loop-place-2-test.false, c.len-place-end-2.ensures, c.in_ok-threads.ensures.len),
     ))
-    refl c.none.ensures
+    refl c.none.ensures refl

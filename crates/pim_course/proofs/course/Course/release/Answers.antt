@@ -110,4 +110,5 @@ returns-then-is-gt1-clause-details c =
     let old : Course = c.args.self.now in
     keeps-mutex old c.put_mutex.new.self _ _ c.put_mutex.ensures.mutexes
     (ap (λ d. d.threads) c.put_mutex.ensures.rest) (ap (λ (z : CourseMutex). mutex_details z) c.mutex-is.ensures)
+    (ap (λ d. d.is_contradiction) c.put_mutex.ensures.rest)
     ∙ sym (if-so _ _ _ (right-of _ _ (lt-ltb 1 (mutex_in old m).depth (omega (arith, ap (λ z. z.depth) c.mutex-is.ensures)))))

@@ -3,17 +3,17 @@ use Rattle.std.proofs.Common.{◌≡◌, ℕ, Option, Some, None, inl, inr, ap, 
 use Rattle.pim_facts.specs.declared.fact.What.TheVariants.{Waits}
 use Rattle.pim_course.specs.Told.{ceiling_told, gave_up_told}
 use Rattle.pim_course.specs.Going.{IsStill}
-use Rattle.pim_course.specs.World.{CanHappen, world_of}
+use Rattle.pim_course.specs.World.{CanHappen, World, world_of}
 use Rattle.pim_course.specs.declared.course.Course.{Course}
 use Rattle.pim_course.proofs.Telling.{gave-up-same, if-not, isnt-that, neither, none-of, not-that, tells-behind, tells-same, tells-then}
 use Rattle.pim_course.proofs.Leading.{goes-still, goes-then}
 use Rattle.pim_course.proofs.Numbering.{numbers-none, numbers-then}
 use Rattle.std.specs.Option.{is_some}
-use Rattle.pim_course.specs.Details.{Details, asked, details_of, first_other, owners_asked, wait_begun}
+use Rattle.pim_course.specs.Details.{Details, asked, corrected, details_of, first_other, owners_asked, wait_begun}
 use Rattle.pim_course.specs.Kept.{kept_of}
 use Rattle.pim_course.specs.declared.course.CourseMutex.{CourseMutex}
 use Rattle.pim_course.specs.declared.next_owners.Kept.{Kept}
-use Rattle.pim_course.proofs.Detailing.{begun-same}
+use Rattle.pim_course.proofs.Detailing.{above-same, begun-same}
 use Rattle.pim_course.proofs.course.Course.request.Goals as goal
 
 pub returns-clause-goes : goal.returns-clause-goes
@@ -78,27 +78,35 @@ returns-clause-sections c lt below =
     (omega (arith, c.correct_ceiling.ensures.size.mutexes, c.correct_wait.ensures.size.mutexes, c.ask_at.ensures.size.mutexes)))))
 
 pub returns-clause-details : goal.returns-clause-details
-returns-clause-details c lt =
+returns-clause-details c lt below =
     let r = c.args.record.now in
     let t = r.thread in
     let m = c.args.mutex in
+    let sources = c.args.sources.now in
+    let said = c.args.said.now in
     let old : Course = c.args.self.now in
     let d : Course = c.ask_at.new.self in
-    let kept : Kept = kept_of c.args.sources.now.next_owners r.number in
+    let kept : Kept = kept_of sources.next_owners r.number in
+    let w : World = corrected sources (world_of old) m said in
     let there : Details = asked t r.place (details_of old) in
     let owner : Option ℕ = c.owner_asked-owner.result in
     c.wait.ensures.details
     (omega (arith, c.correct_ceiling.ensures.size.threads, c.correct_wait.ensures.size.threads, c.ask_at.ensures.size.threads))
-    ∙ ap (wait_begun (world_of d) t m owner)
+    ∙ ap (wait_begun sources (world_of d) t m owner)
     (c.ask_at.ensures.details (omega (arith, c.correct_ceiling.ensures.size.threads, c.correct_wait.ensures.size.threads))
     ∙ ap (asked t r.place) (c.correct_wait.ensures.details ∙ c.correct_ceiling.ensures.details))
-    ∙ begun-same (world_of d) (world_of old) t m owner there
+    ∙ begun-same sources (world_of d) w t m owner there
     (ap (λ w. w.owner m) c.ask_at.ensures.still.world
     ∙ ap (λ h. h m) (c.correct_wait.ensures.owner ∙ c.correct_ceiling.ensures.owner))
     (λ k other. ap (λ w. w.awaits k) c.ask_at.ensures.still.world
     ∙ c.correct_wait.ensures.others k other ∙ ap (λ h. h k) c.correct_ceiling.ensures.awaits)
     c.owner_asked-owner.ensures.other
-    ∙ ap (λ o. wait_begun (world_of old) t m o there) (c.owner_asked-owner.ensures.first
+    (above-same sources (world_of d) (world_of old) t m said
+    (ap (λ v. v.level) c.ask_at.ensures.still.world ∙ ap (λ v. v.level) c.correct_wait.ensures.rest
+    ∙ c.correct_ceiling.ensures.level)
+    (ap (λ v. v.ceiling m) c.ask_at.ensures.still.world ∙ ap (λ v. v.ceiling m) c.correct_wait.ensures.rest
+    ∙ c.correct_ceiling.ensures.ceiling below))
+    ∙ ap (λ o. wait_begun sources w t m o there) (c.owner_asked-owner.ensures.first
     ∙ ap (λ is. first_other t (owners_asked kept is c.mutex-is.result.owner c.mutex-is.result.last_owner)) c.is_some.ensures
     ∙ ap (λ (z : CourseMutex). first_other t (owners_asked kept (is_some c.args.task) z.owner z.last_owner)) c.mutex-is.ensures)
     ∙ sym (if-not _ _ _ (not-that _ _ _ (ap (λ z. z.owner) c.mutex-is.ensures)

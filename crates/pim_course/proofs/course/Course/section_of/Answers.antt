@@ -28,3 +28,4 @@ pub returns-in-None-clause-details : goal.returns-in-None-clause-details
 returns-in-None-clause-details c =
     keeps-mutex c.args.self.now c.put_mutex.new.self _ _ c.put_mutex.ensures.mutexes
     (ap (λ d. d.threads) c.put_mutex.ensures.rest) (ap (λ (z : CourseMutex). mutex_details z) c.mutex-is.ensures)
+    (ap (λ d. d.is_contradiction) c.put_mutex.ensures.rest)

@@ -27,3 +27,4 @@ pub returns-clause-details : goal.returns-clause-details
 returns-clause-details c =
     keeps-thread c.args.self.now c.put_thread.new.self _ _ c.put_thread.ensures.threads
     (ap (λ d. d.mutexes) c.put_thread.ensures.rest) (ap (λ (y : CourseThread). thread_details y) c.thread-is.ensures)
+    (ap (λ d. d.is_contradiction) c.put_thread.ensures.rest)

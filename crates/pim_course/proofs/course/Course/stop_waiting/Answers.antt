@@ -1,6 +1,6 @@
 use Rattle.std.proofs.Common.{◌≡◌, ◌-◌, None, get_or, refl, ap, ◌∙◌}
 use Rattle.pim_course.specs.Courses.{free}
-use Rattle.pim_course.proofs.Worlds.{has_thread, owner-kept, owner-same, put-in, world-awaits}
+use Rattle.pim_course.proofs.Worlds.{has_thread, owner-kept, owner-same, put-in, world-awaits, world-left}
 use Rattle.pim_course.proofs.Leading.{goes-added}
 use Rattle.pim_course.proofs.Numbering.{gave-up, numbers-added}
 use Rattle.pim_course.specs.Details.{mutex_details, thread_details}
@@ -58,3 +58,15 @@ returns-clause-details c =
     (ap (λ (y : CourseThread). thread_details y) c.thread-is.ensures)
     (ap (λ (z : CourseMutex). mutex_details z) c.mutex-awaited.ensures
     ∙ ap (λ l. mutex_details (get_or l c.args.mutex free)) items)
+    (ap (λ d. d.is_contradiction) c.put_mutex.ensures.rest ∙ ap (λ d. d.is_contradiction) c.put_thread.ensures.rest)
+
+pub returns-clause-rest : goal.returns-clause-rest
+returns-clause-rest c =
+    let items : c.put_thread.new.self.mutexes.items ≡ c.args.self.now.mutexes.items =
+    ap (λ d. d.mutexes.items) c.put_thread.ensures.rest in
+    world-left c.args.self.now c.put_mutex.new.self c.args.thread _ c.args.mutex _
+    (ap (λ d. d.threads.items) c.put_mutex.ensures.rest ∙ c.put_thread.ensures.threads)
+    (put-in c.put_thread.new.self.mutexes.items c.args.self.now.mutexes.items _ _ _ items c.put_mutex.ensures.mutexes)
+    (ap (λ y. y.level) c.thread-is.ensures)
+    (ap (λ z. z.owner) c.mutex-awaited.ensures ∙ ap (λ l. (get_or l c.args.mutex free).owner) items)
+    (ap (λ z. z.ceiling) c.mutex-awaited.ensures ∙ ap (λ l. (get_or l c.args.mutex free).ceiling) items)

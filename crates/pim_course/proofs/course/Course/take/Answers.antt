@@ -96,4 +96,5 @@ returns-clause-details c below =
     (omega (arith, below, c.section_of-section.ensures.size.mutexes))
     (ap (λ (y : CourseThread). thread_details y) c.thread-owner.ensures)
     (λ i. record { last_owner = last i; taken_at = r.place; was_tried = c.is_trylock.ensures i })
+    (ap (λ d. d.is_contradiction) c.put_mutex.ensures.rest ∙ ap (λ d. d.is_contradiction) c.put_thread.ensures.rest)
     ∙ ap (taken r m) c.section_of-section.ensures.details

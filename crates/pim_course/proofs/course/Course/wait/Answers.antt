@@ -8,10 +8,8 @@ use Rattle.pim_course.proofs.Worlds.{put-in, world-awaits}
 use Rattle.pim_course.proofs.Leading.{goes-added, goes-still, goes-then}
 use Rattle.pim_course.proofs.Numbering.{numbers-added, waits-in}
 use Rattle.pim_course.specs.Details.{details_of, mutex_details, thread_details, wait_begun}
-use Rattle.pim_course.specs.Courses.{thread_in}
 use Rattle.pim_course.specs.World.{world_of}
 use Rattle.pim_course.specs.declared.course.CourseMutex.{CourseMutex}
-use Rattle.pim_course.specs.declared.course.CourseThread.{CourseThread}
 use Rattle.pim_course.proofs.Detailing.{puts-waiter}
 use Rattle.pim_course.proofs.course.Course.wait.Goals as goal
 
@@ -63,6 +61,7 @@ returns-clause-details c lt =
     let t = c.args.thread in
     let m = c.args.mutex in
     let owner = c.args.owner in
+    let sources = c.args.sources.now in
     let s : Course = c.section_of-section.new.self in
     let items : c.put_thread.new.self.mutexes.items ≡ s.mutexes.items =
     ap (λ d. d.mutexes.items) c.put_thread.ensures.rest in
@@ -70,9 +69,12 @@ returns-clause-details c lt =
     (ap (λ d. d.threads.items) c.put_mutex.ensures.rest ∙ c.put_thread.ensures.threads)
     (put-in c.put_thread.new.self.mutexes.items s.mutexes.items _ _ _ items c.put_mutex.ensures.mutexes)
     (omega (arith, c.section_of-section.ensures.size.threads))
-    (ap (λ (y : CourseThread). record (thread_details y) { awaited_owner = owner; owner_at = c.owner_at-owner_at.result })
-    c.thread-is.ensures
-    ∙ ap (λ place. record (thread_details (thread_in s t)) { awaited_owner = owner; owner_at = place }) c.owner_at-owner_at.ensures)
+    (λ i. record (thread_details (c.thread-is.ensures i)) {
+      awaited_owner = owner;
+      owner_at = c.owner_at-owner_at.ensures i;
+      was_above = c.is_above-was_above.ensures i;
+    })
     (ap (λ (z : CourseMutex). mutex_details z) c.mutex-awaited.ensures ∙ ap (λ l. mutex_details (get_or l m free)) items)
-    ∙ ap (λ w. wait_begun w t m owner (details_of s)) c.section_of-section.ensures.still.world
-    ∙ ap (wait_begun (world_of c.args.self.now) t m owner) c.section_of-section.ensures.details
+    (ap (λ d. d.is_contradiction) c.put_mutex.ensures.rest ∙ ap (λ d. d.is_contradiction) c.put_thread.ensures.rest)
+    ∙ ap (λ w. wait_begun sources w t m owner (details_of s)) c.section_of-section.ensures.still.world
+    ∙ ap (wait_begun sources (world_of c.args.self.now) t m owner) c.section_of-section.ensures.details
