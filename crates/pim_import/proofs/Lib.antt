@@ -4,3 +4,4 @@ pub mod Naming
 pub mod Keeping
 pub mod KeptSections
 pub mod Whole
+pub mod OneWay

@@ -216,11 +216,12 @@ pub record AreOfLog (bytes : List ℕ) (waits : List Wait) (sources : Sources) :
   pub asked : FindsAskedFrom bytes sources.ids sources.next_owners 1
   pub requests : All (IsShown bytes sources.ids waits) sources.requests.list.items
 
--- The findings are those of the log, with the threads and mutexes that it names, of the facts of critical sections that are
--- kept so.
+-- The findings are those of the log, with the threads and mutexes that it names, of the facts in the trace: those of the critical
+-- sections that the facts on the same way must keep, or all.
 pub record IsOfLog (bytes : List ℕ) (waits : List Wait) (is_all : Bool) (imported : Imported) : Type 0 where
   pub sources : IsLog bytes → AreOfLog bytes waits imported.sources
   pub sections : CriticalSections
-  pub keeps : KeepsThoseOfLog bytes imported.sources is_all sections
   pub follows : FollowsLog bytes imported.sources sections (length imported.sources.ids.threads.items)
       (length imported.sources.ids.mutexes.items) imported.built
+  pub keeps : IsLog bytes → KeepsThoseOf is_all (room_of bytes imported.sources)
+      (facts_of imported.sources (follows.last ∷ follows.before)) sections
