@@ -234,7 +234,9 @@ below-told n sources world depth number t id (event.Thread _ priority) lt = tt
 below-told n sources world depth number t id (event.Name _) lt = tt
 below-told n sources world depth number t id event.Create lt = tt
 below-told n sources world depth number t id event.Exit lt = tt
-below-told n sources world depth number t id (event.Priority _ priority) lt = below-if n _ [] (did (Level (level_by priority (world.level id))) id 0) tt (below-did n (Level _) id 0 (λ e. absurd (cc)))
+below-told n sources world depth number t id (event.Priority _ priority) lt =
+    below-if n _ [] (did (Level (level_by priority (world.level id))) id 0) tt
+    (below-did n (Level _) id 0 (λ e. absurd (cc)))
 below-told n sources world depth number t id event.Fork lt = tt
 below-told n sources world depth number t id (event.Child _) lt = tt
 below-told n sources world depth number t id event.Exec lt = tt
@@ -255,7 +257,8 @@ below-told n sources world depth number t id (event.Granted said _ _) lt =
     (below-both n _ (freed_told world id (Some t)) (below-called n sources world t id said)
     (below-freed n world id (Some t) (world.owner id)))
     (below-did n Granted t id (λ e. absurd (cc))))
-below-told n sources world depth number t id (event.Failed _ _ _) lt = below-if n _ [] (did GaveUp t id) tt (below-did n GaveUp t id (λ e. absurd (cc)))
+below-told n sources world depth number t id (event.Failed _ _ _) lt =
+    below-if n _ [] (did GaveUp t id) tt (below-did n GaveUp t id (λ e. absurd (cc)))
 below-told n sources world depth number t id (event.Release _ _) lt =
     below-if n _ [] _ tt (below-both n (gave_up_told world t None) _ (below-gave-up n world t None)
     (below-did n (Released _) t id (λ e. absurd (cc))))

@@ -8,8 +8,9 @@
 //! (specs/Told.antt), and that they lead from the one to the other: only a free mutex is granted, only its owner releases
 //! it, a thread awaits one mutex at a time, and nothing changes but what the facts say (specs/World.antt;
 //! [`reading_law`] says it of each record of a log). Each fact but a level has the number of its critical section. No other
-//! section has it, if there are fewer than 2^32 - 1 (specs/Sections.antt, [`sections_law`]). Beside the facts it knows whose
-//! the mutex is for which a thread waits, places in the code, and whether the record contradicts others (specs/Details.antt).
+//! section has it, if there are fewer than 2^32 - 1 (specs/Sections.antt, [`sections_law`]). At each mutex the threads that
+//! wait are counted (specs/Waiting.antt, [`counted_law`]). Beside the facts it knows whose the mutex is for which a thread
+//! waits, places in the code, and whether the record contradicts others (specs/Details.antt).
 //!
 //! ```text
 //! let mut walk = Walk::new(alloc, &sources.ids)?;

@@ -5,3 +5,4 @@ pub mod Keeping
 pub mod KeptSections
 pub mod Whole
 pub mod OneWay
+pub mod Waiting

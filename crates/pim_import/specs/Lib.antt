@@ -2,3 +2,4 @@ pub mod Tallies
 pub mod Following
 pub mod KeptSections
 pub mod LeftOut
+pub mod Waiting

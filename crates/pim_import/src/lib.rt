@@ -15,7 +15,7 @@
 //! [`TraceBuilder`](pim_builder::TraceBuilder) makes the steps and cuts the pieces.
 //!
 //! [`whole_law`] has no code: its contract says that what the trace is without are whole critical
-//! sections.
+//! sections. That of [`nobody_law`] says that nobody waits for a mutex of which a fact is left out since none is counted.
 #![tactic(auto)]
 
 mod critical_sections;
@@ -26,5 +26,5 @@ mod seen;
 mod tally;
 
 pub use importing::{Built, ImportOptions, Imported, import_log};
-pub use laws::whole_law;
+pub use laws::{nobody_law, whole_law};
 pub use tally::Tally;
