@@ -1,12 +1,11 @@
 -- Sums over numbers, and sections at the same mutexes.
-use Rattle.std.proofs.Common.{◌≡◌, ℕ, zero, suc, ◌+◌, ◌<◌, ◌≤◌, ◌&&◌, nat_lt, not, ◌==◌, Bool, cond, List, [], ◌∷◌, length, get_or, filter, All, Contains, refl, sym, ap, subst, ◌∙◌, arith, inl, inr}
+use Rattle.std.proofs.Common.{◌≡◌, ℕ, zero, suc, ◌+◌, ◌<◌, ◌≤◌, ◌&&◌, nat_lt, not, ◌==◌, Bool, cond, List, [], ◌∷◌, length, get_or, filter, Contains, refl, sym, ap, subst, ◌∙◌, arith, inl, inr}
 use Rattle.std.proofs.lemmas.Bool.{and_parts, cases_lt, le-ltb, lt-ltb, ltb-true}
-use Rattle.std.proofs.lemmas.List.Elements.{All-weaker}
 use Rattle.std.specs.Bool.{IsTrue}
 use Rattle.pim_blocking.specs.declared.section.Section.{Section}
 use Rattle.pim_blocking.specs.declared.bounds.Per.{Per}
 use Rattle.pim_blocking.specs.declared.bounds.Bound.{Bound}
-use Rattle.pim_blocking.specs.Bounds.{IsBound, blocking, blocks, capped, is_used, is_used_below, longest_of_number, sum_below}
+use Rattle.pim_blocking.specs.Bounds.{IsBound, blocking, blocks, capped, is_used, is_used_below, longest_of_number, sum_below, sum_of_longest}
 use Rattle.pim_blocking.specs.Reached.{IsReached, by_nesting, by_use, is_in}
 use Rattle.pim_blocking.proofs.Reaching.{outside}
 
@@ -21,7 +20,7 @@ sum-same (suc n) f g same =
 pub sum-of-longest : (per : Per) (count n : ℕ) (sections these : List Section) (items durations : List ℕ) (result : ℕ) →
     result ≡ capped (sum_below (length durations) (λ u. get_or durations u 0)) → durations ≡ items → length items ≡ count → count ≡ n →
     ((u : ℕ) → u < count → get_or items u 0 ≡ longest_of_number per sections u) → sections ≡ these →
-    result ≡ capped (sum_below n (longest_of_number per these))
+    result ≡ sum_of_longest per n these
 sum-of-longest per count n sections these items durations result is same len counted each blocking =
     is ∙ ap (λ d. capped (sum_below (length d) (λ u. get_or d u 0))) same
     ∙ ap (λ l. capped (sum_below l (λ u. get_or items u 0))) (len ∙ counted)
@@ -80,13 +79,6 @@ bound-inner k n seen f g same bound b = record {
         λ h. (b.reached m).1 (reached-inner k used g f below (λ i lt. sym (same i lt)) m h),
       );
   under_inherit = b.under_inherit;
+  sections = b.sections;
   under_protect = b.under_protect;
 }
-
--- the same of each, where there are n threads and k mutexes
-pub bounds-are : (n k count mutexes : ℕ) (seen : List Section) (f g : ℕ → List ℕ) (bounds : List Bound) → count ≡ n → mutexes ≡ k →
-    ((m : ℕ) → m < mutexes → f m ≡ g m) → All (IsBound count mutexes seen f) bounds → All (IsBound n k seen g) bounds
-bounds-are n k count mutexes seen f g bounds counted numbered same all =
-    subst (λ c. All (IsBound c k seen g) bounds) counted
-    (subst (λ m. All (IsBound count m seen g) bounds) numbered
-    (All-weaker (IsBound count mutexes seen f) (IsBound count mutexes seen g) (bound-inner mutexes count seen f g same) bounds all))

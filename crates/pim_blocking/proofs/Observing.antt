@@ -212,3 +212,7 @@ ok-then (Err e) f h = tt
 pub if-ok : {T E P Q : Type 0} (r : Result T E) → (P → Q) → IfOk r (λ _. P) → IfOk r (λ _. Q)
 if-ok (Ok x) f h = f h
 if-ok (Err e) f h = tt
+
+pub if-ok-of : {T E : Type 0} (r : Result T E) (P Q : T → Type 0) → ((x : T) → P x → Q x) → IfOk r P → IfOk r Q
+if-ok-of (Ok x) P Q f h = f x h
+if-ok-of (Err e) P Q f h = tt

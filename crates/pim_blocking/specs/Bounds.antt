@@ -1,12 +1,10 @@
 -- What a thread can be blocked for by threads of lower levels: L. Sha, R. Rajkumar, J. P. Lehoczky, Priority Inheritance
 -- Protocols, 1990. The critical sections are those that were observed: a longer one isn't known.
-use Rattle.std.specs.Prelude.{◌≡◌, ◌↔◌, IsTrue, ℕ, zero, suc, ◌+◌, ◌==◌, nat_lt, nat_le, ◌&&◌, ◌||◌, not, Bool, List, length, filter, fold, max, min, All}
+use Rattle.std.specs.Prelude.{◌≡◌, ◌↔◌, IsTrue, ℕ, zero, suc, ◌+◌, ◌==◌, nat_lt, nat_le, ◌&&◌, ◌||◌, not, Bool, List, [], ◌∷◌, ◌++◌, length, slice_index_or, filter, fold, max, min, if◌then◌else◌}
 use Rattle.std.specs.List.{list_any}
-use Rattle.pim_orders.specs.declared.nesting.Order.{Order}
-use Rattle.pim_blocking.specs.Observed.{AreLongest, KnowsSections, Moment, all_sections}
-use Rattle.pim_blocking.specs.Reached.{IsReached, inner_of}
+use Rattle.std.specs.List.Sorted.{IsPermutation, IsSortedBy, IsStableBy}
+use Rattle.pim_blocking.specs.Reached.{IsReached}
 use Rattle.pim_blocking.specs.declared.section.Section.{Section}
-use Rattle.pim_blocking.specs.declared.bounds.Blocking.{Blocking}
 use Rattle.pim_blocking.specs.declared.bounds.Bound.{Bound}
 use Rattle.pim_blocking.specs.declared.bounds.Per.{Per}
 use Rattle.pim_blocking.specs.declared.bounds.Per.TheVariants as per
@@ -50,26 +48,54 @@ sum_below (suc n) f = sum_below n f + f n
 abbrev pub capped : ℕ → ℕ
 capped n = min n 18446744073709551615
 
+-- whether what is left of a number is so long, and not 0
+abbrev pub is_left : List ℕ → ℕ → ℕ → Bool
+is_left longest number lasted =
+    nat_lt number (length longest) && (nat_lt 0 lasted && (slice_index_or longest number 0 == lasted))
+
+-- the sum of the longest sections of the threads or at the mutexes below a number
+abbrev pub sum_of_longest : Per → ℕ → List Section → ℕ
+sum_of_longest per count sections = capped (sum_below count (longest_of_number per sections))
+
+-- whether a section of a number below count is longer than each earlier one of its number, and no later one is longer
+abbrev pub is_first_longest : Per → ℕ → List Section → Section → List Section → Bool
+is_first_longest per count earlier s later =
+    nat_lt (number_of per s) count && (nat_lt (longest_of_number per earlier (number_of per s)) s.lasted
+    && nat_le (longest_of_number per later (number_of per s)) s.lasted)
+
+-- of these sections, behind these earlier ones, the first longest of each number below count; none that took no time
+abbrev pub first_longest : Per → ℕ → List Section → List Section → List Section
+first_longest per count earlier [] = []
+first_longest per count earlier (s ∷ later) =
+    if is_first_longest per count earlier s later then s ∷ first_longest per count (earlier ++ s ∷ []) later
+    else first_longest per count (earlier ++ s ∷ []) later
+
+-- the sections that make the smaller sum, where there are n threads and k mutexes: those of the threads if both are equal
+abbrev pub summed : ℕ → ℕ → List Section → List Section
+summed n k sections =
+    if nat_le (sum_of_longest per.Thread n sections) (sum_of_longest per.Mutex k sections) then first_longest per.Thread n [] sections
+    else first_longest per.Mutex k [] sections
+
+-- whether a section is longer than another
+abbrev pub is_longer : Section → Section → Bool
+is_longer one other = nat_lt other.lasted one.lasted
+
+-- These sections are listed with the longest first, and equally long ones in their order.
+pub record IsLongestFirst (sections listed : List Section) : Type 0 where
+  pub these : IsPermutation sections listed
+  pub longest_first : IsSortedBy is_longer listed
+  pub in_order : IsStableBy is_longer sections listed
+
 -- A thread can be blocked for so long at most, where there are n threads and k mutexes, by mutex those that threads asked
 -- for while they owned it. Under INHERIT: for one section of each lower thread, and for one at each mutex, of those at the
--- mutexes that are reached from the ones used at its level. Under PROTECT: for one section at one that is used so.
+-- mutexes that are reached from the ones used at its level. Under PROTECT: for one section at one that is used so. Those that make
+-- the bound under INHERIT are listed.
 pub record IsBound (n k : ℕ) (seen : List Section) (inner : ℕ → List ℕ) (bound : Bound) : Type 0 where
   pub at : ℕ → Bool
   pub reached : (m : ℕ) → IsTrue (at m) ↔ IsReached k (is_used_below k seen bound.thread bound.level) inner m
   pub under_inherit : bound.under_inherit ≡ min
-      (capped (sum_below n (longest_of_number per.Thread (blocking at seen bound.thread bound.level))))
-      (capped (sum_below k (longest_of_number per.Mutex (blocking at seen bound.thread bound.level))))
+      (sum_of_longest per.Thread n (blocking at seen bound.thread bound.level))
+      (sum_of_longest per.Mutex k (blocking at seen bound.thread bound.level))
+  pub sections : IsLongestFirst (summed n k (blocking at seen bound.thread bound.level)) bound.sections.items
   pub under_protect : bound.under_protect ≡
       longest_in (blocking (is_used_below k seen bound.thread bound.level) seen bound.thread bound.level)
-
--- What is known of n threads and k mutexes are the sections that these facts show.
-pub record Knows (n k : ℕ) (facts : List Moment) (blocking : Blocking) : Type 0 where
-  pub threads : length blocking.threads.items ≡ n
-  pub sections : KnowsSections k facts blocking.sections
-
--- Each is a bound by these facts, at this end of the log, if threads took mutexes in these orders: by the longest section of
--- each user.
-pub record AreBounds (n k : ℕ) (facts : List Moment) (time : ℕ) (orders : List Order) (bounds : List Bound) : Type 0 where
-  pub seen : List Section
-  pub longest : AreLongest (all_sections k facts time) seen
-  pub each : All (IsBound n k seen (inner_of orders)) bounds

@@ -1,4 +1,6 @@
 pub mod Sections
 pub mod Observed
+pub mod Blocked
 pub mod Reached
 pub mod Bounds
+pub mod Listed

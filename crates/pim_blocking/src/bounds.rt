@@ -1,10 +1,14 @@
 //! What threads of real-time priority can be blocked for, from what was observed.
-ghost use Rattle.std.specs.Prelude.{◌≡◌, ℕ, ◌<◌, List, [], ◌∷◌, length, All, IfOk, slice_index_or};
+ghost use Rattle.std.specs.Prelude.{◌≡◌, ℕ, ◌<◌, List, [], ◌∷◌, length, take, IfOk, slice_index_or, if◌then◌else◌};
+ghost use Rattle.std.specs.List.{position_or_len};
+ghost use Rattle.pim_facts.specs.declared.ids.Ids.{Ids};
 ghost use Rattle.pim_blocking.specs.Observed.{Moment};
-ghost use Rattle.pim_blocking.specs.Bounds.{AreBounds, IsBound, Knows, blocking, blocks, capped, is_used, longest_in, longest_of_number, number_of, sum_below};
+ghost use Rattle.pim_blocking.specs.Bounds.{IsBound, IsLongestFirst, blocking, blocks, capped, first_longest, is_left, is_used, longest_in, longest_of_number, number_of, sum_below};
+ghost use Rattle.pim_blocking.specs.Listed.{AreBounds, AreListed, Knows, is_blocked, is_smaller, placed};
+ghost use Rattle.pim_blocking.specs.Blocked.{level_at, waited_at};
 ghost use Rattle.pim_blocking.specs.Reached.{inner_in, is_in};
 
-use crate::blocked::{Blocked, blocked_by_thread};
+use crate::blocked::{Blocked, blocked_by_thread, look_at};
 use crate::nested::Nested;
 use crate::section::Section;
 use crate::sections::Sections;
@@ -12,15 +16,9 @@ use pim_course::{Course, Sources};
 use pim_facts::Fact;
 use pim_orders::Order;
 use std::alloc::{AllocError, Global};
-use std::cmp::Reverse;
 
 /// How many bounds are kept.
 pub const BOUNDS: usize = 10;
-
-/// The levels of SCHED_FIFO and SCHED_RR.
-const LOWEST: u8 = 1;
-
-const HIGHEST: u8 = 99;
 
 /// What a thread can be blocked for by threads of lower levels, from what was observed.
 #[derive(Drop)]
@@ -60,8 +58,7 @@ impl Blocking {
     ///
     /// Returns `AllocError` if out of memory.
     pub fn new(alloc: Global, sources: &Sources) -> Result<Blocking, AllocError>
-        ensures { IfOk result
-            (Knows (length sources.now.ids.threads.items) (length sources.now.ids.mutexes.items) []) }
+        ensures { IfOk result (Knows sources.now.ids []) }
     {
         Ok(Blocking {
             sections: Sections::new(alloc, sources.ids.mutexes.len())?,
@@ -75,13 +72,10 @@ impl Blocking {
     ///
     /// Returns `AllocError` if out of memory.
     pub fn look(&mut self, course: &Course, fact: &Fact, time: u64) -> Result<(), AllocError>
-        ensures { IfOk result (λ _. (n k : ℕ) (facts : List Moment) → Knows n k facts self.old →
-            Knows n k (record { fact = fact.now; time = time; course = course.now } ∷ facts) self.new) }
+        ensures { IfOk result (λ _. (ids : Ids) (facts : List Moment) → Knows ids facts self.old →
+            Knows ids (record { fact = fact.now; time = time; course = course.now } ∷ facts) self.new) }
     {
-        let thread = fact.thread as usize;
-        if thread < self.threads.len() {
-            self.threads[thread].look(course, fact, time);
-        }
+        look_at(&mut self.threads, course, fact, time);
         self.sections.look(course, fact, time)
     }
 
@@ -99,19 +93,34 @@ impl Blocking {
         orders: &[Order],
         time: u64,
     ) -> Result<Vec<Bound>, AllocError>
-        ensures { IfOk result (λ bounds. (n k : ℕ) (facts : List Moment) → Knows n k facts self.old →
-            AreBounds n k facts time orders.now bounds.items) }
+        ensures { IfOk result (λ bounds. (ids : Ids) (facts : List Moment) → Knows ids facts self.old →
+            AreBounds ids facts time orders.now bounds.items) }
     {
         self.sections.end(time)?;
         let seen = self.sections.seen(alloc)?;
         let nested = Nested::of(alloc, orders, self.sections.mutexes())?;
+        self.listed(alloc, &seen, &nested, time)
+    }
+
+    /// Returns the same by the longest section of each user.
+    fn listed(
+        &self,
+        alloc: Global,
+        seen: &[Section],
+        nested: &Nested,
+        time: u64,
+    ) -> Result<Vec<Bound>, AllocError>
+        ensures { IfOk result (λ bounds. AreListed (length self.now.threads.items) (length self.now.sections.open.items)
+            (level_at self.now.threads.items) (waited_at time self.now.threads.items) seen.now (inner_in nested.now)
+            (length self.now.threads.items) bounds.items) }
+    {
         let mut bounds = Vec::new(alloc);
         for place in 0..self.threads.len() {
             let mut blocked = self.threads[place];
             blocked.end(time);
-            if blocked.level >= LOWEST && blocked.level <= HIGHEST {
+            if blocked.is_real_time() {
                 let thread = place.min(u32::MAX as usize) as u32;
-                let bound = self.bound_of(alloc, &seen, &nested, thread, &blocked)?;
+                let bound = self.bound_of(alloc, seen, nested, thread, &blocked)?;
                 keep(&mut bounds, bound)?;
             }
         }
@@ -134,7 +143,10 @@ impl Blocking {
         thread: u32,
         blocked: &Blocked,
     ) -> Result<Bound, AllocError>
-        ensures { IfOk result (IsBound (length self.now.threads.items) (length self.now.sections.open.items) seen.now (inner_in nested.now)) }
+        ensures bound { IfOk result (IsBound (length self.now.threads.items) (length self.now.sections.open.items) seen.now (inner_in nested.now)) }
+        ensures thread { IfOk result (λ bound. bound.thread ≡ thread) }
+        ensures level { IfOk result (λ bound. bound.level ≡ blocked.now.level) }
+        ensures waited { IfOk result (λ bound. bound.waited ≡ blocked.now.waited) }
     {
         let level = blocked.level;
         let threads = self.thread_count();
@@ -174,16 +186,15 @@ impl Per {
     }
 }
 
-/// Puts a bound in front of the first smaller one, and keeps the first [`BOUNDS`].
+/// Puts a bound in front of the first smaller one, unless it is 0, and keeps the first [`BOUNDS`].
 fn keep(bounds: &mut Vec<Bound>, bound: Bound) -> Result<(), AllocError>
-    ensures { IfOk result (λ _. (n k : ℕ) (seen : List Section) (inner : ℕ → List ℕ) →
-        All (IsBound n k seen inner) bounds.old.items → IsBound n k seen inner bound →
-        All (IsBound n k seen inner) bounds.new.items) }
+    ensures { IfOk result (λ _. bounds.new.items ≡
+        (if is_blocked bound then take BOUNDS (placed bound bounds.old.items) else bounds.old.items)) }
 {
-    let place = place_of(bounds, bound.under_inherit).min(bounds.len());
-    if bound.under_inherit == 0 || place >= BOUNDS {
+    if bound.under_inherit == 0 {
         return Ok(());
     }
+    let place = place_of(bounds, bound.under_inherit);
     if bounds.insert(place, bound).is_err() {
         return Err(AllocError);
     }
@@ -192,7 +203,9 @@ fn keep(bounds: &mut Vec<Bound>, bound: Bound) -> Result<(), AllocError>
 }
 
 /// Returns the place of the first bound that is smaller, or how many there are.
-fn place_of(bounds: &[Bound], under_inherit: u64) -> usize {
+fn place_of(bounds: &[Bound], under_inherit: u64) -> usize
+    ensures { result ≡ position_or_len (is_smaller under_inherit) bounds.now }
+{
     for (place, other) in bounds.iter().enumerate() {
         if other.under_inherit < under_inherit {
             return place;
@@ -301,16 +314,34 @@ fn summed(
     sections: &[Section],
     per: Per,
     longest: Vec<u64>,
-) -> Result<Vec<Section>, AllocError> {
+) -> Result<Vec<Section>, AllocError>
+    ensures { IfOk result (λ summed.
+        ((n : ℕ) → n < length longest.items → slice_index_or longest.items n 0 ≡ longest_of_number per sections.now n) →
+        IsLongestFirst (first_longest per (length longest.items) [] sections.now) summed.items) }
+{
     let mut longest = longest;
     let mut summed = Vec::new(alloc);
     for section in sections {
         let number = per.number(section);
-        if number < longest.len() && section.lasted > 0 && longest[number] == section.lasted {
+        if is_left(&longest, number, section.lasted) {
             longest[number] = 0;
             summed.push(*section)?;
         }
     }
-    summed.sort_by_key(|section: &Section| Reverse(section.lasted))?;
+    sort(&mut summed)?;
     Ok(summed)
+}
+
+/// Returns whether what is left of a number is so long, and not 0.
+fn is_left(longest: &[u64], number: usize, lasted: u64) -> bool
+    ensures { result ≡ is_left longest.now number lasted }
+{
+    number < longest.len() && lasted > 0 && longest[number] == lasted
+}
+
+/// Sorts sections with the longest first. Equally long ones keep their order.
+fn sort(sections: &mut Vec<Section>) -> Result<(), AllocError>
+    ensures { IfOk result (λ _. IsLongestFirst sections.old.items sections.new.items) }
+{
+    sections.sort_by(|one: &Section, other: &Section| other.lasted.cmp(&one.lasted))
 }

@@ -4,8 +4,8 @@
 //! [`Blocking`] learns from each [`Fact`](pim_facts::Fact) of a log, in order, beside the
 //! [`Course`](pim_course::Course) of the program: of each user of a mutex it keeps the longest
 //! [`Section`]. From these and from the orders in which threads took mutexes it computes a [`Bound`] for
-//! each thread, under INHERIT and under PROTECT. It is proved that a bound is that of specs/Bounds.antt
-//! for these sections and orders.
+//! each thread, under INHERIT and under PROTECT. It is proved that the greatest are returned, as
+//! specs/Listed.antt says, and each is that of specs/Bounds.antt.
 //!
 //! ```text
 //! let mut blocking = Blocking::new(alloc, &sources)?;

@@ -1,7 +1,7 @@
 //! The longest critical sections of a program.
 ghost use Rattle.std.specs.Prelude.{◌≡◌, ℕ, ◌==◌, ◌&&◌, nat_lt, List, [], ◌∷◌, length, slice_index_or, if◌then◌else◌, Some, None, IfOk, OnOk};
 ghost use Rattle.pim_blocking.specs.Observed.{AreLongest, KeepsAll, KnowsSections, Moment, all_sections, and_ended, open_at, user_of};
-ghost use Rattle.pim_blocking.specs.Sections.{KeepsLongest};
+ghost use Rattle.pim_blocking.specs.Sections.{AreInOrder, KeepsLongest};
 ghost use Rattle.pim_blocking.specs.declared.section.Section as declared;
 
 use crate::section::{Section, User};
@@ -86,13 +86,14 @@ impl Sections {
         Ok(())
     }
 
-    /// Returns the longest section of each user that ended, in the order of threads.
+    /// Returns the longest section of each user that ended, in the order of the users.
     ///
     /// # Errors
     ///
     /// Returns `AllocError` if out of memory.
     pub fn seen(&self, alloc: Global) -> Result<Vec<Section>, AllocError>
-        ensures { IfOk result (λ seen. (all : List declared.Section) → KeepsAll all self.now → AreLongest all seen.items) }
+        ensures longest { IfOk result (λ seen. (all : List declared.Section) → KeepsAll all self.now → AreLongest all seen.items) }
+        ensures order { IfOk result (λ seen. AreInOrder seen.items) }
     {
         let mut seen = Vec::new(alloc);
         for (user, lasted) in &self.longest {

@@ -3,7 +3,8 @@ use Rattle.std.proofs.Common.{◌≡◌, ℕ, ◌<◌, cond, List, ◌∷◌, sy
 use Rattle.std.proofs.lemmas.Bool.{lt-ltb}
 use Rattle.pim_orders.specs.Nestings as nesting
 use Rattle.pim_orders.specs.Seen as nested
-use Rattle.pim_blocking.specs.Bounds as blocking
+use Rattle.pim_facts.specs.declared.ids.Ids.{Ids}
+use Rattle.pim_blocking.specs.Listed as blocking
 use Rattle.pim_findings.specs.Bounds.{KnowsSections, observed_of}
 use Rattle.pim_findings.specs.Orders.{KnowsOrders, nested_of}
 use Rattle.pim_findings.specs.Waits.{Moment}
@@ -26,6 +27,6 @@ orders-kept n facts old new same = subst (nested.Knows n (nested_of facts)) (sym
 -- ---- critical sections
 
 -- the same facts, and the sections as they were
-pub sections-kept : (n k : ℕ) (facts : List Moment) (old new : Findings) → new.blocking ≡ old.blocking →
-    KnowsSections n k facts old → KnowsSections n k facts new
-sections-kept n k facts old new same = subst (blocking.Knows n k (observed_of facts)) (sym same)
+pub sections-kept : (ids : Ids) (facts : List Moment) (old new : Findings) → new.blocking ≡ old.blocking →
+    KnowsSections ids facts old → KnowsSections ids facts new
+sections-kept ids facts old new same = subst (blocking.Knows ids (observed_of facts)) (sym same)

@@ -12,7 +12,8 @@ ghost use Rattle.pim_findings.specs.Queue.{KeepsQueue, before_at, protects_at, q
 ghost use Rattle.pim_findings.specs.Ownerships.{IsLongest, Owns, and_since, mutex_at};
 ghost use Rattle.pim_findings.specs.Bounds.{FindsBounds, KnowsSections};
 ghost use Rattle.pim_findings.specs.Orders.{KnowsOrders};
-ghost use Rattle.pim_blocking.specs.Bounds as blocking;
+ghost use Rattle.pim_blocking.specs.Listed as blocking;
+ghost use Rattle.pim_facts.specs.declared.ids.Ids.{Ids};
 ghost use Rattle.pim_blocking.specs.Observed as observed;
 ghost use Rattle.pim_orders.specs.Nestings as nesting;
 ghost use Rattle.pim_orders.specs.Opposites.{AreOpposites};
@@ -58,8 +59,7 @@ impl Findings {
         ensures lists { IfOk result (λ found. is_some found.waits.all ≡ lists_waits) }
         ensures waits { IfOk result (λ found. Finds (length sources.now.ids.threads.items) (length sources.now.ids.mutexes.items) [] found) }
         ensures orders { IfOk result (λ found. nested.Knows (length sources.now.ids.threads.items) [] found.orders) }
-        ensures sections { IfOk result (λ found.
-            KnowsSections (length sources.now.ids.threads.items) (length sources.now.ids.mutexes.items) [] found) }
+        ensures sections { IfOk result (KnowsSections sources.now.ids []) }
         ensures owns { IfOk result (λ found. Owns (length sources.now.ids.mutexes.items) [] found) }
         ensures hand_overs { IfOk result (λ found.
             HandsOver (length sources.now.ids.threads.items) (length sources.now.ids.mutexes.items) [] found) }
@@ -114,8 +114,8 @@ impl Findings {
         ensures mutexes { self.new.mutexes ≡ self.old.mutexes }
         ensures orders { IfOk result (λ _. (n : ℕ) (facts : List nesting.Moment) → nested.Knows n facts self.old.orders →
             nested.Knows n (nested.and_fact n (record { fact = fact.now; course = course.now }) facts) self.new.orders) }
-        ensures sections { IfOk result (λ _. (n k : ℕ) (facts : List observed.Moment) → blocking.Knows n k facts self.old.blocking →
-            blocking.Knows n k (record { fact = fact.now; time = time; course = course.now } ∷ facts) self.new.blocking) }
+        ensures sections { IfOk result (λ _. (ids : Ids) (facts : List observed.Moment) → blocking.Knows ids facts self.old.blocking →
+            blocking.Knows ids (record { fact = fact.now; time = time; course = course.now } ∷ facts) self.new.blocking) }
     {
         self.blocking.look(course, fact, time)?;
         self.orders.look(course, fact)
@@ -305,8 +305,8 @@ impl Findings {
         ensures deadlocks { IfOk result (λ _. AreCycles (blocker_of course.now) (threads_of self.new.deadlocks.items)) }
         ensures opposites { IfOk result (λ _. (n : ℕ) (facts : List nesting.Moment) → nested.Knows n facts self.old.orders →
             AreOpposites (nesting.nestings facts) self.new.opposites.items) }
-        ensures bounds { IfOk result (λ _. (n k : ℕ) (facts : List Moment) → KnowsOrders n facts self.old →
-            KnowsSections n k facts self.old → FindsBounds n k facts time self.new) }
+        ensures bounds { IfOk result (λ _. (n : ℕ) (ids : Ids) (facts : List Moment) → KnowsOrders n facts self.old →
+            KnowsSections ids facts self.old → FindsBounds ids facts time self.new) }
     {
         for thread in 0..self.waiting.threads() {
             self.end_wait(thread, time, true)?;

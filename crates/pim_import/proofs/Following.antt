@@ -18,6 +18,7 @@ use Rattle.pim_course.specs.declared.walk.Walk.{Walk}
 use Rattle.pim_facts.specs.Shown.{shown_in}
 use Rattle.pim_requests.specs.Laws.{HasBoth}
 use Rattle.pim_facts.specs.declared.fact.Fact.{Fact}
+use Rattle.pim_facts.specs.declared.ids.Ids.{Ids}
 use Rattle.pim_findings.proofs.Following.{finds-kept}
 use Rattle.pim_findings.proofs.Handing.{handed-kept}
 use Rattle.pim_findings.proofs.Nested.{orders-kept, sections-kept}
@@ -100,14 +101,14 @@ OrdersMore m old new =
 
 -- the critical sections are those with one more fact
 abbrev pub SectionsMore : Moment → Findings → Findings → Type 0
-SectionsMore m old new = (n k : ℕ) (facts : List Moment) → KnowsSections n k facts old → KnowsSections n k (m ∷ facts) new
+SectionsMore m old new = (ids : Ids) (facts : List Moment) → KnowsSections ids facts old → KnowsSections ids (m ∷ facts) new
 
 -- one more fact, of a thread of the log, which isn't kept
-pub knows_without : (n k : ℕ) (sections : CriticalSections) (m : Moment) (facts : List Moment) (old new : Findings) →
+pub knows_without : (ids : Ids) (n k : ℕ) (sections : CriticalSections) (m : Moment) (facts : List Moment) (old new : Findings) →
     m.fact.thread < length old.waiting.open.items → is_kept sections m.fact ≡ false → IsSpared sections m →
     KeepsWaits old new → new.mutexes ≡ old.mutexes → new.waiting ≡ old.waiting → OrdersMore m old new → SectionsMore m old new →
-    Knows n k sections facts old → Knows n k sections (m ∷ facts) new
-knows_without n k sections m facts old new inside is spared keeps same waiting orders shown knows =
+    Knows ids n k sections facts old → Knows ids n k sections (m ∷ facts) new
+knows_without ids n k sections m facts old new inside is spared keeps same waiting orders shown knows =
     let rest : List Moment = kept_of sections facts in
     let below : m.fact.thread < n = subst (λ l. m.fact.thread < l) knows.finds.threads inside in
     record {
@@ -116,21 +117,21 @@ knows_without n k sections m facts old new inside is spared keeps same waiting o
       hand_overs = subst (λ b. HandsOver n k (cond b (m ∷ rest) rest) new) (sym is)
           (handed-kept n k rest old new same waiting knows.hand_overs);
       orders = orders n facts below knows.orders;
-      observed = shown n k facts knows.observed;
+      observed = shown ids facts knows.observed;
       threads = All-cons (IsOfThread n) m facts below knows.threads;
       spared = All-cons (IsSpared sections) m facts spared knows.spared;
     }
 
 -- one more fact, of a thread of the log, which is kept
-pub knows_with : (n k : ℕ) (sections : CriticalSections) (m : Moment) (facts : List Moment) (old mid new : Findings) →
+pub knows_with : (ids : Ids) (n k : ℕ) (sections : CriticalSections) (m : Moment) (facts : List Moment) (old mid new : Findings) →
     m.fact.thread < length old.waiting.open.items → IsKept sections m.fact →
     KeepsWaits old mid → mid.mutexes ≡ old.mutexes → mid.waiting ≡ old.waiting → OrdersMore m old mid → SectionsMore m old mid →
     new.orders ≡ mid.orders → new.blocking ≡ mid.blocking →
     ((rest : List Moment) → Finds n k rest mid → Finds n k (and_fact n m rest) new) →
     ((rest : List Moment) → Owns k rest mid → Owns k (m ∷ rest) new) →
     ((rest : List Moment) → m.fact.thread < n → HandsOver n k rest mid → HandsOver n k (m ∷ rest) new) →
-    Knows n k sections facts old → Knows n k sections (m ∷ facts) new
-knows_with n k sections m facts old mid new inside is keeps same waiting orders shown still stays finds owns hands knows =
+    Knows ids n k sections facts old → Knows ids n k sections (m ∷ facts) new
+knows_with ids n k sections m facts old mid new inside is keeps same waiting orders shown still stays finds owns hands knows =
     let rest : List Moment = kept_of sections facts in
     let below : m.fact.thread < n = subst (λ l. m.fact.thread < l) knows.finds.threads inside in
     let kept = kept_true sections m.fact is in
@@ -142,7 +143,7 @@ knows_with n k sections m facts old mid new inside is keeps same waiting orders 
       hand_overs = subst (λ b. HandsOver n k (cond b (m ∷ rest) rest) new) (sym kept)
           (hands rest below (handed-kept n k rest old mid same waiting knows.hand_overs));
       orders = orders-kept n (m ∷ facts) mid new still (orders n facts below knows.orders);
-      observed = sections-kept n k (m ∷ facts) mid new stays (shown n k facts knows.observed);
+      observed = sections-kept ids (m ∷ facts) mid new stays (shown ids facts knows.observed);
       threads = All-cons (IsOfThread n) m facts below knows.threads;
       spared = All-cons (IsSpared sections) m facts (inl is) knows.spared;
     }
@@ -158,14 +159,14 @@ moments_more sources course time facts i d lt =
 
 -- a walk that begins went through nothing
 pub follows_begin : (bytes : List ℕ) (sources : Sources) (sections : CriticalSections) (n k : ℕ) (walk : Walk)
-    (found : Findings) → Begins sources.ids walk.course → walk.added ≡ 0 → Knows n k sections [] found →
+    (found : Findings) → Begins sources.ids walk.course → walk.added ≡ 0 → Knows sources.ids n k sections [] found →
     HasFollowed bytes sources sections n k 0 0 walk found
 follows_begin bytes sources sections n k walk found begins none knows =
     record {
       time = 0;
       before = [];
       way = record { number = refl; record_time = refl; added = none; course = begins };
-      knows = subst (λ shown. Knows n k sections (moments_of sources walk.course 0 shown ++ []) found) (sym begins.shown) knows;
+      knows = subst (λ shown. Knows sources.ids n k sections (moments_of sources walk.course 0 shown ++ []) found) (sym begins.shown) knows;
     }
 
 -- one more record
@@ -173,8 +174,8 @@ pub follows_record : (bytes : List ℕ) (sources : Sources) (sections : Critical
     (put_at : Option ℕ) (old new : Walk) (found looked : Findings) → 1 ≤ number →
     time ≡ unwrap_or put_at last → IsTimeOf bytes number put_at → new.added ≡ old.added → HasSameSize old.course new.course →
     IsLacking bytes number old.course new.course ⊎ GoesBy bytes sources number old.course new.course →
-    ((facts : List Moment) → Knows n k sections facts found →
-    Knows n k sections (moments_of sources new.course time (shown_in new.course.shown) ++ facts) looked) →
+    ((facts : List Moment) → Knows sources.ids n k sections facts found →
+    Knows sources.ids n k sections (moments_of sources new.course time (shown_in new.course.shown) ++ facts) looked) →
     HasAdded bytes sources sections n k (number - 1) last old found →
     HasFollowed bytes sources sections n k number time new looked
 follows_record bytes sources sections n k number last time put_at old new found looked
@@ -214,8 +215,8 @@ pub follows_request : (bytes : List ℕ) (sources : Sources) (sections : Critica
     AreNumbered (shown_in new.course.shown) (sections_of old.course) (sections_of new.course)) →
     happened_in new.course ≡
     option_map_or (added_told (world_of old.course)) (slice_get sources.requests.list.items old.added) [] →
-    ((facts : List Moment) → Knows n k sections facts found →
-    Knows n k sections (moments_of sources new.course time (shown_in new.course.shown) ++ facts) looked) →
+    ((facts : List Moment) → Knows sources.ids n k sections facts found →
+    Knows sources.ids n k sections (moments_of sources new.course time (shown_in new.course.shown) ++ facts) looked) →
     HasFollowed bytes sources sections n k number last old found → HasFollowed bytes sources sections n k number last new looked
 follows_request bytes sources sections n k number last time put_at request old new found looked
     next behind added put is_time size depths led numbered told step f =
@@ -257,8 +258,8 @@ pub follows_log : (bytes : List ℕ) (sources : Sources) (sections : CriticalSec
     ((facts : List Moment) → HandsOver n k facts found → (mutex : ℕ) → mutex < k →
     AreHandOvers facts mutex (mutex_at built.findings.mutexes.items mutex).hand_overs) →
     ((facts : List Moment) → KnowsOrders n facts found → FindsOpposites facts built.findings) →
-    ((facts : List Moment) → KnowsOrders n facts found → KnowsSections n k facts found →
-    FindsBounds n k facts sources.ids.ended built.findings) →
+    ((facts : List Moment) → KnowsOrders n facts found → KnowsSections sources.ids facts found →
+    FindsBounds sources.ids facts sources.ids.ended built.findings) →
     AreCycles (blocker_of walk.course) (threads_of built.findings.deadlocks.items) →
     HasAdded bytes sources sections n k (end - 1) last walk found → FollowsLog bytes sources sections n k built
 follows_log bytes sources sections n k end last walk found built is placed waits same course hands opposites bounds

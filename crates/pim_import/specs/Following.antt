@@ -8,6 +8,7 @@ use Rattle.pim_facts.specs.Covering.{Covers}
 use Rattle.pim_facts.specs.Ending.{EndsAt}
 use Rattle.pim_facts.specs.Shown.{shown_in}
 use Rattle.pim_facts.specs.declared.fact.Fact.{Fact}
+use Rattle.pim_facts.specs.declared.ids.Ids.{Ids}
 use Rattle.pim_course.specs.Going.{HasSameSize, KeepsDepths, KeepsSections}
 use Rattle.pim_course.specs.Reading.{Begins, GoesBy, HasRequest, IsTimeOf, LacksRecord}
 use Rattle.pim_course.specs.Requests.{IsBehind, IsInOrder}
@@ -135,13 +136,14 @@ abbrev pub IsSpared : CriticalSections → Moment → Type 0
 IsSpared sections m = IsKept sections m.fact ⊎ MayBeLeftOut m.course m.sources m.fact
 
 -- The findings are those of these facts, of threads below n and mutexes below k: of those that are kept the waits, the
--- ownerships and the hand-overs, and of all the orders of mutexes and the critical sections. What isn't kept may be left out.
-pub record Knows (n k : ℕ) (sections : CriticalSections) (facts : List Moment) (found : Findings) : Type 0 where
+-- ownerships and the hand-overs, and of all the orders of mutexes, and the critical sections, levels and waits of the threads of
+-- a log. What isn't kept may be left out.
+pub record Knows (ids : Ids) (n k : ℕ) (sections : CriticalSections) (facts : List Moment) (found : Findings) : Type 0 where
   pub finds : Finds n k (kept_of sections facts) found
   pub owns : Owns k (kept_of sections facts) found
   pub hand_overs : HandsOver n k (kept_of sections facts) found
   pub orders : KnowsOrders n facts found
-  pub observed : KnowsSections n k facts found
+  pub observed : KnowsSections ids facts found
   pub threads : All (IsOfThread n) facts
   pub spared : All (IsSpared sections) facts
 
@@ -156,7 +158,7 @@ pub record HasFollowed (bytes : List ℕ) (sources : Sources) (sections : Critic
   pub time : ℕ
   pub before : List Stage
   pub way : IsWay bytes sources (stage_of number record_time time walk) before
-  pub knows : Knows n k sections (facts_of sources (stage_of number record_time time walk ∷ before)) found
+  pub knows : Knows sources.ids n k sections (facts_of sources (stage_of number record_time time walk ∷ before)) found
 
 -- A walk went through a log, and added each request behind the records so far.
 pub record HasAdded (bytes : List ℕ) (sources : Sources) (sections : CriticalSections) (n k number record_time : ℕ)
@@ -170,16 +172,16 @@ pub record ArePlaced (bytes : List ℕ) (requests : List Request) : Type 0 where
   pub placed : All (IsPlaced bytes) requests
 
 -- What is found is what these facts show, of threads below n and mutexes below k, at this end of the log: of those that are
--- kept the waits, the ownerships and the hand-overs, and of all the mutexes that were taken in opposite orders, and bounds of
--- what threads can be blocked for. The deadlocks are those of the last course. What isn't kept may be left out.
-pub record AreFound (n k : ℕ) (sections : CriticalSections) (ended : ℕ) (facts : List Moment) (last : Course) (found : Findings)
-    : Type 0 where
+-- kept the waits, the ownerships and the hand-overs, and of all the mutexes that were taken in opposite orders, and the bounds
+-- of what threads of the log can be blocked for. The deadlocks are those of the last course. What isn't kept may be left out.
+pub record AreFound (ids : Ids) (n k : ℕ) (sections : CriticalSections) (ended : ℕ) (facts : List Moment) (last : Course)
+    (found : Findings) : Type 0 where
   pub waits : AreReported k (all_waits (kept_of sections facts) ended n) found.waits
   pub owns : Owns k (kept_of sections facts) found
   pub hand_overs : (mutex : ℕ) → mutex < k →
       AreHandOvers (kept_of sections facts) mutex (mutex_at found.mutexes.items mutex).hand_overs
   pub opposites : FindsOpposites facts found
-  pub bounds : FindsBounds n k facts ended found
+  pub bounds : FindsBounds ids facts ended found
   pub deadlocks : AreCycles (blocker_of last) (threads_of found.deadlocks.items)
   pub threads : All (IsOfThread n) facts
   pub spared : All (IsSpared sections) facts
@@ -193,7 +195,7 @@ pub record FollowsLog (bytes : List ℕ) (sources : Sources) (sections : Critica
   pub way : IsWay bytes sources last before
   pub number : last.number ≡ end_of (header_of bytes) - 1
   pub added : last.added ≡ length sources.requests.list.items
-  pub found : AreFound n k sections sources.ids.ended (facts_of sources (last ∷ before)) last.course built.findings
+  pub found : AreFound sources.ids n k sections sources.ids.ended (facts_of sources (last ∷ before)) last.course built.findings
   pub course : built.course ≡ last.course
 
 -- There is a way through all records of a log and all requests that it lacks, such that the critical sections in the trace

@@ -144,7 +144,7 @@ fn build(
     ensures joined { IfOk result (λ built. AreJoined built.pieces.items) }
     ensures times { IfOk result (λ built. All HasTimes built.pieces.items) }
     ensures findings { IfOk result (λ built. (n k : ℕ) → ArePlaced log.now context.now.sources.now.requests.list.items →
-        Knows n k sections.now [] findings →
+        Knows context.now.sources.now.ids n k sections.now [] findings →
         FollowsLog log.now context.now.sources.now sections.now n k built) }
     ensures fault { IfErr result (NamesOneOf (end_of (header_of log.now))) }
 {
@@ -185,7 +185,8 @@ fn play(
 ) -> Result<Tally, ImportFault>
     ensures counted { IfOk result (λ tally. total tally ≡ end - 1) }
     ensures follows { IfOk result (λ _. (n k : ℕ) → Begins context.now.sources.now.ids walk.old.course → walk.old.added ≡ 0 →
-        ArePlaced log.now context.now.sources.now.requests.list.items → Knows n k sections.now [] findings.old →
+        ArePlaced log.now context.now.sources.now.requests.list.items →
+        Knows context.now.sources.now.ids n k sections.now [] findings.old →
         (time : ℕ) × HasAdded log.now context.now.sources.now sections.now n k (end - 1) time walk.new findings.new) }
     ensures fault { IfErr result (NamesOneOf end) }
 {
@@ -252,9 +253,10 @@ fn show(
     ensures unused { IfOk result (λ is_used. is_used ≡ false → All
         (λ fact. IsSetting fact.what ⊎ MayBeLeftOut walk.now.course context.now.sources.now fact)
         (shown_in walk.now.course.shown)) }
-    ensures finds { IfOk result (λ _. (n k : ℕ) (facts : List Moment) → Knows n k sections.now facts findings.old →
+    ensures finds { IfOk result (λ _. (n k : ℕ) (facts : List Moment) →
+        Knows context.now.sources.now.ids n k sections.now facts findings.old →
         let shown = moments_of context.now.sources.now walk.now.course now.now.time (shown_in walk.now.course.shown) in
-        Knows n k sections.now (shown ++ facts) findings.new) }
+        Knows context.now.sources.now.ids n k sections.now (shown ++ facts) findings.new) }
     ensures fault { IfErr result (NamesOnly now.now.number) }
 {
     let mut is_used = false;
@@ -287,8 +289,10 @@ fn show_fact(
     ensures unused { IfOk result (λ is_used. is_used ≡ false →
         IsSetting fact.now.what ⊎ MayBeLeftOut walk.now.course context.now.sources.now fact.now) }
     ensures shows { IfOk result (λ is_used. IsTrue is_used → Shows context.now builder.new fact.now) }
-    ensures finds { IfOk result (λ _. (n k : ℕ) (facts : List Moment) → Knows n k sections.now facts findings.old →
-        Knows n k sections.now (moment_of context.now.sources.now walk.now.course now.now.time fact.now ∷ facts) findings.new) }
+    ensures finds { IfOk result (λ _. (n k : ℕ) (facts : List Moment) →
+        Knows context.now.sources.now.ids n k sections.now facts findings.old →
+        Knows context.now.sources.now.ids n k sections.now
+        (moment_of context.now.sources.now walk.now.course now.now.time fact.now ∷ facts) findings.new) }
     ensures fault { IfErr result (NamesOnly now.now.number) }
 {
     if !findings.has_thread(fact.thread) {

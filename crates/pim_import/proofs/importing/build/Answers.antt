@@ -17,4 +17,4 @@ returns-clause-findings c n k placed knows =
     (λ facts. c.in_ok-end.ensures.waits n k facts) c.end.ensures.mutexes refl
     (λ facts. c.end.ensures.hand_overs n k facts)
     (λ facts. c.in_ok-end.ensures.opposites n (nested_of facts))
-    (λ facts. c.in_ok-end.ensures.bounds n k facts) c.in_ok-end.ensures.deadlocks has.1
+    (λ facts. c.in_ok-end.ensures.bounds n c.args.context.now.sources.now.ids facts) c.in_ok-end.ensures.deadlocks has.1

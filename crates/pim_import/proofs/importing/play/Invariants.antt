@@ -10,6 +10,7 @@ invariant-loop-number l = record {
   counted : total l.tally ≡ l.number - 1;
   within : l.number ≤ max 1 l.end;
   follows : (n k : ℕ) → Begins l.context.sources.now.ids l.fn.walk.course → l.fn.walk.added ≡ 0 →
-      ArePlaced l.log l.context.sources.now.requests.list.items → Knows n k l.sections [] l.fn.findings →
+      ArePlaced l.log l.context.sources.now.requests.list.items →
+      Knows l.context.sources.now.ids n k l.sections [] l.fn.findings →
       HasAdded l.log l.context.sources.now l.sections n k (l.number - 1) l.time l.walk l.findings;
 }

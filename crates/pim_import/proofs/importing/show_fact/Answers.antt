@@ -10,21 +10,21 @@ pub returns-then-has-clause-finds : goal.returns-then-has-clause-finds
 returns-then-has-clause-finds c =
     let m : Moment = moment_of c.args.context.now.sources.now c.args.walk.now.course c.args.now.now.time c.args.fact.now in
     if_ok c.build.result
-    (λ n k facts. knows_with n k c.args.sections.now m facts c.args.findings.now c.observe.new.self c.look.new.self
+    (λ n k facts. knows_with c.args.context.now.sources.now.ids n k c.args.sections.now m facts c.args.findings.now c.observe.new.self c.look.new.self
     (c.has_thread.ensures.0 c.if-not-has_thread.false) (c.has.ensures.0 c.if-has.true)
     c.observe.ensures.waits c.observe.ensures.mutexes c.observe.ensures.waiting
     (λ n facts below. orders-more n m facts c.args.findings.now c.observe.new.self below c.in_ok-observe.ensures.orders)
-    (λ n k facts. c.in_ok-observe.ensures.sections n k (observed_of facts))
+    (λ ids facts. c.in_ok-observe.ensures.sections ids (observed_of facts))
     c.look.ensures.orders c.look.ensures.sections
     (c.in_ok-look.ensures.waits n k) (c.in_ok-look.ensures.owns k) (c.in_ok-look.ensures.hand_overs n k))
 
 pub returns-clause-finds : goal.returns-clause-finds
 returns-clause-finds c n k facts =
     let m : Moment = moment_of c.args.context.now.sources.now c.args.walk.now.course c.args.now.now.time c.args.fact.now in
-    knows_without n k c.args.sections.now m facts c.args.findings.now c.observe.new.self
+    knows_without c.args.context.now.sources.now.ids n k c.args.sections.now m facts c.args.findings.now c.observe.new.self
     (c.has_thread.ensures.0 c.if-not-has_thread.false)
     (kept_false c.args.sections.now c.args.fact.now (λ kept. not_both c.has.result (c.has.ensures.1 kept) c.if-has.false))
     (inr (c.may_be_left_out.ensures.0 c.if-not-may_be_left_out.false)) c.observe.ensures.waits c.observe.ensures.mutexes
     c.observe.ensures.waiting
     (λ n facts below. orders-more n m facts c.args.findings.now c.observe.new.self below c.in_ok-observe.ensures.orders)
-    (λ n k facts. c.in_ok-observe.ensures.sections n k (observed_of facts))
+    (λ ids facts. c.in_ok-observe.ensures.sections ids (observed_of facts))

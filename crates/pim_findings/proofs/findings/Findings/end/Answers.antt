@@ -1,6 +1,6 @@
 use Rattle.std.proofs.Common.{◌≡◌, ◌<◌, ◌∙◌, refl, sym, subst, arith}
 use Rattle.pim_orders.specs.Seen.{Knows}
-use Rattle.pim_blocking.specs.Bounds as blocking
+use Rattle.pim_blocking.specs.Listed as blocking
 use Rattle.pim_findings.specs.Bounds.{observed_of}
 use Rattle.pim_findings.specs.Orders.{nested_of}
 use Rattle.pim_findings.proofs.Following.{ending-none, ending-more, ending-all}
@@ -31,12 +31,12 @@ returns-clause-opposites c = λ n facts known.
     c.in_ok-self-3.ensures n facts (subst (λ orders. Knows n facts orders) (sym c.loop-thread.invariant.orders) known)
 
 pub returns-clause-bounds : goal.returns-clause-bounds
-returns-clause-bounds c = λ n k facts orders sections.
+returns-clause-bounds c = λ n ids facts orders sections.
     let known = subst (λ o. Knows n (nested_of facts) o) (sym c.loop-thread.invariant.orders) orders in
-    let shown = subst (λ b. blocking.Knows n k (observed_of facts) b) (sym c.loop-thread.invariant.sections) sections in
+    let shown = subst (λ b. blocking.Knows ids (observed_of facts) b) (sym c.loop-thread.invariant.sections) sections in
     record {
       orders = c.in_ok-all.field-0.items;
       taken = c.in_ok-all.ensures n (nested_of facts) known;
-      bounds = subst (λ o. blocking.AreBounds n k (observed_of facts) c.args.time o c.in_ok-self-2.field-0.items) c.deref.ensures.value
-          (c.in_ok-self-2.ensures n k (observed_of facts) shown);
+      bounds = subst (λ o. blocking.AreBounds ids (observed_of facts) c.args.time o c.in_ok-self-2.field-0.items) c.deref.ensures.value
+          (c.in_ok-self-2.ensures ids (observed_of facts) shown);
     }
