@@ -1,5 +1,5 @@
 -- The first wait for a mutex is that of the first thread that waits for it.
-use Rattle.std.proofs.Common.{◌≡◌, ℕ, ◌<◌, ◌≤◌, ◌==◌, Bool, true, not, ◌||◌, length, get_or, Some, None, Contains, refl, sym, ap, ◌∙◌, subst, inl, inr, arith, eq-eqb}
+use Rattle.std.proofs.Common.{◌≡◌, ℕ, ◌<◌, ◌≤◌, ◌==◌, Bool, true, not, ◌||◌, length, get_or, Some, None, IsTrue, MatchOption, Contains, refl, sym, ap, ◌∙◌, subst, inl, inr, arith, eq-eqb}
 use Rattle.std.specs.List.{find, list_all}
 use Rattle.std.proofs.lemmas.Bool.{both_ways, not-true, eqb-true, or_cases, cases_lt}
 use Rattle.std.proofs.lemmas.List.Elements.{All-contains}
@@ -9,11 +9,11 @@ use Rattle.pim_course.specs.declared.course.Course.{Course}
 use Rattle.pim_course.specs.declared.course.Sources.{Sources}
 use Rattle.pim_findings.specs.declared.waiting.Queued.{Queued}
 use Rattle.pim_findings.specs.declared.waiting.Waiting.{Waiting}
-use Rattle.pim_findings.specs.Levels.{Gets, HasFirst, IsOwnLevel, awaits_by, number_by}
-use Rattle.pim_findings.specs.Queue.{AreEffective, AreSound, HasHighest, IsBehind, IsRaised, KeepsQueue, before_at, level_at, queued_at}
+use Rattle.pim_findings.specs.Levels.{Gets, HasFirst, awaits_by, number_by}
+use Rattle.pim_findings.specs.Queue.{AreEffective, AreSound, HasHighest, IsBehind, IsRaised, KeepsQueue, before_at, level_at, protects_at, queued_at}
 use Rattle.pim_findings.proofs.Queueing.{queue-kept}
 use Rattle.pim_findings.proofs.Highest.{find-none, find-some, queue-number, queue-waits, waits-queued}
-use Rattle.pim_findings.proofs.Raising.{HasOwn, all-effective, heir-waits, sound-none, waits-inside}
+use Rattle.pim_findings.proofs.Raising.{all-ceilings, all-effective, heir-waits, owner-raised, sound-none, waits-inside}
 
 pub first-none : (waiting : Waiting) (mutex : ℕ) → KeepsQueue waiting → find (λ wait. wait.mutex == mutex) waiting.queue.items ≡ None →
     (t : ℕ) → awaits_by (queued_at waiting) t ≡ Some mutex → ⊥
@@ -110,40 +110,57 @@ module _ (sources : Sources) (course : Course) (fact : Fact) (waiting : Waiting)
 
 -- ---- the levels of the queue
 
--- one thread of the queue more has its own level
-pub owned-raised : (sources : Sources) (course : Course) (fact : Fact) (old now new : Waiting) (thread level : ℕ) →
+-- a thread of the queue has a place
+pub queue-inside : (waiting : Waiting) (wait : Queued) → KeepsQueue waiting → Contains waiting.queue.items wait →
+    wait.thread < length waiting.effective.items
+queue-inside waiting wait k h = waits-inside waiting wait.thread wait.mutex k (queue-waits waiting wait wait.mutex k h refl)
+
+-- one thread more has a level
+pub level-raised : (sources : Sources) (course : Course) (fact : Fact) (old now new : Waiting) (thread level : ℕ) →
     now ≡ record old { effective = now.effective } → length now.effective.items ≡ length old.effective.items → KeepsQueue old →
-    IsOwnLevel (before_at sources course fact now) thread level → AreSound (before_at sources course fact old) now →
+    Gets (before_at sources course fact old) thread level → AreSound (before_at sources course fact old) now →
     (KeepsQueue now → Gets (before_at sources course fact now) thread level → AreSound (before_at sources course fact now) now →
     IsRaised (before_at sources course fact now) now new thread level) →
-    IsRaised (before_at sources course fact old) now new thread level × IsOwnLevel (before_at sources course fact old) thread level
-owned-raised sources course fact old now new thread level rest len k is_own sound raises =
-    let same = ap (before_at sources course fact) rest in (
-      subst (λ b. IsRaised b now new thread level) same
-          (raises (queue-kept old now (ap (λ w. w.open) rest) (ap (λ w. w.queue) rest) len k) is_own.gets (subst (λ b. AreSound b now) (sym same) sound)),
-      subst (λ b. IsOwnLevel b thread level) same is_own,
-    )
+    IsRaised (before_at sources course fact old) now new thread level
+level-raised sources course fact old now new thread level rest len k gets sound raises =
+    let same = ap (before_at sources course fact) rest in
+    subst (λ b. IsRaised b now new thread level) same
+    (raises (queue-kept old now (ap (λ w. w.open) rest) (ap (λ w. w.queue) rest) len k)
+    (subst (λ b. Gets b thread level) (sym same) gets) (subst (λ b. AreSound b now) (sym same) sound))
 
--- a thread of the queue
-pub owned-here : (sources : Sources) (course : Course) (fact : Fact) (old now new : Waiting) (wait : Queued) (level : ℕ) →
-    length now.effective.items ≡ length old.effective.items → KeepsQueue old → Contains old.queue.items wait →
-    IsRaised (before_at sources course fact old) now new wait.thread level → IsOwnLevel (before_at sources course fact old) wait.thread level →
-    HasOwn (before_at sources course fact old) new wait.thread
-owned-here sources course fact old now new wait level len k queued raised is_own = record {
-  level = level;
-  is_own = is_own;
-  within = raised.reached (subst (λ n. wait.thread < n) (sym len)
-      (waits-inside old wait.thread wait.mutex k (queue-waits old wait wait.mutex k queued refl)));
-}
+-- the owner of one mutex more has the ceiling
+pub ceiling-raised : (sources : Sources) (course : Course) (fact : Fact) (old now new : Waiting) (mutex : ℕ) →
+    now ≡ record old { effective = now.effective } → length now.effective.items ≡ length old.effective.items → KeepsQueue old →
+    protects_at old mutex ≡ true → AreSound (before_at sources course fact old) now →
+    (KeepsQueue now → IsTrue (protects_at now mutex) → AreSound (before_at sources course fact now) now →
+    MatchOption ((before_at sources course fact now).world.owner mutex) (new ≡ now)
+    (λ owner. IsRaised (before_at sources course fact now) now new owner ((before_at sources course fact now).world.ceiling mutex))) →
+    AreSound (before_at sources course fact old) new × ((t : ℕ) → level_at now t ≤ level_at new t) ×
+    ((t : ℕ) → (before_at sources course fact old).world.owner mutex ≡ Some t → t < length now.effective.items →
+    (before_at sources course fact old).world.ceiling mutex ≤ level_at new t)
+ceiling-raised sources course fact old now new mutex rest len k protects sound raises =
+    let same = ap (before_at sources course fact) rest in
+    owner-raised (before_at sources course fact old) now new mutex ((before_at sources course fact old).world.ceiling mutex) sound
+    (subst (λ b. MatchOption (b.world.owner mutex) (new ≡ now) (λ owner. IsRaised b now new owner (b.world.ceiling mutex))) same
+    (raises (queue-kept old now (ap (λ w. w.open) rest) (ap (λ w. w.queue) rest) len k)
+    (ap (λ w. protects_at w mutex) rest ∙ protects) (subst (λ b. AreSound b now) (sym same) sound)))
 
 -- all of them
-pub owned-all : (sources : Sources) (course : Course) (fact : Fact) (old new : Waiting) → KeepsQueue old → AreSound (before_at sources course fact old) new →
-    ((j : ℕ) (d : Queued) → j < length old.queue.items → HasOwn (before_at sources course fact old) new (get_or old.queue.items j d).thread) →
+pub all-raised : (sources : Sources) (course : Course) (fact : Fact) (old new : Waiting) (n : ℕ) → KeepsQueue old →
+    AreSound (before_at sources course fact old) new →
+    ((wait : Queued) → Contains old.queue.items wait → (before_at sources course fact old).world.level wait.thread ≤ level_at new wait.thread) →
+    length old.protecting.items ≤ n →
+    ((j : ℕ) → j < n → (t : ℕ) → (before_at sources course fact old).world.owner (get_or old.protecting.items j 0) ≡ Some t →
+    t < length old.effective.items → (before_at sources course fact old).world.ceiling (get_or old.protecting.items j 0) ≤ level_at new t) →
     AreEffective (before_at sources course fact old) new
-owned-all sources course fact old new k sound owned =
+all-raised sources course fact old new n k sound levels whole ceilings =
     all-effective (before_at sources course fact old) new sound (λ t mutex a.
     let q = waits-queued old mutex t k a in
-    subst (HasOwn (before_at sources course fact old) new) (ap (λ (w : Queued). w.thread) q.queued.2 ∙ q.of_it) (owned q.queued.0 q.wait q.queued.1))
+    record {
+      own = subst (λ one. (before_at sources course fact old).world.level one ≤ level_at new one) q.of_it (levels q.wait q.queued);
+      ceilings = all-ceilings old.protecting.items (before_at sources course fact old).world.owner (before_at sources course fact old).world.ceiling
+          t (level_at new t) n whole (λ j lt e. ceilings j lt t e (waits-inside old t mutex k a));
+    })
 
 -- the lowest levels
 pub sound-lowest : (sources : Sources) (course : Course) (fact : Fact) (old new : Waiting) → KeepsQueue old →

@@ -1,22 +1,17 @@
 -- Levels raised along a chain of threads.
-use Rattle.std.proofs.Common.{◌≡◌, ◌≢◌, ◌⊎◌, ℕ, ◌+◌, ◌<◌, ◌≤◌, ◌==◌, Bool, true, false, cond, nat_lt, max, List, length, get_or, Option, Some, None, option_map, IsTrue, refl, sym, ap, ◌∙◌, subst, inl, inr, arith, eq-eqb, get_or-set_other, get_or-set_same}
+use Rattle.std.proofs.Common.{◌≡◌, ◌≢◌, ◌⊎◌, ℕ, ◌+◌, ◌<◌, ◌≤◌, ◌==◌, Bool, true, false, cond, nat_lt, List, length, get_or, Option, Some, None, option_map, IsTrue, MatchOption, refl, sym, ap, ◌∙◌, subst, inl, inr, arith, get_or-set_other, get_or-set_same}
 use Rattle.std.proofs.Math.ListN.{set, length-set}
 use Rattle.std.specs.List.{count_by, list_any}
-use Rattle.std.specs.Option.{option_and_then, option_map_or}
-use Rattle.std.proofs.lemmas.Bool.{false≢true, both_ways, eqb-true, lt-ltb, le-ltb, cases_eq, cases_lt}
+use Rattle.std.specs.Option.{option_and_then}
+use Rattle.std.proofs.lemmas.Bool.{eqb-true, lt-ltb, le-ltb, cases_eq, cases_lt}
 use Rattle.std.proofs.lemmas.Option.{none-some, same_Some}
 use Rattle.std.proofs.lemmas.List.{get_or_default, get_or_past}
 use Rattle.std.proofs.lemmas.List.Sums.{count_by-le-length, get_or-le-sum_by, sum_by-set}
-use Rattle.std.proofs.lemmas.List.Folds.{Any-from_list_any, list_any_at}
-use Rattle.pim_facts.specs.declared.fact.Fact.{Fact}
-use Rattle.pim_course.specs.Courses.{mutex_in, thread_in}
-use Rattle.pim_course.specs.World.{but_for, world_of}
-use Rattle.pim_course.specs.declared.course.Course.{Course}
-use Rattle.pim_course.specs.declared.course.Sources.{Sources}
+use Rattle.std.proofs.lemmas.List.Folds.{Any-from_list_any}
 use Rattle.pim_findings.specs.declared.waiting.Queued.{Queued}
 use Rattle.pim_findings.specs.declared.waiting.Waiting.{Waiting}
-use Rattle.pim_findings.specs.Levels.{Before, Gets, IsOwnLevel, awaits_by, ceiling, heir_by, inherited, own}
-use Rattle.pim_findings.specs.Queue.{AreEffective, AreSound, IsRaised, KeepsQueue, before_at, level_at, queued, queued_at}
+use Rattle.pim_findings.specs.Levels.{Before, Gets, awaits_by, ceiling, heir_by, inherited, own}
+use Rattle.pim_findings.specs.Queue.{AreEffective, AreSound, IsRaised, KeepsQueue, level_at, queued, queued_at}
 
 -- ---- heirs
 
@@ -211,33 +206,7 @@ none-lower before old now first thread level hops t all r inside = elim (cases_l
   | inr le ↦ le
 ]
 
--- ---- a thread's own level, and its ceilings
-
-gets-max : (before : Before) (t a b : ℕ) → Gets before t a → Gets before t b → Gets before t (max a b)
-gets-max before t a b f g = elim (cases_lt a b) [
-  | inl lt ↦ let is : b ≡ max a b = omega arith in subst (Gets before t) is g
-  | inr ge ↦ let is : a ≡ max a b = omega arith in subst (Gets before t) is f
-]
-
-owner-from : (owner : Option ℕ) (t : ℕ) → option_map_or (λ one. one == t) owner false ≡ true → owner ≡ Some t
-owner-from None t h = absurd (false≢true h)
-owner-from (Some one) t h = ap (λ one. Some one) (eqb-true one t h)
-
-owner-to : (owner : Option ℕ) (t : ℕ) → owner ≡ Some t → option_map_or (λ one. one == t) owner false ≡ true
-owner-to owner t e = ap (λ o. option_map_or (λ one. one == t) o false) e ∙ eq-eqb t t refl
-
--- the ceilings of the mutexes so far, and of one more
-more-ceilings : (mutexes : List ℕ) (owner : ℕ → Option ℕ) (ceilings : ℕ → ℕ) (t i old new one : ℕ) → one ≡ get_or mutexes i 0 → old ≤ new →
-    (owner one ≡ Some t → ceilings one ≤ new) →
-    ((k : ℕ) → k < i → owner (get_or mutexes k 0) ≡ Some t → ceilings (get_or mutexes k 0) ≤ old) →
-    (k : ℕ) → k < i + 1 → owner (get_or mutexes k 0) ≡ Some t → ceilings (get_or mutexes k 0) ≤ new
-more-ceilings mutexes owner ceilings t i old new one is up here all k within e = elim (cases_lt k i) [
-  | inl lt ↦ let le : ceilings (get_or mutexes k 0) ≤ old = all k lt e in omega arith
-  | inr ge ↦
-      let last : k ≡ i = omega arith in
-      let same : one ≡ get_or mutexes k 0 = is ∙ ap (λ j. get_or mutexes j 0) (sym last) in
-      subst (λ m. ceilings m ≤ new) same (here (ap owner same ∙ e))
-]
+-- ---- the owners of PROTECT mutexes
 
 -- the ceilings of all of them
 pub all-ceilings : (mutexes : List ℕ) (owner : ℕ → Option ℕ) (ceilings : ℕ → ℕ) (t level n : ℕ) → length mutexes ≤ n →
@@ -249,65 +218,41 @@ all-ceilings mutexes owner ceilings t level n whole all mutex protects e =
     let inside : found.0 < n = omega (arith, found.2) in
     subst (λ m. ceilings m ≤ level) is (all found.0 inside (ap owner is ∙ e))
 
-module _ (course : Course) (fact : Fact) (waiting : Waiting) (t i level one : ℕ) (inside : i < length waiting.protecting.items)
-    (is : one ≡ get_or waiting.protecting.items i 0)
-    (gets : (sources : Sources) → Gets (before_at sources course fact waiting) t level) (least : (thread_in course t).level ≤ level)
-    (all : (k : ℕ) → k < i → but_for fact.mutex (Some fact.thread) (world_of course).owner (get_or waiting.protecting.items k 0) ≡ Some t →
-    (mutex_in course (get_or waiting.protecting.items k 0)).ceiling ≤ level) where
-  -- the thread owns the mutex
-  pub own-more : (new : ℕ) → new ≡ max level (mutex_in course one).ceiling →
-      option_map_or (λ owner. owner == t) (but_for fact.mutex (Some fact.thread) (world_of course).owner one) false ≡ true →
-      ((sources : Sources) → Gets (before_at sources course fact waiting) t new) × ((thread_in course t).level ≤ new) ×
-      ((k : ℕ) → k < i + 1 → but_for fact.mutex (Some fact.thread) (world_of course).owner (get_or waiting.protecting.items k 0) ≡ Some t →
-      (mutex_in course (get_or waiting.protecting.items k 0)).ceiling ≤ new)
-  own-more new new_is owns =
-      let owner = owner-from (but_for fact.mutex (Some fact.thread) (world_of course).owner one) t owns in
-      let protects = list_any_at (λ other. other == one) waiting.protecting.items i 0 inside (eq-eqb _ _ (sym is)) in
-      let up : level ≤ new = omega arith in
-      let high : (mutex_in course one).ceiling ≤ new = omega arith in (
-        λ sources. subst (Gets (before_at sources course fact waiting) t) (sym new_is)
-            (gets-max (before_at sources course fact waiting) t level (mutex_in course one).ceiling (gets sources) (ceiling protects owner)),
-        omega arith,
-        more-ceilings waiting.protecting.items (but_for fact.mutex (Some fact.thread) (world_of course).owner) (λ m. (mutex_in course m).ceiling)
-            t i level new one is up (λ e. high) all,
-      )
-
-  -- it doesn't
-  pub own-kept-so : (new : ℕ) → new ≡ level →
-      option_map_or (λ owner. owner == t) (but_for fact.mutex (Some fact.thread) (world_of course).owner one) false ≡ false →
-      ((sources : Sources) → Gets (before_at sources course fact waiting) t new) × ((thread_in course t).level ≤ new) ×
-      ((k : ℕ) → k < i + 1 → but_for fact.mutex (Some fact.thread) (world_of course).owner (get_or waiting.protecting.items k 0) ≡ Some t →
-      (mutex_in course (get_or waiting.protecting.items k 0)).ceiling ≤ new)
-  own-kept-so new new_is other =
-      let up : level ≤ new = omega arith in (
-        λ sources. subst (Gets (before_at sources course fact waiting) t) (sym new_is) (gets sources),
-        omega arith,
-        more-ceilings waiting.protecting.items (but_for fact.mutex (Some fact.thread) (world_of course).owner) (λ m. (mutex_in course m).ceiling)
-            t i level new one is up
-            (λ e. absurd (both_ways _ other (owner-to (but_for fact.mutex (Some fact.thread) (world_of course).owner one) t e))) all,
-      )
+-- the owner of a mutex, if it has one, has its ceiling
+pub owner-raised : (before : Before) (old new : Waiting) (mutex level : ℕ) → AreSound before old →
+    MatchOption (before.world.owner mutex) (new ≡ old) (λ owner. IsRaised before old new owner level) →
+    AreSound before new × ((t : ℕ) → level_at old t ≤ level_at new t) ×
+    ((t : ℕ) → before.world.owner mutex ≡ Some t → t < length old.effective.items → level ≤ level_at new t)
+owner-raised before old new mutex level s h = go (before.world.owner mutex) refl h
+  where
+    go : (o : Option ℕ) → before.world.owner mutex ≡ o → MatchOption o (new ≡ old) (λ owner. IsRaised before old new owner level) →
+        AreSound before new × ((t : ℕ) → level_at old t ≤ level_at new t) ×
+        ((t : ℕ) → before.world.owner mutex ≡ Some t → t < length old.effective.items → level ≤ level_at new t)
+    go None none same = (
+      subst (AreSound before) (sym same) s,
+      (λ t. let one : level_at new t ≡ level_at old t = ap (λ w. level_at w t) same in omega arith),
+      (λ t e inside. absurd (none-some t (sym none ∙ e))),
+    )
+    go (Some owner) some r = (
+      r.sound,
+      r.kept,
+      (λ t e inside.
+          let is : owner ≡ t = same_Some owner t (sym some ∙ e) in
+          subst (λ one. level ≤ level_at new one) is (r.reached (subst (λ one. one < length old.effective.items) (sym is) inside))),
+    )
 
 -- ---- all of them
 
--- the level of a thread is as high as its own, and its ceilings
+-- the level of a thread is as high as its own, and the ceilings of its PROTECT mutexes
 pub record HasOwn (before : Before) (waiting : Waiting) (t : ℕ) : Type 0 where
-  pub level : ℕ
-  pub is_own : IsOwnLevel before t level
-  pub within : level ≤ level_at waiting t
+  pub own : before.world.level t ≤ level_at waiting t
+  pub ceilings : (mutex : ℕ) → IsTrue (before.protects mutex) → before.world.owner mutex ≡ Some t → before.world.ceiling mutex ≤ level_at waiting t
 
 gets-within : (before : Before) (waiting : Waiting) → AreSound before waiting →
     ((t mutex : ℕ) → before.world.awaits t ≡ Some mutex → HasOwn before waiting t) →
     {t level : ℕ} → Gets before t level → (mutex : ℕ) → before.world.awaits t ≡ Some mutex → level ≤ level_at waiting t
-gets-within before waiting s all (own {t}) mutex a =
-    let has = all t mutex a in
-    let one : before.world.level t ≤ has.level = has.is_own.own in
-    let two : has.level ≤ level_at waiting t = has.within in
-    omega arith
-gets-within before waiting s all (ceiling {t} {mutex = m} protects owner) mutex a =
-    let has = all t mutex a in
-    let one : before.world.ceiling m ≤ has.level = has.is_own.ceilings m protects owner in
-    let two : has.level ≤ level_at waiting t = has.within in
-    omega arith
+gets-within before waiting s all (own {t}) mutex a = (all t mutex a).own
+gets-within before waiting s all (ceiling {t} {mutex = m} protects owner) mutex a = (all t mutex a).ceilings m protects owner
 gets-within before waiting s all (inherited {t} {waiter} {mutex = m} {level} waits inherits owner g) mutex a =
     let one : level ≤ level_at waiting waiter = gets-within before waiting s all g m waits in
     let two : level_at waiting waiter ≤ level_at waiting t = s.passed waiter t mutex (heir-to before waiter m t waits inherits owner) a in
@@ -318,10 +263,9 @@ pub all-effective : (before : Before) (waiting : Waiting) → AreSound before wa
 all-effective before waiting s all = record {
   gotten = λ t mutex a. elim (s.gotten t mutex a) [
     | inl none ↦
-        let has = all t mutex a in
-        let within : has.level ≤ level_at waiting t = has.within in
-        let same : has.level ≡ level_at waiting t = omega arith in
-        subst (Gets before t) same has.is_own.gets
+        let up : before.world.level t ≤ level_at waiting t = (all t mutex a).own in
+        let same : before.world.level t ≡ level_at waiting t = omega arith in
+        subst (Gets before t) same own
     | inr g ↦ g
   ];
   highest = λ t mutex level a g. gets-within before waiting s all g mutex a;
@@ -373,11 +317,3 @@ heir-waits before t heir h = go (before.world.awaits t) refl h
         option_and_then (λ mutex. cond (before.inherits mutex) (before.world.owner mutex) None) o ≡ Some heir → (mutex : ℕ) × (before.world.awaits t ≡ Some mutex)
     go None waits none = absurd (none-some heir none)
     go (Some mutex) waits k = (mutex, waits)
-
--- a level stays as high as a thread's own
-pub own-kept : (before : Before) (old new : Waiting) (t : ℕ) → ((t : ℕ) → level_at old t ≤ level_at new t) → HasOwn before old t → HasOwn before new t
-own-kept before old new t kept has = record {
-  level = has.level;
-  is_own = has.is_own;
-  within = let one : has.level ≤ level_at old t = has.within in let two : level_at old t ≤ level_at new t = kept t in omega arith;
-}

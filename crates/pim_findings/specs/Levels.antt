@@ -96,9 +96,3 @@ before_release sources course fact waits protects = record {
 -- who gets the levels of a thread: the owner of the INHERIT mutex that it waits for
 abbrev pub heir_by : Before → ℕ → Option ℕ
 heir_by before t = option_and_then (λ mutex. if before.inherits mutex then before.world.owner mutex else None) (before.world.awaits t)
-
--- the higher of the level of a thread and the ceilings of its PROTECT mutexes
-pub record IsOwnLevel (before : Before) (t level : ℕ) : Type 0 where
-  pub gets : Gets before t level
-  pub own : before.world.level t ≤ level
-  pub ceilings : (mutex : ℕ) → IsTrue (before.protects mutex) → before.world.owner mutex ≡ Some t → before.world.ceiling mutex ≤ level

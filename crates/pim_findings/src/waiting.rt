@@ -1,13 +1,11 @@
 //! Who waits for which mutex, and who is the first waiter.
-ghost use Rattle.std.specs.Prelude.{◌≡◌, ◌↔◌, ℕ, ◌+◌, ◌<◌, ◌==◌, ◌&&◌, ◌||◌, false, nat_le, nat_lt, not, length, slice_set, Contains, Option, Some, None, IfOk, IsTrue, if◌then◌else◌, slice_index_or};
+ghost use Rattle.std.specs.Prelude.{◌≡◌, ◌↔◌, ℕ, ◌+◌, ◌<◌, ◌==◌, ◌&&◌, ◌||◌, false, nat_le, nat_lt, not, length, slice_set, Contains, Option, Some, None, IfOk, IsTrue, MatchOption, if◌then◌else◌, slice_index_or};
 ghost use Rattle.std.specs.List.{filter, find, list_all, list_any};
 ghost use Rattle.pim_findings.specs.Found.{wait_at};
 ghost use Rattle.pim_findings.specs.HandOvers.{number_for};
-ghost use Rattle.std.specs.Option.{option_map_or};
 ghost use Rattle.pim_course.specs.World.{but_for, world_of};
-ghost use Rattle.pim_course.specs.declared.course.Sources as declared;
 ghost use Rattle.pim_findings.specs.declared.waiting.Queued as queues;
-ghost use Rattle.pim_findings.specs.Levels.{Gets, IsFirstNumber, IsOwnLevel, heir_by};
+ghost use Rattle.pim_findings.specs.Levels.{Gets, IsFirstNumber, heir_by};
 ghost use Rattle.pim_findings.specs.Longest.{capped};
 ghost use Rattle.pim_findings.specs.Queue.{AreEffective, AreSound, HasHighest, IsRaised, KeepsQueue, before_at, is_before_at, level_at, protects_at, queued_at};
 
@@ -239,7 +237,7 @@ impl Waiting {
 
     /// Computes the effective level of each thread that waits, before the fact's thread releases its mutex: the highest
     /// of its own level, the ceilings of its PROTECT mutexes, and the effective levels of those that wait for its INHERIT
-    /// mutexes. Each thread raises those along its chain, up to one that isn't lower.
+    /// mutexes. Each level and each ceiling raises the levels along a chain, up to one that isn't lower.
     fn find_levels(&mut self, sources: &Sources, course: &Course, fact: &Fact)
         ensures rest { self.new ≡ record self.old { effective = self.new.effective } }
         ensures len { length self.new.effective.items ≡ length self.old.effective.items }
@@ -248,8 +246,12 @@ impl Waiting {
         self.forget_levels();
         for place in 0..self.queue.len() {
             let thread = self.queue[place].thread;
-            let level = self.own_level(course, fact, thread);
+            let level = course.thread(thread).level;
             self.raise_from(sources, course, fact, thread, level);
+        }
+        for protected in 0..self.protecting.len() {
+            let mutex = self.protecting[protected];
+            self.raise_owner(sources, course, fact, mutex);
         }
     }
 
@@ -284,6 +286,21 @@ impl Waiting {
         }
     }
 
+    /// Raises the effective level of the owner of a PROTECT mutex, and of those along its chain, to the ceiling.
+    fn raise_owner(&mut self, sources: &Sources, course: &Course, fact: &Fact, mutex: u32)
+        ensures rest { self.new ≡ record self.old { effective = self.new.effective } }
+        ensures len { length self.new.effective.items ≡ length self.old.effective.items }
+        ensures levels { KeepsQueue self.old → let before = before_at sources.now course.now fact.now self.old in
+            IsTrue (before.protects mutex) → AreSound before self.old →
+            MatchOption (before.world.owner mutex) (self.new ≡ self.old)
+            (λ owner. IsRaised before self.old self.new owner (before.world.ceiling mutex)) }
+    {
+        if let Some(owner) = owner_before(course, fact, mutex) {
+            let ceiling = course.mutex(mutex).ceiling;
+            self.raise_from(sources, course, fact, owner, ceiling);
+        }
+    }
+
     /// Raises the effective level of a thread to this one. Returns whether it was lower.
     fn raise(&mut self, thread: u32, level: u8) -> bool
         ensures rest { self.new ≡ record self.old { effective = self.new.effective } }
@@ -315,19 +332,6 @@ impl Waiting {
         }
     }
 
-    /// Returns the higher of a thread's level and the ceilings of its PROTECT mutexes.
-    fn own_level(&self, course: &Course, fact: &Fact, thread: u32) -> u8
-        ensures { (sources : declared.Sources) → IsOwnLevel (before_at sources course.now fact.now self.now) thread result }
-    {
-        let mut level = course.thread(thread).level;
-        for mutex in &self.protecting {
-            if is_owner(course, fact, *mutex, thread) {
-                level = level.max(course.mutex(*mutex).ceiling);
-            }
-        }
-        level
-    }
-
     /// Returns the thread to which a waiter donates its level.
     fn heir_of(&self, sources: &Sources, course: &Course, fact: &Fact, thread: u32) -> Option<u32>
         ensures { result ≡ heir_by (before_at sources.now course.now fact.now self.now) thread }
@@ -349,17 +353,6 @@ fn owner_before(course: &Course, fact: &Fact, mutex: u32) -> Option<u32>
         return Some(fact.thread);
     }
     course.mutex(mutex).owner
-}
-
-/// Returns whether a thread owned a mutex before the fact's thread releases its own.
-fn is_owner(course: &Course, fact: &Fact, mutex: u32, thread: u32) -> bool
-    ensures { result ≡ option_map_or (λ owner. owner == thread)
-        (but_for fact.now.mutex (Some fact.now.thread) (world_of course.now).owner mutex) false }
-{
-    match owner_before(course, fact, mutex) {
-        Some(owner) => owner == thread,
-        None => false,
-    }
 }
 
 /// Removes the wait of the thread with this number.

@@ -1,7 +1,6 @@
-use Rattle.std.proofs.Common.{◌≡◌, ℕ, ◌<◌, length, get_or}
+use Rattle.std.proofs.Common.{◌≡◌, ℕ, ◌<◌, ◌≤◌, Some, length, get_or, Contains}
 use Rattle.pim_findings.specs.declared.waiting.Queued.{Queued}
-use Rattle.pim_findings.specs.Queue.{AreSound, KeepsQueue, before_at}
-use Rattle.pim_findings.proofs.Raising.{HasOwn}
+use Rattle.pim_findings.specs.Queue.{AreSound, KeepsQueue, before_at, level_at}
 use Rattle.pim_findings.proofs.waiting.Waiting.find_levels.Given as goal
 
 -- the threads of the queue so far have their own levels
@@ -10,6 +9,21 @@ invariant-loop-place l = record {
   rest : l.self ≡ record l.fn.self { effective = l.self.effective };
   len : length l.self.effective.items ≡ length l.fn.self.effective.items;
   sound : KeepsQueue l.fn.self → AreSound (before_at l.fn.sources l.fn.course l.fn.fact l.fn.self) l.self;
-  owned : KeepsQueue l.fn.self → (k : ℕ) (d : Queued) → k < l.place →
-      HasOwn (before_at l.fn.sources l.fn.course l.fn.fact l.fn.self) l.self (get_or l.fn.self.queue.items k d).thread;
+  levels : KeepsQueue l.fn.self → (k : ℕ) (d : Queued) → k < l.place →
+      (before_at l.fn.sources l.fn.course l.fn.fact l.fn.self).world.level (get_or l.fn.self.queue.items k d).thread ≤
+      level_at l.self (get_or l.fn.self.queue.items k d).thread;
+}
+
+-- all of them have, and the owners of the PROTECT mutexes so far have the ceilings
+abbrev pub invariant-loop-protected : goal.invariant-loop-protected
+invariant-loop-protected l = record {
+  rest : l.self ≡ record l.fn.self { effective = l.self.effective };
+  len : length l.self.effective.items ≡ length l.fn.self.effective.items;
+  sound : KeepsQueue l.fn.self → AreSound (before_at l.fn.sources l.fn.course l.fn.fact l.fn.self) l.self;
+  levels : KeepsQueue l.fn.self → (wait : Queued) → Contains l.fn.self.queue.items wait →
+      (before_at l.fn.sources l.fn.course l.fn.fact l.fn.self).world.level wait.thread ≤ level_at l.self wait.thread;
+  ceilings : KeepsQueue l.fn.self → (k : ℕ) → k < l.protected → (t : ℕ) →
+      (before_at l.fn.sources l.fn.course l.fn.fact l.fn.self).world.owner (get_or l.fn.self.protecting.items k 0) ≡ Some t →
+      t < length l.fn.self.effective.items →
+      (before_at l.fn.sources l.fn.course l.fn.fact l.fn.self).world.ceiling (get_or l.fn.self.protecting.items k 0) ≤ level_at l.self t;
 }
