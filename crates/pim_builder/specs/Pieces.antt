@@ -31,4 +31,4 @@ pub record EndWith (replay : ReplayState) (pieces : List Piece) : Type 0 where
 
 -- there is a time for each step
 abbrev pub HasTimes : Piece → Type 0
-HasTimes piece = length piece.times.items ≡ length piece.replay.entries
+HasTimes piece = length piece.times ≡ length piece.replay.entries

@@ -8,7 +8,7 @@ use crate::builder::Now;
 use crate::fault::ImportFault;
 use pim_base::MAX_STEPS;
 use pim_course::lists::push;
-use pim_replay::{Observation, Piece, Replay, ReplayFault, restored};
+use pim_replay::{Observation, Piece, Replay, ReplayFault, Times, restored};
 use std::alloc::{AllocError, Global};
 use std::marker::Model;
 
@@ -50,7 +50,7 @@ impl Pieces {
     {
         let piece = Piece {
             replay,
-            times: Vec::new(alloc),
+            times: Times::new(alloc),
             restoring: 0,
         };
         Pieces {
@@ -106,9 +106,11 @@ impl Pieces {
             Err(fault) => return Err(at_record(fault, now)),
         };
         let restoring = next.entries().len();
+        let mut times = Times::new(self.alloc);
+        push_times(&mut times, restoring, now.time)?;
         let next = Piece {
             replay: next,
-            times: vec![in self.alloc; now.time; restoring]?,
+            times,
             restoring,
         };
         self.begin(next)?;
@@ -162,9 +164,9 @@ fn has_times(piece: &Piece) -> bool
 }
 
 /// Appends the time until there are so many.
-fn push_times(times: &mut Vec<u64>, count: usize, time: u64) -> Result<(), AllocError> {
+fn push_times(times: &mut Times, count: usize, time: u64) -> Result<(), AllocError> {
     for _step in times.len()..count {
-        push(times, time)?;
+        times.push(time)?;
     }
     Ok(())
 }

@@ -101,7 +101,7 @@ impl Walk {
         };
         let entries = replay.entries();
         for place in 0..entries.len() {
-            let time = piece.times.get(place).copied().unwrap_or(0);
+            let time = piece.times.get(place).unwrap_or(0);
             let bounds = timing.of_step(time);
             if place >= piece.restoring {
                 self.enter(imported, tracked.manager(), bounds)?;

@@ -48,8 +48,10 @@ impl Timing {
 
     fn take_times(&mut self, imported: &Imported) -> Result<(), AllocError> {
         for piece in &imported.built.pieces {
-            for time in &piece.times {
-                put(&mut self.bounds, *time, (*time, *time))?;
+            for place in 0..piece.times.len() {
+                if let Some(time) = piece.times.get(place) {
+                    put(&mut self.bounds, time, (time, time))?;
+                }
             }
         }
         Ok(())

@@ -63,13 +63,20 @@ impl<'a> Table<'a> {
     /// Writes the steps of a piece, each behind those who appear before it.
     fn write_steps<W: Write>(&mut self, out: &mut W, piece: &Piece, before: u64) -> io::Result<()> {
         for step in 0..piece.times.len() {
-            if step >= piece.restoring {
+            if step >= piece.restoring && self.has_more() {
                 let own = (step - piece.restoring) as u64;
                 self.write_appearances(out, before.saturating_add(own))?;
             }
-            self.write_step(out, step.saturating_add(1) as u64, piece.times[step])?;
+            if let Some(time) = piece.times.get(step) {
+                self.write_step(out, step.saturating_add(1) as u64, time)?;
+            }
         }
         Ok(())
+    }
+
+    /// Returns whether any of those who appear isn't in the table yet.
+    fn has_more(&self) -> bool {
+        self.entered < self.imported.built.appearances.len()
     }
 
     /// Writes when the step with this number happened. Most lines of the table are of steps.

@@ -44,6 +44,7 @@ mod replay;
 mod restoring;
 mod sharing;
 mod span;
+mod times;
 
 pub use fault::{ReplayFault, SharingFault};
 pub use laws::{beside_law, leaving_out_law, renamed_run_law, renaming_law, unawaited_law};
@@ -54,3 +55,4 @@ pub use replay::Replay;
 pub use restoring::restored;
 pub use sharing::share;
 pub use span::Span;
+pub use times::Times;

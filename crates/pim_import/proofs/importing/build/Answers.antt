@@ -1,4 +1,4 @@
-use Rattle.std.proofs.Common.{◌∙◌, ap, refl}
+use Rattle.std.proofs.Common.{◌∙◌, ap, refl, rules}
 use Rattle.std.proofs.lemmas.Result.{err_from_is_err_and}
 use Rattle.pim_log.specs.Headers.{end_of}
 use Rattle.pim_findings.specs.Orders.{nested_of}
@@ -18,3 +18,11 @@ returns-clause-findings c n k placed knows =
     (λ facts. c.end.ensures.hand_overs n k facts)
     (λ facts. c.in_ok-end.ensures.opposites n (nested_of facts))
     (λ facts. c.in_ok-end.ensures.bounds n c.args.context.now.sources.now.ids facts) c.in_ok-end.ensures.deadlocks has.1
+
+pub returns-in_err-walk-clause-fault : goal.returns-in_err-walk-clause-fault
+returns-in_err-walk-clause-fault c =
+    let p = err_from_is_err_and c.from_residual-in_err-walk.result c.from_residual-in_err-walk.ensures.1 in rw (p.1, p.2) tt
+
+pub returns-in_err-tally-clause-fault : goal.returns-in_err-tally-clause-fault
+returns-in_err-tally-clause-fault c =
+    search (rules, c.from_residual-in_err-tally.ensures, c.in_err-tally.ensures.fault, c.end-end.ensures, c.header.ensures)
