@@ -16,7 +16,8 @@ use Rattle.pim_course.specs.declared.course.Sources.{Sources}
 use Rattle.pim_course.proofs.Worlds.{each, each-put, each-same}
 
 -- details are the same if all of them says the same
-pub details_are : (v w : Details) → w.mutexes ≡ v.mutexes → w.threads ≡ v.threads → w.is_contradiction ≡ v.is_contradiction → w ≡ v
+pub details_are : (v w : Details) → w.mutexes ≡ v.mutexes → w.threads ≡ v.threads →
+    w.is_contradiction ≡ v.is_contradiction → w ≡ v
 details_are v w mutexes threads is =
     λ i. record { mutexes = mutexes i; threads = threads i; is_contradiction = is i }
 
@@ -45,31 +46,38 @@ threads-put c d t y is e lt put =
     each-put thread_details idle c.threads.items d.threads.items t y e lt ∙ ap (λ a. but_for t a (details_of c).threads) put
 
 pub keeps-thread : (c d : Course) (t : ℕ) (y : CourseThread) → d.threads.items ≡ set c.threads.items t y →
-    d.mutexes ≡ c.mutexes → thread_details y ≡ thread_details (thread_in c t) → d.is_contradiction ≡ c.is_contradiction → KeepsDetails c d
+    d.mutexes ≡ c.mutexes → thread_details y ≡ thread_details (thread_in c t) →
+    d.is_contradiction ≡ c.is_contradiction → KeepsDetails c d
 keeps-thread c d t y threads mutexes same mark =
-    details_are (details_of c) (details_of d) (mutexes-kept c d (ap (λ v. v.items) mutexes)) (threads-same c d t y threads same) mark
+    details_are (details_of c) (details_of d) (mutexes-kept c d (ap (λ v. v.items) mutexes))
+    (threads-same c d t y threads same) mark
 
 pub keeps-mutex : (c d : Course) (m : ℕ) (z : CourseMutex) → d.mutexes.items ≡ set c.mutexes.items m z →
-    d.threads ≡ c.threads → mutex_details z ≡ mutex_details (mutex_in c m) → d.is_contradiction ≡ c.is_contradiction → KeepsDetails c d
+    d.threads ≡ c.threads → mutex_details z ≡ mutex_details (mutex_in c m) →
+    d.is_contradiction ≡ c.is_contradiction → KeepsDetails c d
 keeps-mutex c d m z mutexes threads same mark =
-    details_are (details_of c) (details_of d) (mutexes-same c d m z mutexes same) (threads-kept c d (ap (λ v. v.items) threads)) mark
+    details_are (details_of c) (details_of d) (mutexes-same c d m z mutexes same)
+    (threads-kept c d (ap (λ v. v.items) threads)) mark
 
 pub keeps-both : (c d : Course) (t : ℕ) (y : CourseThread) (m : ℕ) (z : CourseMutex) →
     d.threads.items ≡ set c.threads.items t y → d.mutexes.items ≡ set c.mutexes.items m z →
-    thread_details y ≡ thread_details (thread_in c t) → mutex_details z ≡ mutex_details (mutex_in c m) → d.is_contradiction ≡ c.is_contradiction → KeepsDetails c d
+    thread_details y ≡ thread_details (thread_in c t) → mutex_details z ≡ mutex_details (mutex_in c m) →
+    d.is_contradiction ≡ c.is_contradiction → KeepsDetails c d
 keeps-both c d t y m z threads mutexes thread mutex mark =
     details_are (details_of c) (details_of d) (mutexes-same c d m z mutexes mutex) (threads-same c d t y threads thread) mark
 
 -- a thread is put of which this is known
 pub puts-thread : (c d : Course) (t : ℕ) (y : CourseThread) (is : OfThread) → d.threads.items ≡ set c.threads.items t y →
-    d.mutexes ≡ c.mutexes → t < length c.threads.items → thread_details y ≡ is → d.is_contradiction ≡ c.is_contradiction → details_of d ≡ with_thread t is (details_of c)
+    d.mutexes ≡ c.mutexes → t < length c.threads.items → thread_details y ≡ is →
+    d.is_contradiction ≡ c.is_contradiction → details_of d ≡ with_thread t is (details_of c)
 puts-thread c d t y is threads mutexes lt put mark =
     details_are (with_thread t is (details_of c)) (details_of d) (mutexes-kept c d (ap (λ v. v.items) mutexes))
     (threads-put c d t y is threads lt put) mark
 
 -- a mutex is put of which this is known
 pub puts-mutex : (c d : Course) (m : ℕ) (z : CourseMutex) (is : OfMutex) → d.mutexes.items ≡ set c.mutexes.items m z →
-    d.threads ≡ c.threads → m < length c.mutexes.items → mutex_details z ≡ is → d.is_contradiction ≡ c.is_contradiction → details_of d ≡ with_mutex m is (details_of c)
+    d.threads ≡ c.threads → m < length c.mutexes.items → mutex_details z ≡ is →
+    d.is_contradiction ≡ c.is_contradiction → details_of d ≡ with_mutex m is (details_of c)
 puts-mutex c d m z is mutexes threads lt put mark =
     details_are (with_mutex m is (details_of c)) (details_of d) (mutexes-put c d m z is mutexes lt put)
     (threads-kept c d (ap (λ v. v.items) threads)) mark
@@ -77,7 +85,8 @@ puts-mutex c d m z is mutexes threads lt put mark =
 -- a thread is put of which this is known, and a mutex of which the same is known as before
 pub puts-waiter : (c d : Course) (t : ℕ) (y : CourseThread) (is : OfThread) (m : ℕ) (z : CourseMutex) →
     d.threads.items ≡ set c.threads.items t y → d.mutexes.items ≡ set c.mutexes.items m z → t < length c.threads.items →
-    thread_details y ≡ is → mutex_details z ≡ mutex_details (mutex_in c m) → d.is_contradiction ≡ c.is_contradiction → details_of d ≡ with_thread t is (details_of c)
+    thread_details y ≡ is → mutex_details z ≡ mutex_details (mutex_in c m) →
+    d.is_contradiction ≡ c.is_contradiction → details_of d ≡ with_thread t is (details_of c)
 puts-waiter c d t y is m z threads mutexes lt put same mark =
     details_are (with_thread t is (details_of c)) (details_of d) (mutexes-same c d m z mutexes same)
     (threads-put c d t y is threads lt put) mark
@@ -85,7 +94,8 @@ puts-waiter c d t y is m z threads mutexes lt put same mark =
 -- a mutex is put of which this is known, and a thread of which the same is known as before
 pub puts-taken : (c d : Course) (t : ℕ) (y : CourseThread) (m : ℕ) (z : CourseMutex) (is : OfMutex) →
     d.threads.items ≡ set c.threads.items t y → d.mutexes.items ≡ set c.mutexes.items m z → m < length c.mutexes.items →
-    thread_details y ≡ thread_details (thread_in c t) → mutex_details z ≡ is → d.is_contradiction ≡ c.is_contradiction → details_of d ≡ with_mutex m is (details_of c)
+    thread_details y ≡ thread_details (thread_in c t) → mutex_details z ≡ is →
+    d.is_contradiction ≡ c.is_contradiction → details_of d ≡ with_mutex m is (details_of c)
 puts-taken c d t y m z is threads mutexes lt same put mark =
     details_are (with_mutex m is (details_of c)) (details_of d) (mutexes-put c d m z is mutexes lt put)
     (threads-same c d t y threads same) mark
@@ -108,7 +118,11 @@ pub begun-same : (sources : Sources) (v w : World) (t m : ℕ) (owner : Option �
     wait_begun sources v t m owner details ≡ wait_begun sources w t m owner details
 begun-same sources v w t m owner details owned others is above =
     let thread : OfThread = details.threads t in
-    ap (λ place. with_thread t (record thread { awaited_owner = owner; owner_at = place; was_above = is_above sources v t m }) details)
+    ap (λ place. with_thread t (record thread {
+      awaited_owner = owner;
+      owner_at = place;
+      was_above = is_above sources v t m;
+    }) details)
     (place-same v w details t m owner owned others is)
     ∙ ap (λ b. with_thread t (record thread {
       awaited_owner = owner;

@@ -185,7 +185,7 @@ gave-up c d t y m z threads mutexes count began lasting next waiting =
     (lasting-same c d m z mutexes lasting) (next-same c d m z mutexes next) (waiting-less c d m z mutexes waiting)
     (began-over c d t y threads began) count
 
--- a mutex is released: to nobody, or to a thread that has it next
+-- the critical section of a mutex that is released lasts if a thread has it next
 lasting-after : (c d : Course) (m : ℕ) (z : CourseMutex) (next : Option ℕ) → d.mutexes.items ≡ set c.mutexes.items m z →
     m < length c.mutexes.items → z.section ≡ option_and next (mutex_in c m).section →
     (sections_of d).lasting ≡ cond (is_none next) (but_for m None (sections_of c).lasting) (sections_of c).lasting
@@ -193,6 +193,7 @@ lasting-after c d m z None mutexes lt section =
     lasting-put c d m z mutexes lt ∙ ap (λ o. but_for m o (sections_of c).lasting) section
 lasting-after c d m z (Some next) mutexes lt section = lasting-same c d m z mutexes section
 
+-- a mutex is released: to nobody, or to a thread that has it next
 pub released-to : (c d : Course) (t m : ℕ) (z : CourseMutex) (next : Option ℕ) → d.threads.items ≡ c.threads.items →
     d.mutexes.items ≡ set c.mutexes.items m z → d.sections ≡ c.sections → m < length c.mutexes.items →
     z.section ≡ option_and next (mutex_in c m).section → z.next_owner ≡ next → z.waiting ≡ (mutex_in c m).waiting →

@@ -1,5 +1,5 @@
 -- Whose a mutex is as a thread asks for it, as far as the records behind its REQUEST say it: docs/FINDINGS.md, 'The owner of
--- a wait'. That the owner by the log, or the last one, comes before or behind that isn't said here.
+-- a wait'. Where the owner by the log and the last one come, `owners_asked` of Details.antt says.
 --
 -- Each list of records here is in the order of their numbers, so its first record is the next one.
 use Rattle.std.specs.Prelude.{◌≡◌, ◌⊎◌, ◌+◌, ◌-◌, ◌^◌, ◌<◌, ◌≤◌, ℕ, ◌==◌, nat_lt, Bool, false, true, ◌&&◌, ◌||◌, if◌then◌else◌, List, [], ◌∷◌, length, slice_get, slice_index_or, find, is_some, IsSome, IfSome, Option, Some, None}

@@ -80,17 +80,17 @@ no_details =
       is_contradiction = false;
     }
 
--- this is known of a mutex, and what was known of all others
+-- the details with these of a mutex
 abbrev pub with_mutex : ℕ → OfMutex → Details → Details
 with_mutex m is details = record details { mutexes = but_for m is details.mutexes }
 
--- this is known of a thread, and what was known of all others
+-- the details with these of a thread
 abbrev pub with_thread : ℕ → OfThread → Details → Details
 with_thread t is details = record details { threads = but_for t is details.threads }
 
 -- the owner of a mutex, or else the last one
-abbrev pub holder_of : World → Details → ℕ → Option ℕ
-holder_of world details m = option_or (world.owner m) (details.mutexes m).last_owner
+abbrev pub latest_owner : World → Details → ℕ → Option ℕ
+latest_owner world details m = option_or (world.owner m) (details.mutexes m).last_owner
 
 -- whether a thread is known, and another one than this
 abbrev pub is_other : ℕ → Option ℕ → Bool
@@ -108,18 +108,18 @@ owners_asked kept is_named owner last =
     if is_named then next_by kept ∷ owner ∷ []
     else owner ∷ next_by kept ∷ last ∷ granted_by_kept kept ∷ []
 
--- who has the mutex of a REQUEST
+-- whose the mutex of a REQUEST is, as far as that is known
 abbrev pub owner_asked : Sources → World → Details → Record → Option ℕ → ℕ → Option ℕ
 owner_asked sources world details r task m =
     first_other r.thread (owners_asked (kept_of sources.next_owners r.number) (is_some task) (world.owner m)
     (details.mutexes m).last_owner)
 
--- where the thread that has a mutex took it: where it asked for it if it waits for it, since its grant comes late; or else where
--- the owner took it, or the last one if it is free, if the thread is that
+-- where the thread took a mutex that has it: where it asked, if it waits for the mutex, since its grant comes late; or else where
+-- the owner took it, or the last one if it is free, if it is that
 abbrev pub place_of_owner : World → Details → ℕ → ℕ → Option ℕ
 place_of_owner world details m owner =
     if is_that (world.awaits owner) m then (details.threads owner).asked_at
-    else if is_that (holder_of world details m) owner then (details.mutexes m).taken_at
+    else if is_that (latest_owner world details m) owner then (details.mutexes m).taken_at
     else None
 
 -- a thread asks at a place
@@ -196,7 +196,7 @@ details_requested sources world details r said task m =
     wait_begun sources (corrected sources world m said) r.thread m (owner_asked sources world details r task m)
     (asked r.thread r.place details)
 
--- a GRANTED: its thread doesn't wait for its own mutex. Unless it owns the mutex, the owner released that, and the thread took it
+-- a GRANTED: its thread doesn't wait for its own mutex. Unless it owns this one, the owner released it, and the thread took it
 abbrev pub details_granted : Sources → World → Details → Record → Mutex → ℕ → Details
 details_granted sources world details r said m =
     let forgotten = own_forgotten r.thread details in

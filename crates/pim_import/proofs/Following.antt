@@ -5,6 +5,7 @@ use Rattle.std.proofs.lemmas.List.{map-append, reverse-append, take_more}
 use Rattle.std.proofs.lemmas.List.Elements.{All-cons}
 use Rattle.std.specs.Option.{option_map_or, unwrap_or}
 use Rattle.std.specs.Prelude.{IfOk, IfSome, slice_index_or}
+use Rattle.pim_course.specs.Details.{added_details, details_of}
 use Rattle.pim_course.specs.Going.{HasSameSize, KeepsDepths}
 use Rattle.pim_course.specs.Reading.{Begins, GoesBy, HasRequest, IsTimeOf}
 use Rattle.pim_course.specs.Requests.{IsBehind}
@@ -213,13 +214,15 @@ pub follows_request : (bytes : List ℕ) (sources : Sources) (sections : Critica
     Lead (shown_in new.course.shown) (world_of old.course) (world_of new.course)) →
     (IfSome (slice_get sources.requests.list.items old.added) (HasBoth old.course) →
     AreNumbered (shown_in new.course.shown) (sections_of old.course) (sections_of new.course)) →
+    (IfSome (slice_get sources.requests.list.items old.added) (λ one. HasRequest old.course one →
+    details_of new.course ≡ added_details sources (world_of old.course) (details_of old.course) one)) →
     happened_in new.course ≡
     option_map_or (added_told (world_of old.course)) (slice_get sources.requests.list.items old.added) [] →
     ((facts : List Moment) → Knows sources.ids n k sections facts found →
     Knows sources.ids n k sections (moments_of sources new.course time (shown_in new.course.shown) ++ facts) looked) →
     HasFollowed bytes sources sections n k number last old found → HasFollowed bytes sources sections n k number last new looked
 follows_request bytes sources sections n k number last time put_at request old new found looked
-    next behind added put is_time size depths led numbered told step f =
+    next behind added put is_time size depths led numbered detailed told step f =
     let its : Option ℕ = request.time in
     let is_put : put_at ≡ its =
     put ∙ ap (λ (one : Option Request). option_map_or (λ (r : Request). r.time) one None) next in
@@ -244,6 +247,9 @@ follows_request bytes sources sections n k number last time put_at request old n
           sections =
               subst (λ (one : Option Request). IfSome one (HasBoth old.course) →
               AreNumbered (shown_in new.course.shown) (sections_of old.course) (sections_of new.course)) next numbered;
+          details =
+              subst (λ (o : Option Request). IfSome o (λ one. HasRequest old.course one →
+              details_of new.course ≡ added_details sources (world_of old.course) (details_of old.course) one)) next detailed;
         }),
         f.way,
       );

@@ -5,6 +5,7 @@ use Rattle.std.proofs.lemmas.Bool.{cases_lt}
 use Rattle.std.proofs.lemmas.List.{get_or-replicate, get_or_past, length-replicate}
 use Rattle.std.specs.Option.{option_map_or, unwrap_or}
 use Rattle.std.specs.Prelude.{IfSome, IsTrue, slice_get}
+use Rattle.pim_course.specs.Details.{added_details, details_of}
 use Rattle.pim_course.specs.Going.{HasSameSize, KeepsDepths}
 use Rattle.pim_course.specs.Reading.{Begins, GoesBy, HasRequest, IsTimeOf}
 use Rattle.pim_course.specs.Requests.{IsBehind}
@@ -193,11 +194,13 @@ pub looks-request : (bytes : List ℕ) (sources : Sources) (is_all : Bool) (numb
     Lead (shown_in new.course.shown) (world_of old.course) (world_of new.course)) →
     (IfSome (slice_get sources.requests.list.items old.added) (HasBoth old.course) →
     AreNumbered (shown_in new.course.shown) (sections_of old.course) (sections_of new.course)) →
+    (IfSome (slice_get sources.requests.list.items old.added) (λ one. HasRequest old.course one →
+    details_of new.course ≡ added_details sources (world_of old.course) (details_of old.course) one)) →
     happened_in new.course ≡
     option_map_or (added_told (world_of old.course)) (slice_get sources.requests.list.items old.added) [] →
     LooksAt is_all (room_of bytes sources) sources new before after →
     HasLooked bytes sources is_all number old before → HasLooked bytes sources is_all number new after
-looks-request bytes sources is_all number request old new before after next behind added size depths led numbered told looks has =
+looks-request bytes sources is_all number request old new before after next behind added size depths led numbered detailed told looks has =
     let from : Stage = stage_of number has.record_time has.time old in
     let time : ℕ = unwrap_or request.time has.record_time in
     record {
@@ -222,6 +225,9 @@ looks-request bytes sources is_all number request old new before after next behi
           sections =
               subst (λ (one : Option Request). IfSome one (HasBoth old.course) →
               AreNumbered (shown_in new.course.shown) (sections_of old.course) (sections_of new.course)) next numbered;
+          details =
+              subst (λ (o : Option Request). IfSome o (λ one. HasRequest old.course one →
+              details_of new.course ≡ added_details sources (world_of old.course) (details_of old.course) one)) next detailed;
         }),
         has.way,
       );

@@ -9,7 +9,8 @@ use Rattle.pim_facts.specs.Ending.{EndsAt}
 use Rattle.pim_facts.specs.Shown.{shown_in}
 use Rattle.pim_facts.specs.declared.fact.Fact.{Fact}
 use Rattle.pim_facts.specs.declared.ids.Ids.{Ids}
-use Rattle.pim_course.specs.Going.{HasSameSize, KeepsDepths, KeepsSections}
+use Rattle.pim_course.specs.Going.{HasSameSize, KeepsDepths, KeepsSections, KeepsDetails}
+use Rattle.pim_course.specs.Details.{added_details, details_of}
 use Rattle.pim_course.specs.Reading.{Begins, GoesBy, HasRequest, IsTimeOf, LacksRecord}
 use Rattle.pim_course.specs.Requests.{IsBehind, IsInOrder}
 use Rattle.pim_course.specs.AskedOwners.{FindsAskedFrom}
@@ -66,7 +67,7 @@ pub record AreAdded (requests : List Request) (number added : ℕ) : Type 0 wher
 abbrev pub IsLacking : List ℕ → ℕ → Course → Course → Type 0
 IsLacking bytes number old new =
     LacksRecord bytes number × (shown_in new.shown ≡ []) × (world_of new ≡ world_of old) × KeepsDepths old new
-    × KeepsSections old new
+    × KeepsSections old new × KeepsDetails old new
 
 -- A stage leads to the next by the record with the next number, which shows what it tells: once each request behind the last
 -- record was added. If the log lacks the record, or its time isn't known, the time is that of the one before it.
@@ -97,6 +98,8 @@ pub record GoesByRequest (sources : Sources) (from to : Stage) : Type 0 where
   pub led : HasRequest from.course request → Lead (shown_in to.course.shown) (world_of from.course) (world_of to.course)
   pub sections : HasBoth from.course request →
       AreNumbered (shown_in to.course.shown) (sections_of from.course) (sections_of to.course)
+  pub details : HasRequest from.course request →
+      details_of to.course ≡ added_details sources (world_of from.course) (details_of from.course) request
 
 -- A way through a log leads from its begin to this stage, through those before it, of which the latest is first.
 abbrev pub IsWay : List ℕ → Sources → Stage → List Stage → Type 0

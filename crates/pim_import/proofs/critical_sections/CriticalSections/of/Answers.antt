@@ -44,7 +44,7 @@ loop-request-preserved c =
           looks-request c.args.log.now c.args.sources.now c.args.is_all c.loop-number.number one.0 c.loop-request.walk
           c.add-time.new.self c.loop-request.sections c.look-in-loop-request.new.self next one.1.1 c.add-time.ensures.added
           c.add-time.ensures.size c.add-time.ensures.depths c.add-time.ensures.shown c.add-time.ensures.sections
-          c.add-time.ensures.told
+          c.add-time.ensures.details c.add-time.ensures.told
           (c.look-in-loop-request.ensures.exact c.args.is_all _) (c.loop-request.invariant.looked placed);
     }
 
