@@ -1,9 +1,10 @@
 //! What threads of real-time priority can be blocked for, from what was observed.
 ghost use Rattle.std.specs.Prelude.{◌≡◌, ℕ, ◌<◌, List, [], ◌∷◌, length, take, IfOk, slice_index_or, if◌then◌else◌};
 ghost use Rattle.std.specs.List.{position_or_len};
+ghost use Rattle.std.specs.Ordering.{is_lt};
 ghost use Rattle.pim_facts.specs.declared.ids.Ids.{Ids};
 ghost use Rattle.pim_blocking.specs.Observed.{Moment};
-ghost use Rattle.pim_blocking.specs.Bounds.{IsBound, IsLongestFirst, blocking, blocks, capped, first_longest, is_left, is_used, longest_in, longest_of_number, number_of, sum_below};
+ghost use Rattle.pim_blocking.specs.Bounds.{IsBound, IsLongestFirst, blocking, blocks, capped, first_longest, is_left, is_longer, is_used, longest_in, longest_of_number, number_of, sum_below};
 ghost use Rattle.pim_blocking.specs.Listed.{AreBounds, AreListed, Knows, is_blocked, is_smaller, placed};
 ghost use Rattle.pim_blocking.specs.Blocked.{level_at, waited_at};
 ghost use Rattle.pim_blocking.specs.Reached.{inner_in, is_in};
@@ -16,6 +17,7 @@ use pim_course::{Course, Sources};
 use pim_facts::Fact;
 use pim_orders::Order;
 use std::alloc::{AllocError, Global};
+use std::cmp::Ordering;
 
 /// How many bounds are kept.
 pub const BOUNDS: usize = 10;
@@ -340,8 +342,13 @@ fn is_left(longest: &[u64], number: usize, lasted: u64) -> bool
 }
 
 /// Sorts sections with the longest first. Equally long ones keep their order.
+#[tactic(auto, using(crate::proofs::Sorting::less))]
 fn sort(sections: &mut Vec<Section>) -> Result<(), AllocError>
     ensures { IfOk result (λ _. IsLongestFirst sections.old.items sections.new.items) }
 {
-    sections.sort_by(|one: &Section, other: &Section| other.lasted.cmp(&one.lasted))
+    sections.sort_by(
+        |one: &Section, other: &Section| -> Ordering
+            ensures { is_lt result ≡ is_longer one.now other.now }
+        { other.lasted.cmp(&one.lasted) },
+    )
 }

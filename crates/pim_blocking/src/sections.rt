@@ -102,7 +102,11 @@ impl Sections {
                 lasted: *lasted,
             })?;
         }
-        seen.sort_by_key(|section| section.user)?;
+        seen.sort_by_key(
+            |section: &Section| -> User
+                ensures { result ≡ section.now.user }
+            { section.user },
+        )?;
         Ok(seen)
     }
 

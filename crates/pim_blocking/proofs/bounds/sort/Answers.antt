@@ -3,7 +3,6 @@ use Rattle.std.proofs.lemmas.List.Sorted.{IsStrictWeakOrder-by_number, IsStrictW
 use Rattle.pim_blocking.specs.declared.section.Section.{Section}
 use Rattle.pim_blocking.specs.Bounds.{is_longer}
 use Rattle.pim_blocking.proofs.Observing.{ok-then}
-use Rattle.pim_blocking.proofs.Sorting.{less}
 use Rattle.pim_blocking.proofs.bounds.sort.Goals as goal
 
 pub returns : goal.returns
@@ -12,6 +11,6 @@ returns c =
     ok-then c.sort_by.result
     (λ sorted. record {
       these = c.sort_by.ensures.permutation;
-      longest_first = sorted is_longer order (answers_always _ _ _ (λ f a r g called. search (rules, less)));
-      in_order = c.sort_by.ensures.stable is_longer order (answers_always _ _ _ (λ f a r g called. search (rules, less)));
+      longest_first = sorted is_longer order (answers_always _ _ _ (λ f a r g called. search rules));
+      in_order = c.sort_by.ensures.stable is_longer order (answers_always _ _ _ (λ f a r g called. search rules));
     }) c.sort_by.ensures.sorted
