@@ -1,3 +1,4 @@
 pub mod Faults
 pub mod Showing
 pub mod Pieces
+pub mod Shown

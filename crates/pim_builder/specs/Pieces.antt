@@ -1,5 +1,5 @@
 -- How the pieces of a trace go on from each other.
-use Rattle.std.specs.Prelude.{◌≡◌, List, [], ◌∷◌, ◌++◌, length}
+use Rattle.std.specs.Prelude.{◌≡◌, ◌⊎◌, List, [], ◌∷◌, ◌++◌, length}
 use Rattle.pim_replay.specs.Replays.{ReplayState, Continues, StaysTheSame, KeepsOrder}
 use Rattle.pim_replay.specs.declared.piece.Piece.{Piece}
 
@@ -22,12 +22,27 @@ abbrev pub AreJoined : List Piece → Type 0
 AreJoined [] = ⊥
 AreJoined (first ∷ others) = (first.restoring ≡ 0) × FollowEach first others
 
--- the last piece ends with this
-pub record EndWith (replay : ReplayState) (pieces : List Piece) : Type 0 where
+-- a point of a trace: the pieces before it, and the replay of the piece that it is in, up to it
+pub record Point : Type 0 where
   pub before : List Piece
+  pub replay : ReplayState
+
+-- the last piece ends at this point
+pub record EndWith (point : Point) (pieces : List Piece) : Type 0 where
   pub last : Piece
-  pub all : pieces ≡ before ++ last ∷ []
-  pub replayed : last.replay ≡ replay
+  pub all : pieces ≡ point.before ++ last ∷ []
+  pub replayed : last.replay ≡ point.replay
+
+-- the point is in one of the pieces, whose steps go on from it
+pub record IsIn (point : Point) (pieces : List Piece) : Type 0 where
+  pub piece : Piece
+  pub others : List Piece
+  pub all : pieces ≡ point.before ++ piece ∷ others
+  pub continued : Continues point.replay piece.replay
+
+-- the trace goes on from one point to another: they are in the same piece, or the piece of the first ends between
+abbrev pub GoesOn : Point → Point → Type 0
+GoesOn p q = ((q.before ≡ p.before) × Continues p.replay q.replay) ⊎ IsIn p q.before
 
 -- there is a time for each step
 abbrev pub HasTimes : Piece → Type 0

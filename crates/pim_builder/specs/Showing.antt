@@ -64,7 +64,7 @@ ShowsWhat r priority tasks (Ceiling level) task mutex = HoldsOf (HasCeiling r (p
 -- the trace shows a fact, of those that its thread and its mutex are now
 abbrev pub Shows : Context → TraceBuilder → Fact → Type 0
 Shows context builder fact =
-    ShowsWhat builder.pieces (priority_of context.priorities.now) (task_now context builder) fact.what
+    ShowsWhat builder.pieces.replay (priority_of context.priorities.now) (task_now context builder) fact.what
     (task_now context builder fact.thread) (mutex_now context builder fact.mutex)
 
 -- a level or a ceiling is set, which is in the trace only if its thread or mutex takes part by then
@@ -75,6 +75,15 @@ IsSetting Waits = ⊥
 IsSetting GaveUp = ⊥
 IsSetting (Ceiling level) = Unit {0}
 IsSetting (Level level) = Unit {0}
+
+-- the level or the ceiling is set of a thread or a mutex that takes no part
+abbrev pub SetsNone : What → Option ℕ → Option ℕ → Type 0
+SetsNone Granted task mutex = ⊥
+SetsNone (Released next) task mutex = ⊥
+SetsNone Waits task mutex = ⊥
+SetsNone GaveUp task mutex = ⊥
+SetsNone (Ceiling level) task mutex = mutex ≡ None
+SetsNone (Level level) task mutex = task ≡ None
 
 -- no two threads have one number at a time
 abbrev pub TaskLaw : Type 0

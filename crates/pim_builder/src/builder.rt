@@ -1,10 +1,13 @@
 //! The trace as it is made: who has which number at a time, and the steps of facts.
-ghost use Rattle.std.specs.Prelude.{IfOk, IfErr, IsTrue, ◌≡◌, All, false};
+ghost use Rattle.std.specs.Prelude.{IfOk, IfErr, IsTrue, ◌≡◌, All, List, [], ◌∷◌, Some, false};
 ghost use Rattle.std.specs.Option.{option_and_then};
 ghost use Rattle.pim_base.specs.Lists.{holds};
+ghost use Rattle.pim_base.specs.Lists as lists;
+ghost use Rattle.pim_facts.specs.declared.fact.Fact.{Fact};
 ghost use Rattle.pim_builder.specs.Faults.{NamesNone, NamesOnly};
 ghost use Rattle.pim_builder.specs.Pieces.{AreJoined, EndWith, HasTimes};
-ghost use Rattle.pim_builder.specs.Showing.{IsSetting, Shows, holder_in, mutex_now, task_now};
+ghost use Rattle.pim_builder.specs.Showing.{IsSetting, SetsNone, Shows, holder_in, mutex_now, number_in, task_now};
+ghost use Rattle.pim_builder.specs.Shown.{AreShown, AreShownIn, Extends};
 
 use crate::fault::ImportFault;
 use crate::numbering::Numbering;
@@ -37,7 +40,6 @@ pub struct Appearance {
 /// The trace as it is made.
 #[derive(Drop)]
 pub struct TraceBuilder {
-    alloc: Global,
     /// By task the thread that has its number now.
     threads: Vec<Option<u32>>,
     /// By mutex the mutex of the log that has its number now.
@@ -53,21 +55,24 @@ impl TraceBuilder {
     ///
     /// Returns `Memory` if out of memory.
     pub fn new(alloc: Global, context: &Context) -> Result<TraceBuilder, ImportFault>
-        ensures { IfErr result NamesNone }
+        ensures shown { IfOk result (λ builder. AreShown context.now [] builder) }
+        ensures fault { IfErr result NamesNone }
     {
         let bases = bases_of(alloc, context)?;
         let protocols = protocols_of(alloc, context)?;
+        let replay = replay_of(alloc, bases, protocols)?;
+        let numbering = context.numbering;
         Ok(TraceBuilder {
-            alloc,
-            threads: vec![in alloc; None; bases.len()]?,
-            mutexes: vec![in alloc; None; protocols.len()]?,
-            pieces: Pieces::new(alloc, replay_of(alloc, bases, protocols)?),
+            threads: vec![in alloc; None; numbering.threads.firsts.len()]?,
+            mutexes: vec![in alloc; None; numbering.mutexes.firsts.len()]?,
+            pieces: Pieces::new(alloc, replay),
             appearances: Vec::new(alloc),
         })
     }
 
-    /// Ends the trace, and returns its pieces and who appears in it. Each further piece begins with
-    /// the owners, waits, bases, protocols and order of waiters with which the one before it ends.
+    /// Ends the trace, and returns its pieces and who appears in it. They show what the trace showed.
+    /// Each further piece begins with the owners, waits, bases, protocols and order of waiters with
+    /// which the one before it ends.
     ///
     /// # Errors
     ///
@@ -76,6 +81,8 @@ impl TraceBuilder {
         ensures joined { IfOk result (λ made. AreJoined made.0.items) }
         ensures times { IfOk result (λ made. All HasTimes made.0.items) }
         ensures end { IfOk result (λ made. EndWith self.pieces made.0.items) }
+        ensures shown { IfOk result (λ made. (context : Context) (facts : List Fact) → AreShown context facts self →
+            AreShownIn context facts made.0.items made.1.items) }
         ensures fault { IfErr result NamesNone }
     {
         let pieces = self.pieces.end()?;
@@ -88,10 +95,10 @@ impl TraceBuilder {
     /// is in the trace: a new level or ceiling only is if the thread or the mutex takes part by
     /// then.
     ///
-    /// If it is, the trace shows it: who owns and who waits, the priority or the ceiling is looked up
-    /// after the steps, which takes a few lookups. Where the replay differed from the fact, the
-    /// import would end with `Contradiction`. It doesn't unless the log contradicts itself, since a
-    /// replay does what it observed.
+    /// If it is, the trace shows it, behind all that it showed before: who owns and who waits, the
+    /// priority or the ceiling is looked up after the steps, which takes a few lookups. Where the
+    /// replay differed from the fact, the import would end with `Contradiction`. It doesn't unless
+    /// the log contradicts itself, since a replay does what it observed.
     ///
     /// # Errors
     ///
@@ -99,6 +106,8 @@ impl TraceBuilder {
     pub fn build(&mut self, context: &Context, fact: &Fact, now: &Now) -> Result<bool, ImportFault>
         ensures unused { IfOk result (λ is_used. is_used ≡ false → IsSetting fact.now.what) }
         ensures shows { IfOk result (λ is_used. IsTrue is_used → Shows context.now self.new fact.now) }
+        ensures shown { IfOk result (λ _. (facts : List Fact) → AreShown context.now facts self.old →
+            AreShown context.now (fact.now ∷ facts) self.new) }
         ensures fault { IfErr result (NamesOnly now.now.number) }
     {
         let is_used = self.make(context, fact, now)?;
@@ -129,6 +138,9 @@ impl TraceBuilder {
     /// Makes the steps of a fact, and returns whether it is in the trace.
     fn make(&mut self, context: &Context, fact: &Fact, now: &Now) -> Result<bool, ImportFault>
         ensures unused { IfOk result (λ is_used. is_used ≡ false → IsSetting fact.now.what) }
+        ensures unset { IfOk result (λ is_used. is_used ≡ false → SetsNone fact.now.what
+            (task_now context.now self.new fact.now.thread) (mutex_now context.now self.new fact.now.mutex)) }
+        ensures on { IfOk result (λ _. Extends context.now self.old self.new) }
         ensures fault { IfErr result (NamesOnly now.now.number) }
     {
         self.pieces.cut(now)?;
@@ -146,11 +158,7 @@ impl TraceBuilder {
                     return Ok(false);
                 };
                 let ceiling = context.priorities.of_level(level);
-                let owner = self.pieces.replay().owner(mutex);
-                let moved = self.set_aside(owner, now)?;
-                self.pieces
-                    .observe(&Observation::Ceiling(mutex, ceiling), now)?;
-                self.put_back(moved.as_slice(), now)?;
+                self.pieces.set_ceiling(mutex, ceiling, now)?;
                 Ok(true)
             }
             What::Granted | What::Waits | What::GaveUp | What::Released(_) => {
@@ -162,120 +170,23 @@ impl TraceBuilder {
 
     /// Makes the steps of a fact of a thread and a mutex, which appear first if they haven't.
     fn act(&mut self, context: &Context, fact: &Fact, now: &Now) -> Result<(), ImportFault>
-        ensures { IfErr result (NamesOnly now.now.number) }
+        ensures on { IfOk result (λ _. Extends context.now self.old self.new) }
+        ensures fault { IfErr result (NamesOnly now.now.number) }
     {
         let task = self.enter_thread(context, fact.thread, now)?;
         let mutex = self.enter_mutex(context, fact.mutex, now)?;
         match fact.what {
             What::Granted => {
                 let grant = Observation::Granted(task, mutex);
-                self.observe_grant(&Some(task), mutex, &grant, now)
+                self.pieces.observe_grant(&Some(task), mutex, &grant, now)
             }
             What::Waits => self.pieces.observe(&Observation::Waits(task, mutex), now),
             What::Released(next) => {
                 let next = self.next_task(context, next);
-                let release = Observation::Released(task, mutex, next);
-                let moved = self.set_aside(Some(task), now)?;
-                self.observe_grant(&next, mutex, &release, now)?;
-                self.put_back(moved.as_slice(), now)
+                self.pieces.release(task, mutex, next, now)
             }
             _ => self.pieces.observe(&Observation::GaveUp(task), now),
         }
-    }
-
-    /// Makes the steps of an observation by which a mutex goes to this task. Its priority may be above the ceiling if it
-    /// wasn't as the task began to wait, but the model looks at it again if the task is in no queue. So it is that of the
-    /// ceiling meanwhile.
-    fn observe_grant(
-        &mut self,
-        task: &Option<TaskNo>,
-        mutex: MutexNo,
-        observation: &Observation,
-        now: &Now,
-    ) -> Result<(), ImportFault>
-        ensures { IfErr result (NamesOnly now.now.number) }
-    {
-        let Some((task, base, ceiling)) = self.above_ceiling(task, mutex) else {
-            return self.pieces.observe(observation, now);
-        };
-        self.pieces.observe(&Observation::Base(task, ceiling), now)?;
-        self.pieces.observe(observation, now)?;
-        self.pieces.observe(&Observation::Base(task, base), now)
-    }
-
-    /// Returns a task that waits for a mutex outside of its queue, its priority, and the ceiling of the mutex, if that is
-    /// lower.
-    fn above_ceiling(&self, task: &Option<TaskNo>, mutex: MutexNo) -> Option<(TaskNo, Prio, Prio)> {
-        let task = (*task)?;
-        let manager = self.pieces.replay().manager();
-        let is_outside = manager.waits_for(task) == Some(None);
-        let ceiling = manager.protocol(mutex)?.ceiling()?;
-        let base = manager.base(task)?;
-        if is_outside && self.pieces.replay().awaits(task) == Some(mutex) && base > ceiling {
-            Some((task, base, ceiling))
-        } else {
-            None
-        }
-    }
-
-    /// Takes a task out of the queue in which it waits, so that it can act, and those who began to wait there after it.
-    /// Returns the waits in their order.
-    fn set_aside(
-        &mut self,
-        task: Option<TaskNo>,
-        now: &Now,
-    ) -> Result<Vec<(u64, u16, u16)>, ImportFault>
-        ensures { IfErr result (NamesOnly now.now.number) }
-    {
-        let waits = self.waits_from(task)?;
-        for (_ticket, task, _mutex) in &waits {
-            self.pieces
-                .observe(&Observation::GaveUp(TaskNo(*task)), now)?;
-        }
-        Ok(waits)
-    }
-
-    /// Returns the waits in the queue of a task from its own on, in the order in which they began, each with its ticket,
-    /// its task and its mutex.
-    fn waits_from(&self, task: Option<TaskNo>) -> Result<Vec<(u64, u16, u16)>, AllocError> {
-        let mut waits = Vec::new(self.alloc);
-        let Some((task, mutex)) = self.queue_of(task) else {
-            return Ok(waits);
-        };
-        let Some(waiters) = self.pieces.replay().manager().waiters(mutex) else {
-            return Ok(waits);
-        };
-        let mut own = u64::MAX;
-        for waiter in waiters {
-            if waiter.task == task {
-                own = waiter.ticket;
-            }
-        }
-        for waiter in waiters {
-            if waiter.ticket >= own {
-                push(&mut waits, (waiter.ticket, waiter.task.get(), mutex.get()))?;
-            }
-        }
-        waits.sort_unstable();
-        Ok(waits)
-    }
-
-    /// Returns the task, and the mutex in whose queue it is.
-    fn queue_of(&self, task: Option<TaskNo>) -> Option<(TaskNo, MutexNo)> {
-        let task = task?;
-        let mutex = self.pieces.replay().manager().waits_for(task)??;
-        Some((task, mutex))
-    }
-
-    /// Lets tasks wait again.
-    fn put_back(&mut self, waits: &[(u64, u16, u16)], now: &Now) -> Result<(), ImportFault>
-        ensures { IfErr result (NamesOnly now.now.number) }
-    {
-        for (_ticket, task, mutex) in waits {
-            let wait = Observation::Waits(TaskNo(*task), MutexNo(*mutex));
-            self.pieces.observe(&wait, now)?;
-        }
-        Ok(())
     }
 
     /// Returns the task that a thread is now.
@@ -316,7 +227,8 @@ impl TraceBuilder {
         thread: u32,
         now: &Now,
     ) -> Result<TaskNo, ImportFault>
-        ensures { IfErr result (NamesOnly now.now.number) }
+        ensures on { IfOk result (λ _. Extends context.now self.old self.new) }
+        ensures fault { IfErr result (NamesOnly now.now.number) }
     {
         if let Some(task) = self.task_of(context, thread) {
             return Ok(task);
@@ -326,34 +238,13 @@ impl TraceBuilder {
         };
         let task = TaskNo(number);
         if holder(&self.threads, number).is_some() {
-            self.leave(task, now)?;
+            self.pieces.leave(task, now)?;
         }
-        self.appear(Who::Thread(thread))?;
-        put(&mut self.threads, number, thread);
-        let prio = context
-            .priorities
-            .of_level(level_of(&context.participants.threads, thread));
-        if self.pieces.replay().manager().base(task) != Some(prio) {
-            self.pieces.observe(&Observation::Base(task, prio), now)?;
-        }
+        self.admit_thread(context, thread, number)?;
+        let level = level_of(&context.participants.threads, thread);
+        self.pieces
+            .begin_with_base(task, context.priorities.of_level(level), now)?;
         Ok(task)
-    }
-
-    /// Ends the wait of a task, and releases its mutexes.
-    fn leave(&mut self, task: TaskNo, now: &Now) -> Result<(), ImportFault>
-        ensures { IfErr result (NamesOnly now.now.number) }
-    {
-        if self.pieces.replay().awaits(task).is_some() {
-            self.pieces.observe(&Observation::GaveUp(task), now)?;
-        }
-        for number in 1..=self.pieces.replay().manager().mutexes() {
-            let mutex = MutexNo(number);
-            if self.pieces.replay().owner(mutex) == Some(task) {
-                self.pieces
-                    .observe(&Observation::Released(task, mutex, None), now)?;
-            }
-        }
-        Ok(())
     }
 
     /// Returns the number in the trace of a mutex of the log. If another had it, that is free and awaited by nobody first.
@@ -363,7 +254,8 @@ impl TraceBuilder {
         mutex: u32,
         now: &Now,
     ) -> Result<MutexNo, ImportFault>
-        ensures { IfErr result (NamesOnly now.now.number) }
+        ensures on { IfOk result (λ _. Extends context.now self.old self.new) }
+        ensures fault { IfErr result (NamesOnly now.now.number) }
     {
         if let Some(number) = self.mutex_of(context, mutex) {
             return Ok(number);
@@ -371,43 +263,44 @@ impl TraceBuilder {
         let Some(number) = context.numbering.mutexes.of(mutex) else {
             return Err(ImportFault::Contradiction(now.number));
         };
-        let number = MutexNo(number);
-        self.clear(number, now)?;
-        self.appear(Who::Mutex(mutex))?;
-        put(&mut self.mutexes, number.get(), mutex);
-        let ceiling = context
-            .priorities
-            .of_level(level_of(&context.participants.mutexes, mutex));
-        let is_protect = family_of(context.sources, mutex) == Family::Protect;
-        let protocol = self.pieces.replay().manager().protocol(number);
-        if is_protect && protocol != Some(Protocol::Protect(ceiling)) {
+        self.pieces.clear(MutexNo(number), now)?;
+        self.admit_mutex(context, mutex, number)?;
+        if family_of(context.sources, mutex) == Family::Protect {
+            let level = level_of(&context.participants.mutexes, mutex);
+            let ceiling = context.priorities.of_level(level);
             self.pieces
-                .observe(&Observation::Ceiling(number, ceiling), now)?;
+                .begin_with_ceiling(MutexNo(number), ceiling, now)?;
         }
-        Ok(number)
+        Ok(MutexNo(number))
     }
 
-    /// Lets all tasks that wait for a mutex give up, and its owner release it.
-    fn clear(&mut self, mutex: MutexNo, now: &Now) -> Result<(), ImportFault>
-        ensures { IfErr result (NamesOnly now.now.number) }
+    /// Keeps that a thread appears, which has its number from then on.
+    fn admit_thread(
+        &mut self,
+        context: &Context,
+        thread: u32,
+        number: u16,
+    ) -> Result<(), AllocError>
+        requires { number_in context.now.numbering.now.threads thread ≡ Some number }
+        ensures { IfOk result (λ _. Extends context.now self.old self.new) }
     {
-        for number in 1..=self.pieces.replay().manager().tasks() {
-            if self.pieces.replay().awaits(TaskNo(number)) == Some(mutex) {
-                self.pieces
-                    .observe(&Observation::GaveUp(TaskNo(number)), now)?;
-            }
-        }
-        if let Some(owner) = self.pieces.replay().owner(mutex) {
-            self.pieces
-                .observe(&Observation::Released(owner, mutex, None), now)?;
-        }
+        let step = self.pieces.steps();
+        let who = Who::Thread(thread);
+        push(&mut self.appearances, Appearance { step, who })?;
+        put(&mut self.threads, number, thread);
         Ok(())
     }
 
-    /// Keeps who appears.
-    fn appear(&mut self, who: Who) -> Result<(), AllocError> {
+    /// Keeps that a mutex appears, which has its number from then on.
+    fn admit_mutex(&mut self, context: &Context, mutex: u32, number: u16) -> Result<(), AllocError>
+        requires { number_in context.now.numbering.now.mutexes mutex ≡ Some number }
+        ensures { IfOk result (λ _. Extends context.now self.old self.new) }
+    {
         let step = self.pieces.steps();
-        push(&mut self.appearances, Appearance { step, who })
+        let who = Who::Mutex(mutex);
+        push(&mut self.appearances, Appearance { step, who })?;
+        put(&mut self.mutexes, number, mutex);
+        Ok(())
     }
 }
 
@@ -447,7 +340,9 @@ fn is_held(list: &[Option<u32>], number: u16, one: u32) -> bool
 }
 
 /// Gives a number of the trace to a thread or a mutex.
-fn put(list: &mut Vec<Option<u32>>, number: u16, one: u32) {
+fn put(list: &mut Vec<Option<u32>>, number: u16, one: u32)
+    ensures { list.new.items ≡ lists.put list.old.items number (Some one) }
+{
     if let Some(place) = (number as usize).checked_sub(1) {
         if place < list.len() {
             list[place] = Some(one);

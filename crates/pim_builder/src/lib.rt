@@ -13,7 +13,11 @@
 //! ```
 //!
 //! `numbering.rt` gives threads and mutexes their numbers in the trace, `builder.rt` makes the
-//! steps, `pieces.rt` keeps the pieces and cuts them, `showing.rt` looks up what the replay shows.
+//! steps, with those of `around.rt` that the model needs besides, `pieces.rt` keeps the pieces and
+//! cuts them, `showing.rt` looks up what the replay shows.
+//!
+//! It is proved that the trace shows the facts that it was built from, one behind the other, each of
+//! those who have its numbers by then (specs/Shown.antt).
 //!
 //! It is proved that each further piece begins with the owners, waits, bases, protocols and order
 //! of waiters with which the one before it ends (specs/Pieces.antt).
@@ -22,6 +26,7 @@
 //! mutexes, have one number at a time.
 #![tactic(auto)]
 
+mod around;
 mod builder;
 mod fault;
 mod laws;

@@ -1,8 +1,8 @@
 //! The pieces of the trace as they are made.
-ghost use Rattle.std.specs.Prelude.{◌≡◌, All, IfErr, IfOk, IsTrue, length};
+ghost use Rattle.std.specs.Prelude.{◌≡◌, [], All, IfErr, IfOk, IsTrue, length};
 ghost use Rattle.pim_replay.specs.Replays.{KeepsOrder, Observes, StaysTheSame};
 ghost use Rattle.pim_builder.specs.Faults.{NamesOnly};
-ghost use Rattle.pim_builder.specs.Pieces.{AreJoined, EndWith, HasTimes};
+ghost use Rattle.pim_builder.specs.Pieces.{AreJoined, EndWith, GoesOn, HasTimes};
 
 use crate::builder::Now;
 use crate::fault::ImportFault;
@@ -18,11 +18,12 @@ const ROOM: usize = 1024;
 
 /// The pieces of the trace as they are made.
 ///
-/// In contracts it is the replay of the piece that is being made. The type keeps that each further piece begins with the
-/// owners, waits, bases, protocols and order of waiters with which the one before it ended.
+/// In contracts it is the point that the trace has come to: the pieces that ended, and the replay of the piece that is
+/// being made. The type keeps that each further piece begins with the owners, waits, bases, protocols and order of
+/// waiters with which the one before it ended.
 #[derive(Drop)]
 pub(crate) struct Pieces {
-    alloc: Global,
+    pub(crate) alloc: Global,
     /// The piece that is being made.
     piece: Piece,
     /// Those before it.
@@ -33,12 +34,11 @@ pub(crate) struct Pieces {
 
 impl Model for Pieces {
     ghost use Rattle.std.specs.Prelude.{[], ◌∷◌, ◌++◌, All};
-    ghost use Rattle.pim_replay.specs.Replays.{ReplayState};
-    ghost use Rattle.pim_builder.specs.Pieces.{AreJoined, HasTimes};
+    ghost use Rattle.pim_builder.specs.Pieces.{AreJoined, HasTimes, Point};
 
-    ghost Value = { ReplayState };
+    ghost Value = { Point };
 
-    ghost view = { λ p. p.piece.replay };
+    ghost view = { λ p. record { before = p.ended.items; replay = p.piece.replay } };
 
     ghost invariant = { λ p. AreJoined (p.ended.items ++ p.piece ∷ []) × All HasTimes p.ended.items };
 }
@@ -46,7 +46,7 @@ impl Model for Pieces {
 impl Pieces {
     /// Returns the pieces of a trace that begins with this replay.
     pub(crate) fn new(alloc: Global, replay: Replay) -> Pieces
-        ensures { result ≡ replay }
+        ensures { result ≡ record { before = []; replay = replay } }
     {
         let piece = Piece {
             replay,
@@ -63,7 +63,7 @@ impl Pieces {
 
     /// Returns the replay of the piece that is being made.
     pub(crate) fn replay(&self) -> &Replay
-        ensures { result.now ≡ self.now }
+        ensures { result.now ≡ self.now.replay }
     {
         &self.piece.replay
     }
@@ -81,7 +81,8 @@ impl Pieces {
         observation: &Observation,
         now: &Now,
     ) -> Result<(), ImportFault>
-        ensures observed { IfOk result (λ _. Observes self.old observation.now self.new) }
+        ensures observed { IfOk result (λ _. Observes self.old.replay observation.now self.new.replay) }
+        ensures on { IfOk result (λ _. GoesOn self.old self.new) }
         ensures fault { IfErr result (NamesOnly now.now.number) }
     {
         match self.piece.replay.observe(observation) {
@@ -95,7 +96,8 @@ impl Pieces {
 
     /// Ends the piece if it is nearly full, and begins the next one with the state at its end.
     pub(crate) fn cut(&mut self, now: &Now) -> Result<(), ImportFault>
-        ensures same { IfOk result (λ _. StaysTheSame self.old self.new) }
+        ensures same { IfOk result (λ _. StaysTheSame self.old.replay self.new.replay) }
+        ensures on { IfOk result (λ _. GoesOn self.old self.new) }
         ensures fault { IfErr result (NamesOnly now.now.number) }
     {
         if self.piece.replay.entries().len().saturating_add(ROOM) <= MAX_STEPS as usize {
@@ -124,9 +126,10 @@ impl Pieces {
     /// Returns `AllocError` if out of memory, or if it was before so that a time is missing.
     fn begin(&mut self, next: Piece) -> Result<(), AllocError>
         requires steps { length next.replay.entries ≡ next.restoring }
-        requires same { StaysTheSame self.old next.replay }
-        requires order { KeepsOrder self.old next.replay }
-        ensures { IfOk result (λ _. self.new ≡ next.replay) }
+        requires same { StaysTheSame self.old.replay next.replay }
+        requires order { KeepsOrder self.old.replay next.replay }
+        ensures ended { IfOk result (λ _. EndWith self.old self.new.before) }
+        ensures begun { IfOk result (λ _. self.new.replay ≡ next.replay) }
     {
         if !has_times(&self.piece) || self.ended.reserve(1).is_err() {
             return Err(AllocError);

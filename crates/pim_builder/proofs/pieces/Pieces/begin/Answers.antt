@@ -1,13 +1,14 @@
-use Rattle.std.proofs.Common.{◌≡◌, rules, subst, [], ◌∷◌, ◌++◌}
+use Rattle.std.proofs.Common.{◌≡◌, rules, ap, sym, subst, [], ◌∷◌, ◌++◌}
 use Rattle.std.proofs.lemmas.List.Elements.{All-push}
 use Rattle.pim_replay.specs.Replays.{ReplayState, KeepsOrder, StaysTheSame}
-use Rattle.pim_builder.specs.Pieces.{Follows, HasTimes}
+use Rattle.pim_builder.specs.Pieces.{Follows, HasTimes, Point}
+use Rattle.pim_builder.proofs.GoingOn.{end_with}
 use Rattle.pim_builder.proofs.Joining.{follows_at_once, joined_more}
 use Rattle.pim_builder.proofs.pieces.Pieces.begin.Goals as goal
 
 pub invariant_of-self-3 : goal.invariant_of-self-3
 invariant_of-self-3 c =
-    let is : c.args.self.now ≡ c.self.inside.piece.replay = cc c.self.view_is in
+    let is : c.args.self.now.replay ≡ c.self.inside.piece.replay = sym (ap (λ (p : Point). p.replay) c.self.view_is) in
     let follows : Follows c.self.inside.piece c.args.next =
     follows_at_once c.self.inside.piece c.args.next c.requires.steps
     (subst (λ (r : ReplayState). StaysTheSame r c.args.next.replay) is c.requires.same)
@@ -19,3 +20,8 @@ invariant_of-self-3 c =
       joined_more c.self.inside.ended.items c.self.inside.piece c.args.next follows c.self.invariant.0,
       All-push HasTimes c.self.inside.ended.items c.self.inside.piece c.self.invariant.1 timed,
     ))
+
+pub returns-clause-ended : goal.returns-clause-ended
+returns-clause-ended c =
+    end_with c.self.inside.ended.items c.self.inside.piece c.args.self.now c.push_reserved.new.self.items c.self.view_is
+    (cc (c.push_reserved.ensures.items, c.reserve.ensures.items, c.replace-piece.ensures.value))

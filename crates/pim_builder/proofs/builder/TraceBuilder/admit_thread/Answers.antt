@@ -1,0 +1,10 @@
+use Rattle.std.proofs.Common.{refl}
+use Rattle.pim_builder.specs.declared.builder.TraceBuilder.{TraceBuilder}
+use Rattle.pim_builder.proofs.Extending.{thread_appears}
+use Rattle.pim_builder.proofs.builder.TraceBuilder.admit_thread.Goals as goal
+
+pub returns : goal.returns
+returns c =
+    let new : TraceBuilder = record c.args.self.now { threads = c.put.new.list; appearances = c.push.new.list } in
+    thread_appears c.args.context.now c.args.self.now new c.steps-step.result c.args.thread c.args.number c.requires refl
+    c.in_ok-push.ensures c.put.ensures refl

@@ -1,0 +1,6 @@
+use Rattle.pim_builder.specs.Pieces.{GoesOn}
+use Rattle.pim_builder.proofs.pieces.Pieces.set_aside.Given as goal
+
+-- the trace goes on from where the function began
+abbrev pub invariant-loop-wait : goal.invariant-loop-wait
+invariant-loop-wait l = GoesOn l.fn.self l.self
