@@ -532,7 +532,8 @@ impl Course {
         LeftOut::Uncontended
     }
 
-    /// Returns whether the level of a thread that has a mutex is above the ceiling, and was so when it began to wait, if it did.
+    /// Returns whether the level of a thread that is granted a mutex is above the ceiling, as it mustn't be, unless it waited
+    /// for the mutex and wasn't above as it began to.
     fn is_contradicted(&self, sources: &Sources, thread: u32, mutex: u32) -> bool
         ensures { result ≡ is_contradicted sources.now (world_of self.now) thread mutex (details_of self.now) }
     {
