@@ -37,7 +37,10 @@ use Rattle.pim_log.specs.Headers.{end_of, header_of}
 use Rattle.pim_findings.specs.declared.findings.Findings.{Findings}
 use Rattle.pim_import.proofs.Adding.{all_added}
 use Rattle.pim_import.specs.Following.{ArePlaced, FollowsLog, HasAdded, HasFollowed, IsLacking, IsOfThread, IsSpared, Knows, Stage}
-use Rattle.pim_import.specs.Following.{facts_of, is_kept, kept_of, moment_of, moments_of, stage_of}
+use Rattle.pim_builder.specs.Shown.{AreShown, AreShownIn}
+use Rattle.pim_builder.specs.declared.builder.Context.{Context}
+use Rattle.pim_builder.specs.declared.builder.TraceBuilder.{TraceBuilder}
+use Rattle.pim_import.specs.Following.{facts_of, is_kept, kept_of, moment_of, moments_of, stage_of, undated}
 use Rattle.pim_import.specs.LeftOut.{IsKept, Keeps}
 use Rattle.pim_import.specs.declared.critical_sections.CriticalSections.{CriticalSections}
 
@@ -85,6 +88,11 @@ pub if_ok : {T E P : Type 0} (r : Result T E) → P → IfOk r (λ _. P)
 if_ok (Ok x) h = h
 if_ok (Err e) h = tt
 
+-- and so is what follows from it
+pub if_ok_then : {T E P Q : Type 0} (r : Result T E) → (P → Q) → IfOk r (λ _. P) → IfOk r (λ _. Q)
+if_ok_then (Ok x) f h = f h
+if_ok_then (Err e) f h = tt
+
 owns_kept : (k : ℕ) (facts : List Moment) (old new : Findings) → new.mutexes ≡ old.mutexes → Owns k facts old → Owns k facts new
 owns_kept k facts old new same owns =
     record {
@@ -105,11 +113,12 @@ abbrev pub SectionsMore : Moment → Findings → Findings → Type 0
 SectionsMore m old new = (ids : Ids) (facts : List Moment) → KnowsSections ids facts old → KnowsSections ids (m ∷ facts) new
 
 -- one more fact, of a thread of the log, which isn't kept
-pub knows_without : (ids : Ids) (n k : ℕ) (sections : CriticalSections) (m : Moment) (facts : List Moment) (old new : Findings) →
+pub knows_without : (context : Context) (n k : ℕ) (sections : CriticalSections) (m : Moment) (facts : List Moment)
+    (old new : Findings) (builder : TraceBuilder) →
     m.fact.thread < length old.waiting.open.items → is_kept sections m.fact ≡ false → IsSpared sections m →
     KeepsWaits old new → new.mutexes ≡ old.mutexes → new.waiting ≡ old.waiting → OrdersMore m old new → SectionsMore m old new →
-    Knows ids n k sections facts old → Knows ids n k sections (m ∷ facts) new
-knows_without ids n k sections m facts old new inside is spared keeps same waiting orders shown knows =
+    Knows context n k sections facts old builder → Knows context n k sections (m ∷ facts) new builder
+knows_without context n k sections m facts old new builder inside is spared keeps same waiting orders shown knows =
     let rest : List Moment = kept_of sections facts in
     let below : m.fact.thread < n = subst (λ l. m.fact.thread < l) knows.finds.threads inside in
     record {
@@ -118,21 +127,25 @@ knows_without ids n k sections m facts old new inside is spared keeps same waiti
       hand_overs = subst (λ b. HandsOver n k (cond b (m ∷ rest) rest) new) (sym is)
           (handed-kept n k rest old new same waiting knows.hand_overs);
       orders = orders n facts below knows.orders;
-      observed = shown ids facts knows.observed;
+      observed = shown context.sources.now.ids facts knows.observed;
       threads = All-cons (IsOfThread n) m facts below knows.threads;
       spared = All-cons (IsSpared sections) m facts spared knows.spared;
+      trace = subst (λ b. AreShown context (undated (cond b (m ∷ rest) rest)) builder) (sym is) knows.trace;
     }
 
 -- one more fact, of a thread of the log, which is kept
-pub knows_with : (ids : Ids) (n k : ℕ) (sections : CriticalSections) (m : Moment) (facts : List Moment) (old mid new : Findings) →
+pub knows_with : (context : Context) (n k : ℕ) (sections : CriticalSections) (m : Moment) (facts : List Moment)
+    (old mid new : Findings) (before after : TraceBuilder) →
     m.fact.thread < length old.waiting.open.items → IsKept sections m.fact →
     KeepsWaits old mid → mid.mutexes ≡ old.mutexes → mid.waiting ≡ old.waiting → OrdersMore m old mid → SectionsMore m old mid →
     new.orders ≡ mid.orders → new.blocking ≡ mid.blocking →
     ((rest : List Moment) → Finds n k rest mid → Finds n k (and_fact n m rest) new) →
     ((rest : List Moment) → Owns k rest mid → Owns k (m ∷ rest) new) →
     ((rest : List Moment) → m.fact.thread < n → HandsOver n k rest mid → HandsOver n k (m ∷ rest) new) →
-    Knows ids n k sections facts old → Knows ids n k sections (m ∷ facts) new
-knows_with ids n k sections m facts old mid new inside is keeps same waiting orders shown still stays finds owns hands knows =
+    ((rest : List Fact) → AreShown context rest before → AreShown context (m.fact ∷ rest) after) →
+    Knows context n k sections facts old before → Knows context n k sections (m ∷ facts) new after
+knows_with context n k sections m facts old mid new before after inside is keeps same waiting orders shown still stays finds owns
+    hands makes knows =
     let rest : List Moment = kept_of sections facts in
     let below : m.fact.thread < n = subst (λ l. m.fact.thread < l) knows.finds.threads inside in
     let kept = kept_true sections m.fact is in
@@ -144,9 +157,12 @@ knows_with ids n k sections m facts old mid new inside is keeps same waiting ord
       hand_overs = subst (λ b. HandsOver n k (cond b (m ∷ rest) rest) new) (sym kept)
           (hands rest below (handed-kept n k rest old mid same waiting knows.hand_overs));
       orders = orders-kept n (m ∷ facts) mid new still (orders n facts below knows.orders);
-      observed = sections-kept ids (m ∷ facts) mid new stays (shown ids facts knows.observed);
+      observed =
+          sections-kept context.sources.now.ids (m ∷ facts) mid new stays (shown context.sources.now.ids facts knows.observed);
       threads = All-cons (IsOfThread n) m facts below knows.threads;
       spared = All-cons (IsSpared sections) m facts (inl is) knows.spared;
+      trace = subst (λ b. AreShown context (undated (cond b (m ∷ rest) rest)) after) (sym kept)
+          (makes (undated rest) knows.trace);
     }
 
 -- one more of the facts that a course shows
@@ -159,27 +175,29 @@ moments_more sources course time facts i d lt =
     ∙ reverse-append (map (moment_of sources course time) (take i facts)) (moment_of sources course time (get_or facts i d) ∷ [])
 
 -- a walk that begins went through nothing
-pub follows_begin : (bytes : List ℕ) (sources : Sources) (sections : CriticalSections) (n k : ℕ) (walk : Walk)
-    (found : Findings) → Begins sources.ids walk.course → walk.added ≡ 0 → Knows sources.ids n k sections [] found →
-    HasFollowed bytes sources sections n k 0 0 walk found
-follows_begin bytes sources sections n k walk found begins none knows =
+pub follows_begin : (bytes : List ℕ) (context : Context) (sections : CriticalSections) (n k : ℕ) (walk : Walk)
+    (found : Findings) (builder : TraceBuilder) → Begins context.sources.now.ids walk.course → walk.added ≡ 0 →
+    Knows context n k sections [] found builder → HasFollowed bytes context sections n k 0 0 walk found builder
+follows_begin bytes context sections n k walk found builder begins none knows =
     record {
       time = 0;
       before = [];
       way = record { number = refl; record_time = refl; added = none; course = begins };
-      knows = subst (λ shown. Knows sources.ids n k sections (moments_of sources walk.course 0 shown ++ []) found) (sym begins.shown) knows;
+      knows =
+          subst (λ shown. Knows context n k sections (moments_of context.sources.now walk.course 0 shown ++ []) found builder)
+          (sym begins.shown) knows;
     }
 
 -- one more record
-pub follows_record : (bytes : List ℕ) (sources : Sources) (sections : CriticalSections) (n k number last time : ℕ)
-    (put_at : Option ℕ) (old new : Walk) (found looked : Findings) → 1 ≤ number →
+pub follows_record : (bytes : List ℕ) (context : Context) (sections : CriticalSections) (n k number last time : ℕ)
+    (put_at : Option ℕ) (old new : Walk) (found looked : Findings) (before after : TraceBuilder) → 1 ≤ number →
     time ≡ unwrap_or put_at last → IsTimeOf bytes number put_at → new.added ≡ old.added → HasSameSize old.course new.course →
-    IsLacking bytes number old.course new.course ⊎ GoesBy bytes sources number old.course new.course →
-    ((facts : List Moment) → Knows sources.ids n k sections facts found →
-    Knows sources.ids n k sections (moments_of sources new.course time (shown_in new.course.shown) ++ facts) looked) →
-    HasAdded bytes sources sections n k (number - 1) last old found →
-    HasFollowed bytes sources sections n k number time new looked
-follows_record bytes sources sections n k number last time put_at old new found looked
+    IsLacking bytes number old.course new.course ⊎ GoesBy bytes context.sources.now number old.course new.course →
+    ((facts : List Moment) → Knows context n k sections facts found before →
+    Knows context n k sections (moments_of context.sources.now new.course time (shown_in new.course.shown) ++ facts) looked after) →
+    HasAdded bytes context sections n k (number - 1) last old found before →
+    HasFollowed bytes context sections n k number time new looked after
+follows_record bytes context sections n k number last time put_at old new found looked before after
     above is_time is_put_at added size shown step has =
     let f = has.followed in
     let is : number ≡ number - 1 + 1 = omega arith in
@@ -200,28 +218,29 @@ follows_record bytes sources sections n k number last time put_at old new found 
         }),
         f.way,
       );
-      knows = step (facts_of sources (stage_of (number - 1) last f.time old ∷ f.before)) f.knows;
+      knows = step (facts_of context.sources.now (stage_of (number - 1) last f.time old ∷ f.before)) f.knows;
     }
 
 -- one more request, which is the next one
-pub follows_request : (bytes : List ℕ) (sources : Sources) (sections : CriticalSections) (n k number last time : ℕ)
-    (put_at : Option ℕ) (request : Request) (old new : Walk) (found looked : Findings) →
-    slice_get sources.requests.list.items old.added ≡ Some request → IsBehind number request →
-    new.added ≡ option_map_or (λ one. old.added + 1) (slice_get sources.requests.list.items old.added) old.added →
-    put_at ≡ option_map_or (λ one. one.time) (slice_get sources.requests.list.items old.added) None →
+pub follows_request : (bytes : List ℕ) (context : Context) (sections : CriticalSections) (n k number last time : ℕ)
+    (put_at : Option ℕ) (request : Request) (old new : Walk) (found looked : Findings) (before after : TraceBuilder) →
+    slice_get context.sources.now.requests.list.items old.added ≡ Some request → IsBehind number request →
+    new.added ≡ option_map_or (λ one. old.added + 1) (slice_get context.sources.now.requests.list.items old.added) old.added →
+    put_at ≡ option_map_or (λ one. one.time) (slice_get context.sources.now.requests.list.items old.added) None →
     time ≡ unwrap_or put_at last → HasSameSize old.course new.course → KeepsDepths old.course new.course →
-    (IfSome (slice_get sources.requests.list.items old.added) (HasRequest old.course) →
+    (IfSome (slice_get context.sources.now.requests.list.items old.added) (HasRequest old.course) →
     Lead (shown_in new.course.shown) (world_of old.course) (world_of new.course)) →
-    (IfSome (slice_get sources.requests.list.items old.added) (HasBoth old.course) →
+    (IfSome (slice_get context.sources.now.requests.list.items old.added) (HasBoth old.course) →
     AreNumbered (shown_in new.course.shown) (sections_of old.course) (sections_of new.course)) →
-    (IfSome (slice_get sources.requests.list.items old.added) (λ one. HasRequest old.course one →
-    details_of new.course ≡ added_details sources (world_of old.course) (details_of old.course) one)) →
+    (IfSome (slice_get context.sources.now.requests.list.items old.added) (λ one. HasRequest old.course one →
+    details_of new.course ≡ added_details context.sources.now (world_of old.course) (details_of old.course) one)) →
     happened_in new.course ≡
-    option_map_or (added_told (world_of old.course)) (slice_get sources.requests.list.items old.added) [] →
-    ((facts : List Moment) → Knows sources.ids n k sections facts found →
-    Knows sources.ids n k sections (moments_of sources new.course time (shown_in new.course.shown) ++ facts) looked) →
-    HasFollowed bytes sources sections n k number last old found → HasFollowed bytes sources sections n k number last new looked
-follows_request bytes sources sections n k number last time put_at request old new found looked
+    option_map_or (added_told (world_of old.course)) (slice_get context.sources.now.requests.list.items old.added) [] →
+    ((facts : List Moment) → Knows context n k sections facts found before →
+    Knows context n k sections (moments_of context.sources.now new.course time (shown_in new.course.shown) ++ facts) looked after) →
+    HasFollowed bytes context sections n k number last old found before →
+    HasFollowed bytes context sections n k number last new looked after
+follows_request bytes context sections n k number last time put_at request old new found looked before after
     next behind added put is_time size depths led numbered detailed told step f =
     let its : Option ℕ = request.time in
     let is_put : put_at ≡ its =
@@ -249,36 +268,40 @@ follows_request bytes sources sections n k number last time put_at request old n
               AreNumbered (shown_in new.course.shown) (sections_of old.course) (sections_of new.course)) next numbered;
           details =
               subst (λ (o : Option Request). IfSome o (λ one. HasRequest old.course one →
-              details_of new.course ≡ added_details sources (world_of old.course) (details_of old.course) one)) next detailed;
+              details_of new.course ≡ added_details context.sources.now (world_of old.course) (details_of old.course) one)) next detailed;
         }),
         f.way,
       );
-      knows = step (facts_of sources (stage_of number last f.time old ∷ f.before)) f.knows;
+      knows = step (facts_of context.sources.now (stage_of number last f.time old ∷ f.before)) f.knows;
     }
 
 -- the log ends
-pub follows_log : (bytes : List ℕ) (sources : Sources) (sections : CriticalSections) (n k end last : ℕ) (walk : Walk)
-    (found : Findings) (built : Built) → end ≡ end_of (header_of bytes) → ArePlaced bytes sources.requests.list.items →
-    ((facts : List Moment) → Finds n k facts found → AreReported k (all_waits facts sources.ids.ended n) built.findings.waits) →
+pub follows_log : (bytes : List ℕ) (context : Context) (sections : CriticalSections) (n k end last : ℕ) (walk : Walk)
+    (found : Findings) (builder : TraceBuilder) (built : Built) → end ≡ end_of (header_of bytes) →
+    ArePlaced bytes context.sources.now.requests.list.items →
+    ((facts : List Moment) → Finds n k facts found →
+    AreReported k (all_waits facts context.sources.now.ids.ended n) built.findings.waits) →
     built.findings.mutexes ≡ found.mutexes → built.course ≡ walk.course →
     ((facts : List Moment) → HandsOver n k facts found → (mutex : ℕ) → mutex < k →
     AreHandOvers facts mutex (mutex_at built.findings.mutexes.items mutex).hand_overs) →
     ((facts : List Moment) → KnowsOrders n facts found → FindsOpposites facts built.findings) →
-    ((facts : List Moment) → KnowsOrders n facts found → KnowsSections sources.ids facts found →
-    FindsBounds sources.ids facts sources.ids.ended built.findings) →
+    ((facts : List Moment) → KnowsOrders n facts found → KnowsSections context.sources.now.ids facts found →
+    FindsBounds context.sources.now.ids facts context.sources.now.ids.ended built.findings) →
     AreCycles (blocker_of walk.course) (threads_of built.findings.deadlocks.items) →
-    HasAdded bytes sources sections n k (end - 1) last walk found → FollowsLog bytes sources sections n k built
-follows_log bytes sources sections n k end last walk found built is placed waits same course hands opposites bounds
-    deadlocks has =
+    ((facts : List Fact) → AreShown context facts builder →
+    AreShownIn context facts built.pieces.items built.appearances.items) →
+    HasAdded bytes context sections n k (end - 1) last walk found builder → FollowsLog bytes context sections n k built
+follows_log bytes context sections n k end last walk found builder built is placed waits same course hands opposites bounds
+    deadlocks trace has =
     let f = has.followed in
     let stage : Stage = stage_of (end - 1) last f.time walk in
-    let facts : List Moment = facts_of sources (stage ∷ f.before) in
+    let facts : List Moment = facts_of context.sources.now (stage ∷ f.before) in
     record {
       last = stage;
       before = f.before;
       way = f.way;
       number = ap (λ n. n - 1) is;
-      added = all_added bytes sources.requests.list.items end walk.added is placed has.added;
+      added = all_added bytes context.sources.now.requests.list.items end walk.added is placed has.added;
       found = record {
         waits = waits (kept_of sections facts) f.knows.finds;
         owns = owns_kept k (kept_of sections facts) found built.findings same f.knows.owns;
@@ -289,5 +312,6 @@ follows_log bytes sources sections n k end last walk found built is placed waits
         threads = f.knows.threads;
         spared = f.knows.spared;
       };
+      trace = trace (undated (kept_of sections facts)) f.knows.trace;
       course = course;
     }

@@ -32,6 +32,7 @@ use Rattle.pim_facts.specs.declared.fact.What.{What}
 use Rattle.pim_facts.specs.declared.fact.What.TheVariants.{Granted, Waits, GaveUp, Released, Level, Ceiling}
 use Rattle.pim_course.specs.Courses.{family_in, mutex_in}
 use Rattle.pim_course.specs.declared.course.CourseMutex.{CourseMutex}
+use Rattle.pim_builder.specs.declared.builder.Context.{Context}
 use Rattle.pim_requests.specs.Laws.{HasBoth}
 use Rattle.pim_requests.specs.declared.waits.Wait.{Wait}
 use Rattle.std.specs.Prelude.{IsTrue}
@@ -417,11 +418,12 @@ keeps-alike is_all room facts others sections same are n = (λ keeps. to ((are n
     from (inr (inr past)) = inr (inr past)
 
 -- the critical sections that are kept on one way through a log are those that are kept on another
-pub keeps-on-way : (bytes : List ℕ) (waits : List Wait) (sources : Sources) (is_all : Bool) (sections : CriticalSections) (n k : ℕ)
-    (built : Built) → IsLog bytes → AreOfLog bytes waits sources → KeepsThoseOfLog bytes sources is_all sections →
-    (follows : FollowsLog bytes sources sections n k built) →
-    KeepsThoseOf is_all (room_of bytes sources) (facts_of sources (follows.last ∷ follows.before)) sections
-keeps-on-way bytes waits sources is_all sections n k built log of keeps follows =
+pub keeps-on-way : (bytes : List ℕ) (waits : List Wait) (context : Context) (is_all : Bool) (sections : CriticalSections) (n k : ℕ)
+    (built : Built) → IsLog bytes → AreOfLog bytes waits context.sources.now →
+    KeepsThoseOfLog bytes context.sources.now is_all sections → (follows : FollowsLog bytes context sections n k built) →
+    KeepsThoseOf is_all (room_of bytes context.sources.now) (facts_of context.sources.now (follows.last ∷ follows.before)) sections
+keeps-on-way bytes waits context is_all sections n k built log of keeps follows =
+    let sources : Sources = context.sources.now in
     keeps-alike is_all (room_of bytes sources) (facts_of sources (keeps.last ∷ keeps.before))
     (facts_of sources (follows.last ∷ follows.before)) sections
     (same-way bytes waits sources keeps.last follows.last keeps.before follows.before log of keeps.way follows.way

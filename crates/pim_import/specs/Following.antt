@@ -35,6 +35,9 @@ use Rattle.pim_findings.specs.Orders.{FindsOpposites, KnowsOrders}
 use Rattle.pim_findings.specs.Ownerships.{Owns, mutex_at}
 use Rattle.pim_findings.specs.Waits.{Moment, all_waits}
 use Rattle.pim_findings.specs.declared.findings.Findings.{Findings}
+use Rattle.pim_builder.specs.Shown.{AreShown, AreShownIn}
+use Rattle.pim_builder.specs.declared.builder.Context.{Context}
+use Rattle.pim_builder.specs.declared.builder.TraceBuilder.{TraceBuilder}
 use Rattle.pim_import.specs.KeptSections.{KeepsThoseOf, room_of}
 use Rattle.pim_import.specs.LeftOut.{IsKept, MayBeLeftOut}
 use Rattle.pim_import.specs.declared.critical_sections.CriticalSections.{CriticalSections}
@@ -130,6 +133,10 @@ is_kept sections fact =
 abbrev pub kept_of : CriticalSections → List Moment → List Moment
 kept_of sections facts = filter (λ m. is_kept sections m.fact) facts
 
+-- what happened, without when
+abbrev pub undated : List Moment → List Fact
+undated facts = map (λ m. m.fact) facts
+
 -- a fact is of a thread below n
 abbrev pub IsOfThread : ℕ → Moment → Type 0
 IsOfThread n m = m.fact.thread < n
@@ -140,34 +147,38 @@ IsSpared sections m = IsKept sections m.fact ⊎ MayBeLeftOut m.course m.sources
 
 -- The findings are those of these facts, of threads below n and mutexes below k: of those that are kept the waits, the
 -- ownerships and the hand-overs, and of all the orders of mutexes, and the critical sections, levels and waits of the threads of
--- a log. What isn't kept may be left out.
-pub record Knows (ids : Ids) (n k : ℕ) (sections : CriticalSections) (facts : List Moment) (found : Findings) : Type 0 where
+-- a log. What isn't kept may be left out. The trace that is being made shows those that are kept, in turn.
+pub record Knows (context : Context) (n k : ℕ) (sections : CriticalSections) (facts : List Moment) (found : Findings)
+    (builder : TraceBuilder) : Type 0 where
   pub finds : Finds n k (kept_of sections facts) found
   pub owns : Owns k (kept_of sections facts) found
   pub hand_overs : HandsOver n k (kept_of sections facts) found
   pub orders : KnowsOrders n facts found
-  pub observed : KnowsSections ids facts found
+  pub observed : KnowsSections context.sources.now.ids facts found
   pub threads : All (IsOfThread n) facts
   pub spared : All (IsSpared sections) facts
+  pub trace : AreShown context (undated (kept_of sections facts)) builder
 
 -- the stage up to which a walk has come, of which the last record's time and that of what it went by last are known
 abbrev pub stage_of : ℕ → ℕ → ℕ → Walk → Stage
 stage_of number record_time time walk =
     record { number = number; record_time = record_time; added = walk.added; time = time; course = walk.course }
 
--- A walk went through a log up to the record with this number and time, and the findings are those of the facts on its way.
-pub record HasFollowed (bytes : List ℕ) (sources : Sources) (sections : CriticalSections) (n k number record_time : ℕ)
-    (walk : Walk) (found : Findings) : Type 0 where
+-- A walk went through a log up to the record with this number and time, and the findings and the trace are those of the facts on
+-- its way.
+pub record HasFollowed (bytes : List ℕ) (context : Context) (sections : CriticalSections) (n k number record_time : ℕ)
+    (walk : Walk) (found : Findings) (builder : TraceBuilder) : Type 0 where
   pub time : ℕ
   pub before : List Stage
-  pub way : IsWay bytes sources (stage_of number record_time time walk) before
-  pub knows : Knows sources.ids n k sections (facts_of sources (stage_of number record_time time walk ∷ before)) found
+  pub way : IsWay bytes context.sources.now (stage_of number record_time time walk) before
+  pub knows : Knows context n k sections (facts_of context.sources.now (stage_of number record_time time walk ∷ before)) found
+      builder
 
 -- A walk went through a log, and added each request behind the records so far.
-pub record HasAdded (bytes : List ℕ) (sources : Sources) (sections : CriticalSections) (n k number record_time : ℕ)
-    (walk : Walk) (found : Findings) : Type 0 where
-  pub followed : HasFollowed bytes sources sections n k number record_time walk found
-  pub added : AreAdded sources.requests.list.items number walk.added
+pub record HasAdded (bytes : List ℕ) (context : Context) (sections : CriticalSections) (n k number record_time : ℕ)
+    (walk : Walk) (found : Findings) (builder : TraceBuilder) : Type 0 where
+  pub followed : HasFollowed bytes context sections n k number record_time walk found builder
+  pub added : AreAdded context.sources.now.requests.list.items number walk.added
 
 -- the requests that a log lacks have the order of the records behind which they belong
 pub record ArePlaced (bytes : List ℕ) (requests : List Request) : Type 0 where
@@ -190,15 +201,18 @@ pub record AreFound (ids : Ids) (n k : ℕ) (sections : CriticalSections) (ended
   pub spared : All (IsSpared sections) facts
 
 -- There is a way through all records of a log and all requests that it lacks, such that what is found is what the facts on the
--- way show, and the course is that behind the last of them.
-pub record FollowsLog (bytes : List ℕ) (sources : Sources) (sections : CriticalSections) (n k : ℕ) (built : Built)
+-- way show, the trace shows those of them that are kept, in turn, and the course is that behind the last of them.
+pub record FollowsLog (bytes : List ℕ) (context : Context) (sections : CriticalSections) (n k : ℕ) (built : Built)
     : Type 0 where
   pub last : Stage
   pub before : List Stage
-  pub way : IsWay bytes sources last before
+  pub way : IsWay bytes context.sources.now last before
   pub number : last.number ≡ end_of (header_of bytes) - 1
-  pub added : last.added ≡ length sources.requests.list.items
-  pub found : AreFound sources.ids n k sections sources.ids.ended (facts_of sources (last ∷ before)) last.course built.findings
+  pub added : last.added ≡ length context.sources.now.requests.list.items
+  pub found : AreFound context.sources.now.ids n k sections context.sources.now.ids.ended
+      (facts_of context.sources.now (last ∷ before)) last.course built.findings
+  pub trace : AreShownIn context (undated (kept_of sections (facts_of context.sources.now (last ∷ before))))
+      built.pieces.items built.appearances.items
   pub course : built.course ≡ last.course
 
 -- There is a way through all records of a log and all requests that it lacks, such that the critical sections in the trace
@@ -221,12 +235,21 @@ pub record AreOfLog (bytes : List ℕ) (waits : List Wait) (sources : Sources) :
   pub asked : FindsAskedFrom bytes sources.ids sources.next_owners 1
   pub requests : All (IsShown bytes sources.ids waits) sources.requests.list.items
 
+-- an import was made from this: its sources, the numbers of those who take part, and their priorities
+pub record IsMadeFrom (context : Context) (imported : Imported) : Type 0 where
+  pub sources : imported.sources ≡ context.sources.now
+  pub numbering : imported.numbering ≡ context.numbering.now
+  pub priorities : imported.priorities ≡ context.priorities.now
+
 -- The findings are those of the log, with the threads and mutexes that it names, of the facts in the trace: those of the critical
--- sections that the facts on the same way must keep, or all.
+-- sections that the facts on the same way must keep, or all. The trace shows these facts, in turn, by the numbers and the
+-- priorities of the import.
 pub record IsOfLog (bytes : List ℕ) (waits : List Wait) (is_all : Bool) (imported : Imported) : Type 0 where
-  pub sources : IsLog bytes → AreOfLog bytes waits imported.sources
+  pub context : Context
+  pub made : IsMadeFrom context imported
+  pub sources : IsLog bytes → AreOfLog bytes waits context.sources.now
   pub sections : CriticalSections
-  pub follows : FollowsLog bytes imported.sources sections (length imported.sources.ids.threads.items)
-      (length imported.sources.ids.mutexes.items) imported.built
-  pub keeps : IsLog bytes → KeepsThoseOf is_all (room_of bytes imported.sources)
-      (facts_of imported.sources (follows.last ∷ follows.before)) sections
+  pub follows : FollowsLog bytes context sections (length context.sources.now.ids.threads.items)
+      (length context.sources.now.ids.mutexes.items) imported.built
+  pub keeps : IsLog bytes → KeepsThoseOf is_all (room_of bytes context.sources.now)
+      (facts_of context.sources.now (follows.last ∷ follows.before)) sections

@@ -11,6 +11,8 @@ ghost use Rattle.pim_import.specs.Following.{moment_of, moments_of};
 ghost use Rattle.pim_facts.specs.Shown.{shown_in};
 ghost use Rattle.pim_builder.specs.Pieces.{AreJoined, HasTimes};
 ghost use Rattle.pim_builder.specs.Showing.{IsSetting, Shows};
+ghost use Rattle.pim_builder.specs.Shown.{AreShown};
+ghost use Rattle.pim_builder.specs.declared.builder.TraceBuilder.{TraceBuilder};
 ghost use Rattle.pim_import.specs.LeftOut.{IsKept, MayBeLeftOut};
 ghost use Rattle.pim_import.specs.Tallies.{total};
 
@@ -144,8 +146,8 @@ fn build(
     ensures joined { IfOk result (λ built. AreJoined built.pieces.items) }
     ensures times { IfOk result (λ built. All HasTimes built.pieces.items) }
     ensures findings { IfOk result (λ built. (n k : ℕ) → ArePlaced log.now context.now.sources.now.requests.list.items →
-        Knows context.now.sources.now.ids n k sections.now [] findings →
-        FollowsLog log.now context.now.sources.now sections.now n k built) }
+        ((builder : TraceBuilder) → AreShown context.now [] builder → Knows context.now n k sections.now [] findings builder) →
+        FollowsLog log.now context.now sections.now n k built) }
     ensures fault { IfErr result (NamesOneOf (end_of (header_of log.now))) }
 {
     let sources = context.sources;
@@ -186,8 +188,8 @@ fn play(
     ensures counted { IfOk result (λ tally. total tally ≡ end - 1) }
     ensures follows { IfOk result (λ _. (n k : ℕ) → Begins context.now.sources.now.ids walk.old.course → walk.old.added ≡ 0 →
         ArePlaced log.now context.now.sources.now.requests.list.items →
-        Knows context.now.sources.now.ids n k sections.now [] findings.old →
-        (time : ℕ) × HasAdded log.now context.now.sources.now sections.now n k (end - 1) time walk.new findings.new) }
+        Knows context.now n k sections.now [] findings.old builder.old →
+        (time : ℕ) × HasAdded log.now context.now sections.now n k (end - 1) time walk.new findings.new builder.new) }
     ensures fault { IfErr result (NamesOneOf end) }
 {
     let mut tally = Tally::new();
@@ -216,8 +218,8 @@ fn add_requests(
     now: &Now,
 ) -> Result<(), ImportFault>
     ensures follows { IfOk result (λ _. (bytes : List ℕ) (n k : ℕ) →
-        HasFollowed bytes context.now.sources.now sections.now n k now.now.number now.now.time walk.old findings.old →
-        HasFollowed bytes context.now.sources.now sections.now n k now.now.number now.now.time walk.new findings.new) }
+        HasFollowed bytes context.now sections.now n k now.now.number now.now.time walk.old findings.old builder.old →
+        HasFollowed bytes context.now sections.now n k now.now.number now.now.time walk.new findings.new builder.new) }
     ensures added { IfOk result (λ _. let requests = context.now.sources.now.requests.list.items in
         IsInOrder requests → AreAdded requests (now.now.number - 1) walk.old.added →
         AreAdded requests now.now.number walk.new.added) }
@@ -254,9 +256,9 @@ fn show(
         (λ fact. IsSetting fact.what ⊎ MayBeLeftOut walk.now.course context.now.sources.now fact)
         (shown_in walk.now.course.shown)) }
     ensures finds { IfOk result (λ _. (n k : ℕ) (facts : List Moment) →
-        Knows context.now.sources.now.ids n k sections.now facts findings.old →
+        Knows context.now n k sections.now facts findings.old builder.old →
         let shown = moments_of context.now.sources.now walk.now.course now.now.time (shown_in walk.now.course.shown) in
-        Knows context.now.sources.now.ids n k sections.now (shown ++ facts) findings.new) }
+        Knows context.now n k sections.now (shown ++ facts) findings.new builder.new) }
     ensures fault { IfErr result (NamesOnly now.now.number) }
 {
     let mut is_used = false;
@@ -290,9 +292,9 @@ fn show_fact(
         IsSetting fact.now.what ⊎ MayBeLeftOut walk.now.course context.now.sources.now fact.now) }
     ensures shows { IfOk result (λ is_used. IsTrue is_used → Shows context.now builder.new fact.now) }
     ensures finds { IfOk result (λ _. (n k : ℕ) (facts : List Moment) →
-        Knows context.now.sources.now.ids n k sections.now facts findings.old →
-        Knows context.now.sources.now.ids n k sections.now
-        (moment_of context.now.sources.now walk.now.course now.now.time fact.now ∷ facts) findings.new) }
+        Knows context.now n k sections.now facts findings.old builder.old →
+        Knows context.now n k sections.now
+        (moment_of context.now.sources.now walk.now.course now.now.time fact.now ∷ facts) findings.new builder.new) }
     ensures fault { IfErr result (NamesOnly now.now.number) }
 {
     if !findings.has_thread(fact.thread) {

@@ -18,9 +18,9 @@ loop-request-preserved c =
     record {
       added = omega (arith, added, c.loop-request.invariant.added);
       follows = λ bytes n k followed.
-          follows_request bytes c.args.context.now.sources.now c.args.sections.now n k c.args.now.now.number c.args.now.now.time
+          follows_request bytes c.args.context.now c.args.sections.now n k c.args.now.now.number c.args.now.now.time
           c.unwrap_or.result c.add.result one.0 c.loop-request.walk c.add.new.self c.loop-request.findings c.show.new.findings
-          next one.1.1 c.add.ensures.added c.add.ensures.time c.unwrap_or.ensures c.add.ensures.size c.add.ensures.depths
+          c.loop-request.builder c.show.new.builder next one.1.1 c.add.ensures.added c.add.ensures.time c.unwrap_or.ensures c.add.ensures.size c.add.ensures.depths
           c.add.ensures.shown c.add.ensures.sections c.add.ensures.details c.add.ensures.told (c.in_ok-_is_used.ensures.finds n k)
           (c.loop-request.invariant.follows bytes n k followed);
     }

@@ -7,6 +7,6 @@ abbrev pub invariant-loop-request : goal.invariant-loop-request
 invariant-loop-request l = record {
   added : l.walk.added ≡ l.fn.walk.added + l._request;
   follows : (bytes : List ℕ) (n k : ℕ) →
-      HasFollowed bytes l.context.sources.now l.sections n k l.now.number l.now.time l.fn.walk l.fn.findings →
-      HasFollowed bytes l.context.sources.now l.sections n k l.now.number l.now.time l.walk l.findings;
+      HasFollowed bytes l.context l.sections n k l.now.number l.now.time l.fn.walk l.fn.findings l.fn.builder →
+      HasFollowed bytes l.context l.sections n k l.now.number l.now.time l.walk l.findings l.builder;
 }

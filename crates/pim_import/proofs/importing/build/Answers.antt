@@ -11,13 +11,16 @@ returns-in_err-end-clause-fault c =
 
 pub returns-clause-findings : goal.returns-clause-findings
 returns-clause-findings c n k placed knows =
-    let has = c.in_ok-tally.ensures.follows n k c.in_ok-walk.ensures.begins c.in_ok-walk.ensures.added placed knows in
-    follows_log c.args.log.now c.args.context.now.sources.now c.args.sections.now n k c.end-end.result has.0
-    c.play.new.walk c.play.new.findings _ (c.end-end.ensures ∙ ap end_of c.header.ensures) placed
+    let has =
+    c.in_ok-tally.ensures.follows n k c.in_ok-walk.ensures.begins c.in_ok-walk.ensures.added placed
+    (knows c.in_ok-builder.builder c.in_ok-builder.ensures.shown) in
+    follows_log c.args.log.now c.args.context.now c.args.sections.now n k c.end-end.result has.0
+    c.play.new.walk c.play.new.findings c.play.new.builder _ (c.end-end.ensures ∙ ap end_of c.header.ensures) placed
     (λ facts. c.in_ok-end.ensures.waits n k facts) c.end.ensures.mutexes refl
     (λ facts. c.end.ensures.hand_overs n k facts)
     (λ facts. c.in_ok-end.ensures.opposites n (nested_of facts))
-    (λ facts. c.in_ok-end.ensures.bounds n c.args.context.now.sources.now.ids facts) c.in_ok-end.ensures.deadlocks has.1
+    (λ facts. c.in_ok-end.ensures.bounds n c.args.context.now.sources.now.ids facts) c.in_ok-end.ensures.deadlocks
+    (λ facts. c.in_ok-pieces.ensures.shown c.args.context.now facts) has.1
 
 pub returns-in_err-walk-clause-fault : goal.returns-in_err-walk-clause-fault
 returns-in_err-walk-clause-fault c =

@@ -14,7 +14,8 @@ loop-number-init c =
           let sources = c.args.context.now.sources.now in
           record {
             followed =
-                follows_begin log sources c.args.sections.now n k c.args.walk.now c.args.findings.now begins none knows;
+                follows_begin log c.args.context.now c.args.sections.now n k c.args.walk.now c.args.findings.now c.args.builder.now
+                begins none knows;
             added = none_added log sources.requests.list.items c.args.walk.now.added none placed;
           };
     }
@@ -23,24 +24,25 @@ pub loop-number-preserved : goal.loop-number-preserved
 loop-number-preserved c =
     let log = c.args.log.now in
     let sources = c.args.context.now.sources.now in
+    let context = c.args.context.now in
     let sections = c.args.sections.now in
     record {
       counted = omega arith;
       within = omega arith;
       follows = λ n k begins none placed knows.
           let at : c.loop-number.number ≡ c.loop-number.number + 1 - 1 = omega arith in
-          let has : HasAdded log sources sections n k (c.loop-number.number - 1) c.loop-number.time c.loop-number.walk
-          c.loop-number.findings =
+          let has : HasAdded log context sections n k (c.loop-number.number - 1) c.loop-number.time c.loop-number.walk
+          c.loop-number.findings c.loop-number.builder =
           c.loop-number.invariant.follows n k begins none placed knows in
           let after = c.in_ok-add_requests.ensures in
-          subst (λ m. HasAdded log sources sections n k m c.unwrap_or-time.result c.add_requests.new.walk
-          c.add_requests.new.findings) at
+          subst (λ m. HasAdded log context sections n k m c.unwrap_or-time.result c.add_requests.new.walk
+          c.add_requests.new.findings c.add_requests.new.builder) at
           (record {
             followed =
                 after.follows log n k
-                (follows_record log sources sections n k c.loop-number.number c.loop-number.time c.unwrap_or-time.result
+                (follows_record log context sections n k c.loop-number.number c.loop-number.time c.unwrap_or-time.result
                 c.read-moment.result.time c.loop-number.walk c.read-moment.new.self c.loop-number.findings c.show.new.findings
-                c.loop-number.auto.number c.unwrap_or-time.ensures c.read-moment.ensures.time c.read-moment.ensures.added
+                c.loop-number.builder c.show.new.builder c.loop-number.auto.number c.unwrap_or-time.ensures c.read-moment.ensures.time c.read-moment.ensures.added
                 c.read-moment.ensures.size c.read-moment.ensures.shown (c.in_ok-is_used.ensures.finds n k) has);
             added = after.added placed.order
                 (subst (λ added. AreAdded sources.requests.list.items (c.loop-number.number - 1) added)
@@ -52,6 +54,6 @@ pub returns-clause-follows : goal.returns-clause-follows
 returns-clause-follows c n k begins none placed knows = (
   c.loop-number.time,
   let at : c.loop-number.number - 1 ≡ c.args.end - 1 = omega arith in
-      subst (λ m. HasAdded c.args.log.now c.args.context.now.sources.now c.args.sections.now n k m c.loop-number.time
-      c.loop-number.walk c.loop-number.findings) at (c.loop-number.invariant.follows n k begins none placed knows),
+      subst (λ m. HasAdded c.args.log.now c.args.context.now c.args.sections.now n k m c.loop-number.time
+      c.loop-number.walk c.loop-number.findings c.loop-number.builder) at (c.loop-number.invariant.follows n k begins none placed knows),
 )

@@ -27,7 +27,9 @@ loop-fact-preserved c =
           c.shown-shown.result.now c.loop-fact.fact-index _ c.loop-fact-test.true (c.loop-fact.invariant.unused both.0)
           (told.unused both.1);
       finds = λ n k facts knows.
-          subst (λ (moments : List Moment). Knows c.args.context.now.sources.now.ids n k c.args.sections.now (moments ++ facts) c.show_fact.new.findings)
+          subst
+          (λ (moments : List Moment). Knows c.args.context.now n k c.args.sections.now (moments ++ facts) c.show_fact.new.findings
+          c.show_fact.new.builder)
           (sym (moments_more c.args.context.now.sources.now c.args.walk.now.course c.args.now.now.time
           c.shown-shown.result.now c.loop-fact.fact-index _ c.loop-fact-test.true))
           (told.finds n k _ (c.loop-fact.invariant.finds n k facts knows));
@@ -50,7 +52,8 @@ pub returns-clause-finds : goal.returns-clause-finds
 returns-clause-finds c n k facts knows =
     let sources = c.args.context.now.sources.now in
     let course = c.args.walk.now.course in
-    subst (λ (shown : List Fact). Knows sources.ids n k c.args.sections.now (moments_of sources course c.args.now.now.time shown ++ facts)
-    c.loop-fact.findings)
+    subst
+    (λ (shown : List Fact). Knows c.args.context.now n k c.args.sections.now
+    (moments_of sources course c.args.now.now.time shown ++ facts) c.loop-fact.findings c.loop-fact.builder)
     (take_all c.loop-fact.fact-index c.shown-shown.result.now c.loop-fact-test.false ∙ c.shown-shown.ensures)
     (c.loop-fact.invariant.finds n k facts knows)

@@ -14,7 +14,7 @@ invariant-loop-fact l = record {
   unused : l.is_used ≡ false →
       All (λ (fact : Fact). IsSetting fact.what ⊎ MayBeLeftOut l.walk.course l.context.sources.now fact)
       (take l.fact-index l.shown);
-  finds : (n k : ℕ) (facts : List Moment) → Knows l.context.sources.now.ids n k l.sections facts l.fn.findings →
-      Knows l.context.sources.now.ids n k l.sections (moments_of l.context.sources.now l.walk.course l.now.time (take l.fact-index l.shown) ++ facts)
-      l.findings;
+  finds : (n k : ℕ) (facts : List Moment) → Knows l.context n k l.sections facts l.fn.findings l.fn.builder →
+      Knows l.context n k l.sections
+      (moments_of l.context.sources.now l.walk.course l.now.time (take l.fact-index l.shown) ++ facts) l.findings l.builder;
 }
