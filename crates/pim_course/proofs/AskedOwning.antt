@@ -4,7 +4,7 @@ use Rattle.std.proofs.lemmas.Bool.{eqb-true}
 use Rattle.std.proofs.lemmas.Bool.{cases_eq}
 use Rattle.std.proofs.lemmas.List.{get_or-replicate, get_or-set_other, get_or-set_same}
 use Rattle.std.specs.Prelude.{IfSome, IsSome, find, is_some, if◌then◌else◌}
-use Rattle.std.specs.Option.{option_and_then, option_eq, option_map, option_map_or}
+use Rattle.std.specs.Option.{option_and_then, option_eq, option_map, option_map_or, option_or}
 use Rattle.pim_log.specs.Events.{Says, time_of}
 use Rattle.pim_log.specs.Headers.{header_of, end_of}
 use Rattle.pim_log.specs.Logs.{IsNumbered, IsRecord, began_of, fields_in}
@@ -12,13 +12,16 @@ use Rattle.pim_log.specs.declared.event.Event.{Event}
 use Rattle.pim_log.specs.declared.event.Event.TheVariants as events
 use Rattle.pim_log.specs.declared.fields.Fields.{Fields}
 use Rattle.pim_log.specs.declared.record.Record.{Record}
+use Rattle.pim_facts.specs.Covering.{Covers}
 use Rattle.pim_facts.specs.Levels.{id_of}
+use Rattle.pim_facts.specs.Naming.{IsNamed, Names, last_begun}
 use Rattle.pim_facts.specs.declared.ids.Ids.{Ids}
+use Rattle.pim_facts.proofs.Naming.{last-there, still-named}
 use Rattle.pim_course.proofs.NextOwning.{AsRead, begin-found, is-not, lacks-step, next-there, record-step}
-use Rattle.pim_course.specs.AskedOwners.{AreTimed, FindsAsked, FindsAskedFrom, HasAsked, IsAsked, IsAskedBy, IsTimed, KnowsCalls, MayOwn}
+use Rattle.pim_course.specs.AskedOwners.{AreTimed, FindsAsked, FindsAskedFrom, HasAsked, IsAsked, IsAskedBy, IsTimed, KnowsCalls}
 use Rattle.pim_course.specs.AskedOwners.{asked_task, begin_of, begun_before, begun_or_later, first_timed, granted_soonest, grants}
-use Rattle.pim_course.specs.AskedOwners.{has_task, is_after, next_begin, next_other}
-use Rattle.pim_course.specs.Kept.{kept_of}
+use Rattle.pim_course.specs.AskedOwners.{has_task, is_after, may_own, named_owner, next_begin, next_other}
+use Rattle.pim_course.specs.Kept.{kept_by, kept_of}
 use Rattle.pim_course.specs.NextOwners.{CoversThose, HasRoom, IsKeepable, Knows, granted_by, is_granted, is_that, next_granted}
 use Rattle.pim_course.specs.declared.next_owners.Coming.{Coming}
 use Rattle.pim_course.specs.declared.next_owners.Kept.{Kept}
@@ -417,14 +420,14 @@ none-known : (xs : List (Option ℕ)) (n k : ℕ) → xs ≡ replicate n None �
 none-known xs n k e lt = ap (λ l. get_or l k None) e ∙ get_or-replicate n k None None lt
 
 pub asked-begin : (bytes : List ℕ) (ids : Ids) (from : ℕ) (found : NextOwners) (coming : Coming) →
-    end_of (header_of bytes) ≤ from → length found.kept.items ≡ end_of (header_of bytes) →
+    end_of (header_of bytes) ≤ from → Names bytes found.kept.items →
     coming.owners.items ≡ replicate (length ids.mutexes.items) None →
     coming.granted.items ≡ replicate (length ids.threads.items) None →
     coming.failing.items ≡ replicate (length ids.threads.items) None →
     coming.began.items ≡ replicate (length ids.mutexes.items) None →
     coming.beginning.items ≡ replicate (length ids.threads.items) None → HasAsked bytes ids from found coming
-asked-begin bytes ids from found coming end long owners granted failing began beginning =
-    let begin = begin-found bytes ids from found coming end long owners granted failing began beginning in
+asked-begin bytes ids from found coming end names owners granted failing began beginning =
+    let begin = begin-found bytes ids from found coming end names.room owners granted failing began beginning in
     record {
       found = begin.0;
       timed = subst AreTimed (sym begin.1) tt;
@@ -432,6 +435,7 @@ asked-begin bytes ids from found coming end long owners granted failing began be
         began = λ m lt. none-known coming.began.items _ m began lt;
         beginning = λ t lt. none-known coming.beginning.items _ t beginning lt;
       });
+      named = λ slot number r lt numbered is. names.each slot number r numbered.below numbered is;
       asked = λ k slot above numbered. absurd (omega (arith, end, above, numbered.below));
     }
 
@@ -445,29 +449,39 @@ asked-lacks bytes ids number found coming lacks has =
       found = step.0;
       timed = subst AreTimed (sym step.1) has.timed;
       calls = subst (λ behind. KnowsCalls ids behind coming) (sym step.1) has.calls;
+      named = λ slot k r lt numbered is. has.named slot k r (omega (arith, lt)) numbered is;
       asked = λ k slot from numbered. elim (cases_eq k number) [
         | inl same ↦ absurd (lacks slot (subst (IsNumbered bytes slot) same numbered))
         | inr other ↦ has.asked k slot (omega arith) numbered
       ];
     }
 
-other-keepable : (ids : Ids) (t : ℕ) (o : Option ℕ) → ((k : ℕ) → o ≡ Some k → (0 < k) × (k ≤ 2 ^ 22)) → (k : ℕ) →
-    option_and_then (λ next. cond (next == t) None (Some next)) o ≡ Some k → (0 < k) × (k ≤ 2 ^ 22)
-other-keepable ids t None h k e = cc
-other-keepable ids t (Some n) h k e =
+-- a thread, if there is one, has a number from 1 to 2 ^ 22
+abbrev InRange : Option ℕ → Type 0
+InRange o = (k : ℕ) → o ≡ Some k → (0 < k) × (k ≤ 2 ^ 22)
+
+other-in : (ids : Ids) (t : ℕ) (o : Option ℕ) → InRange o → InRange (option_and_then (λ next. cond (next == t) None (Some next)) o)
+other-in ids t None h k e = cc
+other-in ids t (Some n) h k e =
     elim (n == t) as (λ b. cond b None (Some n) ≡ Some k → (0 < k) × (k ≤ 2 ^ 22)) [
       | true ↦ λ e. cc
       | false ↦ λ e. h k e
     ] e
 
--- another thread that is granted a mutex next has a number from 1 to 2 ^ 22
-other-there : (ids : Ids) (m t : ℕ) (behind : List Record) → CoversThose ids behind → (k : ℕ) →
-    next_other ids m t behind ≡ Some k →
-    (0 < k) × (k ≤ 2 ^ 22)
-other-there ids m t behind covers =
-    other-keepable ids t (next_granted ids m behind) (λ k e. let there = next-there ids m behind k covers e in (there.0, there.1))
+chosen-in : (g : ℕ → Bool) (o : Option ℕ) → InRange o → InRange (option_and_then (λ next. cond (g next) (Some next) None) o)
+chosen-in g None h k e = cc
+chosen-in g (Some n) h k e =
+    elim (g n) as (λ b. cond b (Some n) None ≡ Some k → (0 < k) × (k ≤ 2 ^ 22)) [
+      | true ↦ λ e. h k e
+      | false ↦ λ e. cc
+    ] e
 
-unnamed-keepable : (begin time o : Option ℕ) → ((k : ℕ) → o ≡ Some k → (0 < k) × (k ≤ 2 ^ 22)) →
+-- another thread that is granted a mutex next has a number from 1 to 2 ^ 22
+other-there : (ids : Ids) (m t : ℕ) (behind : List Record) → CoversThose ids behind → InRange (next_other ids m t behind)
+other-there ids m t behind covers =
+    other-in ids t (next_granted ids m behind) (λ k e. let there = next-there ids m behind k covers e in (there.0, there.1))
+
+unnamed-keepable : (begin time o : Option ℕ) → InRange o →
     IsKeepable (option_map_or (begun_or_later begin time) o (Owner None))
 unnamed-keepable begin time None h = tt
 unnamed-keepable begin time (Some k) h =
@@ -477,65 +491,80 @@ unnamed-keepable begin time (Some k) h =
       | false ↦ (in_range.0, omega (arith, in_range.1))
     ]
 
-named-keepable : (g : ℕ → Bool) (o : Option ℕ) → ((k : ℕ) → o ≡ Some k → (0 < k) × (k ≤ 2 ^ 22)) →
-    IsKeepable (Owner (option_and_then (λ next. cond (g next) (Some next) None) o))
-named-keepable g None h = tt
-named-keepable g (Some k) h =
-    let in_range = h k refl in
-    elim (g k) as (λ b. IsKeepable (Owner (cond b (Some k) None))) [
-      | true ↦ (in_range.0, omega (arith, in_range.1))
-      | false ↦ tt
-    ]
+either-keepable : (o p : Option ℕ) → InRange o → InRange p → IsKeepable (Owner (option_or o p))
+either-keepable None None first second = tt
+either-keepable None (Some k) first second = let in_range = second k refl in (in_range.0, omega (arith, in_range.1))
+either-keepable (Some k) p first second = let in_range = first k refl in (in_range.0, omega (arith, in_range.1))
 
 -- what is kept of a REQUEST is read again
-asked-again : (ids : Ids) (m : ℕ) (r : Record) (behind : List Record) (kept again : Kept) → CoversThose ids behind →
-    (IsKeepable kept → again ≡ kept) → (task : Option (Option ℕ)) → IfSome task (IsAskedBy ids m r behind kept) →
-    IfSome task (IsAskedBy ids m r behind again)
-asked-again ids m r behind kept again covers same None is = tt
-asked-again ids m r behind kept again covers same (Some None) is =
+asked-again : (ids : Ids) (m : ℕ) (r : Record) (before behind : List Record) (kept again : Kept) →
+    ((task : ℕ) → InRange (last_begun task before)) → CoversThose ids behind → (IsKeepable kept → again ≡ kept) →
+    (task : Option (Option ℕ)) → IfSome task (IsAskedBy ids m r before behind kept) →
+    IfSome task (IsAskedBy ids m r before behind again)
+asked-again ids m r before behind kept again last covers same None is = tt
+asked-again ids m r before behind kept again last covers same (Some None) is =
     same (subst IsKeepable (sym is) (unnamed-keepable (next_begin ids m behind) r.time (next_other ids m r.thread behind)
     (other-there ids m r.thread behind covers))) ∙ is
-asked-again ids m r behind kept again covers same (Some (Some task)) (inl named) =
-    let may : MayOwn ids m r.process named.0 = named.1 in
-    let is : kept ≡ Owner (Some named.0) = named.2 in
-    inl (named.0, may, same (subst IsKeepable (sym is) (may.above, omega (arith, may.few))) ∙ is)
-asked-again ids m r behind kept again covers same (Some (Some task)) (inr is) =
-    inr (same (subst IsKeepable (sym is) (named-keepable (has_task ids task) (next_other ids m r.thread behind)
-    (other-there ids m r.thread behind covers))) ∙ is)
+asked-again ids m r before behind kept again last covers same (Some (Some task)) is =
+    same (subst IsKeepable (sym is) (either-keepable _ _
+    (chosen-in (may_own ids m r.process) (last_begun task before) (last task))
+    (chosen-in (has_task ids task) (next_other ids m r.thread behind) (other-there ids m r.thread behind covers)))) ∙ is
+
+-- who is named by a task is the last thread that began with it before
+pub named-last : (ids : Ids) (m process : ℕ) (task named by : Option ℕ) (before : List Record) →
+    named ≡ named_owner ids m process by → IfSome task (λ t. by ≡ last_begun t before) →
+    IfSome task (λ t. named ≡ named_owner ids m process (last_begun t before))
+named-last ids m process None named by before owner is = tt
+named-last ids m process (Some t) named by before owner is = owner ∙ ap (named_owner ids m process) is
 
 asked-before : (bytes : List ℕ) (ids : Ids) (k : ℕ) (old new : NextOwners) → kept_of new k ≡ kept_of old k →
     FindsAsked bytes ids old k → FindsAsked bytes ids new k
 asked-before bytes ids k old new e finds =
     record {
       r = finds.r;
+      before = finds.before;
       behind = finds.behind;
       is = finds.is;
+      earlier = finds.earlier;
       are = finds.are;
-      asked = subst (IsAsked ids (id_of ids k) finds.r finds.behind) (sym e) finds.asked;
+      asked = subst (IsAsked ids (id_of ids k) finds.r finds.before finds.behind) (sym e) finds.asked;
     }
 
 -- a record with a number was read, before those behind it
 pub asked-step : (bytes : List ℕ) (ids : Ids) (number slot : ℕ) (r : Record) (old new : NextOwners) (before after : Coming)
-    (kept : Kept) (numbered : IsNumbered bytes slot number) (is : IsRecord bytes slot r) (above : 0 < r.thread)
-    (few : r.thread ≤ 2 ^ 22) (there : r.thread < length ids.threads.items) → (has : HasAsked bytes ids (number + 1) old before) →
+    (kept : Kept) → Covers ids bytes → (numbered : IsNumbered bytes slot number) (is : IsRecord bytes slot r)
+    (above : 0 < r.thread) (few : r.thread ≤ 2 ^ 22) (there : r.thread < length ids.threads.items) →
+    (has : HasAsked bytes ids (number + 1) old before) →
     (as_read : AsRead ids number r has.found.behind old new after kept) → KnowsCalls ids (r ∷ has.found.behind) after →
-    IsAsked ids (id_of ids number) r has.found.behind kept → HasAsked bytes ids number new after
-asked-step bytes ids number slot r old new before after kept numbered is above few there has as_read calls asked =
+    (named : IsNamed bytes old.kept.items number r) →
+    IsAsked ids (id_of ids number) r named.before has.found.behind kept → HasAsked bytes ids number new after
+asked-step bytes ids number slot r old new before after kept covers numbered is above few there has as_read calls named asked =
+    let short : number ≤ end_of (header_of bytes) = omega (arith, numbered.below) in
+    let last : (task : ℕ) → InRange (last_begun task named.before) =
+    λ task k e. let those = last-there bytes ids (end_of (header_of bytes)) number named.before task k covers short named.are e in
+    (those.0, those.1) in
     let step = record-step bytes ids number slot r old new before after kept numbered is above few there has.found as_read in
     record {
       found = step.0;
       timed = subst AreTimed (sym step.1) (timed-of bytes slot r is, has.timed);
       calls = subst (λ behind. KnowsCalls ids behind after) (sym step.1) calls;
+      named = λ at k q lt is-numbered is-q.
+          let other : k ≢ number = λ e. omega (arith, e, lt) in
+          let longer : k < number + 1 = omega (arith, lt) in
+          still-named bytes old.kept.items new.kept.items k q (ap (λ t. cond (t == 0) None (Some t)) (as_read.rest k other))
+          (has.named at k q longer is-numbered is-q);
       asked = λ k at from is-numbered. elim (cases_eq k number) [
         | inl same ↦ subst (FindsAsked bytes ids new) (sym same) (record {
           r = r;
+          before = named.before;
           behind = has.found.behind;
           is = record { slot = slot; numbered = numbered; is = is };
+          earlier = named.are;
           are = has.found.are;
-          asked = asked-again ids (id_of ids number) r has.found.behind kept (kept_of new number) has.found.covers
-              as_read.same (asked_task r.event) asked;
+          asked = asked-again ids (id_of ids number) r named.before has.found.behind kept (kept_of new number) last
+              has.found.covers as_read.same (asked_task r.event) asked;
         })
-        | inr other ↦ asked-before bytes ids k old new (as_read.rest k other) (has.asked k at (omega arith) is-numbered)
+        | inr other ↦ asked-before bytes ids k old new (ap kept_by (as_read.rest k other)) (has.asked k at (omega arith) is-numbered)
       ];
     }
 

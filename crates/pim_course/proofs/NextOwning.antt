@@ -9,9 +9,10 @@ use Rattle.pim_log.specs.Logs.{IsNumbered, IsRecord}
 use Rattle.pim_log.specs.declared.event.Call.{Call}
 use Rattle.pim_log.specs.declared.record.Record.{Record}
 use Rattle.pim_facts.specs.Levels.{id_of}
+use Rattle.pim_facts.specs.Naming.{IsAt}
 use Rattle.pim_facts.specs.declared.ids.Ids.{Ids}
-use Rattle.pim_course.specs.Kept.{kept_of}
-use Rattle.pim_course.specs.NextOwners.{AreFrom, CoversThose, Finds, FindsFrom, HasFound, HasRoom, IsAt, IsKeepable, IsKept, Knows, granted_first, is_refused, is_that, next_granted, next_owner, release_call, release_kept}
+use Rattle.pim_course.specs.Kept.{kept_by, kept_of}
+use Rattle.pim_course.specs.NextOwners.{AreFrom, CoversThose, Finds, FindsFrom, HasFound, HasRoom, IsKeepable, IsKept, Knows, granted_first, is_refused, is_that, next_granted, next_owner, release_call, release_kept}
 use Rattle.pim_course.specs.declared.next_owners.Coming.{Coming}
 use Rattle.pim_course.specs.declared.next_owners.Kept.{Kept}
 use Rattle.pim_course.specs.declared.next_owners.Kept.TheVariants.{Owner, Refused}
@@ -111,7 +112,7 @@ pub record AsRead (ids : Ids) (number : ℕ) (r : Record) (behind : List Record)
   pub as_long : length new.kept.items ≡ length old.kept.items
   pub is : IsKept ids (id_of ids number) r.thread r.event behind kept
   pub same : IsKeepable kept → kept_of new number ≡ kept
-  pub rest : (other : ℕ) → other ≢ number → kept_of new other ≡ kept_of old other
+  pub rest : (other : ℕ) → other ≢ number → get_or new.kept.items other 0 ≡ get_or old.kept.items other 0
 
 found-again : (bytes : List ℕ) (ids : Ids) (k : ℕ) (old new : NextOwners) → kept_of new k ≡ kept_of old k →
     Finds bytes ids old k → Finds bytes ids new k
@@ -153,7 +154,7 @@ record-step bytes ids number slot r old new before after kept numbered is above 
             kept = read-again ids (id_of ids number) r.thread (release_call r.event) has.behind kept (kept_of new number)
                 has.covers as_read.is as_read.same;
           })
-          | inr other ↦ found-again bytes ids k old new (as_read.rest k other) (has.finds k at (omega arith) is-numbered)
+          | inr other ↦ found-again bytes ids k old new (ap kept_by (as_read.rest k other)) (has.finds k at (omega arith) is-numbered)
         ];
       },
       refl,

@@ -1,17 +1,19 @@
--- Whose a mutex is as a thread asks for it, as far as the records behind its REQUEST say it: docs/FINDINGS.md, 'The owner of
--- a wait'. Where the owner by the log and the last one come, `owners_asked` of Details.antt says.
+-- Whose a mutex is as a thread asks for it, as far as the task in its REQUEST and the records behind that say it:
+-- docs/FINDINGS.md, 'The owner of a wait'. Where the owner by the log and the last one come, `owners_asked` of Details.antt
+-- says.
 --
--- Each list of records here is in the order of their numbers, so its first record is the next one.
-use Rattle.std.specs.Prelude.{◌≡◌, ◌⊎◌, ◌+◌, ◌-◌, ◌^◌, ◌<◌, ◌≤◌, ℕ, ◌==◌, nat_lt, Bool, false, true, ◌&&◌, ◌||◌, if◌then◌else◌, List, [], ◌∷◌, length, slice_get, slice_index_or, find, is_some, IsSome, IfSome, Option, Some, None}
-use Rattle.std.specs.Option.{option_and_then, option_map_or}
+-- The records behind one are in the order of their numbers, those before it the other way, so that the first is the nearest.
+use Rattle.std.specs.Prelude.{◌≡◌, ◌+◌, ◌-◌, ◌^◌, ◌<◌, ◌≤◌, ℕ, ◌==◌, nat_lt, Bool, false, true, ◌&&◌, ◌||◌, if◌then◌else◌, List, [], ◌∷◌, length, slice_get, slice_index_or, find, is_some, IsSome, IfSome, Option, Some, None}
+use Rattle.std.specs.Option.{option_and_then, option_map_or, option_or}
 use Rattle.pim_log.specs.Logs.{IsNumbered, began_of}
 use Rattle.pim_log.specs.declared.event.Event.{Event}
 use Rattle.pim_log.specs.declared.event.Event.TheVariants as event
 use Rattle.pim_log.specs.declared.record.Record.{Record}
 use Rattle.pim_facts.specs.Levels.{id_of}
+use Rattle.pim_facts.specs.Naming.{AreBelow, IsAt, NamesBelow, last_begun}
 use Rattle.pim_facts.specs.declared.ids.Ids.{Ids}
 use Rattle.pim_course.specs.Kept.{kept_of}
-use Rattle.pim_course.specs.NextOwners.{AreFrom, HasFound, IsAt, granted_by, is_granted, is_that, next_granted}
+use Rattle.pim_course.specs.NextOwners.{AreFrom, HasFound, granted_by, is_granted, is_that, next_granted}
 use Rattle.pim_course.specs.declared.next_owners.Coming.{Coming}
 use Rattle.pim_course.specs.declared.next_owners.Kept.{Kept}
 use Rattle.pim_course.specs.declared.next_owners.Kept.TheVariants.{Owner, Later}
@@ -63,43 +65,54 @@ unnamed_kept ids m t time behind =
 abbrev pub has_task : Ids → ℕ → ℕ → Bool
 has_task ids task t = option_map_or (λ thread. thread.task == task) (slice_get ids.threads.items t) false
 
--- what is kept of a REQUEST by a thread that names a task, if no thread that began with it before may own the mutex: another
--- thread that is granted the mutex next, if it has the task
-abbrev pub named_kept : Ids → ℕ → ℕ → ℕ → List Record → Kept
-named_kept ids m t task behind =
-    Owner (option_and_then (λ next. if has_task ids task next then Some next else None) (next_other ids m t behind))
+-- another thread that is granted a mutex next, if it has this task
+abbrev pub next_with_task : Ids → ℕ → ℕ → ℕ → List Record → Option ℕ
+next_with_task ids m t task behind =
+    option_and_then (λ next. if has_task ids task next then Some next else None) (next_other ids m t behind)
 
--- a thread may own a mutex for which one of this process asks: it is of that process, too, or processes share the mutex
-pub record MayOwn (ids : Ids) (m process t : ℕ) : Type 0 where
-  pub above : 0 < t
-  pub few : t ≤ 2 ^ 22
-  pub there : t < length ids.threads.items
-  pub of_process : IfSome (slice_get ids.threads.items t) (λ thread.
-      IfSome (slice_get ids.mutexes.items m) (λ mutex. (((mutex.process == 0) || (thread.process == process)) ≡ true)))
+-- whether processes share a mutex
+abbrev pub is_shared : Ids → ℕ → Bool
+is_shared ids m = option_map_or (λ mutex. mutex.process == 0) (slice_get ids.mutexes.items m) false
+
+-- whether a thread may own a mutex for which one of this process asks: it is of that process, too, or processes share the mutex
+abbrev pub may_own : Ids → ℕ → ℕ → ℕ → Bool
+may_own ids m process t =
+    option_map_or (λ thread. is_shared ids m || thread.process == process) (slice_get ids.threads.items t) false
+
+-- a thread that is named, if it may own the mutex
+abbrev pub named_owner : Ids → ℕ → ℕ → Option ℕ → Option ℕ
+named_owner ids m process named = option_and_then (λ t. if may_own ids m process t then Some t else None) named
+
+-- what is kept of a REQUEST that names a task: the last thread that began with it before, if that may own the mutex, else
+-- another thread that is granted the mutex next, if it has the task
+abbrev pub named_kept : Ids → ℕ → Record → ℕ → List Record → List Record → Kept
+named_kept ids m r task before behind =
+    Owner (option_or (named_owner ids m r.process (last_begun task before)) (next_with_task ids m r.thread task behind))
 
 -- the task that a REQUEST names, or none
 abbrev pub asked_task : Event → Option (Option ℕ)
 asked_task (event.Request _ task) = Some task
 asked_task _ = None
 
--- this is kept of a REQUEST of a mutex, that names this task or none: if it names one, a thread that may own the mutex, or what
--- is kept if there is none. Which of both isn't said, nor that the thread is the last one that began with the task before.
-abbrev pub IsAskedBy : Ids → ℕ → Record → List Record → Kept → Option ℕ → Type 0
-IsAskedBy ids m r behind kept None = kept ≡ unnamed_kept ids m r.thread r.time behind
-IsAskedBy ids m r behind kept (Some task) =
-    ((named : ℕ) × MayOwn ids m r.process named × (kept ≡ Owner (Some named))) ⊎ (kept ≡ named_kept ids m r.thread task behind)
+-- this is kept of a REQUEST of a mutex, that names this task or none
+abbrev pub IsAskedBy : Ids → ℕ → Record → List Record → List Record → Kept → Option ℕ → Type 0
+IsAskedBy ids m r before behind kept None = kept ≡ unnamed_kept ids m r.thread r.time behind
+IsAskedBy ids m r before behind kept (Some task) = kept ≡ named_kept ids m r task before behind
 
 -- this is kept of a record, if it is a REQUEST
-abbrev pub IsAsked : Ids → ℕ → Record → List Record → Kept → Type 0
-IsAsked ids m r behind kept = IfSome (asked_task r.event) (IsAskedBy ids m r behind kept)
+abbrev pub IsAsked : Ids → ℕ → Record → List Record → List Record → Kept → Type 0
+IsAsked ids m r before behind kept = IfSome (asked_task r.event) (IsAskedBy ids m r before behind kept)
 
--- what was found of the record of a log with this number, if it is a REQUEST, is what those behind it say
+-- what was found of the record of a log with this number, if it is a REQUEST, is what it, those before it and those behind it
+-- say
 pub record FindsAsked (bytes : List ℕ) (ids : Ids) (next_owners : NextOwners) (number : ℕ) : Type 0 where
   pub r : Record
+  pub before : List Record
   pub behind : List Record
   pub is : IsAt bytes number r
+  pub earlier : AreBelow bytes number before
   pub are : AreFrom bytes (number + 1) behind
-  pub asked : IsAsked ids (id_of ids number) r behind (kept_of next_owners number)
+  pub asked : IsAsked ids (id_of ids number) r before behind (kept_of next_owners number)
 
 -- so it is of each record of a log from a number on
 abbrev pub FindsAskedFrom : List ℕ → Ids → NextOwners → ℕ → Type 0
@@ -126,9 +139,11 @@ pub record KnowsCalls (ids : Ids) (behind : List Record) (coming : Coming) : Typ
   pub beginning : (t : ℕ) → t < length ids.threads.items →
       slice_index_or coming.beginning.items t None ≡ begun_before ids t behind
 
--- what the records of a log from a number on say is found of them, and known, also of their calls
+-- What the records of a log from a number on say is found of them, and known, also of their calls. Of those below it is kept
+-- which threads they name.
 pub record HasAsked (bytes : List ℕ) (ids : Ids) (from : ℕ) (next_owners : NextOwners) (coming : Coming) : Type 0 where
   pub found : HasFound bytes ids from next_owners coming
   pub timed : AreTimed found.behind
   pub calls : KnowsCalls ids found.behind coming
+  pub named : NamesBelow from bytes next_owners.kept.items
   pub asked : FindsAskedFrom bytes ids next_owners from

@@ -4,13 +4,14 @@
 use Rattle.std.specs.Prelude.{◌≡◌, ℕ, ◌+◌, ◌<◌, ◌≤◌, ◌-◌, ◌^◌, ◌==◌, Bool, true, false, not, ◌&&◌, if◌then◌else◌, List, [], ◌∷◌, length, slice_index_or, find, Option, Some, None, IfSome}
 use Rattle.std.specs.Option.{option_and_then, option_map, option_map_or}
 use Rattle.pim_log.specs.Headers.{header_of, end_of}
-use Rattle.pim_log.specs.Logs.{IsNumbered, IsRecord}
+use Rattle.pim_log.specs.Logs.{IsNumbered}
 use Rattle.pim_log.specs.declared.event.Call.{Call}
 use Rattle.pim_log.specs.declared.event.Call.TheVariants.{Condition}
 use Rattle.pim_log.specs.declared.event.Event.{Event}
 use Rattle.pim_log.specs.declared.event.Event.TheVariants as event
 use Rattle.pim_log.specs.declared.record.Record.{Record}
 use Rattle.pim_facts.specs.Levels.{id_of}
+use Rattle.pim_facts.specs.Naming.{IsAt, LacksFrom}
 use Rattle.pim_facts.specs.declared.ids.Ids.{Ids}
 use Rattle.pim_course.specs.Kept.{kept_of}
 use Rattle.pim_course.specs.declared.next_owners.Coming.{Coming}
@@ -98,16 +99,6 @@ release_call _ = None
 -- this is kept of an event of a thread and a mutex, if it is a RELEASE
 abbrev pub IsKept : Ids → ℕ → ℕ → Event → List Record → Kept → Type 0
 IsKept ids m t event behind kept = IfSome (release_call event) (λ call. kept ≡ release_kept ids m t call behind)
-
--- a record is the one of a log with this number
-pub record IsAt (bytes : List ℕ) (number : ℕ) (r : Record) : Type 0 where
-  pub slot : ℕ
-  pub numbered : IsNumbered bytes slot number
-  pub is : IsRecord bytes slot r
-
--- no record of a log has one of the numbers from one on, up to below another
-abbrev pub LacksFrom : List ℕ → ℕ → ℕ → Type 0
-LacksFrom bytes from end = (k slot : ℕ) → from ≤ k → k < end → IsNumbered bytes slot k → ⊥
 
 -- these are the records of a log from a number on, in order
 abbrev pub AreFrom : List ℕ → ℕ → List Record → Type 0

@@ -1,27 +1,27 @@
 //! Who owns a mutex next, and whose it is when a thread asks for it.
 ghost use Rattle.std.specs.Prelude.{◌≡◌, ◌≢◌, ◌+◌, ◌-◌, ◌<◌, ◌^◌, ◌==◌, ◌&&◌, ℕ, if◌then◌else◌, List, ◌∷◌, length, Some, None};
-ghost use Rattle.std.specs.Prelude.{is_some, IfOk, IfSome, IsTrue, OnOk, slice_index_or, slice_set};
-ghost use Rattle.pim_log.specs.Headers.{header_of, end_of};
+ghost use Rattle.std.specs.Prelude.{is_some, IfOk, IfSome, slice_index_or, slice_set};
 ghost use Rattle.pim_log.specs.Logs.{began_of};
 ghost use Rattle.pim_facts.specs.Covering.{Covers, HasThoseOf};
 ghost use Rattle.pim_facts.specs.Levels.{id_of};
+ghost use Rattle.pim_facts.specs.Naming.{Names, last_begun, named_of, named_task};
 ghost use Rattle.pim_facts.specs.declared.ids.Ids.{Ids};
 ghost use Rattle.pim_log.specs.declared.record.Record.{Record};
-ghost use Rattle.pim_course.specs.AskedOwners.{AreTimed, FindsAskedFrom, HasAsked, IsAsked, KnowsCalls, MayOwn, is_after, named_kept, next_other, unnamed_kept};
+ghost use Rattle.pim_course.specs.AskedOwners.{AreTimed, FindsAskedFrom, HasAsked, IsAsked, KnowsCalls, is_after, may_own, named_owner, next_other, next_with_task, unnamed_kept};
 ghost use Rattle.pim_course.specs.Kept.{granted_by_kept, kept_by, kept_of, never_was, next_by};
 ghost use Rattle.pim_course.specs.NextOwners.{CoversThose, FindsFrom, HasRoom, IsKeepable, IsKept, Knows};
 ghost use Rattle.pim_course.specs.NextOwners.{is_call, is_granted, is_of_release, is_release_failed, is_that, next_owner, release_kept};
 
-use crate::lists::{get, push, set};
-use pim_facts::{Ids, MAX_THREADS};
+use crate::lists::{get, set};
+use pim_facts::{Ids, Named};
 use pim_log::{Call, Event, Log, Record};
 use std::alloc::{AllocError, Global};
-use std::collections::HashMap;
 
 /// The next owner after each release, found from the end of the log to its begin, and the owner that each request names.
 #[derive(Drop)]
 pub struct NextOwners {
-    /// By the number of a RELEASE or a REQUEST the number of what is [`Kept`] of it.
+    /// By the number of a RELEASE or a REQUEST the number of what is [`Kept`] of it. Before that is found the thread that the
+    /// REQUEST names, or 0.
     kept: Vec<u32>,
 }
 
@@ -59,16 +59,6 @@ struct Coming {
     failing: Vec<Option<u32>>,
 }
 
-/// Which thread has each number of the kernel, from the end of the log on.
-#[derive(Drop)]
-struct Tasks {
-    /// By the kernel's number the thread whose THREAD was the last one with it.
-    threads: HashMap<u32, u32>,
-    /// By THREAD, in the order of the records, the thread that had its number before, if one had. Those that are passed are
-    /// taken away.
-    before: Vec<Option<u32>>,
-}
-
 impl Kept {
     /// Returns what has this number.
     fn of(number: u32) -> Kept
@@ -95,20 +85,21 @@ impl Kept {
 }
 
 impl NextOwners {
-    /// Returns who owns each mutex after each of its releases, and as each of its requests is made. Takes four bytes a
-    /// record. What it says of a release, and of a request that names no task, is proved to be what the records behind it
-    /// say. Of a request that names a task it is a thread that may own the mutex, or what they say if there is none; which
-    /// of both isn't proved.
+    /// Returns who owns each mutex after each of its releases, and as each of its requests is made. The requests name these
+    /// threads, whose place in memory what is found takes.
     ///
     /// # Errors
     ///
     /// Returns `AllocError` if out of memory.
-    pub fn of(alloc: Global, log: &Log, ids: &Ids) -> Result<NextOwners, AllocError>
-        ensures releases { Covers ids.now log.now → IfOk result (λ found. FindsFrom log.now ids.now found 1) }
-        ensures requests { Covers ids.now log.now → IfOk result (λ found. FindsAskedFrom log.now ids.now found 1) }
+    pub fn of(alloc: Global, log: &Log, ids: &Ids, named: Named) -> Result<NextOwners, AllocError>
+        ensures releases { Covers ids.now log.now → Names log.now named.threads.items →
+            IfOk result (λ found. FindsFrom log.now ids.now found 1) }
+        ensures requests { Covers ids.now log.now → Names log.now named.threads.items →
+            IfOk result (λ found. FindsAskedFrom log.now ids.now found 1) }
     {
-        let mut found = NextOwners::none(alloc, log)?;
-        let mut tasks = Tasks::at_the_end(alloc, ids)?;
+        let mut found = NextOwners {
+            kept: named.threads,
+        };
         let mut coming = Coming {
             owners: vec![in alloc; None; ids.mutexes.len()]?,
             began: vec![in alloc; None; ids.mutexes.len()]?,
@@ -117,47 +108,45 @@ impl NextOwners {
             failing: vec![in alloc; None; ids.threads.len()]?,
         };
         for number in (1..log.header().end()).rev() {
-            found.find(&mut tasks, &mut coming, log, ids, number)?;
+            found.find(&mut coming, log, ids, number);
         }
         Ok(found)
     }
 
     /// Finds what is kept of the record with this number. What those behind it say is known, and then what it says, too.
-    fn find(
-        &mut self,
-        tasks: &mut Tasks,
-        coming: &mut Coming,
-        log: &Log,
-        ids: &Ids,
-        number: u64,
-    ) -> Result<(), AllocError>
+    fn find(&mut self, coming: &mut Coming, log: &Log, ids: &Ids, number: u64)
         ensures { Covers ids.now log.now → HasAsked log.now ids.now (number + 1) self.old coming.old →
-            OnOk result (HasAsked log.now ids.now number self.new coming.new) }
+            HasAsked log.now ids.now number self.new coming.new }
     {
         let Some(record) = log.record(number) else {
-            return Ok(());
+            return;
         };
-        let named = tasks.read(ids, &record)?;
+        let named = self.named(ids, &record);
         let kept = coming.read(ids, &record, named);
         self.keep(number, kept);
-        Ok(())
     }
 
-    /// Returns that nothing is kept of any record of a log.
-    fn none(alloc: Global, log: &Log) -> Result<NextOwners, AllocError>
-        ensures { IfOk result (λ found. length found.kept.items ≡ end_of (header_of log.now)) }
+    /// Returns the thread that a REQUEST of which nothing is kept yet names, if it may own the mutex. One of another process
+    /// may not, unless they share the mutex: a forked child has copies of mutexes that name its parent's thread.
+    fn named(&self, ids: &Ids, record: &Record) -> Option<u32>
+        ensures { result ≡ named_owner ids.now (id_of ids.now «record».now.number) «record».now.process
+            (named_of self.now.kept.items «record».now.number) }
     {
-        let end = log.header().end();
-        Ok(NextOwners {
-            kept: vec![in alloc; Kept::Owner(None).number(); end as usize]?,
-        })
+        let thread = *self.kept.get(record.number as usize)?;
+        let mutex = ids.of_record(record.number);
+        if thread != 0 && may_own(ids, mutex, record.process, thread) {
+            Some(thread)
+        } else {
+            None
+        }
     }
 
     /// Keeps this of the record with this number.
     fn keep(&mut self, number: u64, kept: Kept)
         ensures room { length self.new.kept.items ≡ length self.old.kept.items }
         ensures kept { number < length self.old.kept.items → IsKeepable kept → kept_of self.new number ≡ kept }
-        ensures rest { (other : ℕ) → other ≢ number → kept_of self.new other ≡ kept_of self.old other }
+        ensures rest { (other : ℕ) → other ≢ number →
+            slice_index_or self.new.kept.items other 0 ≡ slice_index_or self.old.kept.items other 0 }
     {
         if (number as usize) < self.kept.len() {
             self.kept[number as usize] = kept.number();
@@ -217,50 +206,6 @@ impl NextOwners {
     }
 }
 
-impl Tasks {
-    /// Returns who has each number at the end of the log.
-    fn at_the_end(alloc: Global, ids: &Ids) -> Result<Tasks, AllocError> {
-        let mut threads: HashMap<u32, u32> = HashMap::new(alloc);
-        let mut before = Vec::new(alloc);
-        for begin in &ids.begins {
-            let earlier = threads.insert(begin.task, begin.thread)?;
-            push(&mut before, earlier)?;
-        }
-        Ok(Tasks { threads, before })
-    }
-
-    /// Goes back past a record, and returns the thread that a REQUEST names as the owner. A thread of another process isn't
-    /// the owner, unless they share the mutex: a forked child has copies of mutexes that name its parent's thread.
-    fn read(&mut self, ids: &Ids, record: &Record) -> Result<Option<u32>, AllocError>
-        ensures { IfOk result (λ named. IfSome named (MayOwn ids.now (id_of ids.now «record».now.number) «record».now.process)) }
-    {
-        match record.event {
-            Event::Thread { .. } => {
-                match self.before.pop().flatten() {
-                    Some(thread) => {
-                        self.threads.insert(record.task, thread)?;
-                    }
-                    None => {
-                        let _last = self.threads.remove(&record.task);
-                    }
-                }
-                Ok(None)
-            }
-            Event::Request {
-                owner: Some(task),
-                ..
-            } => {
-                let mutex = ids.of_record(record.number);
-                match self.threads.get(&task).copied() {
-                    Some(thread) if may_own(ids, mutex, record.process, thread) => Ok(Some(thread)),
-                    _ => Ok(None),
-                }
-            }
-            _ => Ok(None),
-        }
-    }
-}
-
 impl Coming {
     /// Records what a record says, and returns what is kept of it. A REQUEST names this thread.
     fn read(&mut self, ids: &Ids, record: &Record, named: Option<u32>) -> Kept
@@ -272,10 +217,11 @@ impl Coming {
         ensures kept { (behind : List Record) → HasRoom ids.now self.old → Knows ids.now behind self.old →
             CoversThose ids.now behind → HasThoseOf ids.now record.now (id_of ids.now record.now.number) →
             IsKept ids.now (id_of ids.now record.now.number) record.now.thread record.now.event behind result }
-        ensures asked { (behind : List Record) → HasRoom ids.now self.old → Knows ids.now behind self.old →
+        ensures asked { (before behind : List Record) → HasRoom ids.now self.old → Knows ids.now behind self.old →
             KnowsCalls ids.now behind self.old → HasThoseOf ids.now record.now (id_of ids.now record.now.number) →
-            IfSome named (MayOwn ids.now (id_of ids.now record.now.number) record.now.process) →
-            IsAsked ids.now (id_of ids.now record.now.number) record.now behind result }
+            IfSome (named_task record.now.event) (λ task. named ≡
+            named_owner ids.now (id_of ids.now record.now.number) record.now.process (last_begun task before)) →
+            IsAsked ids.now (id_of ids.now record.now.number) record.now before behind result }
     {
         let mutex = ids.of_record(record.number);
         let kept = self.kept(ids, record, named, mutex);
@@ -289,10 +235,11 @@ impl Coming {
         ensures kept { (behind : List Record) → HasRoom ids.now self.now → Knows ids.now behind self.now →
             CoversThose ids.now behind → HasThoseOf ids.now record.now mutex →
             IsKept ids.now mutex record.now.thread record.now.event behind result }
-        ensures asked { (behind : List Record) → HasRoom ids.now self.now → Knows ids.now behind self.now →
+        ensures asked { (before behind : List Record) → HasRoom ids.now self.now → Knows ids.now behind self.now →
             KnowsCalls ids.now behind self.now → HasThoseOf ids.now record.now mutex →
-            IfSome named (MayOwn ids.now mutex record.now.process) →
-            IsAsked ids.now mutex record.now behind result }
+            IfSome (named_task record.now.event)
+            (λ task. named ≡ named_owner ids.now mutex record.now.process (last_begun task before)) →
+            IsAsked ids.now mutex record.now before behind result }
     {
         match record.event {
             Event::Request { owner: None, .. } => self.next_if_asked(record, mutex),
@@ -399,7 +346,7 @@ impl Coming {
     /// Returns another thread that is granted a mutex next, if it has this task.
     fn next_with_task(&self, ids: &Ids, thread: u32, task: u32, mutex: u32) -> Option<u32>
         ensures { (behind : List Record) → HasRoom ids.now self.now → Knows ids.now behind self.now →
-            mutex < length ids.now.mutexes.items → Kept.Owner result ≡ named_kept ids.now mutex thread task behind }
+            mutex < length ids.now.mutexes.items → result ≡ next_with_task ids.now mutex thread task behind }
     {
         let next = self.next_other(thread, mutex)?;
         match ids.threads.get(next as usize) {
@@ -460,17 +407,14 @@ fn is_after(time: Option<u64>, other: Option<u64>) -> bool
 /// Returns whether a thread may own a mutex as a thread of this process asks for it: it is of the process, or processes
 /// share the mutex.
 fn may_own(ids: &Ids, mutex: u32, process: u32, thread: u32) -> bool
-    ensures { IsTrue result → MayOwn ids.now mutex process thread }
+    ensures { result ≡ may_own ids.now mutex process thread }
 {
     let is_shared = match ids.mutexes.get(mutex as usize) {
         Some(is) => is.process == 0,
         None => false,
     };
-    // The map has only numbers of threads, which isn't proved of it.
     match ids.threads.get(thread as usize) {
-        Some(named) if 0 < thread && thread <= MAX_THREADS => {
-            is_shared || named.process == process
-        }
-        _ => false,
+        Some(named) => is_shared || named.process == process,
+        None => false,
     }
 }

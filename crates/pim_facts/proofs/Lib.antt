@@ -1,2 +1,3 @@
 pub mod Covered
 pub mod Ended
+pub mod Naming

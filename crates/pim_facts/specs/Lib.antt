@@ -3,3 +3,4 @@ pub mod Shown
 pub mod Levels
 pub mod Covering
 pub mod Ending
+pub mod Naming

@@ -6,10 +6,12 @@ ghost use Rattle.pim_facts.specs.Covering.{Covers, Grows, HasMutex, HasNumber, H
 ghost use Rattle.pim_facts.specs.Levels.{id_of, first_level};
 ghost use Rattle.pim_facts.specs.Ending.{EndsAt, EndsBelow, later_of};
 ghost use Rattle.pim_facts.specs.Faults.{NamesOneOf, NamesOnly};
+ghost use Rattle.pim_facts.specs.Naming.{HasNamed, Names};
 
 use crate::family::{Family, ceiling_in, family_in};
 use crate::fault::IdsFault;
 use crate::level::{MAX_LEVEL, level_of};
+use crate::tasks::{Named, Tasks};
 use pim_log::{Event, Log, Mutex, Priority, Record, ThreadKey};
 use std::alloc::{AllocError, Global};
 use std::collections::HashMap;
@@ -43,15 +45,6 @@ pub struct LoggedMutex {
     pub is_recursive: bool,
 }
 
-/// A thread's first record.
-#[derive(Clone, Copy, PartialEq, Eq)]
-pub struct Begin {
-    /// The kernel's number of the thread, which an earlier one may have had.
-    pub task: u32,
-    /// The log's number of the thread.
-    pub thread: u32,
-}
-
 /// The threads and the mutexes of a log, and which of them each record is about.
 #[derive(Drop)]
 pub struct Ids {
@@ -59,8 +52,6 @@ pub struct Ids {
     pub threads: Vec<LoggedThread>,
     /// The mutexes, from number 1 on in the order in which the log names them first. There is none with number 0.
     pub mutexes: Vec<LoggedMutex>,
-    /// What each THREAD says, in the order of the records.
-    pub begins: Vec<Begin>,
     /// By the number of each record the mutex, or the thread that is named or whose priority is set; else 0.
     of_record: Vec<u32>,
     /// Which levels the log has.
@@ -74,7 +65,6 @@ pub struct Ids {
 struct Places {
     mutexes: HashMap<(u32, u64), u32>,
     threads: HashMap<(u32, u64), u32>,
-    tasks: HashMap<u32, u32>,
     /// By [`place_of`] an address the mutex that was found or began there last: most records find theirs here, without the
     /// search of the map.
     found: Vec<Option<Found>>,
@@ -98,27 +88,28 @@ const NO_THREAD: LoggedThread = LoggedThread {
 };
 
 impl Ids {
-    /// Returns whom each record of the log is about. Takes four bytes a record.
+    /// Returns whom each record of the log is about, and which threads its requests name. Each takes four bytes a record.
     ///
     /// # Errors
     ///
     /// Returns `TooManyThreads` if a thread's number is above [`MAX_THREADS`], and `Memory` if out of memory.
-    pub fn of(alloc: Global, log: &Log) -> Result<Ids, IdsFault>
+    pub fn of(alloc: Global, log: &Log) -> Result<(Ids, Named), IdsFault>
         ensures fault { IfErr result (NamesOneOf (end_of (header_of log.now))) }
-        ensures covers { IsLog log.now → IfOk result (λ ids. Covers ids log.now) }
-        ensures ended { IsLog log.now → IfOk result (λ ids. EndsAt log.now ids.ended) }
+        ensures covers { IsLog log.now → IfOk result (λ found. Covers found.0 log.now) }
+        ensures ended { IsLog log.now → IfOk result (λ found. EndsAt log.now found.0.ended) }
+        ensures named { IsLog log.now → IfOk result (λ found. Names log.now found.1.threads.items) }
     {
         let mut ids = Ids::new(alloc, log)?;
         let mut places = Places {
             mutexes: HashMap::new(alloc),
             threads: HashMap::new(alloc),
-            tasks: HashMap::new(alloc),
             found: vec![in alloc; None; FOUND as usize]?,
         };
+        let mut tasks = Tasks::new(alloc, log)?;
         for number in 1..log.header().end() {
-            ids.read_record(&mut places, log, number)?;
+            ids.read_record(&mut places, &mut tasks, log, number)?;
         }
-        Ok(ids)
+        Ok((ids, tasks.named()))
     }
 
     /// Returns that nothing is known yet.
@@ -140,7 +131,6 @@ impl Ids {
         Ok(Ids {
             threads,
             mutexes,
-            begins: Vec::new(alloc),
             of_record,
             levels: [false; 101],
             ended: log.header().began,
@@ -179,24 +169,33 @@ impl Ids {
     }
 
     /// Learns what the record with this number says, and keeps whom it is about.
-    fn read_record(&mut self, places: &mut Places, log: &Log, number: u64) -> Result<(), IdsFault>
+    fn read_record(
+        &mut self,
+        places: &mut Places,
+        tasks: &mut Tasks,
+        log: &Log,
+        number: u64,
+    ) -> Result<(), IdsFault>
         ensures fault { IfErr result (NamesOneOf (end_of (header_of log.now))) }
         ensures read { HasRead log.now number self.old → IfOk result (λ _. HasRead log.now (number + 1) self.new) }
         ensures ended { IsLog log.now → EndsBelow number log.now self.old.ended →
             IfOk result (λ _. EndsBelow (number + 1) log.now self.new.ended) }
+        ensures named { IsLog log.now → HasRead log.now number self.old → HasNamed log.now number tasks.old →
+            IfOk result (λ _. HasNamed log.now (number + 1) tasks.new) }
     {
         let record = match log.record(number) {
             Some(record) => record,
             None => return Ok(()),
         };
         self.read_time(record.time);
-        let id = self.read(places, &record)?;
+        let id = self.read(places, tasks, &record)?;
         self.put(number, id);
+        tasks.read(&record)?;
         Ok(())
     }
 
     /// Learns what a record says, and returns whom it is about.
-    fn read(&mut self, places: &mut Places, record: &Record) -> Result<u32, IdsFault>
+    fn read(&mut self, places: &mut Places, tasks: &Tasks, record: &Record) -> Result<u32, IdsFault>
         ensures fault { IfErr result (NamesOnly «record».now.number) }
         ensures grown { Grows self.old self.new }
         ensures thread { IfOk result (λ _. HasThread self.new «record».now.thread) }
@@ -206,7 +205,7 @@ impl Ids {
         self.read_thread(record)?;
         match record.event.mutex() {
             Some(mutex) => Ok(self.read_mutex(places, record, &mutex)?),
-            None => self.read_other(places, record),
+            None => self.read_other(places, tasks, record),
         }
     }
 
@@ -237,7 +236,12 @@ impl Ids {
     }
 
     /// Learns what a record says that isn't of a mutex, and returns the thread that it is about, or 0.
-    fn read_other(&mut self, places: &mut Places, record: &Record) -> Result<u32, IdsFault>
+    fn read_other(
+        &mut self,
+        places: &mut Places,
+        tasks: &Tasks,
+        record: &Record,
+    ) -> Result<u32, IdsFault>
         ensures fault { IfErr result (NamesOnly «record».now.number) }
         ensures grown { Grows self.old self.new }
         ensures thread { HasThread self.old «record».now.thread → IfOk result (HasThread self.new) }
@@ -246,27 +250,27 @@ impl Ids {
             Event::Thread { pthread, priority } => {
                 self.begin_thread(places, record, pthread, priority)
             }
-            Event::Name { pthread } => {
-                Ok(self.named_thread(places, record.process, ThreadKey::Pthread(pthread)))
-            }
+            Event::Name { pthread } => Ok(self.known(places.thread(record.process, pthread))),
             Event::Priority { of, priority } => {
                 self.keep_level(level_of(priority, 1));
-                Ok(self.named_thread(places, record.process, of))
+                let thread = match of {
+                    ThreadKey::Task(task) => tasks.thread(task),
+                    ThreadKey::Pthread(pthread) => places.thread(record.process, pthread),
+                };
+                Ok(self.known(thread))
             }
             _ => Ok(0),
         }
     }
 
-    /// Returns the thread that a record of this process names, or 0 where the log doesn't know it.
-    fn named_thread(&self, places: &Places, process: u32, key: ThreadKey) -> u32
+    /// Returns a thread that a record names, or 0 where the log doesn't know it.
+    fn known(&self, thread: Option<u32>) -> u32
         ensures { 0 < length self.now.threads.items → HasThread self.now result }
     {
-        // The map has only numbers of threads, which isn't proved of it.
-        let thread = places.thread(process, key);
-        if (thread as usize) < self.threads.len() {
-            thread
-        } else {
-            0
+        // The maps have only numbers of threads, which isn't proved of them.
+        match thread {
+            Some(thread) if (thread as usize) < self.threads.len() => thread,
+            _ => 0,
         }
     }
 
@@ -330,23 +334,7 @@ impl Ids {
             (record.process, pthread),
             record.thread,
         )?;
-        put(&mut places.tasks, record.task, record.thread)?;
-        self.keep_begin(record)?;
         Ok(record.thread)
-    }
-
-    /// Keeps which thread has its number in the kernel from a record on.
-    fn keep_begin(&mut self, record: &Record) -> Result<(), AllocError>
-        ensures { Grows self.old self.new }
-    {
-        let begin = Begin {
-            task: record.task,
-            thread: record.thread,
-        };
-        match self.begins.push(begin) {
-            Ok(()) => Ok(()),
-            Err(_) => Err(AllocError),
-        }
     }
 
     fn begin_level(&mut self, thread: u32, level: u8)
@@ -475,13 +463,9 @@ impl Places {
         }
     }
 
-    /// Returns the thread that a record of this process names, or 0 where the log doesn't know it.
-    fn thread(&self, process: u32, key: ThreadKey) -> u32 {
-        let found = match key {
-            ThreadKey::Task(task) => self.tasks.get(&task),
-            ThreadKey::Pthread(pthread) => self.threads.get(&(process, pthread)),
-        };
-        found.copied().unwrap_or(0)
+    /// Returns the thread at an address of this process, if the log knows it.
+    fn thread(&self, process: u32, pthread: u64) -> Option<u32> {
+        self.threads.get(&(process, pthread)).copied()
     }
 
     /// Keeps where a mutex is found. One that processes share takes the place of the one before it

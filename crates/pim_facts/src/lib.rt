@@ -7,7 +7,7 @@
 //!
 //! ```text
 //! let log = Log::read(alloc, &bytes)?;
-//! let ids = Ids::of(alloc, &log)?;
+//! let (ids, named) = Ids::of(alloc, &log)?;
 //! ids.mutex(ids.of_record(12)); // Some: the mutex that record 12 is about
 //! ```
 #![tactic(auto)]
@@ -18,10 +18,12 @@ mod family;
 mod fault;
 mod ids;
 mod level;
+mod tasks;
 
 pub use fact::{Fact, LeftOut, What};
 pub use facts::Facts;
 pub use family::{Family, ceiling_in};
 pub use fault::IdsFault;
-pub use ids::{Begin, Ids, LoggedMutex, LoggedThread, MAX_THREADS};
+pub use ids::{Ids, LoggedMutex, LoggedThread, MAX_THREADS};
 pub use level::level_of;
+pub use tasks::Named;

@@ -116,14 +116,14 @@ fn sources_of(alloc: Global, log: &Log, waits: &[Wait]) -> Result<Sources, Impor
     ensures requests { IfOk result (λ sources. ArePlaced log.now sources.requests.list.items) }
     ensures fault { IfErr result (NamesOneOf (end_of (header_of log.now))) }
 {
-    let ids = match Ids::of(alloc, log) {
-        Ok(ids) => ids,
+    let (ids, named) = match Ids::of(alloc, log) {
+        Ok(found) => found,
         Err(IdsFault::TooManyThreads(number)) => {
             return Err(ImportFault::TooManyThreads(number));
         }
         Err(IdsFault::Memory) => return Err(ImportFault::Memory),
     };
-    let next_owners = NextOwners::of(alloc, log, &ids)?;
+    let next_owners = NextOwners::of(alloc, log, &ids, named)?;
     let mut sources = Sources {
         ids,
         next_owners,

@@ -3,10 +3,11 @@ use Rattle.pim_import.proofs.importing.sources_of.Goals as goal
 pub returns-clause-of_log : goal.returns-clause-of_log
 returns-clause-of_log c is =
     let covers = c.in-Ok.ensures.covers is in
+    let names = c.in-Ok.ensures.named is in
     record {
       covers = covers;
       ended = c.in-Ok.ensures.ended is;
-      releases = c.in_ok-next_owners.ensures.releases covers;
-      asked = c.in_ok-next_owners.ensures.requests covers;
+      releases = c.in_ok-next_owners.ensures.releases covers names;
+      asked = c.in_ok-next_owners.ensures.requests covers names;
       requests = c.in_ok-sources.ensures.shown is;
     }

@@ -1,9 +1,11 @@
-use Rattle.std.proofs.Common.{subst, sym, ◌∙◌, arith}
+use Rattle.std.proofs.Common.{◌≡◌, subst, sym, ◌∙◌, arith}
 use Rattle.pim_facts.specs.Covering.{HasThoseOf}
 use Rattle.pim_facts.specs.Levels.{id_of}
+use Rattle.pim_facts.specs.Naming.{IsNamed, last_begun, named_of, named_task}
+use Rattle.std.specs.Prelude.{IfSome}
 use Rattle.pim_course.specs.AskedOwners.{IsAsked}
 use Rattle.pim_course.specs.NextOwners.{IsKept}
-use Rattle.pim_course.proofs.AskedOwning.{asked-lacks, asked-step, timed-of}
+use Rattle.pim_course.proofs.AskedOwning.{asked-lacks, asked-step, named-last, timed-of}
 use Rattle.pim_course.proofs.next_owners.NextOwners.find.Goals as goal
 
 pub returns-in_default : goal.returns-in_default
@@ -19,8 +21,10 @@ returns c = λ covers has.
     let those : HasThoseOf ids r _ = covers slot c.args.number r numbered.below numbered is in
     let number-is = is.number ∙ numbered.stored in
     let so : HasThoseOf ids r (id_of ids r.number) = subst (λ n. HasThoseOf ids r (id_of ids n)) (sym number-is) those in
+    let named : IsNamed c.args.log.now c.args.self.now.kept.items c.args.number r =
+    has.named slot c.args.number r (omega arith) numbered is in
     asked-step c.args.log.now ids c.args.number slot r c.args.self.now c.keep.new.self
-    c.args.coming.now c.read-kept.new.self c.read-kept.result numbered is those.above those.few those.thread has
+    c.args.coming.now c.read-kept.new.self c.read-kept.result covers numbered is those.above those.few those.thread has
     (record {
       knows = c.read-kept.ensures.knows has.found.behind has.found.knows;
       room = c.read-kept.ensures.room has.found.room;
@@ -32,5 +36,10 @@ returns c = λ covers has.
     })
     (c.read-kept.ensures.calls has.found.behind has.found.room has.found.knows
     (timed-of c.args.log.now slot r is, has.timed) so has.calls)
-    (subst (λ n. IsAsked ids (id_of ids n) r has.found.behind c.read-kept.result) number-is
-    (c.read-kept.ensures.asked has.found.behind has.found.room has.found.knows has.calls so c.in_ok-named.ensures))
+    named
+    (subst (λ n. IsAsked ids (id_of ids n) r named.before has.found.behind c.read-kept.result) number-is
+    (c.read-kept.ensures.asked named.before has.found.behind has.found.room has.found.knows has.calls so
+    (named-last ids (id_of ids r.number) r.process (named_task r.event) c.named-named.result
+    (named_of c.args.self.now.kept.items r.number) named.before c.named-named.ensures
+    (subst (λ n. IfSome (named_task r.event) (λ task. named_of c.args.self.now.kept.items n ≡ last_begun task named.before))
+    (sym number-is) named.is))))

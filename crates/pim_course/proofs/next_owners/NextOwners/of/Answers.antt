@@ -7,9 +7,9 @@ use Rattle.pim_course.proofs.NextOwning.{end-found}
 use Rattle.pim_course.proofs.next_owners.NextOwners.of.Goals as goal
 
 pub loop-number-init : goal.loop-number-init
-loop-number-init c = λ covers.
+loop-number-init c = λ covers names.
     let end = c.end-number.ensures ∙ ap (λ h. end_of h) c.header.ensures in
-    asked-begin _ c.args.ids.now _ c.in_ok-found.found _ (omega arith) c.in_ok-found.ensures
+    asked-begin _ c.args.ids.now _ _ _ (omega arith) names
     (grind (arith, common_steps, c.len.ensures, c.in_ok-vec.ensures.items_if_clones_equal (search rules)))
     (grind (arith, common_steps, c.len-4.ensures, c.in_ok-vec-4.ensures.items_if_clones_equal (search rules)))
     (grind (arith, common_steps, c.len-5.ensures, c.in_ok-vec-5.ensures.items_if_clones_equal (search rules)))
@@ -17,18 +17,18 @@ loop-number-init c = λ covers.
     (grind (arith, common_steps, c.len-3.ensures, c.in_ok-vec-3.ensures.items_if_clones_equal (search rules)))
 
 pub returns-clause-releases : goal.returns-clause-releases
-returns-clause-releases c = λ covers.
+returns-clause-releases c = λ covers names.
     end-found _ c.args.ids.now c.loop-number.number _ c.loop-number.coming
-    (omega (arith, c.loop-number-test.false)) (c.loop-number.invariant covers).found
+    (omega (arith, c.loop-number-test.false)) (c.loop-number.invariant covers names).found
 
 pub returns-clause-requests : goal.returns-clause-requests
-returns-clause-requests c = λ covers.
+returns-clause-requests c = λ covers names.
     asked-end _ c.args.ids.now c.loop-number.number _ c.loop-number.coming
-    (omega (arith, c.loop-number-test.false)) (c.loop-number.invariant covers)
+    (omega (arith, c.loop-number-test.false)) (c.loop-number.invariant covers names)
 
 pub loop-number-preserved : goal.loop-number-preserved
-loop-number-preserved c = λ covers.
+loop-number-preserved c = λ covers names.
     let at : c.loop-number.number ≡ c.loop-number.number - 1 + 1 = omega (arith, c.loop-number-test.true) in
-    c.in_ok-find.ensures covers
+    c.find.ensures covers
     (subst (λ n. HasAsked c.args.log.now c.args.ids.now n c.loop-number.found c.loop-number.coming) at
-    (c.loop-number.invariant covers))
+    (c.loop-number.invariant covers names))

@@ -3,6 +3,7 @@ use Rattle.std.proofs.lemmas.Grind.{common_steps}
 use Rattle.pim_log.specs.Headers.{end_of}
 use Rattle.pim_facts.proofs.Covered.{covered}
 use Rattle.pim_facts.proofs.Ended.{ended}
+use Rattle.pim_facts.proofs.Naming.{named}
 use Rattle.pim_facts.proofs.ids.Ids.of.Goals as goal
 
 pub returns-clause-covers : goal.returns-clause-covers
@@ -16,10 +17,29 @@ returns-clause-covers c =
 
 pub returns-clause-ended : goal.returns-clause-ended
 returns-clause-ended c log =
-    let ends : _ = c.loop-number.invariant.1 log in
+    let ends : _ = (c.loop-number.invariant.1 log).0 in
     ended c.args.log.now c.loop-number.number c.end-number-end.result c.loop-number.ids.ended ends
     (c.end-number-end.ensures ∙ ap (λ h. end_of h) c.header.ensures)
     (first_of (
       omega (arith, c.loop-number-test.false),
       grind (arith, common_steps, c.loop-number-test.false),
     ))
+
+pub returns-clause-named : goal.returns-clause-named
+returns-clause-named c log =
+    named c.args.log.now c.loop-number.number c.end-number-end.result c.loop-number.tasks c.named.result.threads.items
+    (c.loop-number.invariant.1 log).1 (c.end-number-end.ensures ∙ ap (λ h. end_of h) c.header.ensures)
+    (first_of (
+      omega (arith, c.loop-number-test.false),
+      grind (arith, common_steps, c.loop-number-test.false),
+    ))
+    c.named.ensures
+
+pub loop-number-preserved : goal.loop-number-preserved
+loop-number-preserved c = (
+  c.in_ok-read_record.ensures.read c.loop-number.invariant.0,
+  λ log. (
+    c.in_ok-read_record.ensures.ended log (c.loop-number.invariant.1 log).0,
+    c.in_ok-read_record.ensures.named log c.loop-number.invariant.0 (c.loop-number.invariant.1 log).1,
+  ),
+)

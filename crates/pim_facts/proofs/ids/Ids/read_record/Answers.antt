@@ -1,6 +1,7 @@
 use Rattle.std.proofs.Common.{ap, ◌∙◌}
 use Rattle.pim_facts.proofs.Covered.{later, lacks, reads}
 use Rattle.pim_facts.proofs.Ended as ended
+use Rattle.pim_facts.proofs.Naming as tasks
 use Rattle.pim_facts.proofs.ids.Ids.read_record.Goals as goal
 
 pub returns-in-None-clause-read : goal.returns-in-None-clause-read
@@ -20,3 +21,12 @@ pub returns-clause-ended : goal.returns-clause-ended
 returns-clause-ended c log =
     ended.reads c.args.log.now c.args.number c.args.self.now.ended c.put.new.self.ended c.in-Some.record log c.in-Some.ensures
     (ap (λ d. d.ended) c.put.ensures.rest ∙ c.read.ensures.grown.ended ∙ ap (λ d. d.ended) c.read_time.ensures)
+
+pub returns-in-None-clause-named : goal.returns-in-None-clause-named
+returns-in-None-clause-named c log read named =
+    tasks.lacks c.args.log.now c.args.number c.args.tasks.now c.in-None.ensures named
+
+pub returns-clause-named : goal.returns-clause-named
+returns-clause-named c log read named =
+    tasks.reads c.args.log.now c.args.number c.args.self.now c.args.tasks.now c.read-2.new.self c.in-Some.record log
+    c.in-Some.ensures (read.covers log) c.in_ok-read.ensures.begun c.in_ok-read.ensures.named named
