@@ -5,7 +5,7 @@
 //! which thread ended it. It is proved that these are exactly the waits of specs/Waits.antt, none more and none less.
 //!
 //! ```text
-//! let ids = Ids::of(alloc, &log)?;
+//! let (ids, _named) = Ids::of(alloc, &log)?;
 //! let waits = other_waits_of(alloc, &log, &ids)?;
 //! longest_first(&mut waits);
 //! ```
