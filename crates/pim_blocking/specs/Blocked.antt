@@ -43,7 +43,8 @@ highest_level ids [] t = first_level ids t
 highest_level ids (m ∷ before) t =
     if m.fact.thread == t then and_level m.fact.what (highest_level ids before t) else highest_level ids before t
 
--- the level of the thread that owned what a thread waits for, as it began to; 0, the lowest, if that isn't known
+-- the level of the thread that owned what a thread waits for as its last wait began; 0, the lowest, if that isn't known, or is the
+-- thread itself
 abbrev pub awaited_level : Course → ℕ → ℕ
 awaited_level course t =
     option_map_or (λ owner. if owner == t then 0 else (thread_in course owner).level) (thread_in course t).awaited_owner 0

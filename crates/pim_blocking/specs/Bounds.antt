@@ -53,7 +53,7 @@ abbrev pub is_left : List ℕ → ℕ → ℕ → Bool
 is_left longest number lasted =
     nat_lt number (length longest) && (nat_lt 0 lasted && (slice_index_or longest number 0 == lasted))
 
--- the sum of the longest sections of the threads or at the mutexes below a number
+-- the sum of the longest sections of the threads or at the mutexes below a number; at most 2 ^ 64 - 1
 abbrev pub sum_of_longest : Per → ℕ → List Section → ℕ
 sum_of_longest per count sections = capped (sum_below count (longest_of_number per sections))
 

@@ -26,13 +26,13 @@ placed bound [] = bound ∷ []
 placed bound (other ∷ bounds) =
     if is_smaller bound.under_inherit other then bound ∷ other ∷ bounds else other ∷ placed bound bounds
 
--- bounds of which that of the last thread is first, the greatest first: of equal ones that of the first thread
+-- of bounds in the order of their threads, the last first: the greatest first, of equal ones that of the lower thread
 abbrev pub greatest_first : List Bound → List Bound
 greatest_first [] = []
 greatest_first (bound ∷ bounds) = placed bound (greatest_first bounds)
 
--- A thread has this bound, by the highest level of each and its longest wait, where there are n threads and k mutexes. A number
--- of a thread is a u32.
+-- A thread has this bound, by the highest level of each and its longest wait, where there are n threads and k mutexes. The bound's
+-- number of the thread is t, or 2 ^ 32 - 1 if t is above that.
 pub record IsBoundOf (n k : ℕ) (highest longest : ℕ → ℕ) (seen : List Section) (inner : ℕ → List ℕ) (t : ℕ) (bound : Bound)
     : Type 0 where
   pub thread : bound.thread ≡ min t 4294967295
@@ -48,7 +48,8 @@ pub data AreOfThreads (Has : ℕ → Bound → Type 0) (highest : ℕ → ℕ) :
   but_thread : {t : ℕ} {bounds : List Bound} → is_real_time (highest t) ≡ false → AreOfThreads Has highest t bounds →
       AreOfThreads Has highest (suc t) bounds
 
--- Of the threads below a number those with the greatest bounds are listed, the greatest first: no more than ten.
+-- Of the threads below a number the ten greatest bounds above 0 are listed, or all if there are fewer: the greatest first, of equal
+-- ones that of the lower thread.
 pub record AreListed (n k : ℕ) (highest longest : ℕ → ℕ) (seen : List Section) (inner : ℕ → List ℕ) (below : ℕ) (bounds : List Bound)
     : Type 0 where
   pub all : List Bound

@@ -14,7 +14,7 @@ use std::alloc::{AllocError, Global};
 pub(crate) struct Blocked {
     /// The highest level that it had.
     pub level: u8,
-    /// How long it waited at most for a mutex whose owner had a lower level, in nanoseconds.
+    /// How long it waited at most for a mutex whose owner had a lower level or isn't known, in nanoseconds.
     pub waited: u64,
     /// When it began such a wait that lasts.
     since: Option<u64>,
@@ -54,7 +54,7 @@ fn first_level(thread: &LoggedThread) -> u8
     }
 }
 
-/// Learns from a fact of this time.
+/// Learns from a fact of this time, if its thread is one of the log.
 pub(crate) fn look_at(blocked: &mut Vec<Blocked>, course: &Course, fact: &Fact, time: u64)
     ensures { (ids : Ids) (facts : List Moment) → KnowsThreads ids facts blocked.old.items →
         KnowsThreads ids (record { fact = fact.now; time = time; course = course.now } ∷ facts) blocked.new.items }
@@ -66,7 +66,7 @@ pub(crate) fn look_at(blocked: &mut Vec<Blocked>, course: &Course, fact: &Fact, 
 }
 
 impl Blocked {
-    /// Returns that a thread of this level didn't wait yet.
+    /// Returns a thread of this level that hasn't waited yet.
     fn at_level(level: u8) -> Blocked
         ensures { result ≡ record { level = level; waited = 0; since = None } }
     {

@@ -34,7 +34,7 @@ pub struct Bound {
     pub under_protect: u64,
     /// The sections that make the bound under INHERIT, the longest first.
     pub sections: Vec<Section>,
-    /// How long it waited at most for a mutex whose owner had a lower level, in nanoseconds.
+    /// How long it waited at most for a mutex whose owner had a lower level or isn't known, in nanoseconds.
     pub waited: u64,
 }
 

@@ -54,7 +54,7 @@ abbrev pub mutexes_after : Context → List Appearance → List (Option ℕ)
 mutexes_after context appeared =
     let numbers = context.numbering.now.mutexes in holders_after numbers as_mutex (nobody numbers) appeared
 
--- a point of a trace, and who has appeared by then
+-- a point of a trace, and the first of those who appear in it; that they appear by this point isn't said
 pub record Stage : Type 0 where
   pub point : Point
   pub appeared : List Appearance

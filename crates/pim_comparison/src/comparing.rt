@@ -140,7 +140,8 @@ impl Compared {
         }
         self.threads = self.threads.saturating_add(1);
         let spans = sources.timing.unknown.as_slice();
-        let list = differences_of(alloc, track, course, spans, (imported.sources.ids.ended, tolerance))?;
+        let ended = imported.sources.ids.ended;
+        let list = differences_of(alloc, track, course, spans, (ended, tolerance))?;
         self.take(imported, sources, thread, &list)
     }
 

@@ -24,15 +24,15 @@ use Rattle.pim_course.specs.declared.course.Sources.{Sources}
 use Rattle.pim_course.specs.declared.next_owners.Kept.{Kept}
 use Rattle.pim_course.specs.declared.requests.Request.{Request}
 
--- what is known of a mutex: who had it before its owner; and where its owner took it, or the last one if it is free, and whether
--- by a trylock
+-- what is known of a mutex: who had it before its owner, or last if it is free; and where its owner took it, or the last one if
+-- it is free, and whether by a trylock
 pub record OfMutex : Type 0 where
   pub last_owner : Option ℕ
   pub taken_at : Option ℕ
   pub was_tried : Bool
 
--- what is known of a thread: who had the mutex as it began to wait, where that took it, where the thread asked, and whether its
--- level was above the ceiling then; and its own mutex, if it locks that again
+-- what is known of a thread: of its last wait who had the mutex as it began, where that thread took it, where this one asked last,
+-- and whether its level was above the ceiling then; and its own mutex, if it locks that again
 pub record OfThread : Type 0 where
   pub awaited_owner : Option ℕ
   pub owner_at : Option ℕ
@@ -126,7 +126,7 @@ place_of_owner world details m owner =
 abbrev pub asked : ℕ → Option ℕ → Details → Details
 asked t place details = with_thread t (record (details.threads t) { asked_at = place }) details
 
--- the world with the ceiling that a record says of its mutex
+-- the world with the ceiling that a record says of its mutex, if it says one
 abbrev pub corrected : Sources → World → ℕ → Mutex → World
 corrected sources world m said =
     record world {
@@ -187,7 +187,7 @@ abbrev pub is_contradicted : Sources → World → ℕ → ℕ → Details → B
 is_contradicted sources world t m details =
     not (is_that (world.awaits t) m && not (details.threads t).was_above) && is_above sources world t m
 
--- a REQUEST: its thread asks for its own mutex, or begins to wait, unless it waits for the mutex
+-- a REQUEST: its thread asks for its own mutex, or begins to wait, unless it waits for the mutex; nothing if that isn't known
 abbrev pub details_requested : Sources → World → Details → Record → Mutex → Option ℕ → ℕ → Details
 details_requested sources world details r said task m =
     if is_that (world.owner m) r.thread then own_asked sources.ids r.thread m r.place details
@@ -196,7 +196,8 @@ details_requested sources world details r said task m =
     wait_begun sources (corrected sources world m said) r.thread m (owner_asked sources world details r task m)
     (asked r.thread r.place details)
 
--- a GRANTED: its thread doesn't wait for its own mutex. Unless it owns this one, the owner released it, and the thread took it
+-- a GRANTED: its thread doesn't wait for its own mutex. Unless it owns this one, or that isn't known, the owner released it, and
+-- the thread took it
 abbrev pub details_granted : Sources → World → Details → Record → Mutex → ℕ → Details
 details_granted sources world details r said m =
     let forgotten = own_forgotten r.thread details in
@@ -206,7 +207,7 @@ details_granted sources world details r said m =
       is_contradiction = is_contradicted sources (corrected sources world m said) r.thread m forgotten;
     }))
 
--- a RELEASE: its thread released the mutex, if it owns it, locked it once, and isn't refused
+-- a RELEASE: its thread released the mutex, if that is known, and the thread owns it, locked it once, and isn't refused
 abbrev pub details_released : Sources → World → (ℕ → ℕ) → Details → ℕ → ℕ → ℕ → Details
 details_released sources world depth details number t m =
     if m == 0 || not (is_that (world.owner m) t) || never_was (kept_of sources.next_owners number) || nat_lt 1 (depth m) then

@@ -69,12 +69,14 @@ since_of sections _ t = None
 abbrev pub one_more_at : ℕ → (ℕ → ℕ) → ℕ → ℕ
 one_more_at m waiting = but_for m (min (waiting m + 1) (2 ^ 32 - 1)) waiting
 
--- one thread less
+-- one thread fewer, down to 0
 abbrev pub one_less_at : ℕ → (ℕ → ℕ) → ℕ → ℕ
 one_less_at m waiting = but_for m (waiting m - 1) waiting
 
 -- the critical sections after this happened: a grant or a wait begins one if none lasts, and a release ends it, unless the
--- mutex is handed over; a wait begins in the one of its mutex, and lasts until its thread is granted a mutex or gives up
+-- mutex is handed over; a wait begins in the one of its mutex, and lasts until its thread is granted a mutex or gives up. A release
+-- sets who has the mutex next, and a grant takes that back. A wait counts one thread more at its mutex; a give-up, or a grant to
+-- one who waited, one fewer
 abbrev pub sections_after : Sections → What → ℕ → ℕ → Sections
 sections_after sections Granted t m =
     record (lasts_at sections m) {

@@ -17,7 +17,7 @@ pub fn sections_law()
     ensures { SectionsLaw }
 {}
 
-/// At each mutex it is counted how many threads wait for it.
+/// If at each mutex the threads that wait are counted, they still are after a record of a log of fewer than 2^32 threads.
 pub fn counted_law()
     ensures { CountedLaw }
 {}

@@ -85,8 +85,8 @@ impl Kept {
 }
 
 impl NextOwners {
-    /// Returns who owns each mutex after each of its releases, and as each of its requests is made. The requests name these
-    /// threads, whose place in memory what is found takes.
+    /// Returns who owns each mutex after each of its releases, and as each of its requests is made. `named` has the threads
+    /// that the requests name; what is found is kept in its memory.
     ///
     /// # Errors
     ///

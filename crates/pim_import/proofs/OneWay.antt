@@ -119,14 +119,16 @@ goes-alike : (bytes : List ℕ) (sources : Sources) (number : ℕ) (c d x y : Co
     AreAlike sources.ids c d → HasSameSize c x → HasSameSize d y →
     IsLacking bytes number c x ⊎ GoesBy bytes sources number c x →
     IsLacking bytes number d y ⊎ GoesBy bytes sources number d y → Come sources.ids x y
-goes-alike bytes sources number c d x y log covers alike more size (inl first) (inl second) =
-    (record {
-      first = all-again sources.ids c x alike.first more;
-      second = all-again sources.ids d y alike.second size;
-      world = second.2 ∙ alike.world ∙ sym first.2;
-      depths = fun_ext second.3 ∙ alike.depths ∙ sym (fun_ext first.3);
-      sections = second.4 ∙ alike.sections ∙ sym first.4;
-    }, second.1 ∙ sym first.1)
+goes-alike bytes sources number c d x y log covers alike more size (inl first) (inl second) = (
+  record {
+    first = all-again sources.ids c x alike.first more;
+    second = all-again sources.ids d y alike.second size;
+    world = second.2 ∙ alike.world ∙ sym first.2;
+    depths = fun_ext second.3 ∙ alike.depths ∙ sym (fun_ext first.3);
+    sections = second.4 ∙ alike.sections ∙ sym first.4;
+  },
+  second.1 ∙ sym first.1,
+)
 goes-alike bytes sources number c d x y log covers alike more size (inl first) (inr second) =
     absurd (first.0 second.slot second.numbered)
 goes-alike bytes sources number c d x y log covers alike more size (inr first) (inl second) =
@@ -149,14 +151,16 @@ goes-alike bytes sources number c d x y log covers alike more size (inr first) (
     (subst (λ facts. Lead facts (world_at d second.found) (world_of y)) both.0 others.0) in
     let depths : depths_after sources d second.found ≡ depths_after sources c first.found =
     (λ i. depth_after sources (alike.world i) (alike.depths i) (is i).number (is i).thread
-    (id_of sources.ids (is i).number) (is i).event) in
-    (record {
-      first = all-again sources.ids c x alike.first more;
-      second = all-again sources.ids d y alike.second size;
-      world = one-world (shown_in x.shown) (world_at c first.found) (world_of x) (world_of y) ways.0 led;
-      depths = fun_ext others.1 ∙ depths ∙ sym (fun_ext ways.1);
-      sections = both.1;
-    }, both.0)
+    (id_of sources.ids (is i).number) (is i).event) in (
+      record {
+        first = all-again sources.ids c x alike.first more;
+        second = all-again sources.ids d y alike.second size;
+        world = one-world (shown_in x.shown) (world_at c first.found) (world_of x) (world_of y) ways.0 led;
+        depths = fun_ext others.1 ∙ depths ∙ sym (fun_ext ways.1);
+        sections = both.1;
+      },
+      both.0,
+    )
 
 -- stages that are alike go on by the same record to such ones
 record-alike : (bytes : List ℕ) (sources : Sources) (a b x y : Stage) → IsLog bytes → Covers sources.ids bytes →
@@ -172,9 +176,10 @@ record-alike bytes sources a b x y log covers at first second =
     let come =
     goes-alike bytes sources x.number a.course b.course x.course y.course log covers at.courses first.size second.size
     first.shown
-    (subst (λ n. IsLacking bytes n b.course y.course ⊎ GoesBy bytes sources n b.course y.course) number second.shown) in
-    (record { number = number; record_time = time; added = second.added ∙ at.added ∙ sym first.added; courses = come.0 },
-    record { time = second.time ∙ time ∙ sym first.time; shown = come.1 })
+    (subst (λ n. IsLacking bytes n b.course y.course ⊎ GoesBy bytes sources n b.course y.course) number second.shown) in (
+      record { number = number; record_time = time; added = second.added ∙ at.added ∙ sym first.added; courses = come.0 },
+      record { time = second.time ∙ time ∙ sym first.time; shown = come.1 },
+    )
 
 -- stages that are alike go on by the next request to such ones
 request-alike : (bytes : List ℕ) (waits : List Wait) (sources : Sources) (a b x y : Stage) → AreOfLog bytes waits sources →
@@ -199,20 +204,22 @@ request-alike bytes waits sources a b x y of at first second =
     (subst (λ s. AreNumbered (shown_in y.course.shown) s (sections_of y.course)) alike.sections (second.sections also)) in
     let led : Lead (shown_in x.course.shown) (world_of a.course) (world_of y.course) =
     subst (λ w. Lead (shown_in x.course.shown) w (world_of y.course)) alike.world
-    (subst (λ facts. Lead facts (world_of b.course) (world_of y.course)) both.0 (second.led also.0)) in
-    (record {
-      number = second.number ∙ at.number ∙ sym first.number;
-      record_time = second.record_time ∙ at.record_time ∙ sym first.record_time;
-      added = second.added ∙ ap (λ n. n + 1) at.added ∙ sym first.added;
-      courses = record {
-        first = all-again sources.ids a.course x.course alike.first first.size;
-        second = all-again sources.ids b.course y.course alike.second second.size;
-        world = one-world (shown_in x.course.shown) (world_of a.course) (world_of x.course) (world_of y.course)
-            (first.led has.0) led;
-        depths = fun_ext second.depths ∙ alike.depths ∙ sym (fun_ext first.depths);
-        sections = both.1;
-      };
-    }, record { time = second.time ∙ (λ i. unwrap_or ((is i).time) (at.record_time i)) ∙ sym first.time; shown = both.0 })
+    (subst (λ facts. Lead facts (world_of b.course) (world_of y.course)) both.0 (second.led also.0)) in (
+      record {
+        number = second.number ∙ at.number ∙ sym first.number;
+        record_time = second.record_time ∙ at.record_time ∙ sym first.record_time;
+        added = second.added ∙ ap (λ n. n + 1) at.added ∙ sym first.added;
+        courses = record {
+          first = all-again sources.ids a.course x.course alike.first first.size;
+          second = all-again sources.ids b.course y.course alike.second second.size;
+          world = one-world (shown_in x.course.shown) (world_of a.course) (world_of x.course) (world_of y.course)
+              (first.led has.0) led;
+          depths = fun_ext second.depths ∙ alike.depths ∙ sym (fun_ext first.depths);
+          sections = both.1;
+        };
+      },
+      record { time = second.time ∙ (λ i. unwrap_or ((is i).time) (at.record_time i)) ∙ sym first.time; shown = both.0 },
+    )
 
 -- the requests that were added belong behind records that were read
 added-behind : (bytes : List ℕ) (sources : Sources) (stage : Stage) (before : List Stage) (place : ℕ) (request : Request) →
@@ -291,7 +298,11 @@ views-alike sources a b before others at show rest =
     seen : map (λ fact. view (moment b fact)) (shown_in b.course.shown) ≡ map (λ fact. view (moment a fact)) (shown_in a.course.shown)
     seen = λ i.
         map (λ fact. record {
-          fact = fact; time = show.time i; world = at.courses.world i; sections = at.courses.sections i; sources = sources;
+          fact = fact;
+          time = show.time i;
+          world = at.courses.world i;
+          sections = at.courses.sections i;
+          sources = sources;
         }) (show.shown i)
 
     same : map view (of b) ≡ map view (of a)
@@ -303,21 +314,22 @@ views-alike sources a b before others at show rest =
 -- ways begin alike
 begin-alike : (sources : Sources) (a b : Stage) → IsBegin sources a → IsBegin sources b →
     AreAt sources.ids a b × (views_of sources (b ∷ []) ≡ views_of sources (a ∷ []))
-begin-alike sources a b first second =
-    (record {
-      number = second.number ∙ sym first.number;
-      record_time = second.record_time ∙ sym first.record_time;
-      added = second.added ∙ sym first.added;
-      courses = record {
-        first = record { threads = first.course.threads; mutexes = first.course.mutexes };
-        second = record { threads = second.course.threads; mutexes = second.course.mutexes };
-        world = second.course.world ∙ sym first.course.world;
-        depths = fun_ext (λ m. second.course.depths m ∙ sym (first.course.depths m));
-        sections = second.course.sections ∙ sym first.course.sections;
-      };
-    },
-    ap (λ shown. map view (moments_of sources b.course b.time shown ++ [])) second.course.shown
-    ∙ sym (ap (λ shown. map view (moments_of sources a.course a.time shown ++ [])) first.course.shown))
+begin-alike sources a b first second = (
+  record {
+    number = second.number ∙ sym first.number;
+    record_time = second.record_time ∙ sym first.record_time;
+    added = second.added ∙ sym first.added;
+    courses = record {
+      first = record { threads = first.course.threads; mutexes = first.course.mutexes };
+      second = record { threads = second.course.threads; mutexes = second.course.mutexes };
+      world = second.course.world ∙ sym first.course.world;
+      depths = fun_ext (λ m. second.course.depths m ∙ sym (first.course.depths m));
+      sections = second.course.sections ∙ sym first.course.sections;
+    };
+  },
+  ap (λ shown. map view (moments_of sources b.course b.time shown ++ [])) second.course.shown
+      ∙ sym (ap (λ shown. map view (moments_of sources a.course a.time shown ++ [])) first.course.shown),
+)
 
 -- a way that went by something isn't at its begin
 not-begin : (bytes : List ℕ) (sources : Sources) (a b x : Stage) → IsBegin sources a → b.number ≡ a.number → b.added ≡ a.added →

@@ -251,5 +251,6 @@ pub record IsOfLog (bytes : List ℕ) (waits : List Wait) (is_all : Bool) (impor
   pub sections : CriticalSections
   pub follows : FollowsLog bytes context sections (length context.sources.now.ids.threads.items)
       (length context.sources.now.ids.mutexes.items) imported.built
+  pub kept : KeepsThoseOfLog bytes context.sources.now is_all sections
   pub keeps : IsLog bytes → KeepsThoseOf is_all (room_of bytes context.sources.now)
       (facts_of context.sources.now (follows.last ∷ follows.before)) sections

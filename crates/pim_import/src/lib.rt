@@ -15,7 +15,8 @@
 //! [`TraceBuilder`](pim_builder::TraceBuilder) makes the steps and cuts the pieces.
 //!
 //! [`whole_law`] has no code: its contract says that what the trace is without are whole critical
-//! sections. That of [`nobody_law`] says that nobody waits for a mutex of which a fact is left out since none is counted.
+//! sections. That of [`nobody_law`] says that the number of those who wait for a mutex, by which a fact is left out, is 0
+//! exactly if nobody waits.
 #![tactic(auto)]
 
 mod critical_sections;

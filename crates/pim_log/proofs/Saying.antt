@@ -86,5 +86,11 @@ same-record bytes slot q r first second =
     let thread : q.thread ≡ r.thread = first.thread ∙ sym second.thread in
     let place : q.place ≡ r.place = first.place ∙ sym second.place in
     λ i. record {
-      number = number i; time = time i; event = event i; process = process i; task = task i; thread = thread i; place = place i;
+      number = number i;
+      time = time i;
+      event = event i;
+      process = process i;
+      task = task i;
+      thread = thread i;
+      place = place i;
     }

@@ -12,7 +12,7 @@ use std::marker::Model;
 pub struct Times {
     /// What the times of four bytes count from: the time of the first step.
     first: u64,
-    /// By step how much later than that it happened, up to one of which that isn't a number of 32 bits.
+    /// By step how much later than the first it happened, up to the first step of which that doesn't fit 32 bits.
     later: Vec<u32>,
     /// When the steps behind these happened.
     others: Vec<u64>,

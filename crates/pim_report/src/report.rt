@@ -362,7 +362,8 @@ fn put_summary(out: &mut Out, told: &Told, log: &Log) {
         put_count(out, pieces, "piece");
     }
     out.put(" of ");
-    put_duration(out, told.imported.ended.saturating_sub(log.header().began));
+    let ended = told.imported.sources.ids.ended;
+    put_duration(out, ended.saturating_sub(log.header().began));
     out.put(match told.imported.priorities.scale {
         Scale::Same => "; priorities as they are, SCHED_OTHER at 1\n",
         Scale::OneHigher => "; priorities one higher, SCHED_OTHER at 1\n",

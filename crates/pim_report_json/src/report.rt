@@ -52,7 +52,7 @@ fn put_all(
     let waits = &told.imported.built.findings.waits;
     out.begin_object();
     out.number("began", log.header().began);
-    out.number("ended", told.imported.ended);
+    out.number("ended", told.imported.sources.ids.ended);
     if let Some(kernel) = kernel {
         put_kernel(alloc, out, told, kernel);
     }

@@ -25,6 +25,7 @@ returns-clause-findings c =
       sources = c.in_ok-sources.ensures.of_log;
       sections = c.in_ok-sections.sections;
       follows = follows;
+      kept = c.in_ok-sections.ensures c.in_ok-sources.ensures.requests;
       keeps = λ log.
           keeps-on-way c.args.log.now c.args.waits.now _ c.args.options.keeps_all c.in_ok-sections.sections
           (length ids.threads.items) (length ids.mutexes.items) _ log (c.in_ok-sources.ensures.of_log log)
