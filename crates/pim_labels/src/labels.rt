@@ -46,8 +46,8 @@ enum Pending {
 pub struct Labels {
     /// By thread. Linux has names of at most 15 bytes.
     names: Vec<Text>,
-    /// By mutex where in the code the call that initialised it returned to, or 0.
-    places: Vec<u64>,
+    /// By mutex where in the code the call that initialised it returned to, if one did.
+    places: Vec<Option<u64>>,
     modules: Vec<Module>,
     /// The forked processes. Each has the modules of its parent, also those that the parent loaded later, and its own.
     children: Vec<Child>,
@@ -84,7 +84,7 @@ impl Labels {
     pub fn of(alloc: Global, log: &Log, ids: &Ids) -> Result<Labels, AllocError> {
         let mut labels = Labels {
             names: vec![in alloc; UNNAMED; ids.threads.len()]?,
-            places: vec![in alloc; 0; ids.mutexes.len()]?,
+            places: vec![in alloc; None; ids.mutexes.len()]?,
             modules: Vec::new(alloc),
             children: Vec::new(alloc),
             pending: vec![in alloc; Pending::Nothing; ids.threads.len()]?,
@@ -184,21 +184,18 @@ impl Labels {
     fn read_place(&mut self, pending: Pending, address: u64) {
         if let Pending::Init(mutex) = pending {
             if (mutex as usize) < self.places.len() {
-                self.places[mutex as usize] = address;
+                self.places[mutex as usize] = if address == 0 { None } else { Some(address) };
             }
         }
     }
 
-    /// Adds a process that this thread forked.
+    /// Adds a process that this thread forked, if the log has a record of the thread.
     fn add_child(&mut self, ids: &Ids, process: u32, parent: u32) -> Result<(), AllocError> {
-        let Some(parent) = ids.threads.get(parent as usize) else {
-            return Ok(());
+        let parent = match ids.threads.get(parent as usize) {
+            Some(thread) if thread.process != 0 => thread.process,
+            _ => return Ok(()),
         };
-        let child = Child {
-            process,
-            parent: parent.process,
-        };
-        match self.children.push(child) {
+        match self.children.push(Child { process, parent }) {
             Ok(()) => Ok(()),
             Err(_) => Err(AllocError),
         }
@@ -257,8 +254,7 @@ impl Labels {
     /// Writes where a mutex was initialised, or where it is if it was initialised statically: the text that names the
     /// place, or else what [`put_offset`](Labels::put_offset) writes.
     pub fn put_place(&self, out: &mut Out, number: u32, mutex: &LoggedMutex) {
-        let place = self.places.get(number as usize).copied().unwrap_or(0);
-        let address = if place == 0 { mutex.address } else { place };
+        let address = self.place_of(number).unwrap_or(mutex.address);
         match self.texts.of_address(address) {
             [] => self.put_offset(out, number, mutex),
             text => put_words(out, text),
@@ -276,15 +272,21 @@ impl Labels {
                 return;
             }
         }
-        let place = self.places.get(number as usize).copied().unwrap_or(0);
-        let address = if place == 0 { mutex.address } else { place - 1 };
+        let address = match self.place_of(number) {
+            Some(place) => place.saturating_sub(1),
+            None => mutex.address,
+        };
         self.put_address(out, mutex.process, address);
     }
 
     /// Returns whether `put_place` writes the call that initialised a mutex. It may have initialised others.
     pub fn is_named_by_a_call(&self, number: u32) -> bool {
-        let place = self.places.get(number as usize).copied().unwrap_or(0);
-        self.given.is_none() && place != 0
+        self.given.is_none() && self.place_of(number).is_some()
+    }
+
+    /// Returns where the call returned to that initialised a mutex, if one did.
+    fn place_of(&self, number: u32) -> Option<u64> {
+        self.places.get(number as usize).copied().flatten()
     }
 
     /// Writes a place in the code, to which a call of this process returns: the text that names it, or else the file and
@@ -329,23 +331,23 @@ impl Labels {
         let mut nearest = self.own_module_of(process, address);
         let mut process = process;
         for _fork in 0..self.children.len() {
-            process = self.parent_of(process);
-            if process == 0 {
-                break;
+            match self.parent_of(process) {
+                Some(parent) => process = parent,
+                None => break,
             }
             nearest = nearer(nearest, self.own_module_of(process, address));
         }
         nearest
     }
 
-    /// Returns the process that forked this one, or 0.
-    fn parent_of(&self, process: u32) -> u32 {
+    /// Returns the process that forked this one, if the log has it.
+    fn parent_of(&self, process: u32) -> Option<u32> {
         for child in &self.children {
             if child.process == process {
-                return child.parent;
+                return Some(child.parent);
             }
         }
-        0
+        None
     }
 
     /// Returns the file that a process loaded at an address.
