@@ -1,5 +1,7 @@
 -- When the call began by which a mutex is granted next, from the end of the log on.
-use Rattle.std.proofs.Common.{◌≡◌, ◌≢◌, ℕ, ◌+◌, ◌-◌, ◌==◌, nat_eq, ◌&&◌, ◌<◌, ◌≤◌, ◌^◌, Bool, true, false, cond, List, [], ◌∷◌, length, get_or, replicate, set, refl, sym, ap, subst, ◌∙◌, arith, eq-eqb, inl, inr, Option, Some, None}
+use Rattle.std.proofs.Common.{◌≡◌, ◌≢◌, ℕ, ◌+◌, ◌-◌, ◌==◌, nat_eq, ◌&&◌, ◌<◌, ◌≤◌, ◌^◌, Bool, true, false, cond, List, []}
+use Rattle.std.proofs.Common.{◌∷◌, length, get_or, replicate, set, refl, sym, ap, subst, ◌∙◌, arith, eq-eqb, inl, inr}
+use Rattle.std.proofs.Common.{Option, Some, None}
 use Rattle.std.proofs.lemmas.Bool.{eqb-true}
 use Rattle.std.proofs.lemmas.Bool.{cases_eq}
 use Rattle.std.proofs.lemmas.List.{get_or-replicate, get_or-set_other, get_or-set_same}
@@ -18,11 +20,13 @@ use Rattle.pim_facts.specs.Naming.{IsNamed, Names, last_begun}
 use Rattle.pim_facts.specs.declared.ids.Ids.{Ids}
 use Rattle.pim_facts.proofs.Naming.{last-there, still-named}
 use Rattle.pim_course.proofs.NextOwning.{AsRead, begin-found, is-not, lacks-step, next-there, record-step}
-use Rattle.pim_course.specs.AskedOwners.{AreTimed, FindsAsked, FindsAskedFrom, HasAsked, IsAsked, IsAskedBy, IsTimed, KnowsCalls}
-use Rattle.pim_course.specs.AskedOwners.{asked_task, begin_of, begun_before, begun_or_later, first_timed, granted_soonest, grants}
+use Rattle.pim_course.specs.AskedOwners.{AreTimed, FindsAsked, FindsAskedFrom, HasAsked, IsAsked, IsAskedBy, IsTimed}
+use Rattle.pim_course.specs.AskedOwners.{KnowsCalls}
+use Rattle.pim_course.specs.AskedOwners.{asked_task, begin_of, begun_before, begun_or_later, first_timed, granted_soonest}
 use Rattle.pim_course.specs.AskedOwners.{has_task, is_after, may_own, named_owner, next_begin, next_other}
 use Rattle.pim_course.specs.Kept.{kept_by, kept_of}
-use Rattle.pim_course.specs.NextOwners.{CoversThose, HasRoom, IsKeepable, Knows, granted_by, is_granted, is_that, next_granted}
+use Rattle.pim_course.specs.NextOwners.{CoversThose, HasRoom, IsKeepable, Knows, granted_by, grants, is_granted, is_that}
+use Rattle.pim_course.specs.NextOwners.{next_granted}
 use Rattle.pim_course.specs.declared.next_owners.Coming.{Coming}
 use Rattle.pim_course.specs.declared.next_owners.Kept.{Kept}
 use Rattle.pim_course.specs.declared.next_owners.Kept.TheVariants.{Owner, Later}
@@ -46,7 +50,8 @@ some-same x y e = cc
 timed-here : (ids : Ids) (m : ℕ) (r : Record) → IsTimed r → grants ids m r ≡ true →
     (is_some r.time && r.thread == r.thread) ≡ true
 timed-here ids m r timed is =
-    let some : is_some r.time ≡ true = some-true r.time (timed (both-true (is_granted r.event) (id_of ids r.number == m) is).0) in
+    let some : is_some r.time ≡ true = some-true r.time (timed
+    (both-true (is_granted r.event) (id_of ids r.number == m) is).0) in
     ap (λ b. b && r.thread == r.thread) some ∙ self-eq r.thread
 
 -- The next GRANTED of a mutex is the first record of its thread that has a time, if that is a GRANTED of the mutex.
@@ -77,7 +82,8 @@ and-then-cond f false x o = refl
 
 not-eqb : (n m : ℕ) → n ≢ m → (n == m) ≡ false
 not-eqb n m other =
-    elim (n == m) as (λ b. (n == m) ≡ b → (n == m) ≡ false) [ true ↦ λ e. absurd (other (eqb-true n m e)) | false ↦ λ e. e ] refl
+    elim (n == m) as (λ b. (n == m) ≡ b → (n == m) ≡ false)
+    [ true ↦ λ e. absurd (other (eqb-true n m e)) | false ↦ λ e. e ] refl
 
 and-not : (a : Bool) (n m : ℕ) → n ≢ m → (a && n == m) ≡ false
 and-not true n m other = not-eqb n m other
@@ -97,7 +103,8 @@ beginning-step ids r behind t xs ys zs timed h between learned lt =
     let test : Bool = is_some r.time && r.thread == t in
     let said : Bool = is_some (began_of r) in
     let v : Option ℕ = cond said None (Some (id_of ids r.number)) in
-    let behind-it : begun_before ids t (r ∷ behind) ≡ cond test (cond said None (granted_by ids r)) (begun_before ids t behind) =
+    let behind-it : begun_before ids t (r ∷ behind) ≡ cond test (cond said None (granted_by ids r))
+    (begun_before ids t behind) =
     and-then-cond _ test r (first_timed t behind) in
     elim (is_granted r.event) as (λ g. is_granted r.event ≡ g → get_or zs t None ≡ begun_before ids t (r ∷ behind)) [
       | true ↦ λ g.
@@ -161,7 +168,8 @@ and-second false b c e = and-off b c
 
 -- no call began behind a record, as the thread's next GRANTED isn't the next one of its mutex
 pub none-begun : (timed : Bool) (beginning owners : List (Option ℕ)) (thread mutex m : ℕ) (owner x y : Option ℕ) →
-    Some mutex ≡ get_or beginning thread None → owner ≡ get_or owners mutex None → option_eq nat_eq owner (Some thread) ≡ false →
+    Some mutex ≡ get_or beginning thread None → owner ≡ get_or owners mutex None →
+    option_eq nat_eq owner (Some thread) ≡ false →
     y ≡ cond (timed && is_that (get_or beginning thread None) m && is_that (get_or owners m None) thread) x y
 none-begun timed beginning owners thread mutex m owner x y begun at isnt =
     elim (cases_eq m mutex) [
@@ -218,7 +226,8 @@ granted-is ids m r e =
     ap (λ b. cond b (Some (id_of ids r.number)) None) both.0 ∙ ap Some (eqb-true (id_of ids r.number) m both.1)
 
 -- a record of the thread of the next GRANTED, before that: the call began behind it, unless the GRANTED says when
-begun-behind : (ids : Ids) (m : ℕ) (behind : List Record) (g : Record) → AreTimed behind → find (grants ids m) behind ≡ Some g →
+begun-behind : (ids : Ids) (m : ℕ) (behind : List Record) (g : Record) → AreTimed behind →
+    find (grants ids m) behind ≡ Some g →
     cond (is_that (begun_before ids g.thread behind) m) (Some (2 ^ 64 - 1)) (begin_of ids m behind g) ≡
     cond (is_some (began_of g)) (began_of g) (Some (2 ^ 64 - 1))
 begun-behind ids m behind g timed is =
@@ -264,7 +273,8 @@ begun-behind ids m behind g timed is =
 began-step : (ids : Ids) (r : Record) (behind : List Record) (m : ℕ) (xs ys zs : List (Option ℕ)) (of next : Option ℕ) →
     IsTimed r → AreTimed behind → get_or xs m None ≡ next_begin ids m behind → of ≡ begun_before ids r.thread behind →
     next ≡ next_granted ids m behind →
-    get_or ys m None ≡ cond (is_some r.time && is_that of m && is_that next r.thread) (Some (2 ^ 64 - 1)) (get_or xs m None) →
+    get_or ys m None ≡ cond (is_some r.time && is_that of m && is_that next r.thread) (Some (2 ^ 64 - 1))
+    (get_or xs m None) →
     zs ≡ cond (is_granted r.event) (set ys (id_of ids r.number) (began_of r)) ys → m < length ys →
     get_or zs m None ≡ next_begin ids m (r ∷ behind)
 began-step ids r behind m xs ys zs of next timed all h of-is next-is between learned lt =
@@ -341,12 +351,14 @@ began-step ids r behind m xs ys zs of next timed all h of-is next-is between lea
           | false ↦ λ t soon.
               between
               ∙ ap (λ v. cond v max (get_or xs m None))
-              (ap (λ v. is_some r.time && is_that of m && v) owner ∙ turned (is_some r.time) (is_that of m) r.thread g.thread t)
+              (ap (λ v. is_some r.time && is_that of m && v) owner ∙ turned (is_some r.time) (is_that of m) r.thread
+              g.thread t)
               ∙ old ∙ sym (ap (λ o. cond (is_some b) b (cond (is_that o m) None max)) soon)
         ] refl soonest
 
 -- what is known of the calls behind one more record
-pub calls-step : (ids : Ids) (r : Record) (behind : List Record) (old mid new : Coming) → HasRoom ids old → Knows ids behind old →
+pub calls-step : (ids : Ids) (r : Record) (behind : List Record) (old mid new : Coming) → HasRoom ids old →
+    Knows ids behind old →
     AreTimed (r ∷ behind) → 0 < r.thread → r.thread < length ids.threads.items → KnowsCalls ids behind old →
     length mid.began.items ≡ length old.began.items → length mid.beginning.items ≡ length old.beginning.items →
     ((m : ℕ) → m < length old.began.items → get_or mid.began.items m None ≡
@@ -360,9 +372,11 @@ pub calls-step : (ids : Ids) (r : Record) (behind : List Record) (old mid new : 
     new.beginning.items ≡ cond (is_granted r.event)
     (set mid.beginning.items r.thread (cond (is_some (began_of r)) None (Some mutex))) mid.beginning.items →
     KnowsCalls ids (r ∷ behind) new
-calls-step ids r behind old mid new room knows timed above there calls long longer began beginning mutex is learned learned-too =
+calls-step ids r behind old mid new room knows timed above there calls long longer began beginning mutex is learned
+    learned-too =
     let learned-began =
-    subst (λ n. new.began.items ≡ cond (is_granted r.event) (set mid.began.items n (began_of r)) mid.began.items) is learned in
+    subst (λ n. new.began.items ≡ cond (is_granted r.event) (set mid.began.items n (began_of r)) mid.began.items) is
+    learned in
     let learned-beginning =
     subst (λ n. new.beginning.items ≡ cond (is_granted r.event)
     (set mid.beginning.items r.thread (cond (is_some (began_of r)) None (Some n))) mid.beginning.items) is learned-too in
@@ -373,7 +387,8 @@ calls-step ids r behind old mid new room knows timed above there calls long long
           (calls.beginning r.thread there) (knows.owners m (omega (arith, room.owners))) (began m within) learned-began
           (omega (arith, long));
       beginning = λ t lt.
-          beginning-step ids r behind t old.beginning.items mid.beginning.items new.beginning.items timed.0 (calls.beginning t lt)
+          beginning-step ids r behind t old.beginning.items mid.beginning.items new.beginning.items timed.0
+          (calls.beginning t lt)
           (beginning t) learned-beginning (omega (arith, longer, room.beginning));
     }
 
@@ -460,7 +475,8 @@ asked-lacks bytes ids number found coming lacks has =
 abbrev InRange : Option ℕ → Type 0
 InRange o = (k : ℕ) → o ≡ Some k → (0 < k) × (k ≤ 2 ^ 22)
 
-other-in : (ids : Ids) (t : ℕ) (o : Option ℕ) → InRange o → InRange (option_and_then (λ next. cond (next == t) None (Some next)) o)
+other-in : (ids : Ids) (t : ℕ) (o : Option ℕ) → InRange o →
+    InRange (option_and_then (λ next. cond (next == t) None (Some next)) o)
 other-in ids t None h k e = cc
 other-in ids t (Some n) h k e =
     elim (n == t) as (λ b. cond b None (Some n) ≡ Some k → (0 < k) × (k ≤ 2 ^ 22)) [
@@ -538,10 +554,12 @@ pub asked-step : (bytes : List ℕ) (ids : Ids) (number slot : ℕ) (r : Record)
     (as_read : AsRead ids number r has.found.behind old new after kept) → KnowsCalls ids (r ∷ has.found.behind) after →
     (named : IsNamed bytes old.kept.items number r) →
     IsAsked ids (id_of ids number) r named.before has.found.behind kept → HasAsked bytes ids number new after
-asked-step bytes ids number slot r old new before after kept covers numbered is above few there has as_read calls named asked =
+asked-step bytes ids number slot r old new before after kept covers numbered is above few there has as_read calls named
+    asked =
     let short : number ≤ end_of (header_of bytes) = omega (arith, numbered.below) in
     let last : (task : ℕ) → InRange (last_begun task named.before) =
-    λ task k e. let those = last-there bytes ids (end_of (header_of bytes)) number named.before task k covers short named.are e in
+    λ task k e. let those = last-there bytes ids (end_of (header_of bytes)) number named.before task k covers short
+    named.are e in
     (those.0, those.1) in
     let step = record-step bytes ids number slot r old new before after kept numbered is above few there has.found as_read in
     record {
@@ -564,7 +582,8 @@ asked-step bytes ids number slot r old new before after kept covers numbered is 
           asked = asked-again ids (id_of ids number) r named.before has.found.behind kept (kept_of new number) last
               has.found.covers as_read.same (asked_task r.event) asked;
         })
-        | inr other ↦ asked-before bytes ids k old new (ap kept_by (as_read.rest k other)) (has.asked k at (omega arith) is-numbered)
+        | inr other ↦ asked-before bytes ids k old new (ap kept_by (as_read.rest k other))
+            (has.asked k at (omega arith) is-numbered)
       ];
     }
 

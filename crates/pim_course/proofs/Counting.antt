@@ -1,5 +1,7 @@
 -- How many threads wait for a mutex, a fact after the other.
-use Rattle.std.proofs.Common.{◌≡◌, ◌≢◌, ℕ, ◌+◌, ◌-◌, ◌^◌, ◌<◌, ◌≤◌, min, zero, suc, cond, Bool, true, false, List, [], ◌∷◌, ◌++◌, map, length, Option, Some, None, is_none, sym, refl, ap, ◌∙◌, subst, inl, inr, eq-eqb, arith}
+use Rattle.std.proofs.Common.{◌≡◌, ◌≢◌, ℕ, ◌+◌, ◌-◌, ◌^◌, ◌<◌, ◌≤◌, min, zero, suc, cond, Bool, true, false, List, [], ◌∷◌}
+use Rattle.std.proofs.Common.{◌++◌, map, length, Option, Some, None, is_none, sym, refl, ap, ◌∙◌, subst, inl, inr, eq-eqb}
+use Rattle.std.proofs.Common.{arith}
 use Rattle.std.proofs.Math.Nat.{min-eq_left}
 use Rattle.std.proofs.Math.Path.{fun_ext}
 use Rattle.std.proofs.lemmas.Bool.{ne_eqb, cases_eq, cases_lt}
@@ -17,8 +19,10 @@ use Rattle.pim_facts.specs.declared.ids.Ids.{Ids}
 use Rattle.pim_course.specs.Courses.{family_in}
 use Rattle.pim_course.specs.NextOwners.{is_that}
 use Rattle.pim_course.specs.Reading.{Begins, HasThoseOf, as_told}
-use Rattle.pim_course.specs.Sections.{AreNumbered, Sections, after_numbered, number_at, one_less_at, sections_after, sections_of}
-use Rattle.pim_course.specs.Told.{Happening, added_told, ceiling_by_log, ceiling_told, depths_of, did, event_told, freed_told, gave_up_told, happened_in, happening, released_told}
+use Rattle.pim_course.specs.Sections.{AreNumbered, Sections, after_numbered, number_at, one_less_at, sections_after}
+use Rattle.pim_course.specs.Sections.{sections_of}
+use Rattle.pim_course.specs.Told.{Happening, added_told, ceiling_by_log, ceiling_told, depths_of, did, event_told}
+use Rattle.pim_course.specs.Told.{freed_told, gave_up_told, happened_in, happening, released_told}
 use Rattle.pim_course.specs.Waiting.{AreCounted, CountedLaw, IsCounted, waiting_below}
 use Rattle.pim_course.specs.World.{CanHappen, Lead, World, after, after_fact, but_for, world_of}
 use Rattle.pim_course.specs.declared.course.Course.{Course}
@@ -81,7 +85,8 @@ count-put (suc n) t m o f lt =
           omega (arith, count-past n t m o f le, ap (λ a. one a m) (at-it t o f n at), ap (λ k. one (f k) m) at)
     ]
 
-none-both : (t : ℕ) (o p : Option ℕ) (f g : ℕ → Option ℕ) → is_none o ≡ is_none p → ((k : ℕ) → is_none (f k) ≡ is_none (g k)) →
+none-both : (t : ℕ) (o p : Option ℕ) (f g : ℕ → Option ℕ) → is_none o ≡ is_none p →
+    ((k : ℕ) → is_none (f k) ≡ is_none (g k)) →
     (k : ℕ) → is_none (but_for t o f k) ≡ is_none (but_for t p g k)
 none-both t o p f g same all k =
     elim (cases_eq k t) [
@@ -202,7 +207,8 @@ below-both : (n : ℕ) (x y : List Happening) → AreBelow n x → AreBelow n y 
 below-both n [] y first next = next
 below-both n (h ∷ x) y first next = (first.0, below-both n x y first.1 next)
 
-below-each : (n : ℕ) (o : Option ℕ) (f : ℕ → List Happening) → ((k : ℕ) → AreBelow n (f k)) → AreBelow n (option_map_or f o [])
+below-each : (n : ℕ) (o : Option ℕ) (f : ℕ → List Happening) → ((k : ℕ) → AreBelow n (f k)) →
+    AreBelow n (option_map_or f o [])
 below-each n None f all = tt
 below-each n (Some k) f all = all k
 

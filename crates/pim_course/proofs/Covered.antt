@@ -11,7 +11,8 @@ use Rattle.pim_facts.specs.declared.ids.Ids.{Ids}
 use Rattle.pim_course.specs.Reading.{HasAllOf, HasNumber, HasThoseOf, ReadingLaw}
 use Rattle.pim_course.specs.declared.course.Course.{Course}
 
-has-number : (ids : Ids) (course : Course) (n : ℕ) (e : Event) → HasAllOf ids course → covering.HasNumber ids e n → HasNumber course e n
+has-number : (ids : Ids) (course : Course) (n : ℕ) (e : Event) → HasAllOf ids course → covering.HasNumber ids e n →
+    HasNumber course e n
 has-number ids course n (event.Thread _ _) all h = tt
 has-number ids course n (event.Name _) all h = tt
 has-number ids course n event.Create all h = tt

@@ -1,10 +1,13 @@
 -- How what is known beside the facts changes as a thread or a mutex is put.
-use Rattle.std.proofs.Common.{◌≡◌, ◌≢◌, ℕ, ◌<◌, ◌&&◌, cond, eq-eqb, length, nat_lt, not, set, Option, Some, None, refl, ap, sym, ◌∙◌}
+use Rattle.std.proofs.Common.{◌≡◌, ◌≢◌, ℕ, ◌<◌, ◌&&◌, cond, eq-eqb, length, nat_lt, not, set, Option, Some, None, refl, ap}
+use Rattle.std.proofs.Common.{sym, ◌∙◌}
 use Rattle.std.specs.Option.{option_and_then, option_or, unwrap_or}
 use Rattle.std.specs.Prelude.{IfSome}
 use Rattle.pim_log.specs.declared.mutex.Mutex.{Mutex}
 use Rattle.pim_course.specs.Courses.{family_in, free, idle, mutex_in, thread_in}
-use Rattle.pim_course.specs.Details.{Details, OfMutex, OfThread, corrected, details_of, is_above, is_contradicted, is_protect, mutex_details, place_of_owner, thread_details, wait_begun, with_mutex, with_thread}
+use Rattle.pim_course.specs.Details.{Details, OfMutex, OfThread, corrected, details_of, is_above, is_contradicted}
+use Rattle.pim_course.specs.Details.{is_protect, mutex_details, place_of_owner, thread_details, wait_begun, with_mutex}
+use Rattle.pim_course.specs.Details.{with_thread}
 use Rattle.pim_course.specs.Going.{KeepsDetails}
 use Rattle.pim_course.specs.NextOwners.{is_that}
 use Rattle.pim_course.specs.Told.{ceiling_by_log}
@@ -16,9 +19,9 @@ use Rattle.pim_course.specs.declared.course.Sources.{Sources}
 use Rattle.pim_course.proofs.Worlds.{each, each-put, each-same}
 
 -- details are the same if all of them says the same
-pub details_are : (v w : Details) → w.mutexes ≡ v.mutexes → w.threads ≡ v.threads →
+pub details-are : (v w : Details) → w.mutexes ≡ v.mutexes → w.threads ≡ v.threads →
     w.is_contradiction ≡ v.is_contradiction → w ≡ v
-details_are v w mutexes threads is =
+details-are v w mutexes threads is =
     λ i. record { mutexes = mutexes i; threads = threads i; is_contradiction = is i }
 
 mutexes-kept : (c d : Course) → d.mutexes.items ≡ c.mutexes.items → (details_of d).mutexes ≡ (details_of c).mutexes
@@ -49,14 +52,14 @@ pub keeps-thread : (c d : Course) (t : ℕ) (y : CourseThread) → d.threads.ite
     d.mutexes ≡ c.mutexes → thread_details y ≡ thread_details (thread_in c t) →
     d.is_contradiction ≡ c.is_contradiction → KeepsDetails c d
 keeps-thread c d t y threads mutexes same mark =
-    details_are (details_of c) (details_of d) (mutexes-kept c d (ap (λ v. v.items) mutexes))
+    details-are (details_of c) (details_of d) (mutexes-kept c d (ap (λ v. v.items) mutexes))
     (threads-same c d t y threads same) mark
 
 pub keeps-mutex : (c d : Course) (m : ℕ) (z : CourseMutex) → d.mutexes.items ≡ set c.mutexes.items m z →
     d.threads ≡ c.threads → mutex_details z ≡ mutex_details (mutex_in c m) →
     d.is_contradiction ≡ c.is_contradiction → KeepsDetails c d
 keeps-mutex c d m z mutexes threads same mark =
-    details_are (details_of c) (details_of d) (mutexes-same c d m z mutexes same)
+    details-are (details_of c) (details_of d) (mutexes-same c d m z mutexes same)
     (threads-kept c d (ap (λ v. v.items) threads)) mark
 
 pub keeps-both : (c d : Course) (t : ℕ) (y : CourseThread) (m : ℕ) (z : CourseMutex) →
@@ -64,14 +67,14 @@ pub keeps-both : (c d : Course) (t : ℕ) (y : CourseThread) (m : ℕ) (z : Cour
     thread_details y ≡ thread_details (thread_in c t) → mutex_details z ≡ mutex_details (mutex_in c m) →
     d.is_contradiction ≡ c.is_contradiction → KeepsDetails c d
 keeps-both c d t y m z threads mutexes thread mutex mark =
-    details_are (details_of c) (details_of d) (mutexes-same c d m z mutexes mutex) (threads-same c d t y threads thread) mark
+    details-are (details_of c) (details_of d) (mutexes-same c d m z mutexes mutex) (threads-same c d t y threads thread) mark
 
 -- a thread is put of which this is known
 pub puts-thread : (c d : Course) (t : ℕ) (y : CourseThread) (is : OfThread) → d.threads.items ≡ set c.threads.items t y →
     d.mutexes ≡ c.mutexes → t < length c.threads.items → thread_details y ≡ is →
     d.is_contradiction ≡ c.is_contradiction → details_of d ≡ with_thread t is (details_of c)
 puts-thread c d t y is threads mutexes lt put mark =
-    details_are (with_thread t is (details_of c)) (details_of d) (mutexes-kept c d (ap (λ v. v.items) mutexes))
+    details-are (with_thread t is (details_of c)) (details_of d) (mutexes-kept c d (ap (λ v. v.items) mutexes))
     (threads-put c d t y is threads lt put) mark
 
 -- a mutex is put of which this is known
@@ -79,7 +82,7 @@ pub puts-mutex : (c d : Course) (m : ℕ) (z : CourseMutex) (is : OfMutex) → d
     d.threads ≡ c.threads → m < length c.mutexes.items → mutex_details z ≡ is →
     d.is_contradiction ≡ c.is_contradiction → details_of d ≡ with_mutex m is (details_of c)
 puts-mutex c d m z is mutexes threads lt put mark =
-    details_are (with_mutex m is (details_of c)) (details_of d) (mutexes-put c d m z is mutexes lt put)
+    details-are (with_mutex m is (details_of c)) (details_of d) (mutexes-put c d m z is mutexes lt put)
     (threads-kept c d (ap (λ v. v.items) threads)) mark
 
 -- a thread is put of which this is known, and a mutex of which the same is known as before
@@ -88,7 +91,7 @@ pub puts-waiter : (c d : Course) (t : ℕ) (y : CourseThread) (is : OfThread) (m
     thread_details y ≡ is → mutex_details z ≡ mutex_details (mutex_in c m) →
     d.is_contradiction ≡ c.is_contradiction → details_of d ≡ with_thread t is (details_of c)
 puts-waiter c d t y is m z threads mutexes lt put same mark =
-    details_are (with_thread t is (details_of c)) (details_of d) (mutexes-same c d m z mutexes same)
+    details-are (with_thread t is (details_of c)) (details_of d) (mutexes-same c d m z mutexes same)
     (threads-put c d t y is threads lt put) mark
 
 -- a mutex is put of which this is known, and a thread of which the same is known as before
@@ -97,7 +100,7 @@ pub puts-taken : (c d : Course) (t : ℕ) (y : CourseThread) (m : ℕ) (z : Cour
     thread_details y ≡ thread_details (thread_in c t) → mutex_details z ≡ is →
     d.is_contradiction ≡ c.is_contradiction → details_of d ≡ with_mutex m is (details_of c)
 puts-taken c d t y m z is threads mutexes lt same put mark =
-    details_are (with_mutex m is (details_of c)) (details_of d) (mutexes-put c d m z is mutexes lt put)
+    details-are (with_mutex m is (details_of c)) (details_of d) (mutexes-put c d m z is mutexes lt put)
     (threads-same c d t y threads same) mark
 
 -- another owner took a mutex at the same place if it is owned by the same thread, and others await the same

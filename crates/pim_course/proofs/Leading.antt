@@ -1,5 +1,6 @@
 -- How facts lead from one world to another, a part of a record after the other.
-use Rattle.std.proofs.Common.{◌≡◌, ℕ, ◌+◌, ◌<◌, ◌≤◌, Bool, List, [], ◌∷◌, ◌++◌, length, sym, refl, ap, ◌∙◌, subst, inl, inr, arith}
+use Rattle.std.proofs.Common.{◌≡◌, ℕ, ◌+◌, ◌<◌, ◌≤◌, Bool, List, [], ◌∷◌, ◌++◌, length, sym, refl, ap, ◌∙◌, subst, inl, inr}
+use Rattle.std.proofs.Common.{arith}
 use Rattle.std.proofs.lemmas.List.{length-append}
 use Rattle.std.proofs.lemmas.Bool.{cases_lt}
 use Rattle.pim_facts.specs.Shown.{shown_in}
@@ -25,7 +26,8 @@ goes-added old mid new fact said is kept more full possible world =
     record {
       led = λ from led room.
           subst (λ facts. Lead facts from (world_of new))
-          (sym (more (omega arith) ∙ ap (λ facts. facts ++ (fact ∷ [])) same ∙ ap (λ one. shown_in old.shown ++ (one ∷ [])) is))
+          (sym (more (omega arith) ∙ ap (λ facts. facts ++ (fact ∷ [])) same
+          ∙ ap (λ one. shown_in old.shown ++ (one ∷ [])) is))
           (lead-more (shown_in old.shown) from (world_of old) (world_of new) said led possible world);
       few = elim (cases_lt (length (shown_in mid.shown)) 4) [
         | inl lt ↦ omega (arith, ap length (more lt), length-append (shown_in mid.shown) (fact ∷ []), size)

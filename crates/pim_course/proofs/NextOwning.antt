@@ -1,5 +1,7 @@
 -- What is found of the records of a log from one on, if it is found of those behind it.
-use Rattle.std.proofs.Common.{◌≡◌, ◌≢◌, ℕ, zero, suc, ◌+◌, ◌==◌, ◌&&◌, not, nat_eq, ◌<◌, ◌≤◌, ◌^◌, Bool, true, false, cond, List, [], ◌∷◌, length, get_or, replicate, refl, sym, ap, subst, ◌∙◌, arith, inl, inr, Option, Some, None}
+use Rattle.std.proofs.Common.{◌≡◌, ◌≢◌, ℕ, zero, suc, ◌+◌, ◌==◌, ◌&&◌, not, nat_eq, ◌<◌, ◌≤◌, ◌^◌, Bool, true, false, cond}
+use Rattle.std.proofs.Common.{List, [], ◌∷◌, length, get_or, replicate, refl, sym, ap, subst, ◌∙◌, arith, inl, inr, Option}
+use Rattle.std.proofs.Common.{Some, None}
 use Rattle.std.proofs.lemmas.Bool.{cases_eq}
 use Rattle.std.proofs.lemmas.List.{get_or-replicate, length-replicate}
 use Rattle.std.specs.Prelude.{IfSome, find, slice_get}
@@ -12,14 +14,17 @@ use Rattle.pim_facts.specs.Levels.{id_of}
 use Rattle.pim_facts.specs.Naming.{IsAt}
 use Rattle.pim_facts.specs.declared.ids.Ids.{Ids}
 use Rattle.pim_course.specs.Kept.{kept_by, kept_of}
-use Rattle.pim_course.specs.NextOwners.{AreFrom, CoversThose, Finds, FindsFrom, HasFound, HasRoom, IsKeepable, IsKept, Knows, granted_first, is_refused, is_that, next_granted, next_owner, release_call, release_kept}
+use Rattle.pim_course.specs.NextOwners.{AreFrom, CoversThose, Finds, FindsFrom, HasFound, HasRoom, IsKeepable, IsKept, Knows}
+use Rattle.pim_course.specs.NextOwners.{granted_first, is_refused, is_that, next_granted, next_owner, release_call}
+use Rattle.pim_course.specs.NextOwners.{release_kept}
 use Rattle.pim_course.specs.declared.next_owners.Coming.{Coming}
 use Rattle.pim_course.specs.declared.next_owners.Kept.{Kept}
 use Rattle.pim_course.specs.declared.next_owners.Kept.TheVariants.{Owner, Refused}
 use Rattle.pim_course.specs.declared.next_owners.NextOwners.{NextOwners}
 
 -- what `get` returns of a list of options
-pub got : (xs : List (Option ℕ)) (i : ℕ) (r : Option ℕ) → UnwrapsOrElse (slice_get xs i) (λ o. o ≡ None) r → r ≡ get_or xs i None
+pub got : (xs : List (Option ℕ)) (i : ℕ) (r : Option ℕ) → UnwrapsOrElse (slice_get xs i) (λ o. o ≡ None) r →
+    r ≡ get_or xs i None
 got [] i r e = e
 got (x ∷ xs) zero r e = e
 got (x ∷ xs) (suc i) r e = got xs i r e
@@ -154,7 +159,8 @@ record-step bytes ids number slot r old new before after kept numbered is above 
             kept = read-again ids (id_of ids number) r.thread (release_call r.event) has.behind kept (kept_of new number)
                 has.covers as_read.is as_read.same;
           })
-          | inr other ↦ found-again bytes ids k old new (ap kept_by (as_read.rest k other)) (has.finds k at (omega arith) is-numbered)
+          | inr other ↦ found-again bytes ids k old new (ap kept_by (as_read.rest k other))
+              (has.finds k at (omega arith) is-numbered)
         ];
       },
       refl,

@@ -1,5 +1,6 @@
 -- How facts get the numbers of critical sections, a part of a record after the other.
-use Rattle.std.proofs.Common.{◌≡◌, ℕ, ◌+◌, ◌-◌, ◌^◌, ◌<◌, ◌≤◌, min, cond, Bool, List, [], ◌∷◌, ◌++◌, length, set, Option, Some, None, is_none, sym, refl, ap, ◌∙◌, subst, inl, inr, eq-eqb, arith}
+use Rattle.std.proofs.Common.{◌≡◌, ℕ, ◌+◌, ◌-◌, ◌^◌, ◌<◌, ◌≤◌, min, cond, Bool, List, [], ◌∷◌, ◌++◌, length, set, Option}
+use Rattle.std.proofs.Common.{Some, None, is_none, sym, refl, ap, ◌∙◌, subst, inl, inr, eq-eqb, arith}
 use Rattle.std.proofs.Math.Path.{fun_ext}
 use Rattle.std.proofs.lemmas.Bool.{ne_eqb, cases_eq, cases_lt}
 use Rattle.std.proofs.lemmas.List.{get_or_past, length-append}
@@ -9,7 +10,8 @@ use Rattle.pim_facts.specs.declared.fact.Fact.{Fact}
 use Rattle.pim_facts.specs.declared.fact.What.TheVariants.{GaveUp, Granted, Released, Waits}
 use Rattle.pim_course.specs.Courses.{free, idle, mutex_in, thread_in}
 use Rattle.pim_course.specs.Going.{KeepsSections, Numbers}
-use Rattle.pim_course.specs.Sections.{AreNumbered, HasNumbersOf, Sections, after_numbered, lasts_at, next_number, number_at, one_less_at, one_more_at, sections_after, sections_of}
+use Rattle.pim_course.specs.Sections.{AreNumbered, HasNumbersOf, Sections, after_numbered, lasts_at, next_number, number_at}
+use Rattle.pim_course.specs.Sections.{one_less_at, one_more_at, sections_after, sections_of}
 use Rattle.pim_course.specs.World.{but_for}
 use Rattle.pim_course.specs.declared.course.Course.{Course}
 use Rattle.pim_course.specs.declared.course.CourseMutex.{CourseMutex}
@@ -17,9 +19,9 @@ use Rattle.pim_course.specs.declared.course.CourseThread.{CourseThread}
 use Rattle.pim_course.proofs.Worlds.{each, each-any, each-put, each-same}
 
 -- critical sections are the same if all of them says the same
-pub sections_are : (v w : Sections) → w.lasting ≡ v.lasting → w.next ≡ v.next → w.waiting ≡ v.waiting →
+pub sections-are : (v w : Sections) → w.lasting ≡ v.lasting → w.next ≡ v.next → w.waiting ≡ v.waiting →
     w.began ≡ v.began → w.count ≡ v.count → w ≡ v
-sections_are v w lasting next waiting began count =
+sections-are v w lasting next waiting began count =
     λ i. record { lasting = lasting i; next = next i; waiting = waiting i; began = began i; count = count i }
 
 lasting-kept : (c d : Course) → d.mutexes.items ≡ c.mutexes.items → (sections_of d).lasting ≡ (sections_of c).lasting
@@ -85,7 +87,7 @@ pub same-thread : (c d : Course) (t : ℕ) (y : CourseThread) → d.threads.item
     d.mutexes ≡ c.mutexes → d.sections ≡ c.sections → y.section ≡ (thread_in c t).section → KeepsSections c d
 same-thread c d t y threads mutexes count section =
     let items : d.mutexes.items ≡ c.mutexes.items = ap (λ v. v.items) mutexes in
-    sections_are (sections_of c) (sections_of d) (lasting-kept c d items) (next-kept c d items) (waiting-kept c d items)
+    sections-are (sections_of c) (sections_of d) (lasting-kept c d items) (next-kept c d items) (waiting-kept c d items)
     (began-same c d t y threads section) count
 
 -- a mutex has the same critical section, next owner, and threads that wait for it
@@ -97,7 +99,7 @@ pub record IsAlike (is was : CourseMutex) : Type 0 where
 pub same-mutex : (c d : Course) (m : ℕ) (z : CourseMutex) → d.mutexes.items ≡ set c.mutexes.items m z →
     d.threads ≡ c.threads → d.sections ≡ c.sections → IsAlike z (mutex_in c m) → KeepsSections c d
 same-mutex c d m z mutexes threads count alike =
-    sections_are (sections_of c) (sections_of d) (lasting-same c d m z mutexes alike.section)
+    sections-are (sections_of c) (sections_of d) (lasting-same c d m z mutexes alike.section)
     (next-same c d m z mutexes alike.next) (waiting-same c d m z mutexes alike.waiting)
     (began-kept c d (ap (λ v. v.items) threads)) count
 
@@ -117,7 +119,7 @@ lasts-next c d m z mutexes threads lt section put next waiting count =
     let s : Sections = sections_of c in
     let none : s.lasting m ≡ None = section in
     let is : z.section ≡ Some (number_at s m) = put ∙ sym (ap (λ n. Some n) (number-next s m none)) in
-    sections_are (lasts_at s m) (sections_of d)
+    sections-are (lasts_at s m) (sections_of d)
     (lasting-put c d m z mutexes lt ∙ ap (λ o. but_for m o s.lasting) is)
     (next-same c d m z mutexes next) (waiting-same c d m z mutexes waiting)
     (began-kept c d (ap (λ v. v.items) threads))
@@ -125,7 +127,7 @@ lasts-next c d m z mutexes threads lt section put next waiting count =
 
 pub lasts-still : (s : Sections) (m n : ℕ) → s.lasting m ≡ Some n → s ≡ lasts_at s m
 lasts-still s m n lasting =
-    sections_are (lasts_at s m) s
+    sections-are (lasts_at s m) s
     (fun_ext (λ k. elim (cases_eq k m) [
       | inl at ↦
           ap s.lasting at ∙ lasting ∙ ap (λ j. Some j) (sym (number-lasting s m n lasting))
@@ -143,7 +145,7 @@ pub waits-in : (c s d : Course) (t : ℕ) (y : CourseThread) (m : ℕ) (z : Cour
     z.next_owner ≡ (mutex_in s m).next_owner → z.waiting ≡ min ((mutex_in s m).waiting + 1) (2 ^ 32 - 1) →
     sections_of d ≡ sections_after (sections_of c) Waits t m
 waits-in c s d t y m z lasts threads mutexes count lt below began lasting next waiting =
-    sections_are (sections_after (sections_of c) Waits t m) (sections_of d)
+    sections-are (sections_after (sections_of c) Waits t m) (sections_of d)
     (lasting-same s d m z mutexes lasting ∙ ap (λ x. x.lasting) lasts)
     (next-same s d m z mutexes next ∙ ap (λ x. x.next) lasts)
     (waiting-put s d m z mutexes below ∙ ap (λ k. but_for m k (sections_of s).waiting) waiting
@@ -167,21 +169,23 @@ pub granted-in : (c s d : Course) (t : ℕ) (y : CourseThread) (m : ℕ) (z : Co
     z.waiting ≡ cond (is_none (thread_in s t).section) (mutex_in s m).waiting ((mutex_in s m).waiting - 1) →
     sections_of d ≡ sections_after (sections_of c) Granted t m
 granted-in c s d t y m z lasts threads mutexes count below began lasting next waiting =
-    sections_are (sections_after (sections_of c) Granted t m) (sections_of d)
+    sections-are (sections_after (sections_of c) Granted t m) (sections_of d)
     (lasting-same s d m z mutexes lasting ∙ ap (λ x. x.lasting) lasts)
-    (next-put s d m z mutexes below ∙ ap (λ o. but_for m o (sections_of s).next) next ∙ ap (λ x. but_for m None x.next) lasts)
+    (next-put s d m z mutexes below ∙ ap (λ o. but_for m o (sections_of s).next) next ∙ ap (λ x. but_for m None x.next)
+    lasts)
     (waiting-after s d m z (thread_in s t).section mutexes waiting
     ∙ ap (λ x. cond (is_none (x.began t)) x.waiting (one_less_at m x.waiting)) lasts)
     (began-over s d t y threads began ∙ ap (λ x. but_for t None x.began) lasts)
     (count ∙ ap (λ x. x.count) lasts)
 
 -- a thread gives up a mutex
-pub gave-up : (c d : Course) (t : ℕ) (y : CourseThread) (m : ℕ) (z : CourseMutex) → d.threads.items ≡ set c.threads.items t y →
+pub gave-up : (c d : Course) (t : ℕ) (y : CourseThread) (m : ℕ) (z : CourseMutex) →
+    d.threads.items ≡ set c.threads.items t y →
     d.mutexes.items ≡ set c.mutexes.items m z → d.sections ≡ c.sections → y.section ≡ None →
     z.section ≡ (mutex_in c m).section → z.next_owner ≡ (mutex_in c m).next_owner → z.waiting ≡ (mutex_in c m).waiting - 1 →
     sections_of d ≡ sections_after (sections_of c) GaveUp t m
 gave-up c d t y m z threads mutexes count began lasting next waiting =
-    sections_are (sections_after (sections_of c) GaveUp t m) (sections_of d)
+    sections-are (sections_after (sections_of c) GaveUp t m) (sections_of d)
     (lasting-same c d m z mutexes lasting) (next-same c d m z mutexes next) (waiting-less c d m z mutexes waiting)
     (began-over c d t y threads began) count
 
@@ -199,12 +203,13 @@ pub released-to : (c d : Course) (t m : ℕ) (z : CourseMutex) (next : Option �
     z.section ≡ option_and next (mutex_in c m).section → z.next_owner ≡ next → z.waiting ≡ (mutex_in c m).waiting →
     sections_of d ≡ sections_after (sections_of c) (Released next) t m
 released-to c d t m z next threads mutexes count lt section heir waiting =
-    sections_are (sections_after (sections_of c) (Released next) t m) (sections_of d)
+    sections-are (sections_after (sections_of c) (Released next) t m) (sections_of d)
     (lasting-after c d m z next mutexes lt section)
     (next-put c d m z mutexes lt ∙ ap (λ o. but_for m o (sections_of c).next) heir)
     (waiting-same c d m z mutexes waiting) (began-kept c d threads) count
 
-numbered-more : (facts : List Fact) (from to now : Sections) (fact : Fact) → AreNumbered facts from to → HasNumbersOf to fact →
+numbered-more : (facts : List Fact) (from to now : Sections) (fact : Fact) → AreNumbered facts from to →
+    HasNumbersOf to fact →
     now ≡ after_numbered to fact → AreNumbered (facts ++ (fact ∷ [])) from now
 numbered-more [] from to now fact led has e =
     (subst (λ s. HasNumbersOf s fact) led has, e ∙ ap (λ s. after_numbered s fact) led)
@@ -221,7 +226,8 @@ numbers-added old mid new fact said is kept more full has sections =
     record {
       numbered = λ from led room.
           subst (λ facts. AreNumbered facts from (sections_of new))
-          (sym (more (omega arith) ∙ ap (λ facts. facts ++ (fact ∷ [])) same ∙ ap (λ one. shown_in old.shown ++ (one ∷ [])) is))
+          (sym (more (omega arith) ∙ ap (λ facts. facts ++ (fact ∷ [])) same
+          ∙ ap (λ one. shown_in old.shown ++ (one ∷ [])) is))
           (numbered-more (shown_in old.shown) from (sections_of old) (sections_of new) said led has sections);
       few = elim (cases_lt (length (shown_in mid.shown)) 4) [
         | inl lt ↦ omega (arith, ap length (more lt), length-append (shown_in mid.shown) (fact ∷ []), size)
@@ -253,7 +259,8 @@ numbers-within a b old new le numbers =
 pub numbered-by : (most : ℕ) (old new : Course) → most ≤ 4 → Numbers most old new → shown_in old.shown ≡ [] →
     AreNumbered (shown_in new.shown) (sections_of old) (sections_of new)
 numbered-by most old new le numbers none =
-    numbers.numbered (sections_of old) (subst (λ facts. AreNumbered facts (sections_of old) (sections_of old)) (sym none) refl)
+    numbers.numbered (sections_of old) (subst (λ facts. AreNumbered facts (sections_of old) (sections_of old)) (sym none)
+    refl)
     (omega (arith, ap length none))
 
 pub numbers-marked : (most : ℕ) (is : Bool) (old new : Course) → Numbers most (record old { is_contradiction = is }) new →

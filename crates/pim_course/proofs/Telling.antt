@@ -1,5 +1,7 @@
 -- What a course tells, a part of a record after the other.
-use Rattle.std.proofs.Common.{◌≡◌, ◌≢◌, ◌⊎◌, ℕ, ◌+◌, ◌==◌, ◌||◌, not, cond, Bool, true, false, List, [], ◌++◌, map, length, Option, Some, None, is_none, sym, refl, ap, ◌∙◌, subst, inl, inr, append_assoc, eq-eqb, nat_eq, arith, ◌&&◌}
+use Rattle.std.proofs.Common.{◌≡◌, ◌≢◌, ◌⊎◌, ℕ, ◌+◌, ◌==◌, ◌||◌, not, cond, Bool, true, false, List, [], ◌++◌, map, length}
+use Rattle.std.proofs.Common.{Option, Some, None, is_none, sym, refl, ap, ◌∙◌, subst, inl, inr, append_assoc, eq-eqb, nat_eq}
+use Rattle.std.proofs.Common.{arith, ◌&&◌}
 use Rattle.std.proofs.lemmas.Bool.{eqb-false, eqb-true, ne_eqb, cases_eq}
 use Rattle.std.proofs.lemmas.Option.{same_Some}
 use Rattle.std.proofs.lemmas.List.{append-nil, length-append}
@@ -100,7 +102,8 @@ tells-then a b x y old mid new first next =
 pub tells-same : (most : ℕ) (x y : List Happening) (old new : Course) → x ≡ y → Tells most x old new → Tells most y old new
 tells-same most x y old new e tells = subst (λ told. Tells most told old new) e tells
 
-pub tells-behind : (most : ℕ) (told : List Happening) (old mid new : Course) → mid.shown ≡ old.shown → Tells most told mid new →
+pub tells-behind : (most : ℕ) (told : List Happening) (old mid new : Course) → mid.shown ≡ old.shown →
+    Tells most told mid new →
     Tells most told old new
 tells-behind most told old mid new same tells =
     record {

@@ -1,11 +1,14 @@
 -- Facts that have one number are in one critical section.
-use Rattle.std.proofs.Common.{◌≡◌, ◌≢◌, ℕ, ◌+◌, ◌-◌, ◌^◌, ◌<◌, ◌≤◌, ◌⊎◌, cond, List, [], ◌∷◌, ◌++◌, Option, Some, None, is_none, sym, refl, ap, ◌∙◌, subst, inl, inr, eq-eqb, arith}
+use Rattle.std.proofs.Common.{◌≡◌, ◌≢◌, ℕ, ◌+◌, ◌-◌, ◌^◌, ◌<◌, ◌≤◌, ◌⊎◌, cond, List, [], ◌∷◌, ◌++◌, Option, Some, None}
+use Rattle.std.proofs.Common.{is_none, sym, refl, ap, ◌∙◌, subst, inl, inr, eq-eqb, arith}
 use Rattle.std.proofs.lemmas.Bool.{ne_eqb, cases_eq}
 use Rattle.std.specs.List.{AllByRecursion}
 use Rattle.pim_facts.specs.declared.fact.Fact.{Fact}
 use Rattle.pim_facts.specs.declared.fact.What.{What}
 use Rattle.pim_facts.specs.declared.fact.What.TheVariants.{Granted, Waits, GaveUp, Released, Level, Ceiling}
-use Rattle.pim_course.specs.Sections.{AreNumbered, AreTogether, Ends, IsToNobody, IsWithin, Sections, SectionsLaw, after_numbered, lasts_at, next_number, no_sections, number_at, number_of, sections_after}
+use Rattle.pim_course.specs.Sections.{AreNumbered, AreTogether, Ends, IsToNobody, IsWithin, Sections, SectionsLaw}
+use Rattle.pim_course.specs.Sections.{after_numbered, lasts_at, next_number, no_sections, number_at, number_of}
+use Rattle.pim_course.specs.Sections.{sections_after}
 use Rattle.pim_course.specs.World.{but_for}
 use Rattle.pim_course.proofs.Numbering.{lasts-still, number-lasting, number-next}
 
@@ -239,7 +242,8 @@ unended (fact ∷ facts) last s to m n only led lt within e = (
   λ ends. run (λ _. ⊥) facts last (after_numbered s fact) to n
       (gone s fact.what fact.thread fact.mutex m n only ends.mutex ends.is) led.1 lt within e,
   unended facts last (after_numbered s fact) to m n
-      (step-only (λ j. j ≡ m) s fact.what fact.thread fact.mutex n only (below-next fact (facts ++ (last ∷ [])) s to led.1 lt))
+      (step-only (λ j. j ≡ m) s fact.what fact.thread fact.mutex n only
+      (below-next fact (facts ++ (last ∷ [])) s to led.1 lt))
       led.1 lt within e,
 )
 
@@ -368,4 +372,5 @@ from-any (fact ∷ before) between first last s to apart led lt one other =
 
 pub sections : SectionsLaw
 sections before between first last to led lt one other =
-    from-any before between first last no_sections to (record { only = λ m n lasting. never-some n lasting }) led lt one other
+    from-any before between first last no_sections to (record { only = λ m n lasting. never-some n lasting }) led lt one
+    other

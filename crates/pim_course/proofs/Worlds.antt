@@ -1,5 +1,6 @@
 -- How the world changes as a thread or a mutex is put.
-use Rattle.std.proofs.Common.{◌≡◌, ℕ, ◌<◌, ◌≤◌, cond, List, length, get_or, set, Option, Some, None, sym, ap, ◌∙◌, inl, inr, eq-eqb, refl}
+use Rattle.std.proofs.Common.{◌≡◌, ℕ, ◌<◌, ◌≤◌, cond, List, length, get_or, set, Option, Some, None, sym, ap, ◌∙◌, inl, inr}
+use Rattle.std.proofs.Common.{eq-eqb, refl}
 use Rattle.std.proofs.Math.Path.{fun_ext}
 use Rattle.std.proofs.lemmas.Bool.{ne_eqb, cases_eq, cases_lt}
 use Rattle.std.proofs.lemmas.Grind.{get_or-set_at}
@@ -27,7 +28,8 @@ each-put f d xs ys i y e lt =
           ∙ sym (ap (λ b. cond b (f y) (f (get_or xs k d))) (ne_eqb k i other))
     ])
 
-pub each-same : {X A : Type 0} (f : X → A) (d : X) (xs ys : List X) (i : ℕ) (y : X) → ys ≡ set xs i y → f y ≡ f (get_or xs i d) →
+pub each-same : {X A : Type 0} (f : X → A) (d : X) (xs ys : List X) (i : ℕ) (y : X) → ys ≡ set xs i y →
+    f y ≡ f (get_or xs i d) →
     each f d ys ≡ each f d xs
 each-same f d xs ys i y e same =
     fun_ext (λ k. elim (cases_lt i (length xs)) [
@@ -107,8 +109,8 @@ pub worlds : (v w : World) → w.owner ≡ v.owner → w.awaits ≡ v.awaits →
 worlds v w owner awaits level ceiling =
     λ i. record { owner = owner i; awaits = awaits i; level = level i; ceiling = ceiling i }
 
-pub has_mutex : (c : Course) (m t : ℕ) → (world_of c).owner m ≡ Some t → m < length c.mutexes.items
-has_mutex c m t owned =
+pub has-mutex : (c : Course) (m t : ℕ) → (world_of c).owner m ≡ Some t → m < length c.mutexes.items
+has-mutex c m t owned =
     elim (cases_lt m (length c.mutexes.items)) [
       | inl lt ↦ lt
       | inr past ↦
@@ -117,8 +119,8 @@ has_mutex c m t owned =
           cc
     ]
 
-pub has_thread : (c : Course) (t m : ℕ) → (world_of c).awaits t ≡ Some m → t < length c.threads.items
-has_thread c t m awaits =
+pub has-thread : (c : Course) (t m : ℕ) → (world_of c).awaits t ≡ Some m → t < length c.threads.items
+has-thread c t m awaits =
     elim (cases_lt t (length c.threads.items)) [
       | inl lt ↦ lt
       | inr past ↦

@@ -3,7 +3,9 @@
 -- says.
 --
 -- The records behind one are in the order of their numbers, those before it the other way, so that the first is the nearest.
-use Rattle.std.specs.Prelude.{◌≡◌, ◌+◌, ◌-◌, ◌^◌, ◌<◌, ◌≤◌, ℕ, ◌==◌, nat_lt, Bool, false, true, ◌&&◌, ◌||◌, if◌then◌else◌, List, [], ◌∷◌, length, slice_get, slice_index_or, find, is_some, IsSome, IfSome, Option, Some, None}
+use Rattle.std.specs.Prelude.{◌≡◌, ◌+◌, ◌-◌, ◌^◌, ◌<◌, ◌≤◌, ℕ, ◌==◌, nat_lt, Bool, false, true, ◌&&◌, ◌||◌, if◌then◌else◌}
+use Rattle.std.specs.Prelude.{List, [], ◌∷◌, length, slice_get, slice_index_or, find, is_some, IsSome, IfSome, Option, Some}
+use Rattle.std.specs.Prelude.{None}
 use Rattle.std.specs.Option.{option_and_then, option_map_or, option_or}
 use Rattle.pim_log.specs.Logs.{IsNumbered, began_of}
 use Rattle.pim_log.specs.declared.event.Event.{Event}
@@ -13,15 +15,11 @@ use Rattle.pim_facts.specs.Levels.{id_of}
 use Rattle.pim_facts.specs.Naming.{AreBelow, IsAt, NamesBelow, last_begun}
 use Rattle.pim_facts.specs.declared.ids.Ids.{Ids}
 use Rattle.pim_course.specs.Kept.{kept_of}
-use Rattle.pim_course.specs.NextOwners.{AreFrom, HasFound, granted_by, is_granted, is_that, next_granted}
+use Rattle.pim_course.specs.NextOwners.{AreFrom, HasFound, granted_by, grants, is_granted, is_that, next_granted}
 use Rattle.pim_course.specs.declared.next_owners.Coming.{Coming}
 use Rattle.pim_course.specs.declared.next_owners.Kept.{Kept}
 use Rattle.pim_course.specs.declared.next_owners.Kept.TheVariants.{Owner, Later}
 use Rattle.pim_course.specs.declared.next_owners.NextOwners.{NextOwners}
-
--- a record grants a mutex
-abbrev pub grants : Ids → ℕ → Record → Bool
-grants ids m r = is_granted r.event && id_of ids r.number == m
 
 -- the first record of a thread that has a time
 abbrev pub first_timed : ℕ → List Record → Option Record
@@ -74,7 +72,8 @@ next_with_task ids m t task behind =
 abbrev pub is_shared : Ids → ℕ → Bool
 is_shared ids m = option_map_or (λ mutex. mutex.process == 0) (slice_get ids.mutexes.items m) false
 
--- whether a thread may own a mutex for which one of this process asks: it is of that process, too, or processes share the mutex
+-- whether a thread may own a mutex for which one of this process asks: it is of that process, too, or processes share the
+-- mutex
 abbrev pub may_own : Ids → ℕ → ℕ → ℕ → Bool
 may_own ids m process t =
     option_map_or (λ thread. is_shared ids m || thread.process == process) (slice_get ids.threads.items t) false
@@ -103,7 +102,8 @@ IsAskedBy ids m r before behind kept (Some task) = kept ≡ named_kept ids m r t
 abbrev pub IsAsked : Ids → ℕ → Record → List Record → List Record → Kept → Type 0
 IsAsked ids m r before behind kept = IfSome (asked_task r.event) (IsAskedBy ids m r before behind kept)
 
--- what was found of the record of a log with this number, if it is a REQUEST, is what it, those before it and those behind it
+-- what was found of the record of a log with this number, if it is a REQUEST, is what it, those before it and those behind
+-- it
 -- say
 pub record FindsAsked (bytes : List ℕ) (ids : Ids) (next_owners : NextOwners) (number : ℕ) : Type 0 where
   pub r : Record

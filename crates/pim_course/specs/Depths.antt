@@ -23,7 +23,8 @@ depth_again ids depth m = if is_recursive_in ids m then but_for m (min (depth m 
 
 -- a thread is granted a mutex: it is locked once, unless the thread owns it
 abbrev pub depth_granted : Ids → World → (ℕ → ℕ) → ℕ → ℕ → ℕ → ℕ
-depth_granted ids world depth t m = if m == 0 || is_that (world.owner m) t then depth_again ids depth m else but_for m 1 depth
+depth_granted ids world depth t m =
+    if m == 0 || is_that (world.owner m) t then depth_again ids depth m else but_for m 1 depth
 
 -- a thread releases a mutex: it is locked once less, if the thread owns it and isn't refused
 abbrev pub depth_released : Sources → World → (ℕ → ℕ) → ℕ → ℕ → ℕ → ℕ → ℕ

@@ -1,7 +1,8 @@
 -- Who has a mutex next, by the records behind a RELEASE.
 --
 -- Each list of records here is in the order of their numbers, so its first record is the next one.
-use Rattle.std.specs.Prelude.{◌≡◌, ℕ, ◌+◌, ◌<◌, ◌≤◌, ◌-◌, ◌^◌, ◌==◌, Bool, true, false, not, ◌&&◌, if◌then◌else◌, List, [], ◌∷◌, length, slice_index_or, find, Option, Some, None, IfSome}
+use Rattle.std.specs.Prelude.{◌≡◌, ℕ, ◌+◌, ◌<◌, ◌≤◌, ◌-◌, ◌^◌, ◌==◌, Bool, true, false, not, ◌&&◌, if◌then◌else◌, List, []}
+use Rattle.std.specs.Prelude.{◌∷◌, length, slice_index_or, find, Option, Some, None, IfSome}
 use Rattle.std.specs.Option.{option_and_then, option_map, option_map_or}
 use Rattle.pim_log.specs.Headers.{header_of, end_of}
 use Rattle.pim_log.specs.Logs.{IsNumbered}
@@ -52,16 +53,20 @@ is_condition _ = false
 abbrev pub is_that : Option ℕ → ℕ → Bool
 is_that number n = option_map_or (λ other. other == n) number false
 
+-- a record grants a mutex
+abbrev pub grants : Ids → ℕ → Record → Bool
+grants ids m r = is_granted r.event && id_of ids r.number == m
+
 -- the thread that is granted a mutex next: that of the first GRANTED of it
 abbrev pub next_granted : Ids → ℕ → List Record → Option ℕ
-next_granted ids m records =
-    option_map (λ r. r.thread) (find (λ r. is_granted r.event && id_of ids r.number == m) records)
+next_granted ids m records = option_map (λ r. r.thread) (find (grants ids m) records)
 
 -- the mutex of a GRANTED
 abbrev pub granted_by : Ids → Record → Option ℕ
 granted_by ids r = if is_granted r.event then Some (id_of ids r.number) else None
 
--- the mutex that a thread is granted before it calls anything else: of its first REQUEST, RELEASE, FAILED or GRANTED, if that
+-- the mutex that a thread is granted before it calls anything else: of its first REQUEST, RELEASE, FAILED or GRANTED, if
+-- that
 -- is a GRANTED
 abbrev pub granted_first : Ids → ℕ → List Record → Option ℕ
 granted_first ids t records =

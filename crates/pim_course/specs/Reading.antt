@@ -28,7 +28,8 @@ first_ceiling ids m = option_map_or (λ mutex. mutex.ceiling) (slice_get ids.mut
 abbrev pub world_before : Ids → World
 world_before ids = record { owner = λ m. None; awaits = λ t. None; level = first_level ids; ceiling = first_ceiling ids }
 
--- a course begins: it has the threads and mutexes of a log, no mutex is locked, there was no critical section, nothing is known
+-- a course begins: it has the threads and mutexes of a log, no mutex is locked, there was no critical section, nothing is
+-- known
 -- beside the facts, and nothing is shown yet
 pub record Begins (ids : Ids) (course : Course) : Type 0 where
   pub world : world_of course ≡ world_before ids
@@ -102,7 +103,8 @@ pub record HasAllOf (ids : Ids) (course : Course) : Type 0 where
   pub mutexes : length course.mutexes.items ≡ length ids.mutexes.items
 
 -- what a record of a log shows leads from the world in which it is read to the one behind it, each mutex is locked then as
--- often as the record says, what is shown has the numbers of the critical sections, and what is known beside the facts is what
+-- often as the record says, what is shown has the numbers of the critical sections, and what is known beside the facts is
+-- what
 -- the record says, in a course that has the threads and mutexes of the log
 abbrev pub ReadingLaw : Type 0
 ReadingLaw = (bytes : List ℕ) (sources : Sources) (number : ℕ) (old new : Course) → Covers sources.ids bytes →

@@ -15,7 +15,8 @@ IsInOrder requests = IsNonDecreasingBy place_of requests
 abbrev pub IsBehind : ℕ → Request → Type 0
 IsBehind number request = request.after ≡ number
 
--- Of the requests from the first of these on, as many as this belong behind the record with a number, and the next one doesn't.
+-- Of the requests from the first of these on, as many as this belong behind the record with a number, and the next one
+-- doesn't.
 pub record AreBehind (requests : List Request) (first number many : ℕ) : Type 0 where
   pub each : (place : ℕ) → place < many →
       (request : Request) × ((slice_get requests (first + place) ≡ Some request) × IsBehind number request)

@@ -1,5 +1,6 @@
 -- What a record tells that happened: the table of docs/FINDINGS.md, 'Facts'.
-use Rattle.std.specs.Prelude.{ℕ, ◌==◌, nat_lt, not, ◌&&◌, ◌||◌, if◌then◌else◌, List, [], ◌∷◌, ◌++◌, map, Option, Some, None, is_none}
+use Rattle.std.specs.Prelude.{ℕ, ◌==◌, nat_lt, not, ◌&&◌, ◌||◌, if◌then◌else◌, List, [], ◌∷◌, ◌++◌, map, Option, Some, None}
+use Rattle.std.specs.Prelude.{is_none}
 use Rattle.std.specs.Option.{option_and_then, option_map_or}
 use Rattle.pim_log.specs.declared.event.Event.{Event}
 use Rattle.pim_log.specs.declared.event.Event.TheVariants as event
@@ -42,7 +43,8 @@ did what t m = record { what = what; thread = t; mutex = m } ∷ []
 -- the level that a priority gives to a thread, if it is another one; 0 is no thread
 abbrev pub level_told : World → ℕ → Priority → List Happening
 level_told world t priority =
-    if t == 0 || level_by priority (world.level t) == world.level t then [] else did (Level (level_by priority (world.level t))) t 0
+    if t == 0 || level_by priority (world.level t) == world.level t then []
+    else did (Level (level_by priority (world.level t))) t 0
 
 -- the ceiling that a record says of a mutex, if that is a PROTECT one by the log
 abbrev pub ceiling_by_log : Family → Mutex → Option ℕ
@@ -81,7 +83,8 @@ request_told sources world t m said =
 abbrev pub grant_told : Sources → World → ℕ → ℕ → Mutex → List Happening
 grant_told sources world t m said =
     if m == 0 || is_that (world.owner m) t then []
-    else ceiling_told sources world t m said ++ gave_up_told world t (Some m) ++ freed_told world m (Some t) ++ did Granted t m
+    else ceiling_told sources world t m said ++ gave_up_told world t (Some m) ++ freed_told world m (Some t)
+    ++ did Granted t m
 
 -- a FAILED: its thread gave up, if it waits for the mutex
 abbrev pub fail_told : World → ℕ → ℕ → List Happening

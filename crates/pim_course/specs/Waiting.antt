@@ -15,7 +15,8 @@ abbrev pub waiting_below : ℕ → (ℕ → Option ℕ) → ℕ → ℕ
 waiting_below zero awaits m = 0
 waiting_below (suc n) awaits m = waiting_below n awaits m + (if is_that (awaits n) m then 1 else 0)
 
--- who waits is below n, and has a critical section in which the wait began; and at each mutex the threads that wait are counted
+-- who waits is below n, and has a critical section in which the wait began; and at each mutex the threads that wait are
+-- counted
 pub record AreCounted (n : ℕ) (awaits : ℕ → Option ℕ) (sections : Sections) : Type 0 where
   pub below : (t : ℕ) → n ≤ t → awaits t ≡ None
   pub began : (t : ℕ) → is_none (sections.began t) ≡ is_none (awaits t)

@@ -24,7 +24,10 @@ mod course;
 mod laws;
 pub mod lists;
 mod next_owners;
+mod owners;
 mod requests;
+mod wait_owners;
+mod waits;
 mod walk;
 
 pub use course::{Course, CourseMutex, CourseThread, Sources, family_of};

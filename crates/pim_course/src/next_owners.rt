@@ -180,10 +180,7 @@ impl NextOwners {
     pub fn asked_owner(&self, number: u64) -> Option<u32>
         ensures { result ≡ next_by (kept_of self.now number) }
     {
-        match self.kept(number) {
-            Kept::Owner(asked) => asked,
-            _ => None,
-        }
+        self.next_owner(number)
     }
 
     /// Returns the thread that is granted the mutex next after the REQUEST with this number, which names no thread.

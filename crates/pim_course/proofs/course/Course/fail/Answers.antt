@@ -6,10 +6,12 @@ use Rattle.pim_course.specs.NextOwners.{is_that}
 use Rattle.pim_course.specs.Told.{did}
 use Rattle.pim_course.specs.World.{World, world_of}
 use Rattle.pim_course.specs.declared.course.Course.{Course}
-use Rattle.pim_course.proofs.Telling.{if-not, if-so, left-of, neither, not-false, not-that, not-true, right-of, so-that, tells-behind, tells-none, tells-same}
+use Rattle.pim_course.proofs.Telling.{if-not, if-so, left-of, neither, not-false, not-that, not-true, right-of, so-that}
+use Rattle.pim_course.proofs.Telling.{tells-behind, tells-none, tells-same}
 use Rattle.pim_course.proofs.Numbering.{numbers-none, numbers-then}
 use Rattle.pim_course.proofs.course.Course.fail.Goals as goal
-use Rattle.pim_course.proofs.course.Course.fail.Goals.{then-mutex-eq0-via-then-mutex-eq0, then-mutex-eq0-via-else-mutex-eq0+then-ne}
+use Rattle.pim_course.proofs.course.Course.fail.Goals.{then-mutex-eq0-via-then-mutex-eq0}
+use Rattle.pim_course.proofs.course.Course.fail.Goals.{then-mutex-eq0-via-else-mutex-eq0+then-ne}
 
 pub returns-then-mutex-eq0-clause-told : goal.returns-then-mutex-eq0-clause-told
 returns-then-mutex-eq0-clause-told c =
@@ -22,7 +24,8 @@ returns-then-mutex-eq0-clause-told c =
       | then-mutex-eq0-via-then-mutex-eq0 w ↦ left-of (m == 0) (not is) (eq-eqb m 0 w.if-mutex-eq0.true)
       | then-mutex-eq0-via-else-mutex-eq0+then-ne w ↦
           right-of (m == 0) (not is) (not-false is (ap (λ (now : World). is_that (now.awaits t) m) (sym still.world)
-          ∙ not-that _ _ _ (ap (λ y. y.awaits) w.thread.ensures) (grind (arith, w.ne.ensures, w.if-ne.true, w.if-ne.ensures))))
+          ∙ not-that _ _ _ (ap (λ y. y.awaits) w.thread.ensures)
+          (grind (arith, w.ne.ensures, w.if-ne.true, w.if-ne.ensures))))
     ] in
     tells-none 1 _ c.args.self.now c.forget_own.new.self still.shown (if-so _ [] (did GaveUp t m) out)
 

@@ -9,7 +9,8 @@ use Rattle.pim_course.specs.World.{World, but_for, world_of}
 use Rattle.pim_course.specs.Going.{IsStill}
 use Rattle.pim_course.specs.declared.course.CourseMutex.{CourseMutex}
 use Rattle.pim_course.specs.declared.course.Course.{Course}
-use Rattle.pim_course.proofs.Telling.{depth-put, gave-up-same, if-not, neither, not-that, tells-behind, tells-same, tells-then}
+use Rattle.pim_course.proofs.Telling.{depth-put, gave-up-same, if-not, neither, not-that, tells-behind, tells-same}
+use Rattle.pim_course.proofs.Telling.{tells-then}
 use Rattle.pim_course.proofs.Leading.{goes-marked, goes-still, goes-then}
 use Rattle.pim_course.proofs.Numbering.{numbers-marked, numbers-none, numbers-then}
 use Rattle.pim_course.specs.Courses.{family_in}
@@ -69,12 +70,14 @@ returns-clause-told c =
     let said = ceiling_told c.args.sources.now (world_of old) t m c.args.said.now in
     let gone = gave_up_told (world_of old) t (Some m) in
     let freed = freed_told (world_of old) m (Some t) in
-    let awaits : (world_of a).awaits ≡ (world_of old).awaits = c.correct_ceiling-self.ensures.awaits ∙ ap (λ w. w.awaits) still.world in
+    let awaits : (world_of a).awaits ≡ (world_of old).awaits =
+    c.correct_ceiling-self.ensures.awaits ∙ ap (λ w. w.awaits) still.world in
     let is : is_that ((world_of b).awaits t) m ≡ is_that ((world_of old).awaits t) m =
     c.correct_wait.ensures.same m refl ∙ ap (λ (h : ℕ → Option ℕ). is_that (h t) m) awaits in
     tells-same 4 _ _ old new
     (sym (if-not _ _ _ (neither _ _ (ne_eqb m 0 (λ e. omega (arith, e, c.if-mutex-eq0.false)))
-    (not-that _ _ _ (ap (λ z. z.owner) c.mutex-owner.ensures) (grind (arith, c.eq.ensures, c.if-eq.false, c.if-eq.ensures))))))
+    (not-that _ _ _ (ap (λ z. z.owner) c.mutex-owner.ensures)
+    (grind (arith, c.eq.ensures, c.if-eq.false, c.if-eq.ensures))))))
     (tells-then 3 1 _ (did Granted t m) old g new
     (tells-then 2 1 _ freed old b g
     (tells-then 1 1 said gone old a b
@@ -84,7 +87,8 @@ returns-clause-told c =
     (tells-same 1 _ gone a b (gave-up-same (world_of old) (world_of a) t (Some m) awaits) c.correct_wait.ensures.told))
     (tells-same 1 _ freed b g
     (ap (λ so. option_map_or (λ o. did (Released (cond so (Some t) None)) o m) c.mutex-owner.result.owner []) is
-    ∙ ap (λ (z : CourseMutex). option_map_or (λ o. released_told (world_of old) o m (Some t)) z.owner []) c.mutex-owner.ensures)
+    ∙ ap (λ (z : CourseMutex). option_map_or (λ o. released_told (world_of old) o m (Some t)) z.owner [])
+    c.mutex-owner.ensures)
     (tells-behind 1 _ b _ g refl c.free.ensures.told)))
     c.take.ensures.told)
 
@@ -107,7 +111,8 @@ returns-clause-depths c below k =
     ∙ c.forget_own.ensures.depths j) k
     ∙ sym (ap (λ is. cond is (depth_again c.args.sources.now.ids (depths_of old) m) once k)
     (neither _ _ (ne_eqb m 0 (λ e. omega (arith, e, c.if-mutex-eq0.false)))
-    (not-that _ _ _ (ap (λ z. z.owner) c.mutex-owner.ensures) (grind (arith, c.eq.ensures, c.if-eq.false, c.if-eq.ensures)))))
+    (not-that _ _ _ (ap (λ z. z.owner) c.mutex-owner.ensures)
+    (grind (arith, c.eq.ensures, c.if-eq.false, c.if-eq.ensures)))))
 
 pub returns-clause-sections : goal.returns-clause-sections
 returns-clause-sections c below =
@@ -173,4 +178,5 @@ returns-clause-details c lt below =
     ∙ ap (λ (z : CourseMutex). freed z.owner m marked) c.mutex-owner.ensures
     )
     ∙ sym (if-not _ _ _ (neither _ _ (ne_eqb m 0 (λ e. omega (arith, e, c.if-mutex-eq0.false)))
-    (not-that _ _ _ (ap (λ z. z.owner) c.mutex-owner.ensures) (grind (arith, c.eq.ensures, c.if-eq.false, c.if-eq.ensures)))))
+    (not-that _ _ _ (ap (λ z. z.owner) c.mutex-owner.ensures)
+    (grind (arith, c.eq.ensures, c.if-eq.false, c.if-eq.ensures)))))

@@ -1,7 +1,7 @@
 use Rattle.std.proofs.Common.{None, Some, refl, ap, ◌∙◌}
 use Rattle.std.specs.Option.{option_and}
 use Rattle.pim_course.specs.declared.course.Course.{Course}
-use Rattle.pim_course.proofs.Worlds.{has_mutex, world-owner}
+use Rattle.pim_course.proofs.Worlds.{has-mutex, world-owner}
 use Rattle.pim_course.proofs.Leading.{goes-added}
 use Rattle.pim_course.proofs.Numbering.{numbers-added, released-to}
 use Rattle.pim_course.specs.Details.{mutex_details}
@@ -15,7 +15,7 @@ returns-clause-goes c owned =
     c.add.ensures.shown c.add.ensures.full owned
     (world-owner c.args.self.now c.put_mutex.new.self c.args.mutex _ None
     (ap (λ d. d.threads.items) c.put_mutex.ensures.rest) c.put_mutex.ensures.mutexes
-    (has_mutex c.args.self.now c.args.mutex c.args.thread owned) refl (ap (λ z. z.ceiling) c.mutex-is.ensures))
+    (has-mutex c.args.self.now c.args.mutex c.args.thread owned) refl (ap (λ z. z.ceiling) c.mutex-is.ensures))
 
 pub returns-clause-sections : goal.returns-clause-sections
 returns-clause-sections c owned =
@@ -26,7 +26,7 @@ returns-clause-sections c owned =
     (released-to old c.put_mutex.new.self c.args.thread c.args.mutex _ c.heir-heir.result
     (ap (λ d. d.threads.items) c.put_mutex.ensures.rest) c.put_mutex.ensures.mutexes
     (ap (λ d. d.sections) c.put_mutex.ensures.rest)
-    (has_mutex old c.args.mutex c.args.thread owned)
+    (has-mutex old c.args.mutex c.args.thread owned)
     (c.and-is.ensures ∙ ap (λ z. option_and c.heir-heir.result z.section) c.mutex-is.ensures)
     refl (ap (λ z. z.waiting) c.mutex-is.ensures))
 

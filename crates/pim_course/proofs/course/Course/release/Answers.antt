@@ -6,8 +6,9 @@ use Rattle.pim_course.specs.Told.{depths_of, did, gave_up_told, heir_in}
 use Rattle.pim_course.specs.World.{but_for, World, after, world_of}
 use Rattle.pim_course.specs.Courses.{mutex_in}
 use Rattle.pim_course.specs.declared.course.Course.{Course}
-use Rattle.pim_course.proofs.Telling.{depth-put, heir-same, if-not, if-so, left-by, neither, none-of, not-true, right-of, so-that, that-from, tells-same, tells-then}
-use Rattle.pim_course.proofs.Worlds.{has_mutex}
+use Rattle.pim_course.proofs.Telling.{depth-put, heir-same, if-not, if-so, left-by, neither, none-of, not-true, right-of}
+use Rattle.pim_course.proofs.Telling.{so-that, that-from, tells-same, tells-then}
+use Rattle.pim_course.proofs.Worlds.{has-mutex}
 use Rattle.pim_course.proofs.Leading.{goes-then}
 use Rattle.pim_course.proofs.Numbering.{numbers-none, numbers-then, same-mutex}
 use Rattle.pim_course.specs.Details.{mutex_details, released}
@@ -56,7 +57,7 @@ returns-clause-depths c k =
     let owner : (mutex_in old m).owner ≡ Some t =
     ap (λ z. z.owner) (sym c.mutex-is.ensures)
     ∙ that-from _ _ (grind (arith, c.ne.ensures, c.if-ne.false, c.if-ne.ensures)) in
-    let below : m < length old.mutexes.items = has_mutex old m t owner in
+    let below : m < length old.mutexes.items = has-mutex old m t owner in
     let less : 0 ≡ depths_of old m - 1 = omega (arith, ap (λ z. z.depth) c.mutex-is.ensures) in
     let freed : ℕ → ℕ = but_for m (depths_of old m - 1) (depths_of old) in
     c.hand_over.ensures.depths (omega (arith, c.correct_wait.ensures.size.mutexes)) k
@@ -95,7 +96,7 @@ returns-clause-details c =
     let owner : (mutex_in old m).owner ≡ Some t =
     ap (λ z. z.owner) (sym c.mutex-is.ensures)
     ∙ that-from _ _ (grind (arith, c.ne.ensures, c.if-ne.false, c.if-ne.ensures)) in
-    let below : m < length old.mutexes.items = has_mutex old m t owner in
+    let below : m < length old.mutexes.items = has-mutex old m t owner in
     c.hand_over.ensures.details (omega (arith, c.correct_wait.ensures.size.mutexes))
     ∙ ap (released t m) c.correct_wait.ensures.details
     ∙ sym (if-not _ _ _ (none-of _ _ _
@@ -111,4 +112,5 @@ returns-then-is-gt1-clause-details c =
     keeps-mutex old c.put_mutex.new.self _ _ c.put_mutex.ensures.mutexes
     (ap (λ d. d.threads) c.put_mutex.ensures.rest) (ap (λ (z : CourseMutex). mutex_details z) c.mutex-is.ensures)
     (ap (λ d. d.is_contradiction) c.put_mutex.ensures.rest)
-    ∙ sym (if-so _ _ _ (right-of _ _ (lt-ltb 1 (mutex_in old m).depth (omega (arith, ap (λ z. z.depth) c.mutex-is.ensures)))))
+    ∙ sym (if-so _ _ _ (right-of _ _ (lt-ltb 1 (mutex_in old m).depth
+    (omega (arith, ap (λ z. z.depth) c.mutex-is.ensures)))))

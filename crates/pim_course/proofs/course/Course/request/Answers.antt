@@ -5,7 +5,8 @@ use Rattle.pim_course.specs.Told.{ceiling_told, gave_up_told}
 use Rattle.pim_course.specs.Going.{IsStill}
 use Rattle.pim_course.specs.World.{CanHappen, World, world_of}
 use Rattle.pim_course.specs.declared.course.Course.{Course}
-use Rattle.pim_course.proofs.Telling.{gave-up-same, if-not, isnt-that, neither, none-of, not-that, tells-behind, tells-same, tells-then}
+use Rattle.pim_course.proofs.Telling.{gave-up-same, if-not, isnt-that, neither, none-of, not-that, tells-behind, tells-same}
+use Rattle.pim_course.proofs.Telling.{tells-then}
 use Rattle.pim_course.proofs.Leading.{goes-still, goes-then}
 use Rattle.pim_course.proofs.Numbering.{numbers-none, numbers-then}
 use Rattle.std.specs.Option.{is_some}
@@ -36,7 +37,12 @@ returns-clause-goes c lt below =
     (goes-then 1 1 a b c.wait.new.self c.correct_wait.ensures.goes
     (goes-then 0 1 b d c.wait.new.self (goes-still b d still)
     (c.wait.ensures.goes
-    (omega (arith, c.correct_ceiling.ensures.size.threads, c.correct_wait.ensures.size.threads, c.ask_at.ensures.size.threads))
+    (omega (
+      arith,
+      c.correct_ceiling.ensures.size.threads,
+      c.correct_wait.ensures.size.threads,
+      c.ask_at.ensures.size.threads,
+    ))
     (subst (λ w. CanHappen w Waits t c.args.mutex) (sym still.world) (
       awaits,
       λ e. isnt-that _ _ (grind (arith, c.eq.ensures, c.if-eq.false, c.if-eq.ensures))
@@ -74,8 +80,18 @@ returns-clause-sections c lt below =
     (numbers-then 1 1 a b c.wait.new.self c.correct_wait.ensures.sections
     (numbers-then 0 1 b d c.wait.new.self (numbers-none 0 b d c.ask_at.ensures.still.shown c.ask_at.ensures.sections)
     (c.wait.ensures.sections
-    (omega (arith, c.correct_ceiling.ensures.size.threads, c.correct_wait.ensures.size.threads, c.ask_at.ensures.size.threads))
-    (omega (arith, c.correct_ceiling.ensures.size.mutexes, c.correct_wait.ensures.size.mutexes, c.ask_at.ensures.size.mutexes)))))
+    (omega (
+      arith,
+      c.correct_ceiling.ensures.size.threads,
+      c.correct_wait.ensures.size.threads,
+      c.ask_at.ensures.size.threads,
+    ))
+    (omega (
+      arith,
+      c.correct_ceiling.ensures.size.mutexes,
+      c.correct_wait.ensures.size.mutexes,
+      c.ask_at.ensures.size.mutexes,
+    )))))
 
 pub returns-clause-details : goal.returns-clause-details
 returns-clause-details c lt below =
@@ -91,7 +107,12 @@ returns-clause-details c lt below =
     let there : Details = asked t r.place (details_of old) in
     let owner : Option ℕ = c.owner_asked-owner.result in
     c.wait.ensures.details
-    (omega (arith, c.correct_ceiling.ensures.size.threads, c.correct_wait.ensures.size.threads, c.ask_at.ensures.size.threads))
+    (omega (
+      arith,
+      c.correct_ceiling.ensures.size.threads,
+      c.correct_wait.ensures.size.threads,
+      c.ask_at.ensures.size.threads,
+    ))
     ∙ ap (wait_begun sources (world_of d) t m owner)
     (c.ask_at.ensures.details (omega (arith, c.correct_ceiling.ensures.size.threads, c.correct_wait.ensures.size.threads))
     ∙ ap (asked t r.place) (c.correct_wait.ensures.details ∙ c.correct_ceiling.ensures.details))
@@ -108,7 +129,8 @@ returns-clause-details c lt below =
     ∙ c.correct_ceiling.ensures.ceiling below))
     ∙ ap (λ o. wait_begun sources w t m o there) (c.owner_asked-owner.ensures.first
     ∙ ap (λ is. first_other t (owners_asked kept is c.mutex-is.result.owner c.mutex-is.result.last_owner)) c.is_some.ensures
-    ∙ ap (λ (z : CourseMutex). first_other t (owners_asked kept (is_some c.args.task) z.owner z.last_owner)) c.mutex-is.ensures)
+    ∙ ap (λ (z : CourseMutex). first_other t (owners_asked kept (is_some c.args.task) z.owner z.last_owner))
+    c.mutex-is.ensures)
     ∙ sym (if-not _ _ _ (not-that _ _ _ (ap (λ z. z.owner) c.mutex-is.ensures)
     (grind (arith, c.eq.ensures, c.if-eq.false, c.if-eq.ensures)))
     ∙ if-not _ _ _ (neither _ _ (ne_eqb m 0 (λ e. omega (arith, e, c.if-mutex-eq0.false)))

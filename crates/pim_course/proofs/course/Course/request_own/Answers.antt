@@ -46,7 +46,8 @@ returns-clause-details c lt =
           puts-thread old c.put_thread.new.self t _ (record was { asked_at = place; awaits_own = Some m })
           c.put_thread.ensures.threads (ap (λ d. d.mutexes) c.put_thread.ensures.rest) lt
           (ap thread_details w.own-is
-          ∙ ap (λ (y : CourseThread). record (thread_details y) { asked_at = place; awaits_own = Some m }) c.thread-own.ensures)
+          ∙ ap (λ (y : CourseThread). record (thread_details y) { asked_at = place; awaits_own = Some m })
+          c.thread-own.ensures)
           (ap (λ d. d.is_contradiction) c.put_thread.ensures.rest)
           ∙ sym (if-not _ forgotten waits (sym c.is_recursive.ensures ∙ w.if-not-is_recursive.true))
       | else-not-is_recursive w ↦

@@ -1,6 +1,6 @@
 use Rattle.std.proofs.Common.{◌≡◌, ◌-◌, None, get_or, refl, ap, ◌∙◌}
 use Rattle.pim_course.specs.Courses.{free}
-use Rattle.pim_course.proofs.Worlds.{has_thread, owner-kept, owner-same, put-in, world-awaits, world-left}
+use Rattle.pim_course.proofs.Worlds.{has-thread, owner-kept, owner-same, put-in, world-awaits, world-left}
 use Rattle.pim_course.proofs.Leading.{goes-added}
 use Rattle.pim_course.proofs.Numbering.{gave-up, numbers-added}
 use Rattle.pim_course.specs.Details.{mutex_details, thread_details}
@@ -26,7 +26,7 @@ returns-clause-goes c awaits =
     (world-awaits c.args.self.now c.put_mutex.new.self c.args.thread _ c.args.mutex _ None
     (ap (λ d. d.threads.items) c.put_mutex.ensures.rest ∙ c.put_thread.ensures.threads)
     (put-in c.put_thread.new.self.mutexes.items c.args.self.now.mutexes.items _ _ _ items c.put_mutex.ensures.mutexes)
-    (has_thread c.args.self.now c.args.thread c.args.mutex awaits) refl (ap (λ y. y.level) c.thread-is.ensures)
+    (has-thread c.args.self.now c.args.thread c.args.mutex awaits) refl (ap (λ y. y.level) c.thread-is.ensures)
     (ap (λ z. z.owner) c.mutex-awaited.ensures ∙ ap (λ l. (get_or l c.args.mutex free).owner) items)
     (ap (λ z. z.ceiling) c.mutex-awaited.ensures ∙ ap (λ l. (get_or l c.args.mutex free).ceiling) items))
 

@@ -29,7 +29,8 @@ returns-clause-goes c lt below possible =
       | else-is_some w ↦ ap (λ z. z.ceiling) w.is-is ∙ ap (λ z. z.ceiling) c.mutex-is.ensures
     ] in
     goes-then 0 1 c.args.self.now s _ (goes-still c.args.self.now s still)
-    (goes-added s c.put_mutex.new.self _ _ _ (ap (λ (f : Fact). record f { since = c.thread-owner.result.section }) c.fact-granted.ensures)
+    (goes-added s c.put_mutex.new.self _ _ _ (ap (λ (f : Fact). record f { since = c.thread-owner.result.section })
+    c.fact-granted.ensures)
     (ap (λ d. d.shown) c.put_mutex.ensures.rest ∙ ap (λ d. d.shown) c.put_thread.ensures.rest)
     c.add.ensures.shown c.add.ensures.full can
     (world-taken s c.put_mutex.new.self c.args.record.now.thread _ c.args.mutex _ (Some c.args.record.now.thread) None

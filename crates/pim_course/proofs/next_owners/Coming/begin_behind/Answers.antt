@@ -16,10 +16,12 @@ pub returns-in_default-clause-began : goal.returns-in_default-clause-began
 returns-in_default-clause-began c = λ m within.
     let self = c.args.self.now in
     nothing-begun _ self.beginning.items c.args.record.now.thread m _ _ _
-    (got self.beginning.items c.args.record.now.thread _ (grind (arith, c.get.ensures, c.in_default.is, c.deref.ensures.value)))
+    (got self.beginning.items c.args.record.now.thread _
+    (grind (arith, c.get.ensures, c.in_default.is, c.deref.ensures.value)))
 
 pub returns-in_default-clause-beginning : goal.returns-in_default-clause-beginning
 returns-in_default-clause-beginning c = λ t.
     let self = c.args.self.now in
     still-beginning _ self.beginning.items c.args.record.now.thread t
-    (got self.beginning.items c.args.record.now.thread _ (grind (arith, c.get.ensures, c.in_default.is, c.deref.ensures.value)))
+    (got self.beginning.items c.args.record.now.thread _
+    (grind (arith, c.get.ensures, c.in_default.is, c.deref.ensures.value)))

@@ -29,6 +29,7 @@ returns c =
       each = λ k lt. c.loop-place.invariant k (omega (arith, lt));
       next =
           subst (λ next. IfSome next (λ request. IsBehind c.args.number request → ⊥))
-          (sym (slice_get_past requests.items (c.args.self.now.added + c.saturating_sub.result) (omega (arith, requests.ok.0))))
+          (sym (slice_get_past requests.items (c.args.self.now.added + c.saturating_sub.result)
+          (omega (arith, requests.ok.0))))
           tt;
     }

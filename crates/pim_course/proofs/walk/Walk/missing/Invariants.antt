@@ -7,4 +7,5 @@ use Rattle.pim_course.proofs.walk.Walk.missing.Given as goal
 abbrev pub invariant-loop-place : goal.invariant-loop-place
 invariant-loop-place l =
     (k : ℕ) → l.self.added + k < l.place →
-    (request : Request) × ((slice_get l.sources.requests.list.items (l.self.added + k) ≡ Some request) × IsBehind l.number request)
+    (request : Request) × ((slice_get l.sources.requests.list.items (l.self.added + k) ≡ Some request)
+    × IsBehind l.number request)

@@ -4,7 +4,7 @@ use Rattle.std.specs.Option.{option_flatten}
 use Rattle.pim_course.specs.Details.{is_other}
 use Rattle.pim_course.proofs.Finding.{find-at, find-none}
 use Rattle.pim_course.proofs.Telling.{not-false}
-use Rattle.pim_course.proofs.course.first_other.Goals as goal
+use Rattle.pim_course.proofs.wait_owners.first_other.Goals as goal
 
 pub returns-in-Some-clause-first : goal.returns-in-Some-clause-first
 returns-in-Some-clause-first c =
@@ -14,7 +14,8 @@ returns-in-Some-clause-first c =
     let at : get_or threads i None ≡ Some c.in-Some.other = c.in-Some.is in
     let is : is_other t (get_or threads i None) ≡ true =
     ap (is_other t) at ∙ not-false _ (ne_eqb c.in-Some.other t c.if-other-waiter.true) in
-    ap option_flatten (sym (find-at (is_other t) None threads i (omega (arith, c.loop-thread-test.true, c.well_formed)) c.loop-thread.invariant is
+    ap option_flatten (sym (find-at (is_other t) None threads i (omega (arith, c.loop-thread-test.true, c.well_formed))
+    c.loop-thread.invariant is
     ∙ ap (λ o. Some o) at))
 
 pub returns-clause-first : goal.returns-clause-first
