@@ -1,5 +1,6 @@
 -- How what the threads asked for at last is kept.
-use Rattle.std.proofs.Common.{◌≡◌, ◌≢◌, ◌⊎◌, ℕ, ◌+◌, ◌<◌, ◌==◌, ◌||◌, Bool, true, false, cond, List, length, get_or, set, Option, Some, None, refl, sym, ap, subst, ◌∙◌, inl, inr, arith}
+use Rattle.std.proofs.Common.{◌≡◌, ◌≢◌, ◌⊎◌, ℕ, ◌+◌, ◌<◌, ◌==◌, ◌||◌, Bool, true, false, cond, List, length, get_or, set}
+use Rattle.std.proofs.Common.{Option, Some, None, refl, sym, ap, subst, ◌∙◌, inl, inr, arith}
 use Rattle.std.proofs.lemmas.Bool.{cases_eq, cases_lt}
 use Rattle.std.proofs.lemmas.Grind.{get_or-set_at}
 use Rattle.std.proofs.lemmas.List.{get_or-set_other, length-set}
@@ -108,7 +109,8 @@ still bytes ids n a before after same known = elim known [
 ]
 
 -- behind a record
-pub knows-more : (bytes : List ℕ) (ids : Ids) (n : ℕ) (list new : List (Option ℕ)) (r : Record) → IsLog bytes → IsIn bytes r →
+pub knows-more : (bytes : List ℕ) (ids : Ids) (n : ℕ) (list new : List (Option ℕ)) (r : Record) → IsLog bytes →
+    IsIn bytes r →
     r.number ≡ n → new ≡ asked_after r.event r.thread (id_of ids r.number) list → KnowsAsked bytes ids n list →
     KnowsAsked bytes ids (n + 1) new
 knows-more bytes ids n list new r log is at put knows = λ a has request lt below.

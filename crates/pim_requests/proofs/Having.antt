@@ -65,7 +65,8 @@ of-wait : (ids : Ids) (waits : List Wait) (course : Course) (r : Request) → Ha
     HasBoth course r
 of-wait ids waits course r all is = (
   record {
-    thread = subst (λ n. r.thread < n) (sym all.threads) (slice_get_within ids.threads.items r.thread is.of.thread is.of.has_thread);
+    thread = subst (λ n. r.thread < n) (sym all.threads)
+        (slice_get_within ids.threads.items r.thread is.of.thread is.of.has_thread);
     mutex = is.of.named;
   },
   subst (λ n. r.mutex < n) (sym all.mutexes) (slice_get_within ids.mutexes.items r.mutex is.of.mutex is.of.has_mutex),

@@ -11,9 +11,9 @@ use Rattle.pim_requests.specs.Asked.{IsPlaced}
 abbrev pub is_within : ℕ → Request → Bool
 is_within end request = nat_lt 0 request.after && nat_lt request.after end
 
-is_placed : (bytes : List ℕ) (end : ℕ) (request : Request) → end ≡ end_of (header_of bytes) → is_within end request ≡ true →
+is-placed : (bytes : List ℕ) (end : ℕ) (request : Request) → end ≡ end_of (header_of bytes) → is_within end request ≡ true →
     IsPlaced bytes request
-is_placed bytes end request same is =
+is-placed bytes end request same is =
     let both = and_parts (nat_lt 0 request.after) (nat_lt request.after end) is in
     record {
       above = ltb-true 0 request.after both.0;
@@ -21,8 +21,9 @@ is_placed bytes end request same is =
     }
 
 -- those that are left are placed
-pub are_placed : (bytes : List ℕ) (end : ℕ) (requests : List Request) → end ≡ end_of (header_of bytes) →
+pub are-placed : (bytes : List ℕ) (end : ℕ) (requests : List Request) → end ≡ end_of (header_of bytes) →
     All (IsPlaced bytes) (filter (is_within end) requests)
-are_placed bytes end requests same =
-    All-weaker (λ request. is_within end request ≡ true) (IsPlaced bytes) (λ request is. is_placed bytes end request same is) _
+are-placed bytes end requests same =
+    All-weaker (λ request. is_within end request ≡ true) (IsPlaced bytes)
+    (λ request is. is-placed bytes end request same is) _
     (filter_passes (is_within end) requests)

@@ -37,7 +37,8 @@ pub wait-in : (ids : Ids) (waits : List Wait) (s : Search) (xs : List Wait) (k :
 wait-in ids waits s xs k w same got are =
     let first : All (Contains waits) s.waits.items = are.0 in
     subst (λ v. Contains waits v) (get_or_from_slice_get xs k w w got)
-    (All-get_or (Contains waits) xs k w (slice_get_within xs k w got) (All-same (Contains waits) xs s.waits.items same first))
+    (All-get_or (Contains waits) xs k w (slice_get_within xs k w got)
+    (All-same (Contains waits) xs s.waits.items same first))
 
 -- a request of a wait stays one behind another record, or at another place in the code
 pub moved : (ids : Ids) (waits : List Wait) (r q : Request) → q.thread ≡ r.thread → q.mutex ≡ r.mutex → q.time ≡ r.time →

@@ -1,5 +1,6 @@
 -- What the threads of a log asked for at last.
-use Rattle.std.specs.Prelude.{◌≡◌, ◌⊎◌, ◌<◌, ℕ, List, length, Option, Some, None, IsTrue, if◌then◌else◌, slice_index_or, slice_set}
+use Rattle.std.specs.Prelude.{◌≡◌, ◌⊎◌, ◌<◌, ℕ, List, length, Option, Some, None, IsTrue, if◌then◌else◌, slice_index_or}
+use Rattle.std.specs.Prelude.{slice_set}
 use Rattle.pim_log.specs.declared.event.Event.{Event}
 use Rattle.pim_log.specs.declared.record.Record.{Record}
 use Rattle.pim_facts.specs.Levels.{id_of}
@@ -14,5 +15,7 @@ asked_after e t m list =
 -- a list has for each thread the mutex of its last request before the record with a number, or the thread moved on
 abbrev pub KnowsAsked : List ℕ → Ids → ℕ → List (Option ℕ) → Type 0
 KnowsAsked bytes ids number list =
-    (asked : Record) → IsIn bytes asked → IsTrue (is_request asked.event) → asked.thread < length list → asked.number < number →
-    (slice_index_or list asked.thread None ≡ Some (id_of ids asked.number)) ⊎ HasMovedOn bytes asked.thread asked.number number
+    (asked : Record) → IsIn bytes asked → IsTrue (is_request asked.event) → asked.thread < length list →
+    asked.number < number →
+    (slice_index_or list asked.thread None ≡ Some (id_of ids asked.number))
+    ⊎ HasMovedOn bytes asked.thread asked.number number

@@ -3,14 +3,14 @@ use Rattle.std.proofs.lemmas.List.Elements.{All-filter, All-same, All-weaker}
 use Rattle.std.proofs.lemmas.List.Sorted.{All-permutation}
 use Rattle.pim_log.specs.Headers.{end_of}
 use Rattle.pim_requests.specs.Asked.{IsOfWait, IsPlaced, IsShown}
-use Rattle.pim_requests.proofs.Placed.{are_placed, is_within}
+use Rattle.pim_requests.proofs.Placed.{are-placed, is_within}
 use Rattle.pim_requests.proofs.requests.requests_of.Goals as goal
 
 pub returns-clause-placed : goal.returns-clause-placed
 returns-clause-placed c =
     All-permutation (IsPlaced c.args.log.now) _ _ c.sort.ensures.same
     (All-same (IsPlaced c.args.log.now) _ _ c.keep_placed.ensures
-    (are_placed c.args.log.now c.end.result c.add_silent.new.to.list.items (c.end.ensures ∙ ap end_of c.header.ensures)))
+    (are-placed c.args.log.now c.end.result c.add_silent.new.to.list.items (c.end.ensures ∙ ap end_of c.header.ensures)))
 
 pub returns-clause-shown : goal.returns-clause-shown
 returns-clause-shown c log =
