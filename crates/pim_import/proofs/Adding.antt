@@ -11,34 +11,35 @@ use Rattle.pim_course.specs.declared.requests.Request.{Request}
 use Rattle.pim_requests.specs.Asked.{IsPlaced}
 use Rattle.pim_import.specs.Following.{AreAdded, ArePlaced}
 
-placed_at : (bytes : List ℕ) (requests : List Request) (place : ℕ) (request : Request) → slice_get requests place ≡ Some request →
+placed-at : (bytes : List ℕ) (requests : List Request) (place : ℕ) (request : Request) →
+    slice_get requests place ≡ Some request →
     ArePlaced bytes requests → IsPlaced bytes request
-placed_at bytes requests place request got placed =
+placed-at bytes requests place request got placed =
     subst (IsPlaced bytes) (get_or_from_slice_get requests place request request got)
     (All-get_or (IsPlaced bytes) requests place request (slice_get_within requests place request got) placed.placed)
 
 -- none is added as a log begins
-pub none_added : (bytes : List ℕ) (requests : List Request) (added : ℕ) → added ≡ 0 → ArePlaced bytes requests →
+pub none-added : (bytes : List ℕ) (requests : List Request) (added : ℕ) → added ≡ 0 → ArePlaced bytes requests →
     AreAdded requests 0 added
-none_added bytes requests added none placed =
+none-added bytes requests added none placed =
     record {
       few = omega (arith, none);
-      later = λ place request from got. (placed_at bytes requests place request got placed).above;
+      later = λ place request from got. (placed-at bytes requests place request got placed).above;
     }
 
-few_more : (requests : List Request) (number old many : ℕ) → AreBehind requests old number many → old ≤ length requests →
+few-more : (requests : List Request) (number old many : ℕ) → AreBehind requests old number many → old ≤ length requests →
     old + many ≤ length requests
-few_more requests number old zero behind few = omega (arith, few)
-few_more requests number old (suc m) behind few =
+few-more requests number old zero behind few = omega (arith, few)
+few-more requests number old (suc m) behind few =
     let last = behind.each m (omega arith) in
     omega (arith, slice_get_within requests (old + m) last.0 last.1.0)
 
 -- those behind a record were added
-pub more_added : (requests : List Request) (number old many : ℕ) → IsInOrder requests → AreBehind requests old number many →
+pub more-added : (requests : List Request) (number old many : ℕ) → IsInOrder requests → AreBehind requests old number many →
     AreAdded requests (number - 1) old → AreAdded requests number (old + many)
-more_added requests number old many order behind added =
+more-added requests number old many order behind added =
     record {
-      few = few_more requests number old many behind added.few;
+      few = few-more requests number old many behind added.few;
       later = λ place request from got.
           let within : place < length requests = slice_get_within requests place request got in
           let next : Request = get_or requests (old + many) request in
@@ -57,14 +58,14 @@ more_added requests number old many order behind added =
     }
 
 -- all were added as a log ends
-pub all_added : (bytes : List ℕ) (requests : List Request) (end added : ℕ) → end ≡ end_of (header_of bytes) →
+pub all-added : (bytes : List ℕ) (requests : List Request) (end added : ℕ) → end ≡ end_of (header_of bytes) →
     ArePlaced bytes requests → AreAdded requests (end - 1) added → added ≡ length requests
-all_added bytes requests end added same placed are =
+all-added bytes requests end added same placed are =
     elim (slice_get_cases requests added).1 [
       | inl found ↦
           let request : Request = found.0 in
           let got : slice_get requests added ≡ Some request = found.2 in
-          let is : IsPlaced bytes request = placed_at bytes requests added request got placed in
+          let is : IsPlaced bytes request = placed-at bytes requests added request got placed in
           absurd (omega (arith, same, is.below, are.later added request (omega arith) got))
       | inr past ↦ omega (arith, are.few, past.0)
     ]

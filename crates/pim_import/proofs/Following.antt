@@ -1,23 +1,20 @@
 -- What is known of the findings on the way through a log.
-use Rattle.std.proofs.Common.{◌≡◌, ◌⊎◌, ℕ, ◌+◌, ◌-◌, ◌<◌, ◌≤◌, ◌||◌, ◌∙◌, Bool, true, false, cond, List, [], ◌∷◌, ◌++◌, length, get_or, take, map, reverse, slice_get, ap, sym, subst, refl, inl, inr, arith, Option, Some, None, Result, Ok, Err}
+use Rattle.std.proofs.Common.{◌≡◌, ◌⊎◌, ℕ, ◌+◌, ◌-◌, ◌<◌, ◌≤◌, ◌||◌, ◌∙◌, Bool, true, false, cond, List, [], ◌∷◌, ◌++◌}
+use Rattle.std.proofs.Common.{length, get_or, take, map, reverse, slice_get, ap, sym, subst, refl, inl, inr, arith, Option}
+use Rattle.std.proofs.Common.{Some, None, Result, Ok, Err}
 use Rattle.std.proofs.lemmas.Bool.{lt-ltb}
 use Rattle.std.proofs.lemmas.List.{map-append, reverse-append, take_more}
 use Rattle.std.proofs.lemmas.List.Elements.{All-cons}
 use Rattle.std.specs.Option.{option_map_or, unwrap_or}
 use Rattle.std.specs.Prelude.{IfOk, IfSome, slice_index_or}
-use Rattle.pim_course.specs.Details.{added_details, details_of}
-use Rattle.pim_course.specs.Going.{HasSameSize, KeepsDepths}
-use Rattle.pim_course.specs.Reading.{Begins, GoesBy, HasRequest, IsTimeOf}
+use Rattle.pim_course.specs.Going.{HasSameSize}
+use Rattle.pim_course.specs.Reading.{Begins, GoesBy, IsTimeOf}
 use Rattle.pim_course.specs.Requests.{IsBehind}
-use Rattle.pim_course.specs.Sections.{AreNumbered, sections_of}
-use Rattle.pim_course.specs.Told.{added_told, happened_in}
-use Rattle.pim_course.specs.World.{Lead, world_of}
 use Rattle.pim_course.specs.declared.course.Course.{Course}
 use Rattle.pim_course.specs.declared.course.Sources.{Sources}
 use Rattle.pim_course.specs.declared.requests.Request.{Request}
 use Rattle.pim_course.specs.declared.walk.Walk.{Walk}
 use Rattle.pim_facts.specs.Shown.{shown_in}
-use Rattle.pim_requests.specs.Laws.{HasBoth}
 use Rattle.pim_facts.specs.declared.fact.Fact.{Fact}
 use Rattle.pim_facts.specs.declared.ids.Ids.{Ids}
 use Rattle.pim_findings.proofs.Following.{finds-kept}
@@ -35,7 +32,8 @@ use Rattle.pim_findings.specs.Waits.{Moment, all_waits, and_fact}
 use Rattle.pim_import.specs.declared.importing.Built.{Built}
 use Rattle.pim_log.specs.Headers.{end_of, header_of}
 use Rattle.pim_findings.specs.declared.findings.Findings.{Findings}
-use Rattle.pim_import.proofs.Adding.{all_added}
+use Rattle.pim_import.proofs.Adding.{all-added}
+use Rattle.pim_import.proofs.Going.{Adds, goes-by-record, goes-by-request}
 use Rattle.pim_import.specs.Following.{ArePlaced, FollowsLog, HasAdded, HasFollowed, IsLacking, IsOfThread, IsSpared, Knows, Stage}
 use Rattle.pim_builder.specs.Shown.{AreShown, AreShownIn}
 use Rattle.pim_builder.specs.declared.builder.Context.{Context}
@@ -50,51 +48,52 @@ either false true any = refl
 either false false (inl e) = e
 either false false (inr e) = e
 
-either_of : (a b : Bool) → (a || b) ≡ true → (a ≡ true) ⊎ (b ≡ true)
-either_of true b e = inl refl
-either_of false b e = inr e
+either-of : (a b : Bool) → (a || b) ≡ true → (a ≡ true) ⊎ (b ≡ true)
+either-of true b e = inl refl
+either-of false b e = inr e
 
 -- whether a critical section is in the trace
 abbrev keeps : CriticalSections → ℕ → Bool
 keeps sections n = sections.is_all || slice_index_or sections.is_kept.items n true
 
-kept_to : (sections : CriticalSections) (section : Option ℕ) → IfSome section (Keeps sections) →
+kept-to : (sections : CriticalSections) (section : Option ℕ) → IfSome section (Keeps sections) →
     option_map_or (keeps sections) section true ≡ true
-kept_to sections None kept = refl
-kept_to sections (Some n) kept = either sections.is_all (slice_index_or sections.is_kept.items n true) kept
+kept-to sections None kept = refl
+kept-to sections (Some n) kept = either sections.is_all (slice_index_or sections.is_kept.items n true) kept
 
-kept_from : (sections : CriticalSections) (section : Option ℕ) → option_map_or (keeps sections) section true ≡ true →
+kept-from : (sections : CriticalSections) (section : Option ℕ) → option_map_or (keeps sections) section true ≡ true →
     IfSome section (Keeps sections)
-kept_from sections None e = tt
-kept_from sections (Some n) e = either_of sections.is_all (slice_index_or sections.is_kept.items n true) e
+kept-from sections None e = tt
+kept-from sections (Some n) e = either-of sections.is_all (slice_index_or sections.is_kept.items n true) e
 
 -- a fact that is kept passes the test
-pub kept_true : (sections : CriticalSections) (fact : Fact) → IsKept sections fact → is_kept sections fact ≡ true
-kept_true sections fact kept = kept_to sections fact.section kept
+pub kept-true : (sections : CriticalSections) (fact : Fact) → IsKept sections fact → is_kept sections fact ≡ true
+kept-true sections fact kept = kept-to sections fact.section kept
 
 -- one that isn't kept doesn't pass it
-pub kept_false : (sections : CriticalSections) (fact : Fact) → (IsKept sections fact → ⊥) → is_kept sections fact ≡ false
-kept_false sections fact not = go (is_kept sections fact) refl
+pub kept-false : (sections : CriticalSections) (fact : Fact) → (IsKept sections fact → ⊥) → is_kept sections fact ≡ false
+kept-false sections fact not = go (is_kept sections fact) refl
   where
     go : (b : Bool) → is_kept sections fact ≡ b → is_kept sections fact ≡ false
     go false e = e
-    go true e = absurd (not (kept_from sections fact.section e))
+    go true e = absurd (not (kept-from sections fact.section e))
 
-pub not_both : (b : Bool) → b ≡ true → b ≡ false → ⊥
-not_both b is isnt = cc
+pub true-isnt-false : (b : Bool) → b ≡ true → b ≡ false → ⊥
+true-isnt-false b is isnt = cc
 
 -- what is known is promised of a call that may fail
-pub if_ok : {T E P : Type 0} (r : Result T E) → P → IfOk r (λ _. P)
-if_ok (Ok x) h = h
-if_ok (Err e) h = tt
+pub if-ok : {T E P : Type 0} (r : Result T E) → P → IfOk r (λ _. P)
+if-ok (Ok x) h = h
+if-ok (Err e) h = tt
 
 -- and so is what follows from it
-pub if_ok_then : {T E P Q : Type 0} (r : Result T E) → (P → Q) → IfOk r (λ _. P) → IfOk r (λ _. Q)
-if_ok_then (Ok x) f h = f h
-if_ok_then (Err e) f h = tt
+pub if-ok-then : {T E P Q : Type 0} (r : Result T E) → (P → Q) → IfOk r (λ _. P) → IfOk r (λ _. Q)
+if-ok-then (Ok x) f h = f h
+if-ok-then (Err e) f h = tt
 
-owns_kept : (k : ℕ) (facts : List Moment) (old new : Findings) → new.mutexes ≡ old.mutexes → Owns k facts old → Owns k facts new
-owns_kept k facts old new same owns =
+owns-kept : (k : ℕ) (facts : List Moment) (old new : Findings) → new.mutexes ≡ old.mutexes → Owns k facts old →
+    Owns k facts new
+owns-kept k facts old new same owns =
     record {
       mutexes = ap (λ mutexes. length mutexes.items) same ∙ owns.mutexes;
       since = λ mutex lt. ap (λ mutexes. (mutex_at mutexes.items mutex).owned_since) same ∙ owns.since mutex lt;
@@ -113,17 +112,18 @@ abbrev pub SectionsMore : Moment → Findings → Findings → Type 0
 SectionsMore m old new = (ids : Ids) (facts : List Moment) → KnowsSections ids facts old → KnowsSections ids (m ∷ facts) new
 
 -- one more fact, of a thread of the log, which isn't kept
-pub knows_without : (context : Context) (n k : ℕ) (sections : CriticalSections) (m : Moment) (facts : List Moment)
+pub knows-without : (context : Context) (n k : ℕ) (sections : CriticalSections) (m : Moment) (facts : List Moment)
     (old new : Findings) (builder : TraceBuilder) →
     m.fact.thread < length old.waiting.open.items → is_kept sections m.fact ≡ false → IsSpared sections m →
-    KeepsWaits old new → new.mutexes ≡ old.mutexes → new.waiting ≡ old.waiting → OrdersMore m old new → SectionsMore m old new →
+    KeepsWaits old new → new.mutexes ≡ old.mutexes → new.waiting ≡ old.waiting → OrdersMore m old new →
+    SectionsMore m old new →
     Knows context n k sections facts old builder → Knows context n k sections (m ∷ facts) new builder
-knows_without context n k sections m facts old new builder inside is spared keeps same waiting orders shown knows =
+knows-without context n k sections m facts old new builder inside is spared keeps same waiting orders shown knows =
     let rest : List Moment = kept_of sections facts in
     let below : m.fact.thread < n = subst (λ l. m.fact.thread < l) knows.finds.threads inside in
     record {
       finds = subst (λ b. Finds n k (cond b (m ∷ rest) rest) new) (sym is) (finds-kept n k rest old new keeps knows.finds);
-      owns = subst (λ b. Owns k (cond b (m ∷ rest) rest) new) (sym is) (owns_kept k rest old new same knows.owns);
+      owns = subst (λ b. Owns k (cond b (m ∷ rest) rest) new) (sym is) (owns-kept k rest old new same knows.owns);
       hand_overs = subst (λ b. HandsOver n k (cond b (m ∷ rest) rest) new) (sym is)
           (handed-kept n k rest old new same waiting knows.hand_overs);
       orders = orders n facts below knows.orders;
@@ -134,31 +134,34 @@ knows_without context n k sections m facts old new builder inside is spared keep
     }
 
 -- one more fact, of a thread of the log, which is kept
-pub knows_with : (context : Context) (n k : ℕ) (sections : CriticalSections) (m : Moment) (facts : List Moment)
+pub knows-with : (context : Context) (n k : ℕ) (sections : CriticalSections) (m : Moment) (facts : List Moment)
     (old mid new : Findings) (before after : TraceBuilder) →
     m.fact.thread < length old.waiting.open.items → IsKept sections m.fact →
-    KeepsWaits old mid → mid.mutexes ≡ old.mutexes → mid.waiting ≡ old.waiting → OrdersMore m old mid → SectionsMore m old mid →
+    KeepsWaits old mid → mid.mutexes ≡ old.mutexes → mid.waiting ≡ old.waiting → OrdersMore m old mid →
+    SectionsMore m old mid →
     new.orders ≡ mid.orders → new.blocking ≡ mid.blocking →
     ((rest : List Moment) → Finds n k rest mid → Finds n k (and_fact n m rest) new) →
     ((rest : List Moment) → Owns k rest mid → Owns k (m ∷ rest) new) →
     ((rest : List Moment) → m.fact.thread < n → HandsOver n k rest mid → HandsOver n k (m ∷ rest) new) →
     ((rest : List Fact) → AreShown context rest before → AreShown context (m.fact ∷ rest) after) →
     Knows context n k sections facts old before → Knows context n k sections (m ∷ facts) new after
-knows_with context n k sections m facts old mid new before after inside is keeps same waiting orders shown still stays finds owns
-    hands makes knows =
+knows-with context n k sections m facts old mid new before after inside is keeps same waiting orders shown still stays
+    finds owns hands makes knows =
     let rest : List Moment = kept_of sections facts in
     let below : m.fact.thread < n = subst (λ l. m.fact.thread < l) knows.finds.threads inside in
-    let kept = kept_true sections m.fact is in
+    let kept = kept-true sections m.fact is in
     record {
       finds = subst (λ b. Finds n k (cond b (m ∷ rest) rest) new) (sym kept)
           (subst (λ b. Finds n k (cond b (m ∷ rest) rest) new) (lt-ltb m.fact.thread n below)
           (finds rest (finds-kept n k rest old mid keeps knows.finds)));
-      owns = subst (λ b. Owns k (cond b (m ∷ rest) rest) new) (sym kept) (owns rest (owns_kept k rest old mid same knows.owns));
+      owns = subst (λ b. Owns k (cond b (m ∷ rest) rest) new) (sym kept)
+          (owns rest (owns-kept k rest old mid same knows.owns));
       hand_overs = subst (λ b. HandsOver n k (cond b (m ∷ rest) rest) new) (sym kept)
           (hands rest below (handed-kept n k rest old mid same waiting knows.hand_overs));
       orders = orders-kept n (m ∷ facts) mid new still (orders n facts below knows.orders);
       observed =
-          sections-kept context.sources.now.ids (m ∷ facts) mid new stays (shown context.sources.now.ids facts knows.observed);
+          sections-kept context.sources.now.ids (m ∷ facts) mid new stays
+          (shown context.sources.now.ids facts knows.observed);
       threads = All-cons (IsOfThread n) m facts below knows.threads;
       spared = All-cons (IsSpared sections) m facts (inl is) knows.spared;
       trace = subst (λ b. AreShown context (undated (cond b (m ∷ rest) rest)) after) (sym kept)
@@ -166,82 +169,68 @@ knows_with context n k sections m facts old mid new before after inside is keeps
     }
 
 -- one more of the facts that a course shows
-pub moments_more : (sources : Sources) (course : Course) (time : ℕ) (facts : List Fact) (i : ℕ) (d : Fact) → i < length facts →
+pub moments-more : (sources : Sources) (course : Course) (time : ℕ) (facts : List Fact) (i : ℕ) (d : Fact) →
+    i < length facts →
     moments_of sources course time (take (i + 1) facts) ≡
     moment_of sources course time (get_or facts i d) ∷ moments_of sources course time (take i facts)
-moments_more sources course time facts i d lt =
+moments-more sources course time facts i d lt =
     ap (moments_of sources course time) (take_more facts i d lt)
     ∙ ap reverse (map-append (moment_of sources course time) (take i facts) (get_or facts i d ∷ []))
-    ∙ reverse-append (map (moment_of sources course time) (take i facts)) (moment_of sources course time (get_or facts i d) ∷ [])
+    ∙ reverse-append (map (moment_of sources course time) (take i facts))
+    (moment_of sources course time (get_or facts i d) ∷ [])
 
 -- a walk that begins went through nothing
-pub follows_begin : (bytes : List ℕ) (context : Context) (sections : CriticalSections) (n k : ℕ) (walk : Walk)
+pub follows-begin : (bytes : List ℕ) (context : Context) (sections : CriticalSections) (n k : ℕ) (walk : Walk)
     (found : Findings) (builder : TraceBuilder) → Begins context.sources.now.ids walk.course → walk.added ≡ 0 →
     Knows context n k sections [] found builder → HasFollowed bytes context sections n k 0 0 walk found builder
-follows_begin bytes context sections n k walk found builder begins none knows =
+follows-begin bytes context sections n k walk found builder begins none knows =
     record {
       time = 0;
       before = [];
       way = record { number = refl; record_time = refl; added = none; course = begins };
       knows =
-          subst (λ shown. Knows context n k sections (moments_of context.sources.now walk.course 0 shown ++ []) found builder)
+          subst (λ shown. Knows context n k sections (moments_of context.sources.now walk.course 0 shown ++ []) found
+          builder)
           (sym begins.shown) knows;
     }
 
 -- one more record
-pub follows_record : (bytes : List ℕ) (context : Context) (sections : CriticalSections) (n k number last time : ℕ)
+pub follows-record : (bytes : List ℕ) (context : Context) (sections : CriticalSections) (n k number last time : ℕ)
     (put_at : Option ℕ) (old new : Walk) (found looked : Findings) (before after : TraceBuilder) → 1 ≤ number →
     time ≡ unwrap_or put_at last → IsTimeOf bytes number put_at → new.added ≡ old.added → HasSameSize old.course new.course →
     IsLacking bytes number old.course new.course ⊎ GoesBy bytes context.sources.now number old.course new.course →
     ((facts : List Moment) → Knows context n k sections facts found before →
-    Knows context n k sections (moments_of context.sources.now new.course time (shown_in new.course.shown) ++ facts) looked after) →
+    Knows context n k sections (moments_of context.sources.now new.course time (shown_in new.course.shown) ++ facts)
+    looked after) →
     HasAdded bytes context sections n k (number - 1) last old found before →
     HasFollowed bytes context sections n k number time new looked after
-follows_record bytes context sections n k number last time put_at old new found looked before after
+follows-record bytes context sections n k number last time put_at old new found looked before after
     above is_time is_put_at added size shown step has =
     let f = has.followed in
-    let is : number ≡ number - 1 + 1 = omega arith in
     record {
       time = time;
       before = stage_of (number - 1) last f.time old ∷ f.before;
       way = (
-        inl (record {
-          number = is;
-          before = has.added;
-          added = added;
-          put_at = put_at;
-          is_put_at = is_put_at;
-          record_time = is_time;
-          time = refl;
-          size = size;
-          shown = shown;
-        }),
+        inl (goes-by-record bytes context.sources.now number last f.time time put_at old new above has.added is_put_at
+            is_time added size shown),
         f.way,
       );
       knows = step (facts_of context.sources.now (stage_of (number - 1) last f.time old ∷ f.before)) f.knows;
     }
 
 -- one more request, which is the next one
-pub follows_request : (bytes : List ℕ) (context : Context) (sections : CriticalSections) (n k number last time : ℕ)
+pub follows-request : (bytes : List ℕ) (context : Context) (sections : CriticalSections) (n k number last time : ℕ)
     (put_at : Option ℕ) (request : Request) (old new : Walk) (found looked : Findings) (before after : TraceBuilder) →
     slice_get context.sources.now.requests.list.items old.added ≡ Some request → IsBehind number request →
-    new.added ≡ option_map_or (λ one. old.added + 1) (slice_get context.sources.now.requests.list.items old.added) old.added →
     put_at ≡ option_map_or (λ one. one.time) (slice_get context.sources.now.requests.list.items old.added) None →
-    time ≡ unwrap_or put_at last → HasSameSize old.course new.course → KeepsDepths old.course new.course →
-    (IfSome (slice_get context.sources.now.requests.list.items old.added) (HasRequest old.course) →
-    Lead (shown_in new.course.shown) (world_of old.course) (world_of new.course)) →
-    (IfSome (slice_get context.sources.now.requests.list.items old.added) (HasBoth old.course) →
-    AreNumbered (shown_in new.course.shown) (sections_of old.course) (sections_of new.course)) →
-    (IfSome (slice_get context.sources.now.requests.list.items old.added) (λ one. HasRequest old.course one →
-    details_of new.course ≡ added_details context.sources.now (world_of old.course) (details_of old.course) one)) →
-    happened_in new.course ≡
-    option_map_or (added_told (world_of old.course)) (slice_get context.sources.now.requests.list.items old.added) [] →
+    time ≡ unwrap_or put_at last → Adds context.sources.now old new →
     ((facts : List Moment) → Knows context n k sections facts found before →
-    Knows context n k sections (moments_of context.sources.now new.course time (shown_in new.course.shown) ++ facts) looked after) →
+    Knows context n k sections (moments_of context.sources.now new.course time (shown_in new.course.shown) ++ facts)
+    looked after) →
     HasFollowed bytes context sections n k number last old found before →
     HasFollowed bytes context sections n k number last new looked after
-follows_request bytes context sections n k number last time put_at request old new found looked before after
-    next behind added put is_time size depths led numbered detailed told step f =
+follows-request bytes context sections n k number last time put_at request old new found looked before after
+    next behind put is_time adds step f =
     let its : Option ℕ = request.time in
     let is_put : put_at ≡ its =
     put ∙ ap (λ (one : Option Request). option_map_or (λ (r : Request). r.time) one None) next in
@@ -249,34 +238,15 @@ follows_request bytes context sections n k number last time put_at request old n
       time = time;
       before = stage_of number last f.time old ∷ f.before;
       way = (
-        inr (record {
-          number = refl;
-          record_time = refl;
-          request = request;
-          next = next;
-          behind = behind;
-          added = added ∙ ap (λ (one : Option Request). option_map_or (λ (r : Request). old.added + 1) one old.added) next;
-          time = is_time ∙ ap (λ (o : Option ℕ). unwrap_or o last) is_put;
-          size = size;
-          depths = depths;
-          told = told ∙ ap (λ (one : Option Request). option_map_or (added_told (world_of old.course)) one []) next;
-          led =
-              subst (λ (one : Option Request). IfSome one (HasRequest old.course) →
-              Lead (shown_in new.course.shown) (world_of old.course) (world_of new.course)) next led;
-          sections =
-              subst (λ (one : Option Request). IfSome one (HasBoth old.course) →
-              AreNumbered (shown_in new.course.shown) (sections_of old.course) (sections_of new.course)) next numbered;
-          details =
-              subst (λ (o : Option Request). IfSome o (λ one. HasRequest old.course one →
-              details_of new.course ≡ added_details context.sources.now (world_of old.course) (details_of old.course) one)) next detailed;
-        }),
+        inr (goes-by-request context.sources.now number last f.time time request old new next behind
+            (is_time ∙ ap (λ (o : Option ℕ). unwrap_or o last) is_put) adds),
         f.way,
       );
       knows = step (facts_of context.sources.now (stage_of number last f.time old ∷ f.before)) f.knows;
     }
 
 -- the log ends
-pub follows_log : (bytes : List ℕ) (context : Context) (sections : CriticalSections) (n k end last : ℕ) (walk : Walk)
+pub follows-log : (bytes : List ℕ) (context : Context) (sections : CriticalSections) (n k end last : ℕ) (walk : Walk)
     (found : Findings) (builder : TraceBuilder) (built : Built) → end ≡ end_of (header_of bytes) →
     ArePlaced bytes context.sources.now.requests.list.items →
     ((facts : List Moment) → Finds n k facts found →
@@ -291,7 +261,7 @@ pub follows_log : (bytes : List ℕ) (context : Context) (sections : CriticalSec
     ((facts : List Fact) → AreShown context facts builder →
     AreShownIn context facts built.pieces.items built.appearances.items) →
     HasAdded bytes context sections n k (end - 1) last walk found builder → FollowsLog bytes context sections n k built
-follows_log bytes context sections n k end last walk found builder built is placed waits same course hands opposites bounds
+follows-log bytes context sections n k end last walk found builder built is placed waits same course hands opposites bounds
     deadlocks trace has =
     let f = has.followed in
     let stage : Stage = stage_of (end - 1) last f.time walk in
@@ -301,10 +271,10 @@ follows_log bytes context sections n k end last walk found builder built is plac
       before = f.before;
       way = f.way;
       number = ap (λ n. n - 1) is;
-      added = all_added bytes context.sources.now.requests.list.items end walk.added is placed has.added;
+      added = all-added bytes context.sources.now.requests.list.items end walk.added is placed has.added;
       found = record {
         waits = waits (kept_of sections facts) f.knows.finds;
-        owns = owns_kept k (kept_of sections facts) found built.findings same f.knows.owns;
+        owns = owns-kept k (kept_of sections facts) found built.findings same f.knows.owns;
         hand_overs = hands (kept_of sections facts) f.knows.hand_overs;
         opposites = opposites facts f.knows.orders;
         bounds = bounds facts f.knows.orders f.knows.observed;

@@ -3,27 +3,23 @@ use Rattle.std.proofs.Common.{◌≡◌, ◌⊎◌, ℕ, ◌+◌, ◌-◌, ◌<�
 use Rattle.std.proofs.Common.{get_or, replicate, take, subst, sym, ap, refl, ◌∙◌, inl, inr, arith, Option, Some}
 use Rattle.std.proofs.lemmas.Bool.{cases_lt}
 use Rattle.std.proofs.lemmas.List.{get_or-replicate, get_or_past, length-replicate}
-use Rattle.std.specs.Option.{option_map_or, unwrap_or}
+use Rattle.std.specs.Option.{unwrap_or}
 use Rattle.std.specs.Prelude.{IfSome, IsTrue, slice_get}
-use Rattle.pim_course.specs.Details.{added_details, details_of}
-use Rattle.pim_course.specs.Going.{HasSameSize, KeepsDepths}
-use Rattle.pim_course.specs.Reading.{Begins, GoesBy, HasRequest, IsTimeOf}
+use Rattle.pim_course.specs.Going.{HasSameSize}
+use Rattle.pim_course.specs.Reading.{Begins, GoesBy, IsTimeOf}
 use Rattle.pim_course.specs.Requests.{IsBehind}
-use Rattle.pim_course.specs.Sections.{AreNumbered, sections_of}
-use Rattle.pim_course.specs.Told.{added_told, happened_in}
-use Rattle.pim_course.specs.World.{Lead, world_of}
 use Rattle.pim_course.specs.declared.course.Course.{Course}
 use Rattle.pim_course.specs.declared.course.Sources.{Sources}
 use Rattle.pim_course.specs.declared.requests.Request.{Request}
 use Rattle.pim_course.specs.declared.walk.Walk.{Walk}
 use Rattle.pim_facts.specs.Shown.{shown_in}
-use Rattle.pim_requests.specs.Laws.{HasBoth}
 use Rattle.pim_facts.specs.declared.fact.Fact.{Fact}
 use Rattle.pim_findings.specs.Waits.{Moment}
 use Rattle.pim_import.specs.Following.{AreAdded, ArePlaced, IsLacking, IsWay, KeepsThoseOfLog, Stage}
 use Rattle.pim_import.specs.Following.{facts_of, moment_of, moments_of, stage_of}
-use Rattle.pim_import.proofs.Adding.{all_added}
-use Rattle.pim_import.proofs.Following.{moments_more}
+use Rattle.pim_import.proofs.Adding.{all-added}
+use Rattle.pim_import.proofs.Going.{Adds, goes-by-record, goes-by-request}
+use Rattle.pim_import.proofs.Following.{moments-more}
 use Rattle.pim_import.specs.KeptSections.{KeepsThoseOf, MustBeKept, room_of}
 use Rattle.pim_import.specs.LeftOut.{IsKept, Keeps, MustStay}
 use Rattle.pim_import.specs.declared.critical_sections.CriticalSections.{CriticalSections}
@@ -75,14 +71,15 @@ IsLooked Must section before after =
     ⊎ ((Must → ⊥) × (after ≡ before))
 
 -- so it is of one more of the facts that a course shows
-pub keeps-more : (is_all : Bool) (room time : ℕ) (sources : Sources) (course : Course) (facts : List Moment) (shown : List Fact)
+pub keeps-more : (is_all : Bool) (room time : ℕ) (sources : Sources) (course : Course) (facts : List Moment)
+    (shown : List Fact)
     (i : ℕ) (d : Fact) (before after : CriticalSections) → i < length shown →
     IsLooked (MustStay course sources (get_or shown i d)) (get_or shown i d).section before after →
     KeepsThoseOf is_all room (moments_of sources course time (take i shown) ++ facts) before →
     KeepsThoseOf is_all room (moments_of sources course time (take (i + 1) shown) ++ facts) after
 keeps-more is_all room time sources course facts shown i d before after lt how are =
     subst (λ (moments : List Moment). KeepsThoseOf is_all room (moments ++ facts) after)
-    (sym (moments_more sources course time shown i d lt)) (step how)
+    (sym (moments-more sources course time shown i d lt)) (step how)
   where
     m : Moment
     m = moment_of sources course time (get_or shown i d)
@@ -118,7 +115,8 @@ keeps-begin is_all room sections all none n =
     to : IsTrue is_all ⊎ (MustBeKept n [] ⊎ (room ≤ n)) → Keeps sections n
     to (inl every) = inl (subst IsTrue (sym all) every)
     to (inr (inl must)) = absurd must
-    to (inr (inr past)) = inr (subst IsTrue (sym (get_or_past sections.is_kept.items n true (omega (arith, long, past)))) refl)
+    to (inr (inr past)) = inr (subst IsTrue (sym (get_or_past sections.is_kept.items n true (omega (arith, long, past))))
+        refl)
 
 -- A walk went through a log up to the record with this number, and the critical sections are those that the facts on its way
 -- must keep.
@@ -141,7 +139,8 @@ looks-begin bytes sources is_all walk sections begins none keeps =
       time = 0;
       before = [];
       way = record { number = refl; record_time = refl; added = none; course = begins };
-      keeps = subst (λ shown. KeepsThoseOf is_all (room_of bytes sources) (moments_of sources walk.course 0 shown ++ []) sections)
+      keeps = subst (λ shown. KeepsThoseOf is_all (room_of bytes sources) (moments_of sources walk.course 0 shown ++ [])
+          sections)
           (sym begins.shown) keeps;
     }
 
@@ -160,7 +159,6 @@ pub looks-record : (bytes : List ℕ) (sources : Sources) (is_all : Bool) (numbe
     AreAdded sources.requests.list.items (number - 1) old.added →
     HasLooked bytes sources is_all (number - 1) old before → HasLooked bytes sources is_all number new after
 looks-record bytes sources is_all number put_at old new before after above is_put_at added size shown looks all has =
-    let is : number ≡ number - 1 + 1 = omega arith in
     let from : Stage = stage_of (number - 1) has.record_time has.time old in
     let time : ℕ = unwrap_or put_at has.record_time in
     record {
@@ -168,17 +166,8 @@ looks-record bytes sources is_all number put_at old new before after above is_pu
       time = time;
       before = from ∷ has.before;
       way = (
-        inl (record {
-          number = is;
-          before = all;
-          added = added;
-          put_at = put_at;
-          is_put_at = is_put_at;
-          record_time = refl;
-          time = refl;
-          size = size;
-          shown = shown;
-        }),
+        inl (goes-by-record bytes sources number has.record_time has.time time put_at old new above all is_put_at refl added
+            size shown),
         has.way,
       );
       keeps = looks time (facts_of sources (from ∷ has.before)) has.keeps;
@@ -187,20 +176,10 @@ looks-record bytes sources is_all number put_at old new before after above is_pu
 -- one more request, which is the next one
 pub looks-request : (bytes : List ℕ) (sources : Sources) (is_all : Bool) (number : ℕ) (request : Request) (old new : Walk)
     (before after : CriticalSections) →
-    slice_get sources.requests.list.items old.added ≡ Some request → IsBehind number request →
-    new.added ≡ option_map_or (λ one. old.added + 1) (slice_get sources.requests.list.items old.added) old.added →
-    HasSameSize old.course new.course → KeepsDepths old.course new.course →
-    (IfSome (slice_get sources.requests.list.items old.added) (HasRequest old.course) →
-    Lead (shown_in new.course.shown) (world_of old.course) (world_of new.course)) →
-    (IfSome (slice_get sources.requests.list.items old.added) (HasBoth old.course) →
-    AreNumbered (shown_in new.course.shown) (sections_of old.course) (sections_of new.course)) →
-    (IfSome (slice_get sources.requests.list.items old.added) (λ one. HasRequest old.course one →
-    details_of new.course ≡ added_details sources (world_of old.course) (details_of old.course) one)) →
-    happened_in new.course ≡
-    option_map_or (added_told (world_of old.course)) (slice_get sources.requests.list.items old.added) [] →
+    slice_get sources.requests.list.items old.added ≡ Some request → IsBehind number request → Adds sources old new →
     LooksAt is_all (room_of bytes sources) sources new before after →
     HasLooked bytes sources is_all number old before → HasLooked bytes sources is_all number new after
-looks-request bytes sources is_all number request old new before after next behind added size depths led numbered detailed told looks has =
+looks-request bytes sources is_all number request old new before after next behind adds looks has =
     let from : Stage = stage_of number has.record_time has.time old in
     let time : ℕ = unwrap_or request.time has.record_time in
     record {
@@ -208,27 +187,7 @@ looks-request bytes sources is_all number request old new before after next behi
       time = time;
       before = from ∷ has.before;
       way = (
-        inr (record {
-          number = refl;
-          record_time = refl;
-          request = request;
-          next = next;
-          behind = behind;
-          added = added ∙ ap (λ (one : Option Request). option_map_or (λ (r : Request). old.added + 1) one old.added) next;
-          time = refl;
-          size = size;
-          depths = depths;
-          told = told ∙ ap (λ (one : Option Request). option_map_or (added_told (world_of old.course)) one []) next;
-          led =
-              subst (λ (one : Option Request). IfSome one (HasRequest old.course) →
-              Lead (shown_in new.course.shown) (world_of old.course) (world_of new.course)) next led;
-          sections =
-              subst (λ (one : Option Request). IfSome one (HasBoth old.course) →
-              AreNumbered (shown_in new.course.shown) (sections_of old.course) (sections_of new.course)) next numbered;
-          details =
-              subst (λ (o : Option Request). IfSome o (λ one. HasRequest old.course one →
-              details_of new.course ≡ added_details sources (world_of old.course) (details_of old.course) one)) next detailed;
-        }),
+        inr (goes-by-request sources number has.record_time has.time time request old new next behind refl adds),
         has.way,
       );
       keeps = looks time (facts_of sources (from ∷ has.before)) has.keeps;
@@ -245,6 +204,6 @@ looks-log bytes sources is_all end walk sections is placed all has =
       before = has.before;
       way = has.way;
       number = ap (λ n. n - 1) is;
-      added = all_added bytes sources.requests.list.items end walk.added is placed all;
+      added = all-added bytes sources.requests.list.items end walk.added is placed all;
       keeps = has.keeps;
     }

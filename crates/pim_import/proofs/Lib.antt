@@ -1,4 +1,5 @@
 pub mod Adding
+pub mod Going
 pub mod Following
 pub mod Naming
 pub mod Keeping

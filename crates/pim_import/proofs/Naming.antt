@@ -2,7 +2,8 @@
 use Rattle.std.proofs.Common.{ℕ}
 use Rattle.pim_builder.specs.Faults.{NamesNone, NamesOneOf}
 use Rattle.pim_builder.specs.declared.fault.ImportFault.{ImportFault}
-use Rattle.pim_builder.specs.declared.fault.ImportFault.TheVariants.{Contradiction, TooManyThreads, Crowded, TooManyPriorities, Memory}
+use Rattle.pim_builder.specs.declared.fault.ImportFault.TheVariants.{Contradiction, TooManyThreads, Crowded}
+use Rattle.pim_builder.specs.declared.fault.ImportFault.TheVariants.{TooManyPriorities, Memory}
 
 -- a fault that names no record names none outside of the log
 pub names_none_of : (end : ℕ) (fault : ImportFault) → NamesNone fault → NamesOneOf end fault

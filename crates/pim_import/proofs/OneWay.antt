@@ -1,5 +1,6 @@
 -- A log has one way through it: what happens on two of them is the same.
-use Rattle.std.proofs.Common.{Bool, ◌≡◌, ◌⊎◌, ℕ, ◌+◌, ◌<◌, ◌≤◌, ◌∙◌, List, [], ◌∷◌, ◌++◌, map, reverse, slice_get, ap, sym, subst, refl, inl, inr, arith, Option, Some}
+use Rattle.std.proofs.Common.{Bool, ◌≡◌, ◌⊎◌, ℕ, ◌+◌, ◌<◌, ◌≤◌, ◌∙◌, List, [], ◌∷◌, ◌++◌, map, reverse, slice_get, ap, sym}
+use Rattle.std.proofs.Common.{subst, refl, inl, inr, arith, Option, Some}
 use Rattle.std.proofs.Math.Path.{fun_ext}
 use Rattle.std.proofs.lemmas.Bool.{cases_lt}
 use Rattle.std.proofs.lemmas.List.{map-append, reverse-append}
@@ -36,11 +37,13 @@ use Rattle.pim_builder.specs.declared.builder.Context.{Context}
 use Rattle.pim_requests.specs.Laws.{HasBoth}
 use Rattle.pim_requests.specs.declared.waits.Wait.{Wait}
 use Rattle.std.specs.Prelude.{IsTrue}
+use Rattle.pim_import.proofs.Going.{all-same}
 use Rattle.pim_import.specs.KeptSections.{KeepsThoseOf, MustBeKept, room_of}
 use Rattle.pim_import.specs.LeftOut.{ChangesNoPriority, IsFree, IsUnawaited, MayBeLeftOut, MustStay}
 use Rattle.pim_import.specs.declared.critical_sections.CriticalSections.{CriticalSections}
 use Rattle.pim_import.specs.declared.importing.Built.{Built}
-use Rattle.pim_import.specs.Following.{AreOfLog, FollowsLog, KeepsThoseOfLog, GoesByRecord, GoesByRequest, IsBegin, IsLacking, IsWay, Stage, facts_of, moment_of, moments_of}
+use Rattle.pim_import.specs.Following.{AreOfLog, FollowsLog, KeepsThoseOfLog, GoesByRecord, GoesByRequest, IsBegin}
+use Rattle.pim_import.specs.Following.{IsLacking, IsWay, Stage, facts_of, moment_of, moments_of}
 
 -- two courses of a log are alike: they have the same world, depths and critical sections
 record AreAlike (ids : Ids) (c d : Course) : Type 0 where
@@ -98,17 +101,15 @@ one-time bytes number time other log (inl first) (inr second) = absurd (first.0 
 one-time bytes number time other log (inr first) (inl second) = absurd (second.0 first.slot first.numbered)
 one-time bytes number time other log (inr first) (inr second) =
     second.is
-    ∙ ap (λ s. time_of (fields_in bytes s)) (same-slot bytes second.slot first.slot number log second.numbered first.numbered)
+    ∙ ap (λ s. time_of (fields_in bytes s)) (same-slot bytes second.slot first.slot number log second.numbered
+    first.numbered)
     ∙ sym first.is
 
 -- what a record tells depends on the world and on the depths
-same-told : (sources : Sources) (c d : Course) (r : Record) → AreAlike sources.ids c d → told_by sources d r ≡ told_by sources c r
+same-told : (sources : Sources) (c d : Course) (r : Record) → AreAlike sources.ids c d →
+    told_by sources d r ≡ told_by sources c r
 same-told sources c d r alike =
     λ i. event_told sources (alike.world i) (alike.depths i) r.number r.thread (id_of sources.ids r.number) r.event
-
--- as many threads and mutexes
-all-again : (ids : Ids) (c d : Course) → HasAllOf ids c → HasSameSize c d → HasAllOf ids d
-all-again ids c d all same = record { threads = same.threads ∙ all.threads; mutexes = same.mutexes ∙ all.mutexes }
 
 -- what two courses come to that are alike by what happens, and by the same facts
 abbrev Come : Ids → Course → Course → Type 0
@@ -121,8 +122,8 @@ goes-alike : (bytes : List ℕ) (sources : Sources) (number : ℕ) (c d x y : Co
     IsLacking bytes number d y ⊎ GoesBy bytes sources number d y → Come sources.ids x y
 goes-alike bytes sources number c d x y log covers alike more size (inl first) (inl second) = (
   record {
-    first = all-again sources.ids c x alike.first more;
-    second = all-again sources.ids d y alike.second size;
+    first = all-same sources.ids c x alike.first more;
+    second = all-same sources.ids d y alike.second size;
     world = second.2 ∙ alike.world ∙ sym first.2;
     depths = fun_ext second.3 ∙ alike.depths ∙ sym (fun_ext first.3);
     sections = second.4 ∙ alike.sections ∙ sym first.4;
@@ -136,7 +137,8 @@ goes-alike bytes sources number c d x y log covers alike more size (inr first) (
 goes-alike bytes sources number c d x y log covers alike more size (inr first) (inr second) =
     let slot : second.slot ≡ first.slot = same-slot bytes second.slot first.slot number log second.numbered first.numbered in
     let is : second.found ≡ first.found =
-    same-record bytes first.slot second.found first.found (subst (λ s. IsRecord bytes s second.found) slot second.is) first.is in
+    same-record bytes first.slot second.found first.found (subst (λ s. IsRecord bytes s second.found) slot second.is)
+    first.is in
     let ways = reading bytes sources number c x covers alike.first first.numbered.below first in
     let others = reading bytes sources number d y covers alike.second second.numbered.below second in
     let told : happened_in y ≡ happened_in x =
@@ -153,8 +155,8 @@ goes-alike bytes sources number c d x y log covers alike more size (inr first) (
     (λ i. depth_after sources (alike.world i) (alike.depths i) (is i).number (is i).thread
     (id_of sources.ids (is i).number) (is i).event) in (
       record {
-        first = all-again sources.ids c x alike.first more;
-        second = all-again sources.ids d y alike.second size;
+        first = all-same sources.ids c x alike.first more;
+        second = all-same sources.ids d y alike.second size;
         world = one-world (shown_in x.shown) (world_at c first.found) (world_of x) (world_of y) ways.0 led;
         depths = fun_ext others.1 ∙ depths ∙ sym (fun_ext ways.1);
         sections = both.1;
@@ -188,7 +190,8 @@ request-alike bytes waits sources a b x y of at first second =
     let requests : List Request = sources.requests.list.items in
     let next : slice_get requests a.added ≡ Some second.request =
     subst (λ n. slice_get requests n ≡ Some second.request) at.added second.next in
-    let is : second.request ≡ first.request = let e : Some second.request ≡ Some first.request = sym next ∙ first.next in cc in
+    let is : second.request ≡ first.request =
+    let e : Some second.request ≡ Some first.request = sym next ∙ first.next in cc in
     let alike : AreAlike sources.ids a.course b.course = at.courses in
     let has : HasBoth a.course first.request =
     subst (λ (one : Option Request). IfSome one (HasBoth a.course)) first.next
@@ -210,8 +213,8 @@ request-alike bytes waits sources a b x y of at first second =
         record_time = second.record_time ∙ at.record_time ∙ sym first.record_time;
         added = second.added ∙ ap (λ n. n + 1) at.added ∙ sym first.added;
         courses = record {
-          first = all-again sources.ids a.course x.course alike.first first.size;
-          second = all-again sources.ids b.course y.course alike.second second.size;
+          first = all-same sources.ids a.course x.course alike.first first.size;
+          second = all-same sources.ids b.course y.course alike.second second.size;
           world = one-world (shown_in x.course.shown) (world_of a.course) (world_of x.course) (world_of y.course)
               (first.led has.0) led;
           depths = fun_ext second.depths ∙ alike.depths ∙ sym (fun_ext first.depths);
@@ -248,9 +251,10 @@ added-behind bytes sources stage (from ∷ before) place request way lt is =
         ]
 
 -- no request is added on one way where a record is read on another
-not-both : (bytes : List ℕ) (sources : Sources) (a b x y : Stage) (before : List Stage) → IsWay bytes sources a before →
+record-isnt-request : (bytes : List ℕ) (sources : Sources) (a b x y : Stage) (before : List Stage) →
+    IsWay bytes sources a before →
     GoesByRecord bytes sources a x → GoesByRequest sources b y → y.number ≡ x.number → y.added ≡ x.added → ⊥
-not-both bytes sources a b x y before way first second number added =
+record-isnt-request bytes sources a b x y before way first second number added =
     let below : b.added < a.added = omega (arith, first.added, second.added, added) in
     let early : second.request.after ≤ a.number =
     added-behind bytes sources a before b.added second.request way below second.next in
@@ -287,7 +291,8 @@ map-reverse f (x ∷ xs) =
 views-alike : (sources : Sources) (a b : Stage) (before others : List Stage) → AreAt sources.ids a b → ShowAlike a b →
     views_of sources others ≡ views_of sources before → views_of sources (b ∷ others) ≡ views_of sources (a ∷ before)
 views-alike sources a b before others at show rest =
-    map-append view (of b) (facts_of sources others) ∙ (λ i. same i ++ rest i) ∙ sym (map-append view (of a) (facts_of sources before))
+    map-append view (of b) (facts_of sources others) ∙ (λ i. same i ++ rest i)
+    ∙ sym (map-append view (of a) (facts_of sources before))
   where
     of : Stage → List Moment
     of stage = moments_of sources stage.course stage.time (shown_in stage.course.shown)
@@ -295,7 +300,8 @@ views-alike sources a b before others at show rest =
     moment : Stage → Fact → Moment
     moment stage = moment_of sources stage.course stage.time
 
-    seen : map (λ fact. view (moment b fact)) (shown_in b.course.shown) ≡ map (λ fact. view (moment a fact)) (shown_in a.course.shown)
+    seen : map (λ fact. view (moment b fact)) (shown_in b.course.shown) ≡
+        map (λ fact. view (moment a fact)) (shown_in a.course.shown)
     seen = λ i.
         map (λ fact. record {
           fact = fact;
@@ -308,7 +314,8 @@ views-alike sources a b before others at show rest =
     same : map view (of b) ≡ map view (of a)
     same =
         map-reverse view (map (moment b) (shown_in b.course.shown))
-        ∙ ap reverse (sym (map-map view (moment b) (shown_in b.course.shown)) ∙ seen ∙ map-map view (moment a) (shown_in a.course.shown))
+        ∙ ap reverse (sym (map-map view (moment b) (shown_in b.course.shown)) ∙ seen
+        ∙ map-map view (moment a) (shown_in a.course.shown))
         ∙ sym (map-reverse view (map (moment a) (shown_in a.course.shown)))
 
 -- ways begin alike
@@ -332,13 +339,15 @@ begin-alike sources a b first second = (
 )
 
 -- a way that went by something isn't at its begin
-not-begin : (bytes : List ℕ) (sources : Sources) (a b x : Stage) → IsBegin sources a → b.number ≡ a.number → b.added ≡ a.added →
+not-begin : (bytes : List ℕ) (sources : Sources) (a b x : Stage) → IsBegin sources a → b.number ≡ a.number →
+    b.added ≡ a.added →
     GoesByRecord bytes sources x b ⊎ GoesByRequest sources x b → ⊥
 not-begin bytes sources a b x begin number added (inl goes) = omega (arith, begin.number, number, goes.number)
 not-begin bytes sources a b x begin number added (inr goes) = omega (arith, begin.added, added, goes.added)
 
 -- two ways up to the same place of a log show the same
-same-way : (bytes : List ℕ) (waits : List Wait) (sources : Sources) (a b : Stage) (before others : List Stage) → IsLog bytes →
+same-way : (bytes : List ℕ) (waits : List Wait) (sources : Sources) (a b : Stage) (before others : List Stage) →
+    IsLog bytes →
     AreOfLog bytes waits sources → IsWay bytes sources a before → IsWay bytes sources b others → b.number ≡ a.number →
     b.added ≡ a.added → AreAt sources.ids a b × (views_of sources (b ∷ others) ≡ views_of sources (a ∷ before))
 same-way bytes waits sources a b [] [] log of way other number added = begin-alike sources a b way other
@@ -351,17 +360,21 @@ same-way bytes waits sources a b (x ∷ before) (y ∷ others) log of way other 
   where
     go : (y.number ≡ x.number → y.added ≡ x.added →
         AreAt sources.ids x y × (views_of sources (y ∷ others) ≡ views_of sources (x ∷ before))) →
-        GoesByRecord bytes sources x a ⊎ GoesByRequest sources x a → GoesByRecord bytes sources y b ⊎ GoesByRequest sources y b →
+        GoesByRecord bytes sources x a ⊎ GoesByRequest sources x a →
+        GoesByRecord bytes sources y b ⊎ GoesByRequest sources y b →
         AreAt sources.ids a b × (views_of sources (b ∷ (y ∷ others)) ≡ views_of sources (a ∷ (x ∷ before)))
     go rest (inl first) (inl second) =
-        let was = rest (omega (arith, number, first.number, second.number)) (omega (arith, added, first.added, second.added)) in
+        let was = rest (omega (arith, number, first.number, second.number))
+        (omega (arith, added, first.added, second.added)) in
         let is = record-alike bytes sources x y a b log of.covers was.0 first second in
         (is.0, views-alike sources a b (x ∷ before) (y ∷ others) is.0 is.1 was.1)
-    go rest (inl first) (inr second) = absurd (not-both bytes sources x y a b before way.1 first second number added)
+    go rest (inl first) (inr second) =
+        absurd (record-isnt-request bytes sources x y a b before way.1 first second number added)
     go rest (inr first) (inl second) =
-        absurd (not-both bytes sources y x b a others other.1 second first (sym number) (sym added))
+        absurd (record-isnt-request bytes sources y x b a others other.1 second first (sym number) (sym added))
     go rest (inr first) (inr second) =
-        let was = rest (omega (arith, number, first.number, second.number)) (omega (arith, added, first.added, second.added)) in
+        let was = rest (omega (arith, number, first.number, second.number))
+        (omega (arith, added, first.added, second.added)) in
         let is = request-alike bytes waits sources x y a b of was.0 first second in
         (is.0, views-alike sources a b (x ∷ before) (y ∷ others) is.0 is.1 was.1)
 
@@ -371,7 +384,8 @@ unawaited family x y waiting is = record { nobody = waiting ∙ is.nobody; no_ce
 still-free : (x y : CourseMutex) → y.owner ≡ x.owner → y.next_owner ≡ x.next_owner → IsFree x → IsFree y
 still-free x y owner next is = record { no_owner = owner ∙ is.no_owner; no_next_owner = next ∙ is.no_next_owner }
 
-changes-none : (what : What) (family : Family) (x y : CourseMutex) (fact : Fact) → y.waiting ≡ x.waiting → y.owner ≡ x.owner →
+changes-none : (what : What) (family : Family) (x y : CourseMutex) (fact : Fact) → y.waiting ≡ x.waiting →
+    y.owner ≡ x.owner →
     y.next_owner ≡ x.next_owner → ChangesNoPriority what family x fact → ChangesNoPriority what family y fact
 changes-none Granted family x y fact waiting owner next is = (unawaited family x y waiting is.0, is.1)
 changes-none (Released _) family x y fact waiting owner next is = unawaited family x y waiting is
@@ -405,7 +419,8 @@ stays-alike m o same must =
     (subst (λ f. MustStay o.course m.sources f) fact (must-alike m.course o.course m.sources m.fact world sections must))
 
 -- facts of which the same is known keep the same critical sections
-must-be-kept : (n : ℕ) (facts others : List Moment) → map view others ≡ map view facts → MustBeKept n facts → MustBeKept n others
+must-be-kept : (n : ℕ) (facts others : List Moment) → map view others ≡ map view facts → MustBeKept n facts →
+    MustBeKept n others
 must-be-kept n [] others same must = absurd must
 must-be-kept n (m ∷ facts) [] same must = cc
 must-be-kept n (m ∷ facts) (o ∷ others) same (inl here) =
@@ -430,10 +445,12 @@ keeps-alike is_all room facts others sections same are n = (λ keeps. to ((are n
     from (inr (inr past)) = inr (inr past)
 
 -- the critical sections that are kept on one way through a log are those that are kept on another
-pub keeps-on-way : (bytes : List ℕ) (waits : List Wait) (context : Context) (is_all : Bool) (sections : CriticalSections) (n k : ℕ)
+pub keeps-on-way : (bytes : List ℕ) (waits : List Wait) (context : Context) (is_all : Bool) (sections : CriticalSections)
+    (n k : ℕ)
     (built : Built) → IsLog bytes → AreOfLog bytes waits context.sources.now →
     KeepsThoseOfLog bytes context.sources.now is_all sections → (follows : FollowsLog bytes context sections n k built) →
-    KeepsThoseOf is_all (room_of bytes context.sources.now) (facts_of context.sources.now (follows.last ∷ follows.before)) sections
+    KeepsThoseOf is_all (room_of bytes context.sources.now) (facts_of context.sources.now (follows.last ∷ follows.before))
+    sections
 keeps-on-way bytes waits context is_all sections n k built log of keeps follows =
     let sources : Sources = context.sources.now in
     keeps-alike is_all (room_of bytes sources) (facts_of sources (keeps.last ∷ keeps.before))

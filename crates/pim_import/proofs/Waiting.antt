@@ -15,6 +15,7 @@ use Rattle.pim_requests.specs.Asked.{IsShown}
 use Rattle.pim_requests.specs.Laws.{HasBoth}
 use Rattle.pim_requests.specs.declared.waits.Wait.{Wait}
 use Rattle.pim_requests.proofs.Having.{has-requests}
+use Rattle.pim_import.proofs.Going.{all-same}
 use Rattle.pim_import.specs.Following.{GoesByRecord, GoesByRequest, IsWay, Stage}
 use Rattle.pim_import.specs.Waiting.{NobodyLaw}
 
@@ -23,11 +24,8 @@ record IsGood (sources : Sources) (course : Course) : Type 0 where
   all : HasAllOf sources.ids course
   counted : IsCounted course
 
-all-same : (sources : Sources) (old new : Course) → HasSameSize old new → HasAllOf sources.ids old → HasAllOf sources.ids new
-all-same sources old new size all =
-    record { threads = size.threads ∙ all.threads; mutexes = size.mutexes ∙ all.mutexes }
-
-counted-same : (old new : Course) → HasSameSize old new → world_of new ≡ world_of old → KeepsSections old new → IsCounted old →
+counted-same : (old new : Course) → HasSameSize old new → world_of new ≡ world_of old → KeepsSections old new →
+    IsCounted old →
     IsCounted new
 counted-same old new size world sections c =
     subst (λ n. AreCounted n (world_of new).awaits (sections_of new)) (sym size.threads)
@@ -39,7 +37,7 @@ by-record : (bytes : List ℕ) (sources : Sources) (from to : Stage) → Covers 
     GoesByRecord bytes sources from to → IsGood sources from.course → IsGood sources to.course
 by-record bytes sources from to covers few end goes was =
     record {
-      all = all-same sources from.course to.course goes.size was.all;
+      all = all-same sources.ids from.course to.course was.all goes.size;
       counted = elim goes.shown [
         | inl none ↦ counted-same from.course to.course goes.size none.2 none.4 was.counted
         | inr shown ↦
@@ -56,7 +54,7 @@ by-request bytes waits sources from to covers shown few goes was =
     subst (λ one. IfSome one (HasBoth from.course)) goes.next
     (has-requests bytes sources.ids waits sources.requests.list.items from.course from.added covers was.all shown) in
     record {
-      all = all-same sources from.course to.course goes.size was.all;
+      all = all-same sources.ids from.course to.course was.all goes.size;
       counted =
           counted-added from.course to.course goes.request goes.size.threads (omega (arith, was.all.threads)) both.0.thread
           goes.told (goes.led both.0) (goes.sections both) was.counted;

@@ -12,7 +12,8 @@ use Rattle.pim_import.specs.Following.{AreOfLog, IsWay, Stage}
 abbrev pub NobodyAwaits : Course → ℕ → Type 0
 NobodyAwaits course m = (t : ℕ) → (world_of course).awaits t ≢ Some m
 
--- On each way through a log of fewer than 2 ^ 32 threads, a mutex has the number 0 of threads that wait exactly if none does.
+-- On each way through a log of fewer than 2 ^ 32 threads, a mutex has the number 0 of threads that wait exactly if none
+-- does.
 abbrev pub NobodyLaw : Type 0
 NobodyLaw = (bytes : List ℕ) (waits : List Wait) (sources : Sources) (last : Stage) (before : List Stage) (m : ℕ) →
     AreOfLog bytes waits sources → length sources.ids.threads.items < 2 ^ 32 → IsWay bytes sources last before →

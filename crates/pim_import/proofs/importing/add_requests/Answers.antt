@@ -2,8 +2,8 @@ use Rattle.std.proofs.Common.{◌≡◌, ◌+◌, ◌∙◌, ℕ, List, Option, 
 use Rattle.std.specs.Option.{option_map_or}
 use Rattle.pim_course.specs.declared.requests.Request.{Request}
 use Rattle.pim_import.specs.Following.{AreAdded}
-use Rattle.pim_import.proofs.Adding.{more_added}
-use Rattle.pim_import.proofs.Following.{follows_request}
+use Rattle.pim_import.proofs.Adding.{more-added}
+use Rattle.pim_import.proofs.Following.{follows-request}
 use Rattle.pim_import.proofs.importing.add_requests.Goals as goal
 
 pub loop-request-preserved : goal.loop-request-preserved
@@ -18,11 +18,19 @@ loop-request-preserved c =
     record {
       added = omega (arith, added, c.loop-request.invariant.added);
       follows = λ bytes n k followed.
-          follows_request bytes c.args.context.now c.args.sections.now n k c.args.now.now.number c.args.now.now.time
-          c.unwrap_or.result c.add.result one.0 c.loop-request.walk c.add.new.self c.loop-request.findings c.show.new.findings
-          c.loop-request.builder c.show.new.builder next one.1.1 c.add.ensures.added c.add.ensures.time c.unwrap_or.ensures c.add.ensures.size c.add.ensures.depths
-          c.add.ensures.shown c.add.ensures.sections c.add.ensures.details c.add.ensures.told (c.in_ok-_is_used.ensures.finds n k)
-          (c.loop-request.invariant.follows bytes n k followed);
+          follows-request bytes c.args.context.now c.args.sections.now n k c.args.now.now.number c.args.now.now.time
+          c.unwrap_or.result c.add.result one.0 c.loop-request.walk c.add.new.self c.loop-request.findings
+          c.show.new.findings c.loop-request.builder c.show.new.builder next one.1.1 c.add.ensures.time c.unwrap_or.ensures
+          (record {
+            added = c.add.ensures.added;
+            size = c.add.ensures.size;
+            depths = c.add.ensures.depths;
+            led = c.add.ensures.shown;
+            sections = c.add.ensures.sections;
+            details = c.add.ensures.details;
+            told = c.add.ensures.told;
+          })
+          (c.in_ok-_is_used.ensures.finds n k) (c.loop-request.invariant.follows bytes n k followed);
     }
 
 pub returns-clause-added : goal.returns-clause-added
@@ -32,4 +40,4 @@ returns-clause-added c order added =
     let all : c.args.walk.now.added + many ≡ c.loop-request.walk.added =
     omega (arith, c.loop-request.invariant.added, c.loop-request-test.false, c.loop-request.auto._request-end) in
     subst (AreAdded requests c.args.now.now.number) all
-    (more_added requests c.args.now.now.number c.args.walk.now.added many order c.missing-request-end.ensures added)
+    (more-added requests c.args.now.now.number c.args.walk.now.added many order c.missing-request-end.ensures added)

@@ -2,7 +2,7 @@ use Rattle.std.proofs.Common.{◌∙◌, ap, refl, rules}
 use Rattle.std.proofs.lemmas.Result.{err_from_is_err_and}
 use Rattle.pim_log.specs.Headers.{end_of}
 use Rattle.pim_findings.specs.Orders.{nested_of}
-use Rattle.pim_import.proofs.Following.{follows_log}
+use Rattle.pim_import.proofs.Following.{follows-log}
 use Rattle.pim_import.proofs.importing.build.Goals as goal
 
 pub returns-in_err-end-clause-fault : goal.returns-in_err-end-clause-fault
@@ -14,7 +14,7 @@ returns-clause-findings c n k placed knows =
     let has =
     c.in_ok-tally.ensures.follows n k c.in_ok-walk.ensures.begins c.in_ok-walk.ensures.added placed
     (knows c.in_ok-builder.builder c.in_ok-builder.ensures.shown) in
-    follows_log c.args.log.now c.args.context.now c.args.sections.now n k c.end-end.result has.0
+    follows-log c.args.log.now c.args.context.now c.args.sections.now n k c.end-end.result has.0
     c.play.new.walk c.play.new.findings c.play.new.builder _ (c.end-end.ensures ∙ ap end_of c.header.ensures) placed
     (λ facts. c.in_ok-end.ensures.waits n k facts) c.end.ensures.mutexes refl
     (λ facts. c.end.ensures.hand_overs n k facts)

@@ -1,6 +1,6 @@
 use Rattle.std.proofs.Common.{◌≡◌, ◌+◌, ◌-◌, subst, sym, arith}
-use Rattle.pim_import.proofs.Adding.{none_added}
-use Rattle.pim_import.proofs.Following.{follows_begin, follows_record}
+use Rattle.pim_import.proofs.Adding.{none-added}
+use Rattle.pim_import.proofs.Following.{follows-begin, follows-record}
 use Rattle.pim_import.specs.Following.{AreAdded, HasAdded}
 use Rattle.pim_import.proofs.importing.play.Goals as goal
 
@@ -14,9 +14,10 @@ loop-number-init c =
           let sources = c.args.context.now.sources.now in
           record {
             followed =
-                follows_begin log c.args.context.now c.args.sections.now n k c.args.walk.now c.args.findings.now c.args.builder.now
+                follows-begin log c.args.context.now c.args.sections.now n k c.args.walk.now c.args.findings.now
+                c.args.builder.now
                 begins none knows;
-            added = none_added log sources.requests.list.items c.args.walk.now.added none placed;
+            added = none-added log sources.requests.list.items c.args.walk.now.added none placed;
           };
     }
 
@@ -40,9 +41,11 @@ loop-number-preserved c =
           (record {
             followed =
                 after.follows log n k
-                (follows_record log context sections n k c.loop-number.number c.loop-number.time c.unwrap_or-time.result
-                c.read-moment.result.time c.loop-number.walk c.read-moment.new.self c.loop-number.findings c.show.new.findings
-                c.loop-number.builder c.show.new.builder c.loop-number.auto.number c.unwrap_or-time.ensures c.read-moment.ensures.time c.read-moment.ensures.added
+                (follows-record log context sections n k c.loop-number.number c.loop-number.time c.unwrap_or-time.result
+                c.read-moment.result.time c.loop-number.walk c.read-moment.new.self c.loop-number.findings
+                c.show.new.findings
+                c.loop-number.builder c.show.new.builder c.loop-number.auto.number c.unwrap_or-time.ensures
+                c.read-moment.ensures.time c.read-moment.ensures.added
                 c.read-moment.ensures.size c.read-moment.ensures.shown (c.in_ok-is_used.ensures.finds n k) has);
             added = after.added placed.order
                 (subst (λ added. AreAdded sources.requests.list.items (c.loop-number.number - 1) added)
@@ -55,5 +58,6 @@ returns-clause-follows c n k begins none placed knows = (
   c.loop-number.time,
   let at : c.loop-number.number - 1 ≡ c.args.end - 1 = omega arith in
       subst (λ m. HasAdded c.args.log.now c.args.context.now c.args.sections.now n k m c.loop-number.time
-      c.loop-number.walk c.loop-number.findings c.loop-number.builder) at (c.loop-number.invariant.follows n k begins none placed knows),
+      c.loop-number.walk c.loop-number.findings c.loop-number.builder) at
+      (c.loop-number.invariant.follows n k begins none placed knows),
 )

@@ -5,7 +5,7 @@ use Rattle.pim_builder.specs.Showing.{IsSetting}
 use Rattle.pim_import.specs.LeftOut.{IsKept, MayBeLeftOut}
 use Rattle.pim_facts.specs.declared.fact.Fact.{Fact}
 use Rattle.pim_findings.specs.Waits.{Moment}
-use Rattle.pim_import.proofs.Following.{moments_more}
+use Rattle.pim_import.proofs.Following.{moments-more}
 use Rattle.pim_import.specs.Following.{Knows, moments_of}
 use Rattle.pim_import.proofs.importing.show.Goals as goal
 
@@ -20,7 +20,8 @@ loop-fact-preserved c =
       left_out =
           All-more
           (λ (s : Fact). IsKept c.args.sections.now s ⊎ MayBeLeftOut c.args.walk.now.course c.args.context.now.sources.now s)
-          c.shown-shown.result.now c.loop-fact.fact-index _ c.loop-fact-test.true c.loop-fact.invariant.left_out told.left_out;
+          c.shown-shown.result.now c.loop-fact.fact-index _ c.loop-fact-test.true c.loop-fact.invariant.left_out
+          told.left_out;
       unused = λ none.
           let both = neither c.loop-fact.is_used c.in_ok-is_used.field-0 none in
           All-more (λ (s : Fact). IsSetting s.what ⊎ MayBeLeftOut c.args.walk.now.course c.args.context.now.sources.now s)
@@ -28,9 +29,10 @@ loop-fact-preserved c =
           (told.unused both.1);
       finds = λ n k facts knows.
           subst
-          (λ (moments : List Moment). Knows c.args.context.now n k c.args.sections.now (moments ++ facts) c.show_fact.new.findings
+          (λ (moments : List Moment). Knows c.args.context.now n k c.args.sections.now (moments ++ facts)
+          c.show_fact.new.findings
           c.show_fact.new.builder)
-          (sym (moments_more c.args.context.now.sources.now c.args.walk.now.course c.args.now.now.time
+          (sym (moments-more c.args.context.now.sources.now c.args.walk.now.course c.args.now.now.time
           c.shown-shown.result.now c.loop-fact.fact-index _ c.loop-fact-test.true))
           (told.finds n k _ (c.loop-fact.invariant.finds n k facts knows));
     }

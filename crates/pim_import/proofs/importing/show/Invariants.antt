@@ -6,7 +6,8 @@ use Rattle.pim_import.specs.Following.{Knows, moments_of}
 use Rattle.pim_facts.specs.declared.fact.Fact.{Fact}
 use Rattle.pim_import.proofs.importing.show.Given as goal
 
--- what was shown so far is kept or may be left out, and if none of it is in the trace, what was kept sets a level or a ceiling
+-- what was shown so far is kept or may be left out, and if none of it is in the trace, what was kept sets a level or a
+-- ceiling
 abbrev pub invariant-loop-fact : goal.invariant-loop-fact
 invariant-loop-fact l = record {
   left_out : All (λ (fact : Fact). IsKept l.sections fact ⊎ MayBeLeftOut l.walk.course l.context.sources.now fact)

@@ -2,28 +2,32 @@ use Rattle.std.proofs.Common.{inr}
 use Rattle.pim_findings.proofs.Nested.{orders-more}
 use Rattle.pim_findings.specs.Bounds.{observed_of}
 use Rattle.pim_findings.specs.Waits.{Moment}
-use Rattle.pim_import.proofs.Following.{if_ok_then, kept_false, not_both, knows_with, knows_without}
+use Rattle.pim_import.proofs.Following.{if-ok-then, kept-false, true-isnt-false, knows-with, knows-without}
 use Rattle.pim_import.specs.Following.{moment_of}
 use Rattle.pim_import.proofs.importing.show_fact.Goals as goal
 
 pub returns-then-has-clause-finds : goal.returns-then-has-clause-finds
 returns-then-has-clause-finds c =
     let m : Moment = moment_of c.args.context.now.sources.now c.args.walk.now.course c.args.now.now.time c.args.fact.now in
-    if_ok_then c.build.result
-    (λ made n k facts. knows_with c.args.context.now n k c.args.sections.now m facts c.args.findings.now c.observe.new.self
-    c.look.new.self c.args.builder.now c.build.new.self (c.has_thread.ensures.0 c.if-not-has_thread.false) (c.has.ensures.0 c.if-has.true)
+    if-ok-then c.build.result
+    (λ made n k facts. knows-with c.args.context.now n k c.args.sections.now m facts c.args.findings.now c.observe.new.self
+    c.look.new.self c.args.builder.now c.build.new.self (c.has_thread.ensures.0 c.if-not-has_thread.false)
+    (c.has.ensures.0 c.if-has.true)
     c.observe.ensures.waits c.observe.ensures.mutexes c.observe.ensures.waiting
     (λ n facts below. orders-more n m facts c.args.findings.now c.observe.new.self below c.in_ok-observe.ensures.orders)
     (λ ids facts. c.in_ok-observe.ensures.sections ids (observed_of facts))
     c.look.ensures.orders c.look.ensures.sections
-    (c.in_ok-look.ensures.waits n k) (c.in_ok-look.ensures.owns k) (c.in_ok-look.ensures.hand_overs n k) made) c.build.ensures.shown
+    (c.in_ok-look.ensures.waits n k) (c.in_ok-look.ensures.owns k) (c.in_ok-look.ensures.hand_overs n k) made)
+    c.build.ensures.shown
 
 pub returns-clause-finds : goal.returns-clause-finds
 returns-clause-finds c n k facts =
     let m : Moment = moment_of c.args.context.now.sources.now c.args.walk.now.course c.args.now.now.time c.args.fact.now in
-    knows_without c.args.context.now n k c.args.sections.now m facts c.args.findings.now c.observe.new.self c.args.builder.now
+    knows-without c.args.context.now n k c.args.sections.now m facts c.args.findings.now c.observe.new.self
+    c.args.builder.now
     (c.has_thread.ensures.0 c.if-not-has_thread.false)
-    (kept_false c.args.sections.now c.args.fact.now (λ kept. not_both c.has.result (c.has.ensures.1 kept) c.if-has.false))
+    (kept-false c.args.sections.now c.args.fact.now (λ kept. true-isnt-false c.has.result (c.has.ensures.1 kept)
+    c.if-has.false))
     (inr (c.may_be_left_out.ensures.0 c.if-not-may_be_left_out.false)) c.observe.ensures.waits c.observe.ensures.mutexes
     c.observe.ensures.waiting
     (λ n facts below. orders-more n m facts c.args.findings.now c.observe.new.self below c.in_ok-observe.ensures.orders)

@@ -2,7 +2,7 @@ use Rattle.std.proofs.Common.{◌≡◌, ◌+◌, ◌-◌, ◌∙◌, ℕ, List,
 use Rattle.std.specs.Option.{option_map_or}
 use Rattle.pim_log.specs.Headers.{end_of}
 use Rattle.pim_course.specs.declared.requests.Request.{Request}
-use Rattle.pim_import.proofs.Adding.{more_added, none_added}
+use Rattle.pim_import.proofs.Adding.{more-added, none-added}
 use Rattle.pim_import.proofs.KeptSections.{HasLooked, keeps-begin, looks-begin, looks-log, looks-record, looks-request}
 use Rattle.pim_import.specs.Following.{AreAdded}
 use Rattle.pim_import.proofs.critical_sections.CriticalSections.of.Goals as goal
@@ -12,10 +12,12 @@ loop-number-init c =
     record {
       within = omega arith;
       looked = λ placed.
-          looks-begin c.args.log.now c.args.sources.now c.args.is_all _ _ c.in_ok-walk.ensures.begins c.in_ok-walk.ensures.added
-          (keeps-begin c.args.is_all _ (record { is_kept = c.in_ok-vec.field-0; is_all = c.args.is_all }) refl (search rules));
+          looks-begin c.args.log.now c.args.sources.now c.args.is_all _ _ c.in_ok-walk.ensures.begins
+          c.in_ok-walk.ensures.added
+          (keeps-begin c.args.is_all _ (record { is_kept = c.in_ok-vec.field-0; is_all = c.args.is_all }) refl
+          (search rules));
       added = λ placed.
-          none_added c.args.log.now c.args.sources.now.requests.list.items _ c.in_ok-walk.ensures.added placed;
+          none-added c.args.log.now c.args.sources.now.requests.list.items _ c.in_ok-walk.ensures.added placed;
     }
 
 pub loop-request-init : goal.loop-request-init
@@ -26,7 +28,8 @@ loop-request-init c =
           looks-record c.args.log.now c.args.sources.now c.args.is_all c.loop-number.number c.read-moment.result.time
           c.loop-number.walk c.read-moment.new.self c.loop-number.sections c.look.new.self c.loop-number.auto.number
           c.read-moment.ensures.time c.read-moment.ensures.added c.read-moment.ensures.size c.read-moment.ensures.shown
-          (c.look.ensures.exact c.args.is_all _) (c.loop-number.invariant.added placed) (c.loop-number.invariant.looked placed);
+          (c.look.ensures.exact c.args.is_all _) (c.loop-number.invariant.added placed)
+          (c.loop-number.invariant.looked placed);
     }
 
 pub loop-request-preserved : goal.loop-request-preserved
@@ -42,9 +45,16 @@ loop-request-preserved c =
       added = omega (arith, added, c.loop-request.invariant.added);
       looked = λ placed.
           looks-request c.args.log.now c.args.sources.now c.args.is_all c.loop-number.number one.0 c.loop-request.walk
-          c.add-time.new.self c.loop-request.sections c.look-in-loop-request.new.self next one.1.1 c.add-time.ensures.added
-          c.add-time.ensures.size c.add-time.ensures.depths c.add-time.ensures.shown c.add-time.ensures.sections
-          c.add-time.ensures.details c.add-time.ensures.told
+          c.add-time.new.self c.loop-request.sections c.look-in-loop-request.new.self next one.1.1
+          (record {
+            added = c.add-time.ensures.added;
+            size = c.add-time.ensures.size;
+            depths = c.add-time.ensures.depths;
+            led = c.add-time.ensures.shown;
+            sections = c.add-time.ensures.sections;
+            details = c.add-time.ensures.details;
+            told = c.add-time.ensures.told;
+          })
           (c.look-in-loop-request.ensures.exact c.args.is_all _) (c.loop-request.invariant.looked placed);
     }
 
@@ -60,13 +70,15 @@ loop-number-preserved c =
     record {
       within = omega arith;
       looked = λ placed.
-          subst (λ n. HasLooked c.args.log.now c.args.sources.now c.args.is_all n c.loop-request.walk c.loop-request.sections) at
+          subst (λ n. HasLooked c.args.log.now c.args.sources.now c.args.is_all n c.loop-request.walk
+          c.loop-request.sections) at
           (c.loop-request.invariant.looked placed);
       added = λ placed.
           subst (λ n. AreAdded requests n c.loop-request.walk.added) at
           (subst (AreAdded requests number) all
-          (more_added requests number read many placed.order c.missing-request-end.ensures
-          (subst (AreAdded requests (number - 1)) (sym c.read-moment.ensures.added) (c.loop-number.invariant.added placed))));
+          (more-added requests number read many placed.order c.missing-request-end.ensures
+          (subst (AreAdded requests (number - 1)) (sym c.read-moment.ensures.added)
+          (c.loop-number.invariant.added placed))));
     }
 
 pub returns : goal.returns

@@ -7,7 +7,8 @@ use Rattle.pim_import.proofs.critical_sections.CriticalSections.of.Given as goal
 abbrev pub invariant-loop-number : goal.invariant-loop-number
 invariant-loop-number l = record {
   within : l.number ≤ max 1 l.end;
-  looked : ArePlaced l.log l.sources.requests.list.items → HasLooked l.log l.sources l.is_all (l.number - 1) l.walk l.sections;
+  looked : ArePlaced l.log l.sources.requests.list.items →
+      HasLooked l.log l.sources l.is_all (l.number - 1) l.walk l.sections;
   added : ArePlaced l.log l.sources.requests.list.items →
       AreAdded l.sources.requests.list.items (l.number - 1) l.walk.added;
 }
