@@ -16,7 +16,8 @@ or-none (Some e) = refl
 
 -- ---- the first of some nestings
 
-pub earliest-skip : (p : Nesting → Bool) (n : Nesting) (all : List Nesting) → p n ≡ false → earliest p (n ∷ all) ≡ earliest p all
+pub earliest-skip : (p : Nesting → Bool) (n : Nesting) (all : List Nesting) → p n ≡ false →
+    earliest p (n ∷ all) ≡ earliest p all
 earliest-skip p n all fails =
     ap (λ b. option_map_or (λ e. Some e) (earliest p all) (cond b (Some n) None)) fails ∙ or-none (earliest p all)
 
@@ -43,11 +44,14 @@ map-same f g same None = refl
 map-same f g same (Some n) = ap (λ s. Some s) (same n)
 
 -- a nesting of other mutexes changes nothing
-seen-other : (n : Nesting) (all : List Nesting) (order : Order) → is_of order n ≡ false → seen_in (n ∷ all) order ≡ seen_in all order
+seen-other : (n : Nesting) (all : List Nesting) (order : Order) → is_of order n ≡ false →
+    seen_in (n ∷ all) order ≡ seen_in all order
 seen-other n all order fails =
-    ap (option_map (λ first. record { first = first; other = earliest (is_of_other order first) (n ∷ all) })) (earliest-skip (is_of order) n all fails)
+    ap (option_map (λ first. record { first = first; other = earliest (is_of_other order first) (n ∷ all) }))
+    (earliest-skip (is_of order) n all fails)
     ∙ map-same _ _
-    (λ first. ap (λ o. record { first = first; other = o }) (earliest-skip (is_of_other order first) n all (and_left (is_of order n) (not (n.thread == first.thread)) fails)))
+    (λ first. ap (λ o. record { first = first; other = o })
+    (earliest-skip (is_of_other order first) n all (and_left (is_of order n) (not (n.thread == first.thread)) fails)))
     (earliest (is_of order) all)
 
 cond-not : (b : Bool) (n : Nesting) → cond (not b) (Some n) None ≡ cond b None (Some n)
@@ -74,15 +78,18 @@ seen-own n all order passes = go (earliest (is_of order) all) refl
     none is =
         earliest-skip (is_of_other order n) n all
         (ap (λ b. is_of order n && not b) (eq-eqb n.thread n.thread refl) ∙ ap (λ b. b && false) passes)
-        ∙ earliest-none (is_of order) (is_of_other order n) (λ m fails. and_left (is_of order m) (not (m.thread == n.thread)) fails) all is
+        ∙ earliest-none (is_of order) (is_of_other order n)
+        (λ m fails. and_left (is_of order m) (not (m.thread == n.thread)) fails) all is
 
-    go : (o : Option Nesting) → earliest (is_of order) all ≡ o → seen_in (n ∷ all) order ≡ Some (seen_with (seen_in all order) n)
+    go : (o : Option Nesting) → earliest (is_of order) all ≡ o →
+        seen_in (n ∷ all) order ≡ Some (seen_with (seen_in all order) n)
     go (Some first) is =
         ap (option_map (with_other order (n ∷ all))) (earliest-on (is_of order) n all (Some first) is)
         ∙ ap (λ o. Some (record { first = first; other = o })) (other first (earliest (is_of_other order first) all) refl)
         ∙ ap (λ o. Some (seen_with (option_map (with_other order all) o) n)) (sym is)
     go None is =
-        ap (option_map (with_other order (n ∷ all))) (earliest-on (is_of order) n all None is ∙ ap (λ b. cond b (Some n) None) passes)
+        ap (option_map (with_other order (n ∷ all))) (earliest-on (is_of order) n all None is
+        ∙ ap (λ b. cond b (Some n) None) passes)
         ∙ ap (λ o. Some (record { first = n; other = o })) (none is)
         ∙ ap (λ o. Some (seen_with (option_map (with_other order all) o) n)) (sym is)
 
@@ -97,7 +104,8 @@ key-same k q = grind arith
 
 -- a nesting is added that changes what is seen
 pub seen-added : (n : Nesting) (after : Seen) (before : Option Seen) (old new : BTreeMap Order Seen) →
-    before ≡ tree.get by_mutexes old n.order → after ≡ seen_with before n → tree.Updates by_mutexes old new n.order (Some after) →
+    before ≡ tree.get by_mutexes old n.order → after ≡ seen_with before n →
+    tree.Updates by_mutexes old new n.order (Some after) →
     (all : List Nesting) → AreSeen all old → AreSeen (n ∷ all) new
 seen-added n after before old new was is put all seen order = put.0 order ∙ go (is_of order n) refl
   where

@@ -31,7 +31,8 @@ is_of_other order first n = is_of order n && not (n.thread == first.thread)
 -- who nested two mutexes in this order: the first, and the first of another thread
 abbrev pub seen_in : List Nesting → Order → Option Seen
 seen_in all order =
-    option_map (λ first. record { first = first; other = earliest (is_of_other order first) all }) (earliest (is_of order) all)
+    option_map (λ first. record { first = first; other = earliest (is_of_other order first) all })
+    (earliest (is_of order) all)
 
 -- who is the first of another thread with one nesting more
 abbrev pub other_with : Nesting → Option Nesting → Nesting → Option Nesting

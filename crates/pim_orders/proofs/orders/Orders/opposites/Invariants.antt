@@ -7,4 +7,5 @@ use Rattle.pim_orders.proofs.orders.Orders.opposites.Given as goal
 -- those so far are found, and what is left has the others
 abbrev pub invariant-loop-order : goal.invariant-loop-order
 invariant-loop-order l =
-    l.found.items ++ filter_map (opposite_at l.self.seen) l.order-iterator ≡ filter_map (opposite_at l.self.seen) (tree.keys l.self.seen)
+    l.found.items ++ filter_map (opposite_at l.self.seen) l.order-iterator
+    ≡ filter_map (opposite_at l.self.seen) (tree.keys l.self.seen)
