@@ -5,11 +5,19 @@ use Rattle.std.specs.List.{slice_get}
 use Rattle.std.proofs.lemmas.List.{length-map}
 use Rattle.pim_facts.specs.declared.ids.Ids.{Ids}
 use Rattle.pim_facts.specs.declared.ids.LoggedThread.{LoggedThread}
-use Rattle.pim_blocking.specs.Blocked.{KnowsThreads, begun, blocked_at, level_of}
+use Rattle.pim_blocking.specs.Blocked.{KnowsThreads, blocked_at, level_of}
 use Rattle.pim_blocking.specs.declared.blocked.Blocked.{Blocked}
 
+-- what is known of a thread at the begin
+abbrev pub begun : LoggedThread → Blocked
+begun thread = record { level = level_of thread; waited = 0; since = None }
+
 blocked-begun : (threads : List LoggedThread) (t : ℕ) →
-    blocked_at (map begun threads) t ≡ record { level = option_map_or level_of (slice_get threads t) 0; waited = 0; since = None }
+    blocked_at (map begun threads) t ≡ record {
+      level = option_map_or level_of (slice_get threads t) 0;
+      waited = 0;
+      since = None;
+    }
 blocked-begun [] t = refl
 blocked-begun (thread ∷ threads) zero = refl
 blocked-begun (thread ∷ threads) (suc t) = blocked-begun threads t

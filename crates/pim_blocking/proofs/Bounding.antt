@@ -17,17 +17,20 @@ sum-same (suc n) f g same =
     ap (λ a. a + f n) (sum-same n f g (λ u h. same u (omega (arith, h)))) ∙ ap (λ b. sum_below n g + b) (same n less)
 
 -- the sum of the longest sections, by what is known of each
-pub sum-of-longest : (per : Per) (count n : ℕ) (sections these : List Section) (items durations : List ℕ) (result : ℕ) →
-    result ≡ capped (sum_below (length durations) (λ u. get_or durations u 0)) → durations ≡ items → length items ≡ count → count ≡ n →
+pub longest-summed : (per : Per) (count n : ℕ) (sections these : List Section) (items durations : List ℕ) (result : ℕ) →
+    result ≡ capped (sum_below (length durations) (λ u. get_or durations u 0)) → durations ≡ items →
+    length items ≡ count → count ≡ n →
     ((u : ℕ) → u < count → get_or items u 0 ≡ longest_of_number per sections u) → sections ≡ these →
     result ≡ sum_of_longest per n these
-sum-of-longest per count n sections these items durations result is same len counted each blocking =
+longest-summed per count n sections these items durations result is same len counted each blocking =
     is ∙ ap (λ d. capped (sum_below (length d) (λ u. get_or d u 0))) same
     ∙ ap (λ l. capped (sum_below l (λ u. get_or items u 0))) (len ∙ counted)
     ∙ ap capped (sum-same n (λ u. get_or items u 0) (longest_of_number per these)
-    (λ u h. let inside : u < count = omega (arith, h, counted) in each u inside ∙ ap (λ ss. longest_of_number per ss u) blocking))
+    (λ u h. let inside : u < count = omega (arith, h, counted) in each u inside
+    ∙ ap (λ ss. longest_of_number per ss u) blocking))
 
-filter-same : (p q : Section → Bool) → ((s : Section) → p s ≡ q s) → (sections : List Section) → filter p sections ≡ filter q sections
+filter-same : (p q : Section → Bool) → ((s : Section) → p s ≡ q s) → (sections : List Section) →
+    filter p sections ≡ filter q sections
 filter-same p q same [] = refl
 filter-same p q same (s ∷ sections) =
     ap (λ b. cond b (s ∷ filter p sections) (filter p sections)) (same s)
@@ -42,7 +45,8 @@ blocking-same f g same seen thread level =
 
 -- the mutexes below k that are used, by a list of them
 pub used-same : (k : ℕ) (seen : List Section) (thread level : ℕ) (list : List Bool) → length list ≡ k →
-    ((m : ℕ) → m < k → is_in list m ≡ is_used seen thread level m) → (m : ℕ) → is_in list m ≡ is_used_below k seen thread level m
+    ((m : ℕ) → m < k → is_in list m ≡ is_used seen thread level m) → (m : ℕ) →
+    is_in list m ≡ is_used_below k seen thread level m
 used-same k seen thread level list len each m = elim (cases_lt m k) [
   | inl below ↦ each m below ∙ sym (ap (λ b. b && is_used seen thread level m) (lt-ltb m k below))
   | inr above ↦
@@ -69,7 +73,8 @@ used-below : (k : ℕ) (seen : List Section) (thread level m : ℕ) → IsTrue (
 used-below k seen thread level m h = ltb-true m k (and_parts (nat_lt m k) (is_used seen thread level m) h).0
 
 -- what owners of each mutex asked for, said otherwise of the mutexes below k
-pub bound-inner : (k : ℕ) (n : ℕ) (seen : List Section) (f g : ℕ → List ℕ) → ((m : ℕ) → m < k → f m ≡ g m) → (bound : Bound) →
+pub bound-inner : (k : ℕ) (n : ℕ) (seen : List Section) (f g : ℕ → List ℕ) → ((m : ℕ) → m < k → f m ≡ g m) →
+    (bound : Bound) →
     IsBound n k seen f bound → IsBound n k seen g bound
 bound-inner k n seen f g same bound b = record {
   at = b.at;

@@ -23,7 +23,8 @@ no-longer : (a b : ℕ) → a ≤ b → max a b ≡ b
 no-longer a b l = omega arith
 
 -- a map that has the value at a key is the map with that value put there
-put-again : {S : Type 0} → (m : HashMap User ℕ S) (user : User) (w : Option ℕ) → hash.get same_user m user ≡ w → hash.Updates same_user m m user w
+put-again : {S : Type 0} → (m : HashMap User ℕ S) (user : User) (w : Option ℕ) → hash.get same_user m user ≡ w →
+    hash.Updates same_user m m user w
 unfolding KeepsOthers
 put-again m user w at = (each, at, (λ q apart. refl), λ other _ apart. refl)
   where
@@ -35,7 +36,8 @@ put-again m user w at = (each, at, (λ q apart. refl), λ other _ apart. refl)
         go false test = sym (cond-false _ _ _ test)
 
 -- the longest of a user stays, if this one was no longer
-pub stays : {S : Type 0} → (m : HashMap User ℕ S) (user : User) (lasted before : ℕ) → hash.get same_user m user ≡ Some before → lasted ≤ before →
+pub stays : {S : Type 0} → (m : HashMap User ℕ S) (user : User) (lasted before : ℕ) →
+    hash.get same_user m user ≡ Some before → lasted ≤ before →
     hash.Updates same_user m m user (Some (max lasted (unwrap_or (hash.get same_user m user) 0)))
 stays m user lasted before found long =
     put-again m user _

@@ -1,9 +1,10 @@
-mod Placing
+pub mod Placing
+pub mod Ranking
 mod Listing
-mod Sorting
 mod Summing
 mod Beginning
 pub mod Reaching
 pub mod Bounding
 pub mod Keeping
 pub mod Observing
+mod Sorting

@@ -15,7 +15,8 @@ use Rattle.pim_blocking.specs.declared.section.User.{User}
 use Rattle.pim_blocking.specs.declared.sections.Open.{Open}
 use Rattle.pim_blocking.specs.declared.sections.Sections.{Sections}
 use Rattle.pim_blocking.specs.Observed.{AreLongest, KeepsAll, KnowsSections, Moment, after_own, and_ended, and_shown, ended_sections, longest_by, open_at, open_by, user_of}
-use Rattle.pim_blocking.specs.Sections.{KeepsLongest, same_user}
+use Rattle.pim_blocking.specs.Sections.{same_user}
+use Rattle.pim_blocking.specs.Steps.{KeepsLongest}
 use Rattle.pim_blocking.proofs.Keeping.{same, same-parts}
 
 -- ---- one section more
@@ -76,19 +77,23 @@ pub knows-still : (k : ℕ) (facts : List Moment) (m : Moment) (sections : Secti
 knows-still k facts m sections still none o = record {
   mutexes = o.mutexes;
   lasting = opens k facts m sections sections o (λ lt. sym (still _)) (λ le. refl) (λ mutex ne. refl);
-  longest = subst (λ all. KeepsAll all sections) (sym (none (open_by k facts m.fact.mutex) (ended_sections k facts))) o.longest;
+  longest = subst (λ all. KeepsAll all sections) (sym (none (open_by k facts m.fact.mutex) (ended_sections k facts)))
+      o.longest;
 }
 
 -- a wait
 pub knows-waits : (k : ℕ) (facts : List Moment) (m : Moment) (old new : Sections) (user : User) →
     ((lasts : Option Open) → after_own m m.fact.what lasts ≡ lasts) →
-    ((lasts : Option Open) (all : List Section) → and_shown m m.fact.what lasts all ≡ record { user = user_of m; lasted = 0 } ∷ all) →
-    new.open ≡ old.open → user ≡ user_of m → KeepsLongest old new user 0 → KnowsSections k facts old → KnowsSections k (m ∷ facts) new
+    ((lasts : Option Open) (all : List Section) → and_shown m m.fact.what lasts all
+    ≡ record { user = user_of m; lasted = 0 } ∷ all) →
+    new.open ≡ old.open → user ≡ user_of m → KeepsLongest old new user 0 → KnowsSections k facts old →
+    KnowsSections k (m ∷ facts) new
 knows-waits k facts m old new user still one is whose kept o = record {
   mutexes = ap (λ v. length v.items) is ∙ o.mutexes;
   lasting = opens k facts m old new o (λ lt. at m.fact.mutex ∙ sym (still _)) (λ le. at m.fact.mutex) (λ mutex ne. at mutex);
   longest = subst (λ all. KeepsAll all new) (sym (one (open_by k facts m.fact.mutex) (ended_sections k facts)))
-      (keeps-more old new (user_of m) 0 (ended_sections k facts) (subst (λ u. KeepsLongest old new u 0) whose kept) o.longest);
+      (keeps-more old new (user_of m) 0 (ended_sections k facts)
+      (subst (λ u. KeepsLongest old new u 0) whose kept) o.longest);
 }
   where
     at : (mutex : ℕ) → open_at new mutex ≡ open_at old mutex
@@ -97,7 +102,8 @@ knows-waits k facts m old new user still one is whose kept o = record {
 -- a fact that ends what lasts at its mutex, and may begin what lasts then
 pub knows-ends : (k : ℕ) (facts : List Moment) (m : Moment) (old mid new : Sections) →
     ((lasts : Option Open) (all : List Section) → and_shown m m.fact.what lasts all ≡ and_ended m.time lasts all) →
-    length mid.open.items ≡ length old.open.items → length new.open.items ≡ length mid.open.items → new.longest ≡ mid.longest →
+    length mid.open.items ≡ length old.open.items → length new.open.items ≡ length mid.open.items →
+    new.longest ≡ mid.longest →
     ((mutex : ℕ) → open_at mid mutex ≡ cond (mutex == m.fact.mutex) None (open_at old mutex)) →
     (m.fact.mutex < length old.open.items → open_at new m.fact.mutex ≡ after_own m m.fact.what (open_at old m.fact.mutex)) →
     (length old.open.items ≤ m.fact.mutex → open_at new m.fact.mutex ≡ open_at mid m.fact.mutex) →
@@ -111,7 +117,8 @@ knows-ends k facts m old mid new shown len len2 is ended own past others kept o 
       (λ le.
       let above : length old.open.items ≤ m.fact.mutex = subst (λ l. l ≤ m.fact.mutex) (sym o.mutexes) le in
       past above ∙ ended m.fact.mutex
-      ∙ ap (λ b. cond b None (open_at old m.fact.mutex)) (eq-eqb m.fact.mutex m.fact.mutex refl) ∙ sym (open-past old m.fact.mutex above))
+      ∙ ap (λ b. cond b None (open_at old m.fact.mutex)) (eq-eqb m.fact.mutex m.fact.mutex refl)
+      ∙ sym (open-past old m.fact.mutex above))
       (λ mutex ne. others mutex ne ∙ ended mutex ∙ ap (λ b. cond b None (open_at old mutex)) (ne_eqb mutex m.fact.mutex ne));
   longest = subst (λ all. KeepsAll all new) (sym (shown (open_by k facts m.fact.mutex) (ended_sections k facts)))
       (keeps-same mid new _ is
@@ -125,7 +132,8 @@ knows-ends k facts m old mid new shown len len2 is ended own past others kept o 
 abbrev GrantOpens : User → ℕ → Sections → Sections → Type 0
 GrantOpens user time mid new =
     (mutex : ℕ) → open_at new mutex ≡
-    cond ((mutex == user.mutex) && nat_lt mutex (length mid.open.items)) (Some (record { user = user; began = time })) (open_at mid mutex)
+    cond ((mutex == user.mutex) && nat_lt mutex (length mid.open.items)) (Some (record { user = user; began = time }))
+    (open_at mid mutex)
 
 granted-by : (time : ℕ) (mid new : Sections) (user : User) (mutex : ℕ) (b : Bool) →
     ((mutex == user.mutex) && nat_lt mutex (length mid.open.items)) ≡ b → GrantOpens user time mid new →
@@ -139,7 +147,8 @@ pub granted-own : (m : Moment) (old mid new : Sections) (user : User) → m.fact
 granted-own m old mid new user is whose len opened lt =
     let below : m.fact.mutex < length mid.open.items = subst (λ l. m.fact.mutex < l) (sym len) lt in
     granted-by m.time mid new user m.fact.mutex true
-    (and_from _ _ (eq-eqb m.fact.mutex user.mutex (ap (λ u. u.mutex) (sym whose))) (lt-ltb m.fact.mutex (length mid.open.items) below)) opened
+    (and_from _ _ (eq-eqb m.fact.mutex user.mutex (ap (λ u. u.mutex) (sym whose)))
+    (lt-ltb m.fact.mutex (length mid.open.items) below)) opened
     ∙ ap (λ u. Some (record { user = u; began = m.time })) whose
     ∙ sym (ap (λ what. after_own m what (open_at old m.fact.mutex)) is)
 
@@ -148,7 +157,8 @@ pub granted-past : (m : Moment) (old mid new : Sections) (user : User) → user 
     open_at new m.fact.mutex ≡ open_at mid m.fact.mutex
 granted-past m old mid new user whose len opened le =
     let above : length mid.open.items ≤ m.fact.mutex = subst (λ l. l ≤ m.fact.mutex) (sym len) le in
-    granted-by m.time mid new user m.fact.mutex false (and_right _ _ (le-ltb m.fact.mutex (length mid.open.items) above)) opened
+    granted-by m.time mid new user m.fact.mutex false
+    (and_right _ _ (le-ltb m.fact.mutex (length mid.open.items) above)) opened
 
 pub granted-others : (m : Moment) (mid new : Sections) (user : User) → user ≡ user_of m → GrantOpens user m.time mid new →
     (mutex : ℕ) → mutex ≢ m.fact.mutex → open_at new mutex ≡ open_at mid mutex
@@ -162,8 +172,12 @@ abbrev pub section_of : User × ℕ → Section
 section_of e = record { user = e.0; lasted = e.1 }
 
 mapped : (es : List (User × ℕ)) (e : User × ℕ) → Contains es e → Contains (map section_of es) (section_of e)
-mapped es e (k, lt, at) =
-    (k, subst (λ l. k < l) (sym (length-map es section_of)) lt, get_or-map section_of es k e (section_of e) lt ∙ ap section_of at)
+mapped es e (k, lt, at) = (
+  k,
+  subst (λ l. k < l) (sym (length-map es section_of)) lt,
+  get_or-map section_of es k e (section_of e) lt
+      ∙ ap section_of at,
+)
 
 unmapped : (es : List (User × ℕ)) (s : Section) → Contains (map section_of es) s → Contains es (s.user, s.lasted)
 unmapped es s (k, lt, at) =
@@ -171,7 +185,7 @@ unmapped es s (k, lt, at) =
     let is = sym (get_or-map section_of es k (s.user, s.lasted) s inside) ∙ at in
     (k, inside, ap (λ (o : Section). (o.user, o.lasted)) is)
 
-laws : IsEquivalence same_user
+pub laws : IsEquivalence same_user
 laws = record {
   refl = itself;
   symm = λ x y. go x y (same_user x y) (same_user y x) refl refl;
@@ -189,7 +203,8 @@ laws = record {
 
 -- the entries of a map are the longest sections of all users
 pub longest-are : {S : Type 0} (m : HashMap User ℕ S) (all seen sorted : List Section) → hash.IsUnique same_user m →
-    ((user : User) → hash.get same_user m user ≡ longest_by all user) → seen ≡ map section_of m.entries → IsPermutation seen sorted →
+    ((user : User) → hash.get same_user m user ≡ longest_by all user) → seen ≡ map section_of m.entries →
+    IsPermutation seen sorted →
     AreLongest all sorted
 longest-are m all seen sorted unique keeps is moved s = (from, to)
   where
@@ -198,7 +213,8 @@ longest-are m all seen sorted unique keeps is moved s = (from, to)
 
     from : Contains sorted s → longest_by all s.user ≡ Some s.lasted
     from h =
-        let old = subst (λ l. Contains l s) is (Contains-permutation sorted seen s (IsPermutation-sym seen sorted moved) h) in
+        let old = subst (λ l. Contains l s) is
+        (Contains-permutation sorted seen s (IsPermutation-sym seen sorted moved) h) in
         sym (keeps s.user) ∙ entry.1 (unmapped m.entries s old)
 
     to : longest_by all s.user ≡ Some s.lasted → Contains sorted s

@@ -1,66 +1,87 @@
--- Where a bound belongs, the greatest first.
-use Rattle.std.proofs.Common.{◌≡◌, ℕ, zero, suc, ◌+◌, ◌≤◌, ◌<◌, Bool, true, false, not, cond, List, [], ◌∷◌, take, refl, sym, ap, ◌∙◌, subst, arith, insert, length, get_or}
+-- Where an item belongs among others, the greatest first, and behind those that are as great.
+use Rattle.std.proofs.Common.{◌≡◌, ℕ, zero, suc, ◌+◌, ◌≤◌, ◌<◌, nat_lt, Bool, true, false, not, cond, List, [], ◌∷◌, take, refl, sym, ap, ◌∙◌, subst, arith, insert, length, get_or}
 use Rattle.std.specs.List.{position_or_len}
 use Rattle.std.proofs.lemmas.Bool.{lt-ltb}
 use Rattle.std.proofs.lemmas.List.{take-take}
 use Rattle.std.proofs.lemmas.List.Sums.{position_or_len_is, prefix_len-le-length}
-use Rattle.pim_blocking.specs.declared.bounds.Bound.{Bound}
-use Rattle.pim_blocking.specs.Listed.{is_smaller, placed}
 
--- a bound that is put at the first smaller one is in its place
-insert-placed : (bound : Bound) (xs : List Bound) →
-    insert xs (position_or_len (is_smaller bound.under_inherit) xs) bound ≡ placed bound xs
-insert-placed bound [] = refl
-insert-placed bound (x ∷ xs) = go (is_smaller bound.under_inherit x) (insert-placed bound xs)
+-- whether an item is greater than another, by the sizes of both
+abbrev pub exceeds : {X : Type 0} → (X → ℕ) → X → X → Bool
+exceeds size one other = nat_lt (size other) (size one)
+
+-- items with one more in front of the first that is less
+abbrev pub placed : {X : Type 0} → (X → ℕ) → X → List X → List X
+placed size one [] = one ∷ []
+placed size one (x ∷ xs) = cond (exceeds size one x) (one ∷ x ∷ xs) (x ∷ placed size one xs)
+
+-- an item that is put at the first less one is in its place
+pub insert-placed : {X : Type 0} (size : X → ℕ) (one : X) (xs : List X) →
+    insert xs (position_or_len (exceeds size one) xs) one ≡ placed size one xs
+insert-placed size one [] = refl
+insert-placed {X} size one (x ∷ xs) = go (exceeds size one x) (insert-placed size one xs)
   where
     n : ℕ
-    n = position_or_len (is_smaller bound.under_inherit) xs
+    n = position_or_len (exceeds size one) xs
 
-    go : (b : Bool) → insert xs n bound ≡ placed bound xs →
-        insert (x ∷ xs) (cond (not b) (1 + n) 0) bound ≡ cond b (bound ∷ x ∷ xs) (x ∷ placed bound xs)
+    go : (b : Bool) → insert xs n one ≡ placed size one xs →
+        insert (x ∷ xs) (cond (not b) (1 + n) 0) one ≡ cond b (one ∷ x ∷ xs) (x ∷ placed size one xs)
     go true behind = refl
     go false behind =
         let next : 1 + n ≡ suc n = omega arith in
-        subst (λ k. insert (x ∷ xs) k bound ≡ x ∷ placed bound xs) (sym next) (ap (λ l. x ∷ l) behind)
+        subst (λ k. insert (x ∷ xs) k one ≡ x ∷ placed size one xs) (sym next) (ap (λ l. x ∷ l) behind)
 
-take-first : (n : ℕ) (x : Bound) (xs : List Bound) → take n (x ∷ take n xs) ≡ take n (x ∷ xs)
+take-first : {X : Type 0} (n : ℕ) (x : X) (xs : List X) → take n (x ∷ take n xs) ≡ take n (x ∷ xs)
 take-first zero x xs = refl
 take-first (suc n) x xs = let less : n ≤ suc n = omega arith in ap (λ l. x ∷ l) (take-take n (suc n) xs less)
 
--- the first bounds are enough to know the first ones of all with one more
-pub take-placed : (n : ℕ) (bound : Bound) (xs : List Bound) → take n (placed bound (take n xs)) ≡ take n (placed bound xs)
-take-placed zero bound xs = refl
-take-placed (suc n) bound [] = refl
-take-placed (suc n) bound (x ∷ xs) = go (is_smaller bound.under_inherit x) (take-placed n bound xs)
+-- the first items are enough to know the first ones of all with one more
+pub take-placed : {X : Type 0} (size : X → ℕ) (n : ℕ) (one : X) (xs : List X) →
+    take n (placed size one (take n xs)) ≡ take n (placed size one xs)
+take-placed size zero one xs = refl
+take-placed size (suc n) one [] = refl
+take-placed size (suc n) one (x ∷ xs) = go (exceeds size one x) (take-placed size n one xs)
   where
-    go : (b : Bool) → take n (placed bound (take n xs)) ≡ take n (placed bound xs) →
-        take (suc n) (cond b (bound ∷ x ∷ take n xs) (x ∷ placed bound (take n xs)))
-        ≡ take (suc n) (cond b (bound ∷ x ∷ xs) (x ∷ placed bound xs))
-    go true behind = ap (λ l. bound ∷ l) (take-first n x xs)
+    go : (b : Bool) → take n (placed size one (take n xs)) ≡ take n (placed size one xs) →
+        take (suc n) (cond b (one ∷ x ∷ take n xs) (x ∷ placed size one (take n xs)))
+        ≡ take (suc n) (cond b (one ∷ x ∷ xs) (x ∷ placed size one xs))
+    go true behind = ap (λ l. one ∷ l) (take-first n x xs)
     go false behind = ap (λ l. x ∷ l) behind
 
--- the first smaller bound
-pub first-smaller : (xs : List Bound) (least i : ℕ) (d : Bound) → i < length xs →
-    ((k : ℕ) (e : Bound) → k < i → is_smaller least (get_or xs k e) ≡ false) → (get_or xs i d).under_inherit < least →
-    i ≡ position_or_len (is_smaller least) xs
-first-smaller xs least i d inside none smaller =
-    let within : i ≤ length xs = omega arith in
-    sym (position_or_len_is (is_smaller least) xs i d within (λ k h. none k d h) (λ h. lt-ltb (get_or xs i d).under_inherit least smaller))
+-- ---- the first that is less
 
--- no bound is smaller
-pub none-smaller : (xs : List Bound) (least i : ℕ) → length xs ≤ i →
-    ((k : ℕ) (e : Bound) → k < i → is_smaller least (get_or xs k e) ≡ false) → length xs ≡ position_or_len (is_smaller least) xs
-none-smaller [] least i all none = refl
-none-smaller (x ∷ xs) least i all none =
+-- no item in front of it is less
+pub first-less : {X : Type 0} (size : X → ℕ) (xs : List X) (least i : ℕ) (d : X) → i < length xs →
+    ((k : ℕ) (e : X) → k < i → nat_lt (size (get_or xs k e)) least ≡ false) → size (get_or xs i d) < least →
+    i ≡ position_or_len (λ x. nat_lt (size x) least) xs
+first-less size xs least i d inside none less =
+    let within : i ≤ length xs = omega arith in
+    sym (position_or_len_is (λ x. nat_lt (size x) least) xs i d within (λ k h. none k d h)
+    (λ h. lt-ltb (size (get_or xs i d)) least less))
+
+-- no item at all is less
+pub none-less : {X : Type 0} (size : X → ℕ) (xs : List X) (least i : ℕ) → length xs ≤ i →
+    ((k : ℕ) (e : X) → k < i → nat_lt (size (get_or xs k e)) least ≡ false) →
+    length xs ≡ position_or_len (λ x. nat_lt (size x) least) xs
+none-less size [] least i all none = refl
+none-less size (x ∷ xs) least i all none =
     let within : length (x ∷ xs) ≤ length (x ∷ xs) = omega arith in
-    sym (position_or_len_is (is_smaller least) (x ∷ xs) (length (x ∷ xs)) x within
+    sym (position_or_len_is (λ y. nat_lt (size y) least) (x ∷ xs) (length (x ∷ xs)) x within
     (λ k h. let before : k < i = omega arith in none k x before) (λ h. absurd (omega arith)))
 
-pub place-within : (xs : List Bound) (least : ℕ) → position_or_len (is_smaller least) xs ≤ length xs
-place-within xs least = prefix_len-le-length (λ x. not (is_smaller least x)) xs
+pub place-within : {X : Type 0} (size : X → ℕ) (xs : List X) (least : ℕ) →
+    position_or_len (λ x. nat_lt (size x) least) xs ≤ length xs
+place-within size xs least = prefix_len-le-length (λ x. not (nat_lt (size x) least)) xs
 
--- a bound that is put in front of the first smaller one is in its place
-pub put-placed : (bound : Bound) (xs old new : List Bound) (place : ℕ) →
-    place ≡ position_or_len (is_smaller bound.under_inherit) xs → xs ≡ old → new ≡ insert old place bound → new ≡ placed bound old
-put-placed bound xs old new place at same put =
-    put ∙ ap (λ i. insert old i bound) (at ∙ ap (λ l. position_or_len (is_smaller bound.under_inherit) l) same) ∙ insert-placed bound old
+-- what is put at the first less item of a list that is read is put there
+pub put-first : {X : Type 0} (size : X → ℕ) (one : X) (xs old new : List X) (place : ℕ) →
+    place ≡ position_or_len (exceeds size one) xs → xs ≡ old → new ≡ insert old place one →
+    new ≡ insert old (position_or_len (exceeds size one) old) one
+put-first size one xs old new place at same put =
+    put ∙ ap (λ i. insert old i one) (at ∙ ap (position_or_len (exceeds size one)) same)
+
+-- the first items of all with one more, if it was put among the first ones of all
+pub first-placed : {X : Type 0} (size : X → ℕ) (n : ℕ) (one : X) (old new ordered : List X) → old ≡ take n ordered →
+    new ≡ take n (insert old (position_or_len (exceeds size one) old) one) → new ≡ take n (placed size one ordered)
+first-placed size n one old new ordered first put =
+    put ∙ ap (take n) (insert-placed size one old) ∙ ap (λ l. take n (placed size one l)) first
+    ∙ take-placed size n one ordered

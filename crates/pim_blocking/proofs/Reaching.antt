@@ -65,7 +65,8 @@ reaches-then xs ys a b c p q = record {
 }
 
 -- nothing changes where a mutex was reached before, or isn't one
-pub reaches-old : (m : ℕ) (s : Search) → (m < length s.reached.items → IsTrue (is_in s.reached.items m)) → Reaches (m ∷ []) s s
+pub reaches-old : (m : ℕ) (s : Search) → (m < length s.reached.items → IsTrue (is_in s.reached.items m)) →
+    Reaches (m ∷ []) s s
 reaches-old m s old = record {
   len = refl;
   kept = λ n h. h;
@@ -94,21 +95,25 @@ reaches-new m a b lt was reached left = record {
   only = λ n h. elim (cases_eq n m) [
     | inl same ↦ inr (
       subst (Contains (m ∷ [])) (sym same) (Contains-push [] m),
-      subst (λ l. Contains l n) (sym left) (subst (Contains (a.left.items ++ m ∷ [])) (sym same) (Contains-push a.left.items m)),
+      subst (λ l. Contains l n) (sym left)
+          (subst (Contains (a.left.items ++ m ∷ [])) (sym same) (Contains-push a.left.items m)),
     )
     | inr apart ↦ inl (sym (get_or-set_other a.reached.items m n true false apart) ∙ sym (now n) ∙ h)
   ];
   left = λ n h. subst (λ l. Contains l n) (sym left) (Contains-append_left a.left.items (m ∷ []) n h);
   new_left = λ n h. elim (Contains-push_cases a.left.items m n (subst (λ l. Contains l n) left h)) [
     | inl old ↦ inl old
-    | inr same ↦ inr (subst (λ o. IsTrue (is_in b.reached.items o)) same (now m ∙ get_or-set_same a.reached.items m true false lt))
+    | inr same ↦ inr (subst (λ o. IsTrue (is_in b.reached.items o)) same
+        (now m ∙ get_or-set_same a.reached.items m true false lt))
   ];
   work =
-      let count : sum_by weight (set a.reached.items m true) + weight (get_or a.reached.items m false) ≡ sum_by weight a.reached.items + weight true =
+      let count : sum_by weight (set a.reached.items m true) + weight (get_or a.reached.items m false)
+      ≡ sum_by weight a.reached.items + weight true =
       sum_by-set weight a.reached.items m true false lt in
       let one : weight (get_or a.reached.items m false) ≡ 1 = ap weight was in
       let long : length (a.left.items ++ m ∷ []) ≡ length a.left.items + 1 = length-append a.left.items (m ∷ []) in
-      let less : sum_by weight (set a.reached.items m true) + 1 ≡ sum_by weight a.reached.items = omega (arith, count, one) in
+      let less : sum_by weight (set a.reached.items m true) + 1 ≡ sum_by weight a.reached.items =
+      omega (arith, count, one) in
       ap₂ (λ l k. count_by not l + length k) reached left ∙ omega (arith, less, long);
 }
   where
@@ -120,7 +125,8 @@ reaches-new m a b lt was reached left = record {
 
     kept : (n : ℕ) → IsTrue (is_in a.reached.items n) → get_or (set a.reached.items m true) n false ≡ true
     kept n h = elim (cases_eq n m) [
-      | inl same ↦ ap (λ o. get_or (set a.reached.items m true) o false) same ∙ get_or-set_same a.reached.items m true false lt
+      | inl same ↦ ap (λ o. get_or (set a.reached.items m true) o false) same
+          ∙ get_or-set_same a.reached.items m true false lt
       | inr apart ↦ get_or-set_other a.reached.items m n true false apart ∙ h
     ]
 
@@ -148,7 +154,8 @@ half-begun used inner s b = record {
     same m = ap (λ l. is_in l m) b.reached
 
 -- one is taken from what is left, and what its owners asked for is reached
-pub half-step : (used : List Bool) (inner : ℕ → List ℕ) (a b c : Search) (outer : ℕ) → a.left.items ≡ b.left.items ++ outer ∷ [] →
+pub half-step : (used : List Bool) (inner : ℕ → List ℕ) (a b c : Search) (outer : ℕ) →
+    a.left.items ≡ b.left.items ++ outer ∷ [] →
     b.reached ≡ a.reached → Reaches (inner outer) b c → IsHalf used inner a → IsHalf used inner c
 half-step used inner a b c outer taken same r half = record {
   len = r.len ∙ ap (λ v. length v.items) same ∙ half.len;
@@ -161,7 +168,8 @@ half-step used inner a b c outer taken same r half = record {
   ];
   begun = λ m h. r.kept m (is m (half.begun m h));
   left = λ m h. elim (r.new_left m h) [
-    | inl old ↦ r.kept m (is m (half.left m (subst (λ l. Contains l m) (sym taken) (Contains-append_left b.left.items (outer ∷ []) m old))))
+    | inl old ↦ r.kept m (is m
+        (half.left m (subst (λ l. Contains l m) (sym taken) (Contains-append_left b.left.items (outer ∷ []) m old))))
     | inr new ↦ new
   ];
   closed = λ m i h asked lt. elim (r.only m h) [

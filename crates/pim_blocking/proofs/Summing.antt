@@ -1,18 +1,19 @@
 -- The sections that make a sum.
-use Rattle.std.proofs.Common.{◌≡◌, ◌≢◌, ◌⊎◌, ◌∙◌, ◌+◌, ◌<◌, ◌≤◌, ◌==◌, ℕ, Bool, true, false, true≢false, cond, max, nat_le, List, [], ◌∷◌, ◌++◌, length, get_or, take, drop, set, refl, sym, ap, subst, inl, inr, arith, eq-eqb, length-set, append_assoc, get_or-set_same, get_or-set_other}
+use Rattle.std.proofs.Common.{◌≡◌, ◌≢◌, ◌⊎◌, ◌∙◌, ◌+◌, ◌<◌, ◌≤◌, ◌==◌, ℕ, Bool, true, false, cond, max, nat_le, List, [], ◌∷◌, ◌++◌, length, get_or, take, drop, set, refl, sym, ap, subst, inl, inr, arith, eq-eqb, length-set, append_assoc, get_or-set_same, get_or-set_other}
 use Rattle.std.specs.List.{filter, fold}
-use Rattle.std.proofs.lemmas.Bool.{and_from, and_parts, cases_eq, ne_eqb, cond-false, cond-true, eqb-true, le-leb, leb-true, lt-leb, lt-ltb, ltb-true}
+use Rattle.std.proofs.lemmas.Bool.{and_from, and_parts, cases_eq, ne_eqb, cond-false, cond-true, le-leb, leb-true, lt-leb, lt-ltb, ltb-true}
 use Rattle.std.proofs.lemmas.List.{drop_more, take-append-drop, take_more}
 use Rattle.std.proofs.lemmas.List.Elements.{filter-append}
 use Rattle.std.proofs.lemmas.List.Sums.{fold-append}
 use Rattle.pim_blocking.specs.declared.section.Section.{Section}
 use Rattle.pim_blocking.specs.declared.bounds.Per.{Per}
 use Rattle.pim_blocking.specs.declared.bounds.Per.TheVariants as per
-use Rattle.pim_blocking.specs.Bounds.{IsLongestFirst, first_longest, is_first_longest, is_left, longest_in, longest_of_number, number_of, sum_of_longest, summed}
+use Rattle.pim_blocking.specs.Bounds.{IsLongestFirst, first_longest, is_first_longest, longest_in, longest_of_number, number_of, sum_of_longest, summed}
 
 -- ---- the longest of two lists
 
-longest-from : (z : ℕ) (sections : List Section) → fold (λ longest s. max longest s.lasted) z sections ≡ max z (longest_in sections)
+longest-from : (z : ℕ) (sections : List Section) → fold (λ longest s. max longest s.lasted) z sections
+    ≡ max z (longest_in sections)
 longest-from z [] = omega arith
 longest-from z (s ∷ sections) =
     longest-from (max z s.lasted) sections
@@ -45,11 +46,13 @@ picked : (left a s b longest : ℕ) → longest ≡ max a (max s b) → 0 < s �
 picked left a s b longest is some same (inl h) = absurd (omega (arith, some, same, h.0))
 picked left a s b longest is some same (inr h) = (omega (arith, same, h.0, h.1), omega (arith, is, same, h.0))
 
-unpicked : (left a s b longest : ℕ) → longest ≡ max a (max s b) → a < s → b ≤ s → IsLeft left a longest → (0 < s) × (left ≡ s)
+unpicked : (left a s b longest : ℕ) → longest ≡ max a (max s b) → a < s → b ≤ s → IsLeft left a longest →
+    (0 < s) × (left ≡ s)
 unpicked left a s b longest is lt le (inl h) = absurd (omega (arith, is, lt, le, h.1))
 unpicked left a s b longest is lt le (inr h) = (omega (arith, lt), omega (arith, is, lt, le, h.0))
 
-left-picked : (left a s b longest : ℕ) → longest ≡ max a (max s b) → 0 < s → left ≡ s → IsLeft left a longest → IsLeft 0 (max a s) longest
+left-picked : (left a s b longest : ℕ) → longest ≡ max a (max s b) → 0 < s → left ≡ s → IsLeft left a longest →
+    IsLeft 0 (max a s) longest
 left-picked left a s b longest is some same (inl h) = absurd (omega (arith, some, same, h.0))
 left-picked left a s b longest is some same (inr h) = inl (refl, omega (arith, same, h.0, h.1))
 
@@ -68,15 +71,18 @@ longest-split : (per : Per) (sections : List Section) (i : ℕ) (d : Section) (n
     longest_of_number per sections n ≡ max (longest_of_number per (take i sections) n)
     (max (longest_of_number per (get_or sections i d ∷ []) n) (longest_of_number per (drop (i + 1) sections) n))
 longest-split per sections i d n lt =
-    ap (λ l. longest_of_number per l n) (sym (take-append-drop i sections) ∙ ap (λ r. take i sections ++ r) (drop_more sections i d lt))
+    ap (λ l. longest_of_number per l n) (sym (take-append-drop i sections)
+    ∙ ap (λ r. take i sections ++ r) (drop_more sections i d lt))
     ∙ longest-both per (take i sections) (get_or sections i d ∷ drop (i + 1) sections) n
-    ∙ ap (max (longest_of_number per (take i sections) n)) (longest-both per (get_or sections i d ∷ []) (drop (i + 1) sections) n)
+    ∙ ap (max (longest_of_number per (take i sections) n))
+    (longest-both per (get_or sections i d ∷ []) (drop (i + 1) sections) n)
 
 longest-next : (per : Per) (sections : List Section) (i : ℕ) (d : Section) (n : ℕ) → i < length sections →
     longest_of_number per (take (i + 1) sections) n
     ≡ max (longest_of_number per (take i sections) n) (longest_of_number per (get_or sections i d ∷ []) n)
 longest-next per sections i d n lt =
-    ap (λ l. longest_of_number per l n) (take_more sections i d lt) ∙ longest-both per (take i sections) (get_or sections i d ∷ []) n
+    ap (λ l. longest_of_number per l n) (take_more sections i d lt)
+    ∙ longest-both per (take i sections) (get_or sections i d ∷ []) n
 
 first-next : (per : Per) (count : ℕ) (sections : List Section) (i : ℕ) (d : Section) (b : Bool) → i < length sections →
     is_first_longest per count (take i sections) (get_or sections i d) (drop (i + 1) sections) ≡ b →
@@ -87,18 +93,22 @@ first-next per count sections i d b lt is =
     let s = get_or sections i d in
     let later = drop (i + 1) sections in
     ap (first_longest per count (take i sections)) (drop_more sections i d lt)
-    ∙ ap (λ t. cond t (s ∷ first_longest per count (take i sections ++ s ∷ []) later) (first_longest per count (take i sections ++ s ∷ []) later)) is
-    ∙ ap (λ l. cond b (s ∷ first_longest per count l later) (first_longest per count l later)) (sym (take_more sections i d lt))
+    ∙ ap (λ t. cond t (s ∷ first_longest per count (take i sections ++ s ∷ []) later)
+    (first_longest per count (take i sections ++ s ∷ []) later)) is
+    ∙ ap (λ l. cond b (s ∷ first_longest per count l later) (first_longest per count l later))
+    (sym (take_more sections i d lt))
 
 -- Of the sections so far those that make the sum are taken, and the longest of a number that is left is none of them.
-pub record ArePicked (per : Per) (sections : List Section) (count i : ℕ) (longest : List ℕ) (summed : List Section) : Type 0 where
+pub record ArePicked (per : Per) (sections : List Section) (count i : ℕ) (longest : List ℕ)
+    (summed : List Section) : Type 0 where
   pub len : length longest ≡ count
   pub left : (n : ℕ) → n < count →
       IsLeft (get_or longest n 0) (longest_of_number per (take i sections) n) (longest_of_number per sections n)
   pub taken : summed ++ first_longest per count (take i sections) (drop i sections) ≡ first_longest per count [] sections
 
 -- the next section is one of those
-picked-more : (per : Per) (sections : List Section) (count i : ℕ) (d : Section) (longest new : List ℕ) (summed more : List Section) →
+picked-more : (per : Per) (sections : List Section) (count i : ℕ) (d : Section) (longest new : List ℕ)
+    (summed more : List Section) →
     i < length sections → number_of per (get_or sections i d) < count → 0 < (get_or sections i d).lasted →
     get_or longest (number_of per (get_or sections i d)) 0 ≡ (get_or sections i d).lasted →
     new ≡ set longest (number_of per (get_or sections i d)) 0 → more ≡ summed ++ get_or sections i d ∷ [] →
@@ -106,7 +116,8 @@ picked-more : (per : Per) (sections : List Section) (count i : ℕ) (d : Section
 picked-more per sections count i d longest new summed more lt inside some same is_new is_more p = record {
   len = ap length is_new ∙ length-set longest (number_of per (get_or sections i d)) 0 ∙ p.len;
   left = λ n h. subst (λ l. IsLeft (get_or l n 0) (longest_of_number per (take (i + 1) sections) n) (all n)) (sym is_new)
-      (subst (λ a. IsLeft (get_or (set longest number 0) n 0) a (all n)) (sym (longest-next per sections i d n lt)) (left n h));
+      (subst (λ a. IsLeft (get_or (set longest number 0) n 0) a (all n))
+      (sym (longest-next per sections i d n lt)) (left n h));
   taken = ap (λ l. l ++ first_longest per count (take (i + 1) sections) (drop (i + 1) sections)) is_more
       ∙ append_assoc summed (s ∷ []) (first_longest per count (take (i + 1) sections) (drop (i + 1) sections))
       ∙ ap (λ r. summed ++ r) (sym (first-next per count sections i d true lt first)) ∙ p.taken;
@@ -140,9 +151,11 @@ picked-more per sections count i d longest new summed more lt inside some same i
           (subst (λ v. IsLeft v (max (before number) (own number)) (all number))
           (sym (get_or-set_same longest number 0 0 (subst (λ c. number < c) (sym p.len) inside)))
           (left-picked (get_or longest number 0) (before number) (own number) (behind number) (all number)
-          (longest-split per sections i d number lt) (subst (λ o. 0 < o) (sym is_own) some) (same ∙ sym is_own) (p.left number inside)))
+          (longest-split per sections i d number lt) (subst (λ o. 0 < o) (sym is_own) some) (same ∙ sym is_own)
+          (p.left number inside)))
       | inr ne ↦
-          subst (λ v. IsLeft v (max (before n) (own n)) (all n)) (sym (get_or-set_other longest number n 0 0 (λ e. ne (sym e))))
+          subst (λ v. IsLeft v (max (before n) (own n)) (all n))
+          (sym (get_or-set_other longest number n 0 0 (λ e. ne (sym e))))
           (left-unpicked (get_or longest n 0) (before n) (own n) (behind n) (all n) (longest-split per sections i d n lt)
           (λ o _. absurd (omega (arith, o, longest-other per s n ne))) (p.left n h))
     ]
@@ -150,7 +163,8 @@ picked-more per sections count i d longest new summed more lt inside some same i
     first : is_first_longest per count (take i sections) s (drop (i + 1) sections) ≡ true
     first =
         let both = picked (get_or longest number 0) (before number) s.lasted (behind number) (all number)
-        (longest-split per sections i d number lt ∙ ap (λ o. max (before number) (max o (behind number))) is_own) some same (p.left number inside) in
+        (longest-split per sections i d number lt ∙ ap (λ o. max (before number) (max o (behind number))) is_own) some same
+        (p.left number inside) in
         and_from _ _ (lt-ltb number count inside)
         (and_from _ _ (lt-ltb (before number) s.lasted both.0) (le-leb (behind number) s.lasted both.1))
 
@@ -208,35 +222,36 @@ picked-other per sections count i d longest summed lt not p = record {
         absurd (not inside is.0 is.1)
 
 -- the next section, if it is as long as what is left of its number
-pub picked-next : (per : Per) (sections : List Section) (count i : ℕ) (d : Section) (longest new : List ℕ) (summed more : List Section)
-    (number : ℕ) → i < length sections → number ≡ number_of per (get_or sections i d) →
-    is_left longest number (get_or sections i d).lasted ≡ true → new ≡ set longest number 0 → more ≡ summed ++ get_or sections i d ∷ [] →
-    ArePicked per sections count i longest summed → ArePicked per sections count (i + 1) new more
-picked-next per sections count i d longest new summed more number lt is test is_new is_more p =
-    let parts = and_parts _ _ test in
-    let both = and_parts _ _ parts.1 in
-    let inside = subst (λ c. number < c) p.len (ltb-true number (length longest) parts.0) in
-    picked-more per sections count i d longest new summed more lt (subst (λ m. m < count) is inside)
-    (ltb-true 0 (get_or sections i d).lasted both.0)
-    (ap (λ m. get_or longest m 0) (sym is) ∙ eqb-true (get_or longest number 0) (get_or sections i d).lasted both.1)
-    (is_new ∙ ap (λ m. set longest m 0) is) is_more p
+pub picked-next : (per : Per) (sections : List Section) (count i : ℕ) (d : Section) (longest new : List ℕ)
+    (summed more : List Section)
+    (number : ℕ) → i < length sections → number ≡ number_of per (get_or sections i d) → number < length longest →
+    0 < (get_or sections i d).lasted → get_or longest number 0 ≡ (get_or sections i d).lasted → new ≡ set longest number 0 →
+    more ≡ summed ++ get_or sections i d ∷ [] → ArePicked per sections count i longest summed →
+    ArePicked per sections count (i + 1) new more
+picked-next per sections count i d longest new summed more number lt is below some same is_new is_more p =
+    picked-more per sections count i d longest new summed more lt
+    (subst (λ m. m < count) is (subst (λ c. number < c) p.len below))
+    some (ap (λ m. get_or longest m 0) (sym is) ∙ same) (is_new ∙ ap (λ m. set longest m 0) is) is_more p
 
 -- the next section, if it isn't
-pub picked-past : (per : Per) (sections : List Section) (count i : ℕ) (d : Section) (longest new : List ℕ) (summed more : List Section)
+pub picked-past : (per : Per) (sections : List Section) (count i : ℕ) (d : Section) (longest new : List ℕ)
+    (summed more : List Section)
     (number : ℕ) → i < length sections → number ≡ number_of per (get_or sections i d) →
-    is_left longest number (get_or sections i d).lasted ≡ false → new ≡ longest → more ≡ summed →
-    ArePicked per sections count i longest summed → ArePicked per sections count (i + 1) new more
-picked-past per sections count i d longest new summed more number lt is test is_new is_more p =
+    (number < length longest → 0 < (get_or sections i d).lasted →
+    get_or longest number 0 ≡ (get_or sections i d).lasted → ⊥) →
+    new ≡ longest → more ≡ summed → ArePicked per sections count i longest summed →
+    ArePicked per sections count (i + 1) new more
+picked-past per sections count i d longest new summed more number lt is not is_new is_more p =
     subst (λ l. ArePicked per sections count (i + 1) l more) (sym is_new)
     (subst (ArePicked per sections count (i + 1) longest) (sym is_more)
-    (picked-other per sections count i d longest summed lt (λ inside some same. not inside some same) p))
+    (picked-other per sections count i d longest summed lt other p))
   where
-    not : number_of per (get_or sections i d) < count → 0 < (get_or sections i d).lasted →
+    other : number_of per (get_or sections i d) < count → 0 < (get_or sections i d).lasted →
         get_or longest (number_of per (get_or sections i d)) 0 ≡ (get_or sections i d).lasted → ⊥
-    not inside some same =
-        let below : number < length longest = subst (λ m. m < length longest) (sym is) (subst (λ c. number_of per (get_or sections i d) < c) (sym p.len) inside) in
-        true≢false (sym (and_from _ _ (lt-ltb number (length longest) below) (and_from _ _ (lt-ltb 0 (get_or sections i d).lasted some)
-        (eq-eqb (get_or longest number 0) (get_or sections i d).lasted (ap (λ m. get_or longest m 0) is ∙ same)))) ∙ test)
+    other inside some same =
+        not (subst (λ m. m < length longest) (sym is)
+        (subst (λ c. number_of per (get_or sections i d) < c) (sym p.len) inside)) some
+        (ap (λ m. get_or longest m 0) is ∙ same)
 
 -- ---- the smaller sum
 

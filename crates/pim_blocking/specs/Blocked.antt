@@ -15,14 +15,10 @@ use Rattle.pim_blocking.specs.declared.blocked.TheConstants.{NOBODY}
 abbrev pub is_real_time : ℕ → Bool
 is_real_time level = nat_le 1 level && nat_le level 99
 
--- the level of a thread at the begin: that of its first record; 0, the lowest, if its task's number is the highest u32, which
--- no thread of a program has
+-- the level of a thread at the begin: that of its first record; 0, the lowest, if its task's number is the highest u32,
+-- which no thread of a program has
 abbrev pub level_of : LoggedThread → ℕ
 level_of thread = if thread.task == NOBODY then 0 else thread.level
-
--- what is known of a thread at the begin
-abbrev pub begun : LoggedThread → Blocked
-begun thread = record { level = level_of thread; waited = 0; since = None }
 
 -- the level at the begin of the thread with a number; 0 if there is none
 abbrev pub first_level : Ids → ℕ → ℕ
@@ -43,8 +39,8 @@ highest_level ids [] t = first_level ids t
 highest_level ids (m ∷ before) t =
     if m.fact.thread == t then and_level m.fact.what (highest_level ids before t) else highest_level ids before t
 
--- the level of the thread that owned what a thread waits for as its last wait began; 0, the lowest, if that isn't known, or is the
--- thread itself
+-- the level of the thread that owned what a thread waits for as its last wait began; 0, the lowest, if that isn't known, or
+-- is the thread itself
 abbrev pub awaited_level : Course → ℕ → ℕ
 awaited_level course t =
     option_map_or (λ owner. if owner == t then 0 else (thread_in course owner).level) (thread_in course t).awaited_owner 0
@@ -91,14 +87,6 @@ longest_wait facts time t = and_waited time (since_by facts t) (ended_wait facts
 -- what is known of a thread; nothing of one that there isn't
 abbrev pub blocked_at : List Blocked → ℕ → Blocked
 blocked_at blocked t = slice_index_or blocked t (record { level = 0; waited = 0; since = None })
-
--- the highest level of a thread, as it is known
-abbrev pub level_at : List Blocked → ℕ → ℕ
-level_at blocked t = (blocked_at blocked t).level
-
--- the longest wait of a thread, as it is known, in a log that ends at this time
-abbrev pub waited_at : ℕ → List Blocked → ℕ → ℕ
-waited_at time blocked t = and_waited time (blocked_at blocked t).since (blocked_at blocked t).waited
 
 -- What is known of a thread are its level and its waits by these facts.
 pub record KnowsThread (ids : Ids) (facts : List Moment) (t : ℕ) (blocked : Blocked) : Type 0 where

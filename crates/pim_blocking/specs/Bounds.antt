@@ -1,6 +1,6 @@
 -- What a thread can be blocked for by threads of lower levels: L. Sha, R. Rajkumar, J. P. Lehoczky, Priority Inheritance
 -- Protocols, 1990. The critical sections are those that were observed: a longer one isn't known.
-use Rattle.std.specs.Prelude.{◌≡◌, ◌↔◌, IsTrue, ℕ, zero, suc, ◌+◌, ◌==◌, nat_lt, nat_le, ◌&&◌, ◌||◌, not, Bool, List, [], ◌∷◌, ◌++◌, length, slice_index_or, filter, fold, max, min, if◌then◌else◌}
+use Rattle.std.specs.Prelude.{◌≡◌, ◌↔◌, IsTrue, ℕ, zero, suc, ◌+◌, ◌==◌, nat_lt, nat_le, ◌&&◌, ◌||◌, not, Bool, List, [], ◌∷◌, ◌++◌, filter, fold, max, min, if◌then◌else◌}
 use Rattle.std.specs.List.{list_any}
 use Rattle.std.specs.List.Sorted.{IsPermutation, IsSortedBy, IsStableBy}
 use Rattle.pim_blocking.specs.Reached.{IsReached}
@@ -48,11 +48,6 @@ sum_below (suc n) f = sum_below n f + f n
 abbrev pub capped : ℕ → ℕ
 capped n = min n 18446744073709551615
 
--- whether what is left of a number is so long, and not 0
-abbrev pub is_left : List ℕ → ℕ → ℕ → Bool
-is_left longest number lasted =
-    nat_lt number (length longest) && (nat_lt 0 lasted && (slice_index_or longest number 0 == lasted))
-
 -- the sum of the longest sections of the threads or at the mutexes below a number; at most 2 ^ 64 - 1
 abbrev pub sum_of_longest : Per → ℕ → List Section → ℕ
 sum_of_longest per count sections = capped (sum_below count (longest_of_number per sections))
@@ -73,7 +68,8 @@ first_longest per count earlier (s ∷ later) =
 -- the sections that make the smaller sum, where there are n threads and k mutexes: those of the threads if both are equal
 abbrev pub summed : ℕ → ℕ → List Section → List Section
 summed n k sections =
-    if nat_le (sum_of_longest per.Thread n sections) (sum_of_longest per.Mutex k sections) then first_longest per.Thread n [] sections
+    if nat_le (sum_of_longest per.Thread n sections) (sum_of_longest per.Mutex k sections)
+    then first_longest per.Thread n [] sections
     else first_longest per.Mutex k [] sections
 
 -- whether a section is longer than another
@@ -88,8 +84,8 @@ pub record IsLongestFirst (sections listed : List Section) : Type 0 where
 
 -- A thread can be blocked for so long at most, where there are n threads and k mutexes, by mutex those that threads asked
 -- for while they owned it. Under INHERIT: for one section of each lower thread, and for one at each mutex, of those at the
--- mutexes that are reached from the ones used at its level. Under PROTECT: for one section at one that is used so. Those that make
--- the bound under INHERIT are listed.
+-- mutexes that are reached from the ones used at its level. Under PROTECT: for one section at one that is used so. Those
+-- that make the bound under INHERIT are listed.
 pub record IsBound (n k : ℕ) (seen : List Section) (inner : ℕ → List ℕ) (bound : Bound) : Type 0 where
   pub at : ℕ → Bool
   pub reached : (m : ℕ) → IsTrue (at m) ↔ IsReached k (is_used_below k seen bound.thread bound.level) inner m

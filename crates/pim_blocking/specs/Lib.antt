@@ -4,3 +4,4 @@ pub mod Blocked
 pub mod Reached
 pub mod Bounds
 pub mod Listed
+pub mod Steps

@@ -1,5 +1,6 @@
 -- Which bounds are listed, and in which order.
-use Rattle.std.specs.Prelude.{◌≡◌, IsTrue, ℕ, suc, nat_lt, Bool, false, List, [], ◌∷◌, length, filter, take, min, if◌then◌else◌}
+use Rattle.std.specs.Prelude.{◌≡◌, IsTrue, ℕ, suc, nat_lt, Bool, false, List, [], ◌∷◌, ◌++◌, length, filter, take, min}
+use Rattle.std.specs.List.Sorted.{IsPermutation, IsSortedBy, IsStableBy}
 use Rattle.pim_facts.specs.declared.ids.Ids.{Ids}
 use Rattle.pim_orders.specs.declared.nesting.Order.{Order}
 use Rattle.pim_blocking.specs.Blocked.{KnowsThreads, highest_level, is_real_time, longest_wait}
@@ -12,27 +13,22 @@ use Rattle.pim_blocking.specs.declared.bounds.Blocking.{Blocking}
 use Rattle.pim_blocking.specs.declared.bounds.Bound.{Bound}
 use Rattle.pim_blocking.specs.declared.bounds.TheConstants.{BOUNDS}
 
--- whether a bound is smaller under INHERIT than this
-abbrev pub is_smaller : ℕ → Bound → Bool
-is_smaller under_inherit bound = nat_lt bound.under_inherit under_inherit
+-- whether a bound is greater under INHERIT than another
+abbrev pub is_greater : Bound → Bound → Bool
+is_greater one other = nat_lt other.under_inherit one.under_inherit
 
 -- whether a thread can be blocked at all under INHERIT
 abbrev pub is_blocked : Bound → Bool
 is_blocked bound = nat_lt 0 bound.under_inherit
 
--- bounds with one more in front of the first that is smaller
-abbrev pub placed : Bound → List Bound → List Bound
-placed bound [] = bound ∷ []
-placed bound (other ∷ bounds) =
-    if is_smaller bound.under_inherit other then bound ∷ other ∷ bounds else other ∷ placed bound bounds
+-- These bounds are ordered with the greatest first, and equal ones as they were.
+pub record IsGreatestFirst (bounds ordered : List Bound) : Type 0 where
+  pub these : IsPermutation bounds ordered
+  pub greatest_first : IsSortedBy is_greater ordered
+  pub in_order : IsStableBy is_greater bounds ordered
 
--- of bounds in the order of their threads, the last first: the greatest first, of equal ones that of the lower thread
-abbrev pub greatest_first : List Bound → List Bound
-greatest_first [] = []
-greatest_first (bound ∷ bounds) = placed bound (greatest_first bounds)
-
--- A thread has this bound, by the highest level of each and its longest wait, where there are n threads and k mutexes. The bound's
--- number of the thread is t, or 2 ^ 32 - 1 if t is above that.
+-- A thread has this bound, by the highest level of each and its longest wait, where there are n threads and k mutexes. The
+-- bound's number of the thread is t, or 2 ^ 32 - 1 if t is above that.
 pub record IsBoundOf (n k : ℕ) (highest longest : ℕ → ℕ) (seen : List Section) (inner : ℕ → List ℕ) (t : ℕ) (bound : Bound)
     : Type 0 where
   pub thread : bound.thread ≡ min t 4294967295
@@ -40,32 +36,36 @@ pub record IsBoundOf (n k : ℕ) (highest longest : ℕ → ℕ) (seen : List Se
   pub waited : bound.waited ≡ longest t
   pub is : IsBound n k seen inner bound
 
--- These are the bounds of all threads of real-time priority below a number, that of the last thread first.
+-- These are the bounds of all threads of real-time priority below a number, in the order of the threads.
 pub data AreOfThreads (Has : ℕ → Bound → Type 0) (highest : ℕ → ℕ) : ℕ → List Bound → Type 0 where
   no_thread : AreOfThreads Has highest 0 []
   and_thread : {t : ℕ} {bound : Bound} {bounds : List Bound} → IsTrue (is_real_time (highest t)) → Has t bound →
-      AreOfThreads Has highest t bounds → AreOfThreads Has highest (suc t) (bound ∷ bounds)
+      AreOfThreads Has highest t bounds → AreOfThreads Has highest (suc t) (bounds ++ bound ∷ [])
   but_thread : {t : ℕ} {bounds : List Bound} → is_real_time (highest t) ≡ false → AreOfThreads Has highest t bounds →
       AreOfThreads Has highest (suc t) bounds
 
--- Of the threads below a number the ten greatest bounds above 0 are listed, or all if there are fewer: the greatest first, of equal
--- ones that of the lower thread.
-pub record AreListed (n k : ℕ) (highest longest : ℕ → ℕ) (seen : List Section) (inner : ℕ → List ℕ) (below : ℕ) (bounds : List Bound)
+-- Of the threads below a number the ten greatest bounds above 0 are listed, or all if there are fewer: the greatest first,
+-- of equal ones that of the lower thread.
+pub record AreListed (n k : ℕ) (highest longest : ℕ → ℕ) (seen : List Section) (inner : ℕ → List ℕ) (below : ℕ)
+    (bounds : List Bound)
     : Type 0 where
   pub all : List Bound
   pub each : AreOfThreads (IsBoundOf n k highest longest seen inner) highest below all
-  pub listed : bounds ≡ take BOUNDS (greatest_first (filter is_blocked all))
+  pub ordered : List Bound
+  pub greatest_first : IsGreatestFirst (filter is_blocked all) ordered
+  pub listed : bounds ≡ take BOUNDS ordered
 
 -- What is known of the threads and mutexes of a log is what these facts show: the levels, the waits and the sections.
 pub record Knows (ids : Ids) (facts : List Moment) (blocking : Blocking) : Type 0 where
   pub threads : KnowsThreads ids facts blocking.threads.items
   pub sections : KnowsSections (length ids.mutexes.items) facts blocking.sections
 
--- The bounds of all threads are listed, by these facts, at this end of the log, if threads took mutexes in these orders: by the
--- longest section of each user.
+-- The bounds of all threads are listed, by these facts, at this end of the log, if threads took mutexes in these orders: by
+-- the longest section of each user.
 pub record AreBounds (ids : Ids) (facts : List Moment) (time : ℕ) (orders : List Order) (bounds : List Bound) : Type 0 where
   pub seen : List Section
   pub longest : AreLongest (all_sections (length ids.mutexes.items) facts time) seen
   pub order : AreInOrder seen
-  pub listed : AreListed (length ids.threads.items) (length ids.mutexes.items) (highest_level ids facts) (longest_wait facts time)
+  pub listed : AreListed (length ids.threads.items) (length ids.mutexes.items) (highest_level ids facts)
+      (longest_wait facts time)
       seen (inner_of orders) (length ids.threads.items) bounds

@@ -35,15 +35,17 @@ after_own m (Ceiling level) lasts = lasts
 abbrev pub open_by : ℕ → List Moment → ℕ → Option Open
 open_by k [] mutex = None
 open_by k (m ∷ before) mutex =
-    if (mutex == m.fact.mutex) && nat_lt mutex k then after_own m m.fact.what (open_by k before mutex) else open_by k before mutex
+    if (mutex == m.fact.mutex) && nat_lt mutex k
+    then after_own m m.fact.what (open_by k before mutex)
+    else open_by k before mutex
 
 -- one section more, if there is one, which ends at this time
 abbrev pub and_ended : ℕ → Option Open → List Section → List Section
 and_ended time None sections = sections
 and_ended time (Some one) sections = record { user = one.user; lasted = time - one.began } ∷ sections
 
--- those with the sections that a fact shows, if this one lasts at its mutex: a grant ends it, too, and a wait is a section that
--- takes no time
+-- those with the sections that a fact shows, if this one lasts at its mutex: a grant ends it, too, and a wait is a section
+-- that takes no time
 abbrev pub and_shown : Moment → What → Option Open → List Section → List Section
 and_shown m Granted lasts sections = and_ended m.time lasts sections
 and_shown m Waits lasts sections = record { user = user_of m; lasted = 0 } ∷ sections
@@ -72,7 +74,7 @@ longest_by [] user = None
 longest_by (s ∷ sections) user =
     if same_user s.user user then Some (max s.lasted (unwrap_or (longest_by sections user) 0)) else longest_by sections user
 
--- these are the longest sections of their users, each once, and of all users
+-- these are the longest sections of their users, and of all users; `AreInOrder` says that each user has one
 abbrev pub AreLongest : List Section → List Section → Type 0
 AreLongest all seen = (s : Section) → Contains seen s ↔ (longest_by all s.user ≡ Some s.lasted)
 

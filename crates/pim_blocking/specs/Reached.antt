@@ -42,7 +42,8 @@ pub record Reaches (more : List ℕ) (old new : Search) : Type 0 where
   pub len : length new.reached.items ≡ length old.reached.items
   pub kept : (m : ℕ) → IsTrue (is_in old.reached.items m) → IsTrue (is_in new.reached.items m)
   pub these : (m : ℕ) → Contains more m → m < length old.reached.items → IsTrue (is_in new.reached.items m)
-  pub only : (m : ℕ) → IsTrue (is_in new.reached.items m) → IsTrue (is_in old.reached.items m) ⊎ (Contains more m × Contains new.left.items m)
+  pub only : (m : ℕ) → IsTrue (is_in new.reached.items m) →
+      IsTrue (is_in old.reached.items m) ⊎ (Contains more m × Contains new.left.items m)
   pub left : (m : ℕ) → Contains old.left.items m → Contains new.left.items m
   pub new_left : (m : ℕ) → Contains new.left.items m → Contains old.left.items m ⊎ IsTrue (is_in new.reached.items m)
   pub work : work new ≡ work old

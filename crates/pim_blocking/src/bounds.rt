@@ -1,12 +1,12 @@
 //! What threads of real-time priority can be blocked for, from what was observed.
-ghost use Rattle.std.specs.Prelude.{◌≡◌, ℕ, ◌<◌, List, [], ◌∷◌, length, take, IfOk, slice_index_or, if◌then◌else◌};
+ghost use Rattle.std.specs.Prelude.{◌≡◌, ◌↔◌, IsTrue, ℕ, ◌<◌, nat_lt, List, [], ◌∷◌, length, take, insert, IfOk, slice_index_or, if◌then◌else◌};
 ghost use Rattle.std.specs.List.{position_or_len};
 ghost use Rattle.std.specs.Ordering.{is_lt};
 ghost use Rattle.pim_facts.specs.declared.ids.Ids.{Ids};
 ghost use Rattle.pim_blocking.specs.Observed.{Moment};
-ghost use Rattle.pim_blocking.specs.Bounds.{IsBound, IsLongestFirst, blocking, blocks, capped, first_longest, is_left, is_longer, is_used, longest_in, longest_of_number, number_of, sum_below};
-ghost use Rattle.pim_blocking.specs.Listed.{AreBounds, AreListed, Knows, is_blocked, is_smaller, placed};
-ghost use Rattle.pim_blocking.specs.Blocked.{level_at, waited_at};
+ghost use Rattle.pim_blocking.specs.Bounds.{IsBound, IsLongestFirst, blocking, blocks, capped, first_longest, is_longer, is_used, longest_in, longest_of_number, number_of, sum_below};
+ghost use Rattle.pim_blocking.specs.Listed.{AreBounds, AreListed, Knows, is_blocked, is_greater};
+ghost use Rattle.pim_blocking.specs.Steps.{level_at, waited_at};
 ghost use Rattle.pim_blocking.specs.Reached.{inner_in, is_in};
 
 use crate::blocked::{Blocked, blocked_by_thread, look_at};
@@ -190,8 +190,9 @@ impl Per {
 
 /// Puts a bound in front of the first smaller one, unless it is 0, and keeps the first [`BOUNDS`].
 fn keep(bounds: &mut Vec<Bound>, bound: Bound) -> Result<(), AllocError>
-    ensures { IfOk result (λ _. bounds.new.items ≡
-        (if is_blocked bound then take BOUNDS (placed bound bounds.old.items) else bounds.old.items)) }
+    ensures { IfOk result (λ _. bounds.new.items ≡ (if is_blocked bound
+        then take BOUNDS (insert bounds.old.items (position_or_len (is_greater bound) bounds.old.items) bound)
+        else bounds.old.items)) }
 {
     if bound.under_inherit == 0 {
         return Ok(());
@@ -206,7 +207,7 @@ fn keep(bounds: &mut Vec<Bound>, bound: Bound) -> Result<(), AllocError>
 
 /// Returns the place of the first bound that is smaller, or how many there are.
 fn place_of(bounds: &[Bound], under_inherit: u64) -> usize
-    ensures { result ≡ position_or_len (is_smaller under_inherit) bounds.now }
+    ensures { result ≡ position_or_len (λ other. nat_lt other.under_inherit under_inherit) bounds.now }
 {
     for (place, other) in bounds.iter().enumerate() {
         if other.under_inherit < under_inherit {
@@ -336,7 +337,7 @@ fn summed(
 
 /// Returns whether what is left of a number is so long, and not 0.
 fn is_left(longest: &[u64], number: usize, lasted: u64) -> bool
-    ensures { result ≡ is_left longest.now number lasted }
+    ensures { IsTrue result ↔ ((number < length longest.now) × (0 < lasted) × (slice_index_or longest.now number 0 ≡ lasted)) }
 {
     number < longest.len() && lasted > 0 && longest[number] == lasted
 }

@@ -1,5 +1,5 @@
 use Rattle.std.proofs.Common.{◌≡◌, map, take}
-use Rattle.pim_blocking.specs.Blocked.{begun}
+use Rattle.pim_blocking.proofs.Beginning.{begun}
 use Rattle.pim_blocking.proofs.blocked.blocked_by_thread.Given as goal
 
 -- the threads so far have the levels of their first records

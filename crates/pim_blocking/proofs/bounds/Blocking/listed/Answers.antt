@@ -1,7 +1,8 @@
 use Rattle.std.proofs.lemmas.List.{get_or_read}
 use Rattle.pim_blocking.specs.Listed.{AreListed}
 use Rattle.std.proofs.Common.{arith, rules, ◌≡◌, ◌∙◌, ◌<◌, length, ap, sym, subst}
-use Rattle.pim_blocking.specs.Blocked.{and_waited, blocked_at, level_at, waited_at, is_real_time}
+use Rattle.pim_blocking.specs.Blocked.{and_waited, blocked_at, is_real_time}
+use Rattle.pim_blocking.specs.Steps.{level_at, waited_at}
 use Rattle.pim_blocking.specs.Reached.{inner_in}
 use Rattle.pim_blocking.proofs.Listing.{listed-more, listed-none, listed-other}
 use Rattle.pim_blocking.proofs.bounds.Blocking.listed.Goals.{then-is_real_time+in_ok-bound+in_ok-keep, else-is_real_time}
@@ -18,7 +19,12 @@ loop-place-preserved c =
     let k = length c.args.self.now.sections.open.items in
     let seen = c.args.seen.now in
     let inner = inner_in c.args.nested.now in
-    let inside : t < length threads = omega (arith, c.loop-place-test.true, c.len-place-end.ensures, c.args.self.now.threads.ok.0) in
+    let inside : t < length threads = omega (
+      arith,
+      c.loop-place-test.true,
+      c.len-place-end.ensures,
+      c.args.self.now.threads.ok.0,
+    ) in
     let one : c.index.result.now ≡ blocked_at threads t = get_or_read threads t _ inside c.index.ensures _ in
     let level : c.end.new.self.level ≡ level_at threads t = c.end.ensures.level ∙ ap (λ b. b.level) one in
     let waited : c.end.new.self.waited ≡ waited_at c.args.time threads t =
@@ -47,6 +53,13 @@ pub returns : goal.returns
 returns c =
     let threads = c.args.self.now.threads.items in
     let all : c.loop-place.place ≡ length threads =
-    omega (arith, c.loop-place-test.false, c.loop-place.auto.place-end, c.len-place-end.ensures, c.args.self.now.threads.ok.0) in
+    omega (
+      arith,
+      c.loop-place-test.false,
+      c.loop-place.auto.place-end,
+      c.len-place-end.ensures,
+      c.args.self.now.threads.ok.0,
+    ) in
     subst (λ t. AreListed (length threads) (length c.args.self.now.sections.open.items) (level_at threads)
-    (waited_at c.args.time threads) c.args.seen.now (inner_in c.args.nested.now) t c.loop-place.bounds.items) all c.loop-place.invariant
+    (waited_at c.args.time threads) c.args.seen.now (inner_in c.args.nested.now) t c.loop-place.bounds.items) all
+    c.loop-place.invariant

@@ -1,5 +1,5 @@
 use Rattle.std.proofs.Common.{length}
-use Rattle.pim_blocking.specs.Blocked.{level_at, waited_at}
+use Rattle.pim_blocking.specs.Steps.{level_at, waited_at}
 use Rattle.pim_blocking.specs.Listed.{AreListed}
 use Rattle.pim_blocking.specs.Reached.{inner_in}
 use Rattle.pim_blocking.proofs.bounds.Blocking.listed.Given as goal

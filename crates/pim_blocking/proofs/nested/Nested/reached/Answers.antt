@@ -10,7 +10,8 @@ loop-outer-init c = half-begun c.args.used.items (inner_in c.args.self.now) c.in
 pub loop-outer-preserved : goal.loop-outer-preserved
 loop-outer-preserved c =
     let rest : Search = record { reached = c.loop-outer.search.reached; left = c.pop.new.self } in
-    half-step c.args.used.items (inner_in c.args.self.now) c.loop-outer.search rest c.reach_all.new.self c.in-Some.outer c.in-Some.ensures.items refl
+    half-step c.args.used.items (inner_in c.args.self.now) c.loop-outer.search rest c.reach_all.new.self c.in-Some.outer
+    c.in-Some.ensures.items refl
     (subst (λ l. Reaches l rest c.reach_all.new.self) c.inner_of.ensures c.in_ok-reach_all.ensures) c.loop-outer.invariant
 
 pub returns : goal.returns

@@ -27,4 +27,5 @@ loop-mutex-preserved c = record {
 pub returns-clause-longest : goal.returns-clause-longest
 returns-clause-longest c = λ k facts o.
     let all : c.loop-mutex.mutex ≡ k = omega (arith, o.mutexes, c.loop-mutex-test.false) in
-    subst (λ n. KeepsAll (sections_below k facts c.args.time n) c.loop-mutex.self) all (c.loop-mutex.invariant.longest k facts o)
+    subst (λ n. KeepsAll (sections_below k facts c.args.time n) c.loop-mutex.self) all
+    (c.loop-mutex.invariant.longest k facts o)

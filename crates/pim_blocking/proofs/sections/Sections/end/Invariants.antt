@@ -7,5 +7,6 @@ abbrev pub invariant-loop-mutex : goal.invariant-loop-mutex
 invariant-loop-mutex l = record {
   len : length l.self.open.items ≡ length l.fn.self.open.items;
   lasting : (one : ℕ) → l.mutex ≤ one → open_at l.self one ≡ open_at l.fn.self one;
-  longest : (k : ℕ) (facts : List Moment) → KnowsSections k facts l.fn.self → KeepsAll (sections_below k facts l.time l.mutex) l.self;
+  longest : (k : ℕ) (facts : List Moment) → KnowsSections k facts l.fn.self →
+      KeepsAll (sections_below k facts l.time l.mutex) l.self;
 }

@@ -9,11 +9,13 @@ returns-in_ok-close-in-Granted c = λ k facts o.
     knows-ends k facts m c.args.self.now c.close.new.self c.open_at.new.self
     (λ lasts all. ap (λ what. and_shown m what lasts all) c.in-Granted.is)
     c.close.ensures.len c.open_at.ensures.len c.open_at.ensures.longest c.close.ensures.open
-    (granted-own m c.args.self.now c.close.new.self c.open_at.new.self c.user_in.result c.in-Granted.is (c.user_in.ensures c.args.time)
+    (granted-own m c.args.self.now c.close.new.self c.open_at.new.self c.user_in.result c.in-Granted.is
+    (c.user_in.ensures c.args.time)
     c.close.ensures.len c.open_at.ensures.open)
     (granted-past m c.args.self.now c.close.new.self c.open_at.new.self c.user_in.result (c.user_in.ensures c.args.time)
     c.close.ensures.len c.open_at.ensures.open)
-    (granted-others m c.close.new.self c.open_at.new.self c.user_in.result (c.user_in.ensures c.args.time) c.open_at.ensures.open)
+    (granted-others m c.close.new.self c.open_at.new.self c.user_in.result (c.user_in.ensures c.args.time)
+    c.open_at.ensures.open)
     c.in_ok-close-in-Granted.ensures.longest o
 
 pub returns-in-Waits : goal.returns-in-Waits
@@ -21,6 +23,7 @@ returns-in-Waits c =
     let m : Moment = record { fact = c.args.fact.now; time = c.args.time; course = c.args.course.now } in
     ok-then c.add.result
     (λ kept k facts o. knows-waits k facts m c.args.self.now c.add.new.self c.user_in-in-Waits.result
-    (λ lasts. ap (λ what. after_own m what lasts) c.in-Waits.is) (λ lasts all. ap (λ what. and_shown m what lasts all) c.in-Waits.is)
+    (λ lasts. ap (λ what. after_own m what lasts) c.in-Waits.is)
+    (λ lasts all. ap (λ what. and_shown m what lasts all) c.in-Waits.is)
     c.add.ensures.open (c.user_in-in-Waits.ensures c.args.time) kept o)
     c.add.ensures.longest
