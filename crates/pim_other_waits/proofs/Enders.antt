@@ -29,7 +29,16 @@ AreFound waits = All (λ wait. IsEndedByAnother wait × IsRealTime wait) waits
 -- ---- the waits that last
 
 begun-open : (r : Record) (time level : ℕ) (awaited : Option Awaited) → level ≢ 0 →
-    IfSome (option_map {T = Awaited} {U = OtherWait} (λ a. record { thread = r.thread; level = level; at = r.place; awaited = a; number = r.number; began = time; lasted = 0; ended = None }) awaited) IsOpen
+    IfSome (option_map {T = Awaited} {U = OtherWait} (λ a. record {
+      thread = r.thread;
+      level = level;
+      at = r.place;
+      awaited = a;
+      number = r.number;
+      began = time;
+      lasted = 0;
+      ended = None;
+    }) awaited) IsOpen
 begun-open r time level None some = tt
 begun-open r time level (Some a) some = (refl, omega arith)
 
@@ -37,7 +46,17 @@ begun_at-open : (r : Record) (time level : ℕ) (object : Object) → IfSome (be
 begun_at-open r time level object = go (level == 0) refl
   where
     go : (b : Bool) → (level == 0) ≡ b →
-        IfSome {T = OtherWait} (cond b None (option_map (λ a. record { thread = r.thread; level = level; at = r.place; awaited = a; number = r.number; began = time; lasted = 0; ended = None }) (awaited_in r.process object))) IsOpen
+        IfSome {T = OtherWait}
+        (cond b None (option_map (λ a. record {
+          thread = r.thread;
+          level = level;
+          at = r.place;
+          awaited = a;
+          number = r.number;
+          began = time;
+          lasted = 0;
+          ended = None;
+        }) (awaited_in r.process object))) IsOpen
     go true e = tt
     go false e = begun-open r time level (awaited_in r.process object) (eqb-false level 0 e)
 
@@ -62,18 +81,23 @@ wait_of-open ids [] t = tt
 wait_of-open ids (m ∷ before) t = go (m.record.thread == t) (wait_of-open ids before t)
   where
     go : (b : Bool) → IfSome (wait_of ids before t) IsOpen →
-        IfSome (cond b (after_own m.record m.time (level_at ids before m.record.thread) (turn_of m.record.event) (wait_of ids before t)) (wait_of ids before t)) IsOpen
-    go true h = after_own-open m.record m.time (level_at ids before m.record.thread) (turn_of m.record.event) (wait_of ids before t) h
+        IfSome (cond b (after_own m.record m.time (level_at ids before m.record.thread) (turn_of m.record.event)
+        (wait_of ids before t)) (wait_of ids before t)) IsOpen
+    go true h = after_own-open m.record m.time (level_at ids before m.record.thread) (turn_of m.record.event)
+        (wait_of ids before t) h
     go false h = h
 
 -- ---- the gifts that end them
 
-last_gift-other : (ids : Ids) (moments : List Moment) (awaited : Awaited) (t : ℕ) → IfSome (last_gift ids moments awaited t) (λ gift. gift.thread ≢ t)
+last_gift-other : (ids : Ids) (moments : List Moment) (awaited : Awaited) (t : ℕ) →
+    IfSome (last_gift ids moments awaited t) (λ gift. gift.thread ≢ t)
 last_gift-other ids [] awaited t = tt
-last_gift-other ids (m ∷ before) awaited t = go (gives m.record awaited) (m.record.thread == t) refl (last_gift-other ids before awaited t)
+last_gift-other ids (m ∷ before) awaited t =
+    go (gives m.record awaited) (m.record.thread == t) refl (last_gift-other ids before awaited t)
   where
     go : (a b : Bool) → (m.record.thread == t) ≡ b → IfSome (last_gift ids before awaited t) (λ gift. gift.thread ≢ t) →
-        IfSome (cond (a && not b) (Some (gift_of m.record (level_at ids (m ∷ before) m.record.thread))) (last_gift ids before awaited t)) (λ gift. gift.thread ≢ t)
+        IfSome (cond (a && not b) (Some (gift_of m.record (level_at ids (m ∷ before) m.record.thread)))
+        (last_gift ids before awaited t)) (λ gift. gift.thread ≢ t)
     go false b e h = h
     go true true e h = h
     go true false e h = eqb-false m.record.thread t e
@@ -82,7 +106,8 @@ last_gift-other ids (m ∷ before) awaited t = go (gives m.record awaited) (m.re
 abbrev Ends : ℕ → ObjectKind → ℕ → Gift → Type 0
 Ends t kind number gift = (gift.thread ≢ t) × ((kind ≡ kinds.Thread) ⊎ (number < gift.number))
 
-later-ends : (t : ℕ) (kind : ObjectKind) (number : ℕ) (gift : Gift) → gift.thread ≢ t → (b : Bool) → nat_lt number gift.number ≡ b →
+later-ends : (t : ℕ) (kind : ObjectKind) (number : ℕ) (gift : Gift) → gift.thread ≢ t → (b : Bool) →
+    nat_lt number gift.number ≡ b →
     IfSome (cond b (Some gift) None) (Ends t kind number)
 later-ends t kind number gift other true e = (other, inr (ltb-true number gift.number e))
 later-ends t kind number gift other false e = tt
@@ -91,11 +116,16 @@ during-ends : (ids : Ids) (moments : List Moment) (t : ℕ) (kind : ObjectKind) 
     IfSome gift (λ g. g.thread ≢ t) → IfSome (during ids moments kind number gift) (Ends t kind number)
 during-ends ids moments t kind number None h = tt
 during-ends ids moments t kinds.Thread number (Some gift) h = (h, inl refl)
-during-ends ids moments t kinds.Semaphore number (Some gift) h = later-ends t kinds.Semaphore number gift h (nat_lt number gift.number) refl
-during-ends ids moments t kinds.ReadLock number (Some gift) h = later-ends t kinds.ReadLock number gift h (nat_lt number gift.number) refl
-during-ends ids moments t kinds.WriteLock number (Some gift) h = later-ends t kinds.WriteLock number gift h (nat_lt number gift.number) refl
-during-ends ids moments t kinds.Barrier number (Some gift) h = later-ends t kinds.Barrier number gift h (nat_lt number gift.number) refl
-during-ends ids moments t kinds.Condition number (Some gift) h = later-ends t kinds.Condition number gift h (nat_lt number gift.number) refl
+during-ends ids moments t kinds.Semaphore number (Some gift) h =
+    later-ends t kinds.Semaphore number gift h (nat_lt number gift.number) refl
+during-ends ids moments t kinds.ReadLock number (Some gift) h =
+    later-ends t kinds.ReadLock number gift h (nat_lt number gift.number) refl
+during-ends ids moments t kinds.WriteLock number (Some gift) h =
+    later-ends t kinds.WriteLock number gift h (nat_lt number gift.number) refl
+during-ends ids moments t kinds.Barrier number (Some gift) h =
+    later-ends t kinds.Barrier number gift h (nat_lt number gift.number) refl
+during-ends ids moments t kinds.Condition number (Some gift) h =
+    later-ends t kinds.Condition number gift h (nat_lt number gift.number) refl
 
 if_given-ends : (t : ℕ) (kind : ObjectKind) (number : ℕ) (outcome : Outcome) (gift : Option Gift) →
     IfSome gift (Ends t kind number) → IfSome (if_given outcome gift) (Ends t kind number)
@@ -105,21 +135,28 @@ if_given-ends t kind number outcomes.Failed gift h = tt
 
 -- ---- the waits that ended
 
-with_outcome-found : (r : Record) (time : ℕ) (wait : OtherWait) (gift : Option Gift) (outcome : Option Outcome) → 0 < wait.level →
+with_outcome-found : (r : Record) (time : ℕ) (wait : OtherWait) (gift : Option Gift) (outcome : Option Outcome) →
+    0 < wait.level →
     IfSome gift (Ends wait.thread wait.awaited.kind wait.number) → AreFound (with_outcome r time wait gift outcome)
 with_outcome-found r time wait gift None level h = All-nil (λ w. IsEndedByAnother w × IsRealTime w)
 with_outcome-found r time wait gift (Some outcome) level h = go (came_last wait.awaited.kind outcome gift)
   where
-    go : (b : Bool) → AreFound (cond b [] (ended_at wait time (record { number = r.number; outcome = outcome; by = if_given outcome gift }) ∷ []))
+    go : (b : Bool) → AreFound
+        (cond b [] (ended_at wait time (record { number = r.number; outcome = outcome; by = if_given outcome gift }) ∷ []))
     go true = All-nil (λ w. IsEndedByAnother w × IsRealTime w)
-    go false = All-cons (λ w. IsEndedByAnother w × IsRealTime w) _ []
-        (if_given-ends wait.thread wait.awaited.kind wait.number outcome gift h, level) (All-nil (λ w. IsEndedByAnother w × IsRealTime w))
+    go false = All-cons (λ w. IsEndedByAnother w × IsRealTime w) _ [] (
+      if_given-ends wait.thread wait.awaited.kind wait.number outcome gift h,
+      level,
+    ) (All-nil (λ w. IsEndedByAnother w × IsRealTime w))
 
-ended_now-found : (ids : Ids) (before : List Moment) (m : Moment) (wait : Option OtherWait) → IfSome wait IsOpen → AreFound (ended_now ids before m wait)
+ended_now-found : (ids : Ids) (before : List Moment) (m : Moment) (wait : Option OtherWait) → IfSome wait IsOpen →
+    AreFound (ended_now ids before m wait)
 ended_now-found ids before m None h = All-nil (λ w. IsEndedByAnother w × IsRealTime w)
 ended_now-found ids before m (Some wait) h =
-    with_outcome-found m.record m.time wait (ender_of ids before wait) (outcome_by (turn_of m.record.event) (is_condition wait.awaited.kind)) h.1
-    (during-ends ids before wait.thread wait.awaited.kind wait.number (last_gift ids before (given_as wait.awaited) wait.thread)
+    with_outcome-found m.record m.time wait (ender_of ids before wait)
+    (outcome_by (turn_of m.record.event) (is_condition wait.awaited.kind)) h.1
+    (during-ends ids before wait.thread wait.awaited.kind wait.number
+    (last_gift ids before (given_as wait.awaited) wait.thread)
     (last_gift-other ids before (given_as wait.awaited) wait.thread))
 
 ended_waits-found : (ids : Ids) (moments : List Moment) → AreFound (ended_waits ids moments)
@@ -135,7 +172,8 @@ lasting_now-found time (Some wait) h =
     (subst (λ e. IfSome e (λ ending. IfSome ending.by (Ends wait.thread wait.awaited.kind wait.number))) (sym h.0) tt, h.1)
     (All-nil (λ w. IsEndedByAnother w × IsRealTime w))
 
-pub all_waits-found : (ids : Ids) (moments : List Moment) (time n : ℕ) → All (λ w. IsEndedByAnother w × IsRealTime w) (all_waits ids moments time n)
+pub all_waits-found : (ids : Ids) (moments : List Moment) (time n : ℕ) →
+    All (λ w. IsEndedByAnother w × IsRealTime w) (all_waits ids moments time n)
 all_waits-found ids moments time zero = ended_waits-found ids moments
 all_waits-found ids moments time (suc n) =
     All-append (λ w. IsEndedByAnother w × IsRealTime w) (all_waits ids moments time n) _ (all_waits-found ids moments time n)

@@ -49,7 +49,8 @@ during_in ids levels kind number (Some gift) =
 
 -- what ends a wait that ends now
 abbrev pub ender_in : Ids → Search → OtherWait → Option Gift
-ender_in ids search wait = during_in ids search.levels wait.awaited.kind wait.number (gift_in search.gifts (given_as wait.awaited) wait.thread)
+ender_in ids search wait = during_in ids search.levels wait.awaited.kind wait.number
+    (gift_in search.gifts (given_as wait.awaited) wait.thread)
 
 -- the wait that a record ends by this turn, if its thread waited
 abbrev pub ended_in : Ids → Search → Moment → Turn → Option OtherWait → List OtherWait

@@ -25,7 +25,11 @@ use Rattle.pim_other_waits.specs.contracts.wait.AwaitedPartialEq.TheImpl as awai
 
 -- what a record of this process is of, if it says one of the kinds
 abbrev pub awaited_in : ℕ → Object → Option Awaited
-awaited_in process object = option_map (λ kind. record { process = process; address = object.address; kind = kind }) object.kind
+awaited_in process object = option_map (λ kind. record {
+  process = process;
+  address = object.address;
+  kind = kind;
+}) object.kind
 
 -- a gift doesn't say for which of the two a read-write lock was locked
 abbrev pub given_kind : ObjectKind → ObjectKind
@@ -62,7 +66,8 @@ is_condition _ = false
 -- the level of thread t after a record, if it had this one before
 abbrev pub level_after : Ids → Record → Event → ℕ → ℕ → ℕ
 level_after ids r (events.Thread pthread priority) t before = if r.thread == t then level_by priority 0 else before
-level_after ids r (events.Priority key priority) t before = if id_of ids r.number == t then level_by priority before else before
+level_after ids r (events.Priority key priority) t before =
+    if id_of ids r.number == t then level_by priority before else before
 level_after ids r _ t before = before
 
 -- the level of a thread after these moments
@@ -96,7 +101,8 @@ gift_of r level = record { thread = r.thread; level = level; number = r.number; 
 abbrev pub last_gift : Ids → List Moment → Awaited → ℕ → Option Gift
 last_gift ids [] awaited t = None
 last_gift ids (m ∷ before) awaited t =
-    if gives m.record awaited && not (m.record.thread == t) then Some (gift_of m.record (level_at ids (m ∷ before) m.record.thread))
+    if gives m.record awaited && not (m.record.thread == t) then Some
+    (gift_of m.record (level_at ids (m ∷ before) m.record.thread))
     else last_gift ids before awaited t
 
 -- a gift, if it came during a wait that began with the record of this number; a joined thread, with its level at the end
@@ -109,7 +115,8 @@ during ids moments kind number (Some gift) =
 
 -- what ends a wait that ends after these moments
 abbrev pub ender_of : Ids → List Moment → OtherWait → Option Gift
-ender_of ids moments wait = during ids moments wait.awaited.kind wait.number (last_gift ids moments (given_as wait.awaited) wait.thread)
+ender_of ids moments wait = during ids moments wait.awaited.kind wait.number
+    (last_gift ids moments (given_as wait.awaited) wait.thread)
 
 -- ---- waits
 
@@ -204,7 +211,8 @@ with_outcome r time wait gift (Some outcome) =
 abbrev pub ended_now : Ids → List Moment → Moment → Option OtherWait → List OtherWait
 ended_now ids before m None = []
 ended_now ids before m (Some wait) =
-    with_outcome m.record m.time wait (ender_of ids before wait) (outcome_by (turn_of m.record.event) (is_condition wait.awaited.kind))
+    with_outcome m.record m.time wait (ender_of ids before wait)
+    (outcome_by (turn_of m.record.event) (is_condition wait.awaited.kind))
 
 -- the waits that ended, the one that ended first first
 abbrev pub ended_waits : Ids → List Moment → List OtherWait

@@ -7,5 +7,6 @@ use Rattle.pim_other_waits.proofs.search.longest_first.Goals as goal
 
 pub returns-clause-order : goal.returns-clause-order
 returns-clause-order c = ok-then c.sort_by_key.result
-    (λ sorted. IsNonDecreasingBy-from_sort_by_key (λ (wait : OtherWait). shortfall wait.lasted) _ sorted (λ a r q k. search rules))
+    (λ sorted. IsNonDecreasingBy-from_sort_by_key (λ (wait : OtherWait). shortfall wait.lasted) _ sorted
+    (λ a r q k. search rules))
     c.sort_by_key.ensures.sorted

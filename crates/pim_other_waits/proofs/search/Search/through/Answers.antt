@@ -17,5 +17,6 @@ pub returns : goal.returns
 returns c =
     let so_far = c.loop-number.invariant in
     let last : c.loop-number.number ≡ c.end-number-end.result = omega (arith, c.loop-number-test.false) in
-    let all : c.loop-number.number ≡ end_of (header_of c.args.log.now) = last ∙ c.end-number-end.ensures ∙ ap end_of c.header.ensures in
+    let all : c.loop-number.number ≡ end_of (header_of c.args.log.now) = last ∙ c.end-number-end.ensures
+    ∙ ap end_of c.header.ensures in
     (so_far.0, (subst (λ n. AreMoments c.args.log.now n so_far.0) all so_far.1.0, so_far.1.1))
