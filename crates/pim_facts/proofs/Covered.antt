@@ -153,6 +153,7 @@ pub lacks : (bytes : List ℕ) (n : ℕ) (ids : Ids) → ((slot : ℕ) → IsNum
     HasRead bytes (n + 1) ids
 lacks bytes n ids none read = record {
   room = read.room;
+  few = read.few;
   mutexes = read.mutexes;
   covers = λ log slot number r lt num is. elim (cases_lt number n) [
     | inl below ↦ read.covers log slot number r below num is
@@ -169,6 +170,7 @@ later bytes n old new ended is read =
     let same : HasRead bytes n (record old { ended = ended }) =
     record {
       room = read.room;
+      few = read.few;
       mutexes = read.mutexes;
       covers = λ log slot number r lt numbered is.
           let was : HasThoseOf old r (id_of old number) = read.covers log slot number r lt numbered is in
@@ -195,6 +197,7 @@ reads bytes n old mid new r id found grows thread few about put rest read =
     ∙ get_or-set_at mid.of_record.items n n id 0 refl (subst (λ k. n < k) (sym room) num.below) in
     record {
       room = ap length put ∙ length-set mid.of_record.items n id ∙ room;
+      few = subst (λ n. n ≤ 2 ^ 22 + 1) (sym t) (grows.few read.few);
       mutexes = omega (arith, read.mutexes, grows.mutexes, m);
       covers = λ log slot number q lt numbered is. elim (cases_lt number n) [
         | inl below ↦

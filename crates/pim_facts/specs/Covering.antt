@@ -1,5 +1,5 @@
 -- Whom the records of a log are about is there.
-use Rattle.std.specs.Prelude.{◌≡◌, ◌<◌, ◌≤◌, ◌^◌, ℕ, List, length, MatchOption}
+use Rattle.std.specs.Prelude.{◌≡◌, ◌+◌, ◌<◌, ◌≤◌, ◌^◌, ℕ, List, length, MatchOption}
 use Rattle.pim_log.specs.Events.{mutex_of}
 use Rattle.pim_log.specs.Headers.{header_of, end_of}
 use Rattle.pim_log.specs.Logs.{IsLog, IsNumbered, IsRecord}
@@ -11,6 +11,10 @@ use Rattle.pim_facts.specs.declared.ids.Ids.{Ids}
 -- there is a thread with a number; the one with number 0 is nobody
 abbrev pub HasThread : Ids → ℕ → Type 0
 HasThread ids t = t < length ids.threads.items
+
+-- no thread has a number above 2 ^ 22: with nobody, who has number 0, there are at most 2 ^ 22 + 1
+abbrev pub HasFewThreads : Ids → Type 0
+HasFewThreads ids = length ids.threads.items ≤ 2 ^ 22 + 1
 
 -- there is a mutex with a number, which is above 0
 abbrev pub HasMutex : Ids → ℕ → Type 0
@@ -37,9 +41,11 @@ CoversBelow end ids bytes =
 abbrev pub Covers : Ids → List ℕ → Type 0
 Covers ids bytes = CoversBelow (end_of (header_of bytes)) ids bytes
 
--- nobody is lost, and whom the records are about stays, and so does when the log ended
+-- nobody is lost, and no thread has a number above 2 ^ 22 if none had before; whom the records are about stays, and so does
+-- when the log ended
 pub record Grows (old new : Ids) : Type 0 where
   pub threads : length old.threads.items ≤ length new.threads.items
+  pub few : HasFewThreads old → HasFewThreads new
   pub mutexes : length old.mutexes.items ≤ length new.mutexes.items
   pub about : new.of_record ≡ old.of_record
   pub ended : new.ended ≡ old.ended
@@ -47,5 +53,6 @@ pub record Grows (old new : Ids) : Type 0 where
 -- the records of a log with numbers below one were read
 pub record HasRead (bytes : List ℕ) (end : ℕ) (ids : Ids) : Type 0 where
   pub room : length ids.of_record.items ≡ end_of (header_of bytes)
+  pub few : HasFewThreads ids
   pub mutexes : 0 < length ids.mutexes.items
   pub covers : IsLog bytes → CoversBelow end ids bytes

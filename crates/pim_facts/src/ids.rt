@@ -2,7 +2,7 @@
 ghost use Rattle.std.specs.Prelude.{◌≡◌, ◌+◌, ◌<◌, ◌≤◌, ◌^◌, IfErr, IfOk, length, slice_set};
 ghost use Rattle.pim_log.specs.Headers.{header_of, end_of};
 ghost use Rattle.pim_log.specs.Logs.{IsLog};
-ghost use Rattle.pim_facts.specs.Covering.{Covers, Grows, HasMutex, HasNumber, HasRead, HasThread};
+ghost use Rattle.pim_facts.specs.Covering.{Covers, Grows, HasFewThreads, HasMutex, HasNumber, HasRead, HasThread};
 ghost use Rattle.pim_facts.specs.Levels.{id_of, first_level};
 ghost use Rattle.pim_facts.specs.Ending.{EndsAt, EndsBelow, later_of};
 ghost use Rattle.pim_facts.specs.Faults.{NamesOneOf, NamesOnly};
@@ -95,6 +95,7 @@ impl Ids {
     /// Returns `TooManyThreads` if a thread's number is above [`MAX_THREADS`], and `Memory` if out of memory.
     pub fn of(alloc: Global, log: &Log) -> Result<(Ids, Named), IdsFault>
         ensures fault { IfErr result (NamesOneOf (end_of (header_of log.now))) }
+        ensures few { IfOk result (λ found. HasFewThreads found.0) }
         ensures covers { IsLog log.now → IfOk result (λ found. Covers found.0 log.now) }
         ensures ended { IsLog log.now → IfOk result (λ found. EndsAt log.now found.0.ended) }
         ensures named { IsLog log.now → IfOk result (λ found. Names log.now found.1.threads.items) }
@@ -289,7 +290,9 @@ impl Ids {
         Ok(())
     }
 
+    /// Makes room for the thread with this number.
     fn make_room(&mut self, thread: u32) -> Result<(), AllocError>
+        requires { thread ≤ 2 ^ 22 }
         ensures grown { Grows self.old self.new }
         ensures thread { IfOk result (λ _. HasThread self.new thread) }
     {
