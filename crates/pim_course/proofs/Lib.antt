@@ -8,5 +8,6 @@ pub mod Detailing
 pub mod Finding
 pub mod Together
 pub mod Counting
+pub mod Bounding
 pub mod NextOwning
 pub mod AskedOwning
