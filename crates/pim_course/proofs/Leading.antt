@@ -16,23 +16,38 @@ lead-more [] from to now fact led possible e =
 lead-more (first ∷ facts) from to now fact led possible e =
     (led.0, lead-more facts (after_fact from first) to now fact led.1 possible e)
 
+-- a course shows one more fact than another, as long as that shows few enough
+pub record ShowsOneMore (fact : Fact) (old new : Course) : Type 0 where
+  pub shown : length (shown_in old.shown) < 4 → shown_in new.shown ≡ shown_in old.shown ++ (fact ∷ [])
+  pub few : length (shown_in new.shown) ≤ length (shown_in old.shown) + 1
+
+pub one-more : (old mid new : Course) (fact said : Fact) → fact ≡ said → mid.shown ≡ old.shown →
+    (length (shown_in mid.shown) < 4 → shown_in new.shown ≡ shown_in mid.shown ++ (fact ∷ [])) →
+    (4 ≤ length (shown_in mid.shown) → shown_in new.shown ≡ shown_in mid.shown) → ShowsOneMore said old new
+one-more old mid new fact said is kept more full =
+    let same : shown_in mid.shown ≡ shown_in old.shown = ap shown_in kept in
+    let size : length (shown_in mid.shown) ≡ length (shown_in old.shown) = ap length same in
+    record {
+      shown = λ room.
+          more (omega (arith, room, size)) ∙ ap (λ facts. facts ++ (fact ∷ [])) same
+          ∙ ap (λ one. shown_in old.shown ++ (one ∷ [])) is;
+      few = elim (cases_lt (length (shown_in mid.shown)) 4) [
+        | inl lt ↦ omega (arith, ap length (more lt), length-append (shown_in mid.shown) (fact ∷ []), size)
+        | inr le ↦ omega (arith, ap length (full le), size)
+      ];
+    }
+
 pub goes-added : (old mid new : Course) (fact said : Fact) → fact ≡ said → mid.shown ≡ old.shown →
     (length (shown_in mid.shown) < 4 → shown_in new.shown ≡ shown_in mid.shown ++ (fact ∷ [])) →
     (4 ≤ length (shown_in mid.shown) → shown_in new.shown ≡ shown_in mid.shown) →
     IsPossible (world_of old) said → world_of new ≡ after_fact (world_of old) said → GoesOn 1 old new
 goes-added old mid new fact said is kept more full possible world =
-    let same : shown_in mid.shown ≡ shown_in old.shown = ap shown_in kept in
-    let size : length (shown_in mid.shown) ≡ length (shown_in old.shown) = ap length same in
+    let one : ShowsOneMore said old new = one-more old mid new fact said is kept more full in
     record {
       led = λ from led room.
-          subst (λ facts. Lead facts from (world_of new))
-          (sym (more (omega arith) ∙ ap (λ facts. facts ++ (fact ∷ [])) same
-          ∙ ap (λ one. shown_in old.shown ++ (one ∷ [])) is))
+          subst (λ facts. Lead facts from (world_of new)) (sym (one.shown (omega (arith, room))))
           (lead-more (shown_in old.shown) from (world_of old) (world_of new) said led possible world);
-      few = elim (cases_lt (length (shown_in mid.shown)) 4) [
-        | inl lt ↦ omega (arith, ap length (more lt), length-append (shown_in mid.shown) (fact ∷ []), size)
-        | inr le ↦ omega (arith, ap length (full le), size)
-      ];
+      few = one.few;
     }
 
 pub goes-still : (old new : Course) → IsStill old new → GoesOn 0 old new

@@ -2,13 +2,14 @@
 use Rattle.std.proofs.Common.{◌≡◌, ℕ, ◌+◌, ◌-◌, ◌^◌, ◌<◌, ◌≤◌, min, cond, Bool, List, [], ◌∷◌, ◌++◌, length, set, Option}
 use Rattle.std.proofs.Common.{Some, None, is_none, sym, refl, ap, ◌∙◌, subst, inl, inr, eq-eqb, arith}
 use Rattle.std.proofs.Math.Path.{fun_ext}
-use Rattle.std.proofs.lemmas.Bool.{ne_eqb, cases_eq, cases_lt}
-use Rattle.std.proofs.lemmas.List.{get_or_past, length-append}
+use Rattle.std.proofs.lemmas.Bool.{ne_eqb, cases_eq}
+use Rattle.std.proofs.lemmas.List.{get_or_past}
 use Rattle.std.specs.Option.{option_and, unwrap_or}
 use Rattle.pim_facts.specs.Shown.{shown_in}
 use Rattle.pim_facts.specs.declared.fact.Fact.{Fact}
 use Rattle.pim_facts.specs.declared.fact.What.TheVariants.{GaveUp, Granted, Released, Waits}
 use Rattle.pim_course.specs.Courses.{free, idle, mutex_in, thread_in}
+use Rattle.pim_course.proofs.Leading.{ShowsOneMore, one-more}
 use Rattle.pim_course.specs.Going.{KeepsSections, Numbers}
 use Rattle.pim_course.specs.Sections.{AreNumbered, HasNumbersOf, Sections, after_numbered, lasts_at, next_number, number_at}
 use Rattle.pim_course.specs.Sections.{one_less_at, one_more_at, sections_after, sections_of}
@@ -221,18 +222,12 @@ pub numbers-added : (old mid new : Course) (fact said : Fact) → fact ≡ said 
     (4 ≤ length (shown_in mid.shown) → shown_in new.shown ≡ shown_in mid.shown) →
     HasNumbersOf (sections_of old) said → sections_of new ≡ after_numbered (sections_of old) said → Numbers 1 old new
 numbers-added old mid new fact said is kept more full has sections =
-    let same : shown_in mid.shown ≡ shown_in old.shown = ap shown_in kept in
-    let size : length (shown_in mid.shown) ≡ length (shown_in old.shown) = ap length same in
+    let one : ShowsOneMore said old new = one-more old mid new fact said is kept more full in
     record {
       numbered = λ from led room.
-          subst (λ facts. AreNumbered facts from (sections_of new))
-          (sym (more (omega arith) ∙ ap (λ facts. facts ++ (fact ∷ [])) same
-          ∙ ap (λ one. shown_in old.shown ++ (one ∷ [])) is))
+          subst (λ facts. AreNumbered facts from (sections_of new)) (sym (one.shown (omega (arith, room))))
           (numbered-more (shown_in old.shown) from (sections_of old) (sections_of new) said led has sections);
-      few = elim (cases_lt (length (shown_in mid.shown)) 4) [
-        | inl lt ↦ omega (arith, ap length (more lt), length-append (shown_in mid.shown) (fact ∷ []), size)
-        | inr le ↦ omega (arith, ap length (full le), size)
-      ];
+      few = one.few;
     }
 
 pub numbers-none : (most : ℕ) (old new : Course) → new.shown ≡ old.shown → KeepsSections old new → Numbers most old new
