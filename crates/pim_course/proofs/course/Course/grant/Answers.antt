@@ -77,7 +77,7 @@ returns-clause-told c =
     tells-same 4 _ _ old new
     (sym (if-not _ _ _ (neither _ _ (ne_eqb m 0 (λ e. omega (arith, e, c.if-mutex-eq0.false)))
     (not-that _ _ _ (ap (λ z. z.owner) c.mutex-owner.ensures)
-    (grind (arith, c.eq.ensures, c.if-eq.false, c.if-eq.ensures))))))
+    (sym c.eq.ensures ∙ c.if-eq.false)))))
     (tells-then 3 1 _ (did Granted t m) old g new
     (tells-then 2 1 _ freed old b g
     (tells-then 1 1 said gone old a b
@@ -112,7 +112,7 @@ returns-clause-depths c below k =
     ∙ sym (ap (λ is. cond is (depth_again c.args.sources.now.ids (depths_of old) m) once k)
     (neither _ _ (ne_eqb m 0 (λ e. omega (arith, e, c.if-mutex-eq0.false)))
     (not-that _ _ _ (ap (λ z. z.owner) c.mutex-owner.ensures)
-    (grind (arith, c.eq.ensures, c.if-eq.false, c.if-eq.ensures)))))
+    (sym c.eq.ensures ∙ c.if-eq.false))))
 
 pub returns-clause-sections : goal.returns-clause-sections
 returns-clause-sections c below =
@@ -179,4 +179,4 @@ returns-clause-details c lt below =
     )
     ∙ sym (if-not _ _ _ (neither _ _ (ne_eqb m 0 (λ e. omega (arith, e, c.if-mutex-eq0.false)))
     (not-that _ _ _ (ap (λ z. z.owner) c.mutex-owner.ensures)
-    (grind (arith, c.eq.ensures, c.if-eq.false, c.if-eq.ensures)))))
+    (sym c.eq.ensures ∙ c.if-eq.false))))

@@ -28,7 +28,7 @@ returns-clause-goes c lt below =
     elim c.correct_wait.ensures.awaits [
       | inl none ↦ none
       | inr it ↦
-          absurd (isnt-that _ _ (grind (arith, c.eq-else-mutex-eq0.ensures, c.if-eq-2.false, c.if-eq-2.ensures))
+          absurd (isnt-that _ _ (sym c.eq-else-mutex-eq0.ensures ∙ c.if-eq-2.false)
           (ap (λ y. y.awaits) c.thread.ensures ∙ sym (ap (λ f. f t) c.correct_ceiling.ensures.awaits) ∙ it.1))
     ] in
     let owner : (world_of b).owner c.args.mutex ≡ (world_of c.args.self.now).owner c.args.mutex =
@@ -45,7 +45,7 @@ returns-clause-goes c lt below =
     ))
     (subst (λ w. CanHappen w Waits t c.args.mutex) (sym still.world) (
       awaits,
-      λ e. isnt-that _ _ (grind (arith, c.eq.ensures, c.if-eq.false, c.if-eq.ensures))
+      λ e. isnt-that _ _ (sym c.eq.ensures ∙ c.if-eq.false)
           (ap (λ z. z.owner) c.mutex-is.ensures ∙ sym owner ∙ e),
     )))))
 
@@ -62,9 +62,9 @@ returns-clause-told c =
     let gone = gave_up_told (world_of old) t (Some m) in
     tells-same 3 _ _ old new
     (sym (if-not _ _ _ (none-of _ _ _ (ne_eqb m 0 (λ e. omega (arith, e, c.if-mutex-eq0.false)))
-    (not-that _ _ _ (ap (λ z. z.owner) c.mutex-is.ensures) (grind (arith, c.eq.ensures, c.if-eq.false, c.if-eq.ensures)))
+    (not-that _ _ _ (ap (λ z. z.owner) c.mutex-is.ensures) (sym c.eq.ensures ∙ c.if-eq.false))
     (not-that _ _ _ (ap (λ y. y.awaits) c.thread.ensures)
-    (grind (arith, c.eq-else-mutex-eq0.ensures, c.if-eq-2.false, c.if-eq-2.ensures))))))
+    (sym c.eq-else-mutex-eq0.ensures ∙ c.if-eq-2.false)))))
     (tells-then 2 1 _ _ old b new
     (tells-then 1 1 said gone old a b c.correct_ceiling.ensures.told
     (tells-same 1 _ gone a b (gave-up-same (world_of old) (world_of a) t (Some m) c.correct_ceiling.ensures.awaits)
@@ -132,7 +132,7 @@ returns-clause-details c lt below =
     ∙ ap (λ (z : CourseMutex). first_other t (owners_asked kept (is_some c.args.task) z.owner z.last_owner))
     c.mutex-is.ensures)
     ∙ sym (if-not _ _ _ (not-that _ _ _ (ap (λ z. z.owner) c.mutex-is.ensures)
-    (grind (arith, c.eq.ensures, c.if-eq.false, c.if-eq.ensures)))
+    (sym c.eq.ensures ∙ c.if-eq.false))
     ∙ if-not _ _ _ (neither _ _ (ne_eqb m 0 (λ e. omega (arith, e, c.if-mutex-eq0.false)))
     (not-that _ _ _ (ap (λ y. y.awaits) c.thread.ensures)
-    (grind (arith, c.eq-else-mutex-eq0.ensures, c.if-eq-2.false, c.if-eq-2.ensures)))))
+    (sym c.eq-else-mutex-eq0.ensures ∙ c.if-eq-2.false))))

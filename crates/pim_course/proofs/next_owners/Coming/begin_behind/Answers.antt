@@ -1,4 +1,4 @@
-use Rattle.std.proofs.Common.{arith}
+use Rattle.std.proofs.Common.{sym, ◌∙◌, arith}
 use Rattle.pim_course.proofs.AskedOwning.{none-begun, nothing-begun, still-beginning}
 use Rattle.pim_course.proofs.NextOwning.{got}
 use Rattle.pim_course.proofs.next_owners.Coming.begin_behind.Goals as goal
@@ -10,7 +10,7 @@ returns-else-eq-clause-began c = λ m within.
     (got self.beginning.items c.args.record.now.thread _ (grind (arith, c.get.ensures, c.in-Some.is, c.deref.ensures.value)))
     (got self.owners.items c.in-Some.mutex c.get-in-Some.result
     (grind (arith, c.get-in-Some.ensures, c.deref-in-Some.ensures.value)))
-    (grind (arith, c.eq.ensures, c.if-eq.false, c.if-eq.ensures))
+    (sym c.eq.ensures ∙ c.if-eq.false)
 
 pub returns-in_default-clause-began : goal.returns-in_default-clause-began
 returns-in_default-clause-began c = λ m within.

@@ -1,4 +1,4 @@
-use Rattle.std.proofs.Common.{arith}
+use Rattle.std.proofs.Common.{sym, ◌∙◌, arith}
 use Rattle.pim_course.proofs.NextOwning.{not-next-known}
 use Rattle.pim_course.proofs.next_owners.Coming.next_owner.Goals as goal
 
@@ -8,4 +8,4 @@ returns c = λ ids behind room knows covers below.
     covers below
     (grind (arith, c.get.ensures, c.in_ok-next.was, c.deref.ensures.value))
     (grind (arith, c.get-2.ensures, c.deref-2.ensures.value))
-    (grind (arith, c.eq.ensures, c.if-eq.false, c.if-eq.ensures))
+    (sym c.eq.ensures ∙ c.if-eq.false)
