@@ -5,7 +5,8 @@ use Rattle.std.proofs.lemmas.Option.{slice_get_past}
 use Rattle.pim_course.specs.declared.course.Course.{Course}
 use Rattle.pim_findings.specs.Deadlocks.{blocker_by, blocker_of}
 
-pub blocker_of-none : (course : Course) (t : ℕ) → min (length course.threads.items) 4294967295 ≤ t → blocker_of course t ≡ None
+pub blocker_of-none : (course : Course) (t : ℕ) → min (length course.threads.items) 4294967295 ≤ t →
+    blocker_of course t ≡ None
 blocker_of-none course t past = go (t == 0) (nat_le 4294967295 t) refl
   where
     there : Option ℕ

@@ -11,7 +11,8 @@ use Rattle.pim_findings.specs.Walks.{Found, IsEnteredBelow, IsWalk}
 -- ---- round a cycle
 
 -- what numbers pass on along a cycle
-climb : (Q : ℕ → Type 0) (next : ℕ → Option ℕ) (cycle : List ℕ) → ((t u : ℕ) → Q t → next t ≡ Some u → Q u) → IsCycle next cycle →
+climb : (Q : ℕ → Type 0) (next : ℕ → Option ℕ) (cycle : List ℕ) → ((t u : ℕ) → Q t → next t ≡ Some u → Q u) →
+    IsCycle next cycle →
     (from more : ℕ) → from + more < length cycle → Q (get_or cycle from 0) → Q (get_or cycle (from + more) 0)
 climb Q next cycle on c from zero h q = subst (λ k. Q (get_or cycle k 0)) (sym (add-zero from)) q
 climb Q next cycle on c from (suc more) h q =
@@ -19,10 +20,12 @@ climb Q next cycle on c from (suc more) h q =
     let inside : from + more + 1 < length cycle = omega arith in
     let here : from + more + 1 ≡ from + suc more = omega arith in
     subst (λ k. Q (get_or cycle k 0)) here
-    (on (get_or cycle (from + more) 0) (get_or cycle (from + more + 1) 0) (climb Q next cycle on c from more below q) (c.each (from + more) inside))
+    (on (get_or cycle (from + more) 0) (get_or cycle (from + more + 1) 0) (climb Q next cycle on c from more below q)
+    (c.each (from + more) inside))
 
 -- comes back to the number that it began with
-pub round : (Q : ℕ → Type 0) (next : ℕ → Option ℕ) (cycle : List ℕ) → ((t u : ℕ) → Q t → next t ≡ Some u → Q u) → IsCycle next cycle →
+pub round : (Q : ℕ → Type 0) (next : ℕ → Option ℕ) (cycle : List ℕ) → ((t u : ℕ) → Q t → next t ≡ Some u → Q u) →
+    IsCycle next cycle →
     (k : ℕ) → k < length cycle → ((u : ℕ) → next (get_or cycle k 0) ≡ Some u → Q u) → Q (get_or cycle k 0)
 round Q next cycle on c k h first = elim (cases_lt (k + 1) (length cycle)) [
   | inl lt ↦
@@ -30,7 +33,8 @@ round Q next cycle on c k h first = elim (cases_lt (k + 1) (length cycle)) [
       let inside : (k + 1) + more < length cycle = omega arith in
       let all : (k + 1) + more + 1 ≡ length cycle = omega arith in
       up (on (get_or cycle ((k + 1) + more) 0) (get_or cycle 0 0)
-      (climb Q next cycle on c (k + 1) more inside (first (get_or cycle (k + 1) 0) (c.each k lt))) (c.last ((k + 1) + more) all))
+      (climb Q next cycle on c (k + 1) more inside (first (get_or cycle (k + 1) 0) (c.each k lt)))
+      (c.last ((k + 1) + more) all))
   | inr le ↦ let all : k + 1 ≡ length cycle = omega arith in up (first (get_or cycle 0 0) (c.last k all))
 ]
   where
@@ -42,21 +46,25 @@ round Q next cycle on c k h first = elim (cases_lt (k + 1) (length cycle)) [
 -- a number that leads to none is on no cycle
 pub cycle-leads : (next : ℕ → Option ℕ) (cycle : List ℕ) (t : ℕ) → IsCycle next cycle → Contains cycle t → next t ≡ None → ⊥
 cycle-leads next cycle t c (k, lt, is) none =
-    round (λ v. ⊥) next cycle (λ u v no e. no) c k lt (λ u e. none-some u (sym none ∙ ap next (sym is ∙ get_or_default cycle k t 0 lt) ∙ e))
+    round (λ v. ⊥) next cycle (λ u v no e. no) c k lt
+    (λ u e. none-some u (sym none ∙ ap next (sym is ∙ get_or_default cycle k t 0 lt) ∙ e))
 
 -- ---- on a walk
 
 -- a number was seen before, or the walk passed it behind this place
 abbrev Behind : List Bool → List ℕ → ℕ → ℕ → Type 0
-Behind before passed k t = (get_or before t true ≡ true) ⊎ ((i : ℕ) × (k < i) × (i < length passed) × (get_or passed i 0 ≡ t))
+Behind before passed k t =
+    (get_or before t true ≡ true) ⊎ ((i : ℕ) × (k < i) × (i < length passed) × (get_or passed i 0 ≡ t))
 
 -- where a walk leads from one of its numbers
 leads : (next : ℕ → Option ℕ) (before : List Bool) (start : ℕ) (seen : List Bool) (passed : List ℕ) (end : Option ℕ) →
     IsWalk next before start seen passed end → (k : ℕ) → IfSome end (Behind before passed k) →
     (i u : ℕ) → k ≤ i → i < length passed → next (get_or passed i 0) ≡ Some u → Behind before passed k u
 leads next before start seen passed end w k ends i u le h to = elim (cases_lt (i + 1) (length passed)) [
-  | inl lt ↦ let later : k < i + 1 = omega arith in inr (i + 1, later, lt, same_Some (get_or passed (i + 1) 0) u (sym (w.each i lt) ∙ to))
-  | inr past ↦ let all : i + 1 ≡ length passed = omega arith in subst (λ o. IfSome o (Behind before passed k)) (sym (w.last i all) ∙ to) ends
+  | inl lt ↦ let later : k < i + 1 = omega arith in
+      inr (i + 1, later, lt, same_Some (get_or passed (i + 1) 0) u (sym (w.each i lt) ∙ to))
+  | inr past ↦ let all : i + 1 ≡ length passed = omega arith in
+      subst (λ o. IfSome o (Behind before passed k)) (sym (w.last i all) ∙ to) ends
 ]
 
 -- a number of a walk that leads only to such as were seen before and to later ones is on no cycle
@@ -66,7 +74,8 @@ off-cycle : (next : ℕ → Option ℕ) (before : List Bool) (start : ℕ) (seen
     (cycle : List ℕ) (t : ℕ) → IsCycle next cycle → Contains cycle t → get_or passed k 0 ≡ t → ⊥
 off-cycle next before start seen passed end closed w k h ends cycle t c (j, lt, at) is =
     none (round (Behind before passed k) next cycle on c j lt
-    (λ u to. let same : k ≤ k = omega arith in leads next before start seen passed end w k ends k u same h (ap next here ∙ to)))
+    (λ u to. let same : k ≤ k = omega arith in leads next before start seen passed end w k ends k u same h
+    (ap next here ∙ to)))
   where
     here : get_or passed k 0 ≡ get_or cycle j 0
     here = is ∙ sym at ∙ get_or_default cycle j t 0 lt
@@ -74,7 +83,8 @@ off-cycle next before start seen passed end closed w k h ends cycle t c (j, lt, 
     on : (v u : ℕ) → Behind before passed k v → next v ≡ Some u → Behind before passed k u
     on v u (inl old) to = inl (closed v u old to)
     on v u (inr (i, later, inside, found)) to =
-        let no_less : k ≤ i = omega arith in leads next before start seen passed end w k ends i u no_less inside (ap next found ∙ to)
+        let no_less : k ≤ i = omega arith in leads next before start seen passed end w k ends i u no_less inside
+        (ap next found ∙ to)
 
     none : Behind before passed k (get_or cycle j 0) → ⊥
     none (inl old) = true≢false (sym old ∙ ap (λ v. get_or before v true) (sym here) ∙ w.new k h)
@@ -82,12 +92,14 @@ off-cycle next before start seen passed end closed w k h ends cycle t c (j, lt, 
 
 -- ---- what is found
 
-any-left : (found : List (List ℕ)) (one : List ℕ) (t : ℕ) → Any (λ l. Contains l t) found → Any (λ l. Contains l t) (found ++ one ∷ [])
+any-left : (found : List (List ℕ)) (one : List ℕ) (t : ℕ) → Any (λ l. Contains l t) found →
+    Any (λ l. Contains l t) (found ++ one ∷ [])
 any-left found one t (k, x, lt, at, has) =
     let inside : k < length (found ++ one ∷ []) = omega (arith, length-append found (one ∷ [])) in
     (k, x, inside, get_or_append_left found (one ∷ []) x k lt ∙ at, has)
 
-any-cases : (found : List (List ℕ)) (one : List ℕ) (t : ℕ) → Any (λ l. Contains l t) (found ++ one ∷ []) → Any (λ l. Contains l t) found ⊎ Contains one t
+any-cases : (found : List (List ℕ)) (one : List ℕ) (t : ℕ) → Any (λ l. Contains l t) (found ++ one ∷ []) →
+    Any (λ l. Contains l t) found ⊎ Contains one t
 any-cases found one t (k, x, lt, at, has) = elim (Contains-push_cases found one x (k, lt, at)) [
   | inl (i, inside, is) ↦ inl (i, x, inside, is, has)
   | inr same ↦ inr (subst (λ l. Contains l t) (sym same) has)
@@ -112,11 +124,13 @@ found-none next n past = record {
     ]
 
 -- all numbers were seen
-pub found-all : (next : ℕ → Option ℕ) (seen : List Bool) (found : List (List ℕ)) (n : ℕ) → length seen ≤ n → Found next n seen found → AreCycles next found
+pub found-all : (next : ℕ → Option ℕ) (seen : List Bool) (found : List (List ℕ)) (n : ℕ) → length seen ≤ n →
+    Found next n seen found → AreCycles next found
 found-all next seen found n all f = record {
   real = f.real;
   once = f.once;
-  begins = All-weaker (IsEnteredBelow next n) (λ one. (t : ℕ) × IsLowest next one t) (λ one (t, below, is). (t, is)) found f.begins;
+  begins = All-weaker (IsEnteredBelow next n) (λ one. (t : ℕ) × IsLowest next one t)
+      (λ one (t, below, is). (t, is)) found f.begins;
   order = f.order;
   every = λ cycle t c has. f.every cycle t c has (elim (cases_lt t n) [
     | inl lt ↦ f.below t lt
@@ -124,7 +138,8 @@ found-all next seen found n all f = record {
   ]);
 }
 
-walked-below : (next : ℕ → Option ℕ) (before : List Bool) (start : ℕ) (seen : List Bool) (passed : List ℕ) (end : Option ℕ) (found : List (List ℕ)) →
+walked-below : (next : ℕ → Option ℕ) (before : List Bool) (start : ℕ) (seen : List Bool) (passed : List ℕ) (end : Option ℕ)
+    (found : List (List ℕ)) →
     Found next start before found → IsWalk next before start seen passed end → IfSome end (λ t. get_or seen t true ≡ true) →
     (t : ℕ) → t < start + 1 → get_or seen t true ≡ true
 walked-below next before start seen passed end found f w ended t h = elim (cases_lt t start) [
@@ -137,7 +152,8 @@ walked-below next before start seen passed end found f w ended t h = elim (cases
       ])
 ]
 
-walked-closed : (next : ℕ → Option ℕ) (before : List Bool) (start : ℕ) (seen : List Bool) (passed : List ℕ) (end : Option ℕ) (found : List (List ℕ)) →
+walked-closed : (next : ℕ → Option ℕ) (before : List Bool) (start : ℕ) (seen : List Bool) (passed : List ℕ) (end : Option ℕ)
+    (found : List (List ℕ)) →
     Found next start before found → IsWalk next before start seen passed end → IfSome end (λ t. get_or seen t true ≡ true) →
     (t u : ℕ) → get_or seen t true ≡ true → next t ≡ Some u → get_or seen u true ≡ true
 walked-closed next before start seen passed end found f w ended t u is to = elim (w.only t is) [
@@ -145,7 +161,8 @@ walked-closed next before start seen passed end found f w ended t u is to = elim
   | inr (k, lt, at) ↦
       let here : get_or passed k 0 ≡ t = get_or_default passed k 0 t lt ∙ at in
       elim (cases_lt (k + 1) (length passed)) [
-        | inl more ↦ subst (λ v. get_or seen v true ≡ true) (same_Some (get_or passed (k + 1) 0) u (sym (w.each k more) ∙ ap next here ∙ to)) (w.marked (k + 1) more)
+        | inl more ↦ subst (λ v. get_or seen v true ≡ true)
+            (same_Some (get_or passed (k + 1) 0) u (sym (w.each k more) ∙ ap next here ∙ to)) (w.marked (k + 1) more)
         | inr le ↦
             let all : k + 1 ≡ length passed = omega arith in
             subst (λ o. IfSome o (λ v. get_or seen v true ≡ true)) (sym (w.last k all) ∙ ap next here ∙ to) ended
@@ -159,7 +176,8 @@ entered-more next start found begins =
     (λ one (t, below, is). let less : t < start + 1 = omega (arith, below) in (t, less, is)) found begins
 
 -- a walk that ends outside itself passed no cycle
-pub found-open : (next : ℕ → Option ℕ) (before : List Bool) (start : ℕ) (seen : List Bool) (passed : List ℕ) (end : Option ℕ) (found : List (List ℕ)) →
+pub found-open : (next : ℕ → Option ℕ) (before : List Bool) (start : ℕ) (seen : List Bool) (passed : List ℕ) (end : Option ℕ)
+    (found : List (List ℕ)) →
     ((k : ℕ) → k < length passed → end ≢ Some (get_or passed k 0)) →
     Found next start before found → IsWalk next before start seen passed end → IfSome end (λ t. get_or seen t true ≡ true) →
     Found next (start + 1) seen found
@@ -173,7 +191,8 @@ found-open next before start seen passed end found outside f w ended = record {
   order = f.order;
   every = λ cycle t c has is. elim (w.only t is) [
     | inl old ↦ f.every cycle t c has old
-    | inr (k, lt, at) ↦ absurd (off-cycle next before start seen passed end f.closed w k lt (ends k end refl ended) cycle t c has (get_or_default passed k 0 t lt ∙ at))
+    | inr (k, lt, at) ↦ absurd (off-cycle next before start seen passed end f.closed w k lt (ends k end refl ended) cycle t c
+        has (get_or_default passed k 0 t lt ∙ at))
   ];
 }
   where
@@ -185,8 +204,10 @@ found-open next before start seen passed end found outside f w ended = record {
     ]
 
 -- from where a walk passed its end on it is a cycle
-closed-cycle : (next : ℕ → Option ℕ) (before : List Bool) (start : ℕ) (seen : List Bool) (passed : List ℕ) (end : Option ℕ) (place : ℕ) →
-    place < length passed → end ≡ Some (get_or passed place 0) → IsWalk next before start seen passed end → IsCycle next (drop place passed)
+closed-cycle : (next : ℕ → Option ℕ) (before : List Bool) (start : ℕ) (seen : List Bool) (passed : List ℕ)
+    (end : Option ℕ) (place : ℕ) →
+    place < length passed → end ≡ Some (get_or passed place 0) → IsWalk next before start seen passed end →
+    IsCycle next (drop place passed)
 closed-cycle next before start seen passed end place h same w = record {
   some = omega (arith, len);
   apart = λ i j lt inside e.
@@ -196,10 +217,12 @@ closed-cycle next before start seen passed end place h same w = record {
   each = λ k inside.
       let within : place + k + 1 < length passed = omega (arith, len) in
       let one : place + k + 1 ≡ place + (k + 1) = omega arith in
-      ap next (at k) ∙ w.each (place + k) within ∙ ap (λ i. Some (get_or passed i 0)) one ∙ ap (λ v. Some v) (sym (at (k + 1)));
+      ap next (at k) ∙ w.each (place + k) within ∙ ap (λ i. Some (get_or passed i 0)) one
+      ∙ ap (λ v. Some v) (sym (at (k + 1)));
   last = λ k all.
       let whole : place + k + 1 ≡ length passed = omega (arith, len) in
-      ap next (at k) ∙ w.last (place + k) whole ∙ same ∙ ap (λ i. Some (get_or passed i 0)) (sym (add-zero place)) ∙ ap (λ v. Some v) (sym (at 0));
+      ap next (at k) ∙ w.last (place + k) whole ∙ same ∙ ap (λ i. Some (get_or passed i 0)) (sym (add-zero place))
+      ∙ ap (λ v. Some v) (sym (at 0));
 }
   where
     len : length (drop place passed) ≡ length passed - place
@@ -209,13 +232,15 @@ closed-cycle next before start seen passed end place h same w = record {
     at k = get_or-drop place passed k 0
 
 -- a number of the rest of a walk
-in-rest : (passed : List ℕ) (place t : ℕ) → Contains (drop place passed) t → (k : ℕ) × (place ≤ k) × (k < length passed) × (get_or passed k 0 ≡ t)
+in-rest : (passed : List ℕ) (place t : ℕ) → Contains (drop place passed) t →
+    (k : ℕ) × (place ≤ k) × (k < length passed) × (get_or passed k 0 ≡ t)
 in-rest passed place t (i, lt, at) =
     let no_less : place ≤ place + i = omega arith in
     let inside : place + i < length passed = omega (arith, length-drop place passed) in
     (place + i, no_less, inside, get_or_default passed (place + i) 0 t inside ∙ sym (get_or-drop place passed i t) ∙ at)
 
-rest-has : (passed : List ℕ) (place k t : ℕ) → place ≤ k → k < length passed → get_or passed k t ≡ t → Contains (drop place passed) t
+rest-has : (passed : List ℕ) (place k t : ℕ) → place ≤ k → k < length passed → get_or passed k t ≡ t →
+    Contains (drop place passed) t
 rest-has passed place k t le lt at =
     let inside : k - place < length (drop place passed) = omega (arith, length-drop place passed) in
     let same : place + (k - place) ≡ k = omega arith in
@@ -230,14 +255,16 @@ led Q next cycle on _ _ (entered {t} has) q = (q, has)
 led Q next cycle on _ _ (leads_on {t} {u} {first} not to way) q = led Q next cycle on u first way (on t u q to)
 
 -- the numbers of a walk lead into the rest of it from a place on
-walk-enters : (next : ℕ → Option ℕ) (before : List Bool) (start : ℕ) (seen : List Bool) (passed : List ℕ) (end : Option ℕ) (place : ℕ) →
+walk-enters : (next : ℕ → Option ℕ) (before : List Bool) (start : ℕ) (seen : List Bool) (passed : List ℕ)
+    (end : Option ℕ) (place : ℕ) →
     place < length passed → IsWalk next before start seen passed end → (more i : ℕ) → i + more ≡ place →
     Enters next (drop place passed) (get_or passed i 0) (get_or passed place 0)
 walk-enters next before start seen passed end place h w zero i is =
     let same : place ≡ i = omega (arith, is) in
     let no_less : place ≤ place = omega arith in
     subst (λ k. Enters next (drop place passed) (get_or passed k 0) (get_or passed place 0)) same
-    (entered (rest-has passed place place (get_or passed place 0) no_less h (get_or_default passed place (get_or passed place 0) 0 h)))
+    (entered (rest-has passed place place (get_or passed place 0) no_less h
+    (get_or_default passed place (get_or passed place 0) 0 h)))
 walk-enters next before start seen passed end place h w (suc more) i is =
     let later : i + 1 + more ≡ place = omega (arith, is) in
     let below : i + 1 < length passed = omega (arith, is, h) in
@@ -272,18 +299,21 @@ closed-lowest next before start seen passed end found place h f w = record {
 }
 
 -- a walk that passed its end closed one cycle
-pub found-closed : (next : ℕ → Option ℕ) (before : List Bool) (start : ℕ) (seen : List Bool) (passed : List ℕ) (end : Option ℕ) (found : List (List ℕ)) (place : ℕ) →
+pub found-closed : (next : ℕ → Option ℕ) (before : List Bool) (start : ℕ) (seen : List Bool) (passed : List ℕ)
+    (end : Option ℕ) (found : List (List ℕ)) (place : ℕ) →
     place < length passed → end ≡ Some (get_or passed place 0) →
     Found next start before found → IsWalk next before start seen passed end → IfSome end (λ t. get_or seen t true ≡ true) →
     Found next (start + 1) seen (found ++ drop place passed ∷ [])
 found-closed next before start seen passed end found place h same f w ended = record {
   below = walked-below next before start seen passed end found f w ended;
   closed = walked-closed next before start seen passed end found f w ended;
-  real = All-push (IsCycle next) found (drop place passed) f.real (closed-cycle next before start seen passed end place h same w);
+  real = All-push (IsCycle next) found (drop place passed) f.real
+      (closed-cycle next before start seen passed end place h same w);
   once = all_pairs_push AreApart found (drop place passed) f.once apart;
   begins =
       let now : start < start + 1 = omega arith in
-      All-push (IsEnteredBelow next (start + 1)) found (drop place passed) (entered-more next start found f.begins) (start, now, lowest);
+      All-push (IsEnteredBelow next (start + 1)) found (drop place passed) (entered-more next start found f.begins)
+      (start, now, lowest);
   order = all_pairs_push (IsListedBefore next) found (drop place passed) f.order ascends;
   held = λ t has. elim (any-cases found (drop place passed) t has) [
     | inl old ↦ w.kept t (f.held t old)
@@ -292,7 +322,8 @@ found-closed next before start seen passed end found place h same f w ended = re
   every = λ cycle t c has is. elim (w.only t is) [
     | inl old ↦ any-left found (drop place passed) t (f.every cycle t c has old)
     | inr (k, lt, at) ↦ elim (cases_lt k place) [
-      | inl before_it ↦ absurd (off-cycle next before start seen passed end f.closed w k lt (behind k before_it) cycle t c has (get_or_default passed k 0 t lt ∙ at))
+      | inl before_it ↦ absurd (off-cycle next before start seen passed end f.closed w k lt (behind k before_it) cycle t c
+          has (get_or_default passed k 0 t lt ∙ at))
       | inr le ↦ Any-push (λ l. Contains l t) found (drop place passed) (rest-has passed place k t le lt at)
     ]
   ];

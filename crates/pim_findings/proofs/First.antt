@@ -15,16 +15,19 @@ use Rattle.pim_findings.proofs.Queueing.{queue-kept}
 use Rattle.pim_findings.proofs.Highest.{find-none, find-some, queue-number, queue-waits, waits-queued}
 use Rattle.pim_findings.proofs.Raising.{all-ceilings, all-effective, heir-waits, owner-raised, sound-none, waits-inside}
 
-pub first-none : (waiting : Waiting) (mutex : ℕ) → KeepsQueue waiting → find (λ wait. wait.mutex == mutex) waiting.queue.items ≡ None →
+pub first-none : (waiting : Waiting) (mutex : ℕ) → KeepsQueue waiting →
+    find (λ wait. wait.mutex == mutex) waiting.queue.items ≡ None →
     (t : ℕ) → awaits_by (queued_at waiting) t ≡ Some mutex → ⊥
 first-none waiting mutex k none t a =
     let q = waits-queued waiting mutex t k a in
-    both_ways (q.wait.mutex == mutex) (find-none (λ wait. wait.mutex == mutex) waiting.queue.items q.wait none q.queued) (eq-eqb q.wait.mutex mutex q.for_it)
+    both_ways (q.wait.mutex == mutex) (find-none (λ wait. wait.mutex == mutex) waiting.queue.items q.wait none q.queued)
+    (eq-eqb q.wait.mutex mutex q.for_it)
 
 abbrev alone : Queued → Queued → Bool
 alone any wait = not (wait.mutex == any.mutex) || (wait.thread == any.thread)
 
-module _ (sources : Sources) (course : Course) (fact : Fact) (waiting : Waiting) (any : Queued) (mutex : ℕ) (k : KeepsQueue waiting)
+module _ (sources : Sources) (course : Course) (fact : Fact) (waiting : Waiting) (any : Queued) (mutex : ℕ)
+    (k : KeepsQueue waiting)
     (some : find (λ wait. wait.mutex == mutex) waiting.queue.items ≡ Some any) where
   pub any-queued : Contains waiting.queue.items any
   any-queued = (find-some (λ wait. wait.mutex == mutex) waiting.queue.items any some).0
@@ -33,17 +36,20 @@ module _ (sources : Sources) (course : Course) (fact : Fact) (waiting : Waiting)
   any-for = eqb-true any.mutex mutex (find-some (λ wait. wait.mutex == mutex) waiting.queue.items any some).1
 
   -- all that wait for the mutex are this thread
-  same-thread : list_all (alone any) waiting.queue.items ≡ true → (other : ℕ) → awaits_by (queued_at waiting) other ≡ Some mutex → other ≡ any.thread
+  same-thread : list_all (alone any) waiting.queue.items ≡ true → (other : ℕ) →
+      awaits_by (queued_at waiting) other ≡ Some mutex → other ≡ any.thread
   same-thread all other a =
       let q = waits-queued waiting mutex other k a in
       let passes : alone any q.wait ≡ true = All-contains (λ wait. alone any wait ≡ true) waiting.queue.items q.wait
       (AllPass-from_list_all (alone any) waiting.queue.items all) q.queued in
       elim (or_cases _ _ passes) [
-        | inl not_it ↦ absurd (both_ways (q.wait.mutex == any.mutex) (not-true _ not_it) (eq-eqb q.wait.mutex any.mutex (q.for_it ∙ sym any-for)))
+        | inl not_it ↦ absurd (both_ways (q.wait.mutex == any.mutex) (not-true _ not_it)
+            (eq-eqb q.wait.mutex any.mutex (q.for_it ∙ sym any-for)))
         | inr it ↦ sym q.of_it ∙ eqb-true q.wait.thread any.thread it
       ]
 
-  pub first-alone : list_all (alone any) waiting.queue.items ≡ true → HasFirst (before_at sources course fact waiting) mutex any.number
+  pub first-alone : list_all (alone any) waiting.queue.items ≡ true →
+      HasFirst (before_at sources course fact waiting) mutex any.number
   first-alone all = record {
     thread = any.thread;
     first = record {
@@ -55,15 +61,19 @@ module _ (sources : Sources) (course : Course) (fact : Fact) (waiting : Waiting)
       };
       none_before = λ other a lt.
           let less : number_by (queued_at waiting) any.thread < number_by (queued_at waiting) any.thread =
-          subst (λ t. number_by (queued_at waiting) t < number_by (queued_at waiting) any.thread) (same-thread all other a) lt in
+          subst (λ t. number_by (queued_at waiting) t < number_by (queued_at waiting) any.thread)
+          (same-thread all other a) lt in
           absurd (omega arith);
     };
     is = queue-number waiting any k any-queued;
   }
 
-  module _ (new : Waiting) (queues : new.queue ≡ waiting.queue) (e : AreEffective (before_at sources course fact waiting) new) where
-    behind-it : (number : ℕ) (h : HasHighest new any.mutex number) (other : ℕ) → awaits_by (queued_at waiting) other ≡ Some mutex →
-        (wait : Queued) × (wait.thread ≡ other) × (wait.number ≡ number_by (queued_at waiting) other) × IsBehind new wait h.first
+  module _ (new : Waiting) (queues : new.queue ≡ waiting.queue)
+      (e : AreEffective (before_at sources course fact waiting) new) where
+    behind-it : (number : ℕ) (h : HasHighest new any.mutex number) (other : ℕ) →
+        awaits_by (queued_at waiting) other ≡ Some mutex →
+        (wait : Queued) × (wait.thread ≡ other) × (wait.number ≡ number_by (queued_at waiting) other)
+        × IsBehind new wait h.first
     behind-it number h other a =
         let q = waits-queued waiting mutex other k a in (
           q.wait,
@@ -72,11 +82,13 @@ module _ (sources : Sources) (course : Course) (fact : Fact) (waiting : Waiting)
           h.behind q.wait (subst (λ v. Contains v.items q.wait) (sym queues) q.queued) (q.for_it ∙ sym any-for),
         )
 
-    pub first-highest : (number : ℕ) → HasHighest new any.mutex number → HasFirst (before_at sources course fact waiting) mutex number
+    pub first-highest : (number : ℕ) → HasHighest new any.mutex number →
+        HasFirst (before_at sources course fact waiting) mutex number
     first-highest number h =
         let queued : Contains waiting.queue.items h.first = subst (λ v. Contains v.items h.first) queues h.queued in
         let waits = queue-waits waiting h.first mutex k queued (h.for_it ∙ any-for) in
-        let number_is : h.first.number ≡ number_by (queued_at waiting) h.first.thread = queue-number waiting h.first k queued in
+        let number_is : h.first.number ≡ number_by (queued_at waiting) h.first.thread =
+        queue-number waiting h.first k queued in
         record {
           thread = h.first.thread;
           first = record {
@@ -86,13 +98,18 @@ module _ (sources : Sources) (course : Course) (fact : Fact) (waiting : Waiting)
                 let le : level ≤ level_at new other = e.highest other mutex level a g in
                 let one : level_at new b.0.thread ≤ level_at new h.first.thread = b.3.not_higher in
                 let same : level_at new b.0.thread ≡ level_at new other = ap (level_at new) b.1 in
-                record { high = level_at new h.first.thread; gets = e.gotten h.first.thread mutex waits; is_high = omega arith };
+                record {
+                  high = level_at new h.first.thread;
+                  gets = e.gotten h.first.thread mutex waits;
+                  is_high = omega arith;
+                };
             none_before = λ other a before.
                 let b = behind-it number h other a in
                 let one : level_at new b.0.thread ≤ level_at new h.first.thread = b.3.not_higher in
                 let same : level_at new b.0.thread ≡ level_at new other = ap (level_at new) b.1 in
                 let less : b.0.number < h.first.number = omega (arith, b.2, number_is, before) in
-                let lower : level_at new other < level_at new h.first.thread = elim (cases_lt (level_at new b.0.thread) (level_at new h.first.thread)) [
+                let lower : level_at new other < level_at new h.first.thread =
+                elim (cases_lt (level_at new b.0.thread) (level_at new h.first.thread)) [
                   | inl lt ↦ omega arith
                   | inr ge ↦
                       let equal : level_at new b.0.thread ≡ level_at new h.first.thread = omega arith in
@@ -102,7 +119,8 @@ module _ (sources : Sources) (course : Course) (fact : Fact) (waiting : Waiting)
                 record {
                   high = level_at new h.first.thread;
                   gets = e.gotten h.first.thread mutex waits;
-                  is_higher = λ level g. let le : level ≤ level_at new other = e.highest other mutex level a g in omega arith;
+                  is_higher = λ level g. let le : level ≤ level_at new other =
+                      e.highest other mutex level a g in omega arith;
                 };
           };
           is = h.is ∙ number_is;
@@ -117,9 +135,11 @@ queue-inside waiting wait k h = waits-inside waiting wait.thread wait.mutex k (q
 
 -- one thread more has a level
 pub level-raised : (sources : Sources) (course : Course) (fact : Fact) (old now new : Waiting) (thread level : ℕ) →
-    now ≡ record old { effective = now.effective } → length now.effective.items ≡ length old.effective.items → KeepsQueue old →
+    now ≡ record old { effective = now.effective } → length now.effective.items ≡ length old.effective.items →
+    KeepsQueue old →
     Gets (before_at sources course fact old) thread level → AreSound (before_at sources course fact old) now →
-    (KeepsQueue now → Gets (before_at sources course fact now) thread level → AreSound (before_at sources course fact now) now →
+    (KeepsQueue now → Gets (before_at sources course fact now) thread level →
+    AreSound (before_at sources course fact now) now →
     IsRaised (before_at sources course fact now) now new thread level) →
     IsRaised (before_at sources course fact old) now new thread level
 level-raised sources course fact old now new thread level rest len k gets sound raises =
@@ -130,41 +150,50 @@ level-raised sources course fact old now new thread level rest len k gets sound 
 
 -- the owner of one mutex more has the ceiling
 pub ceiling-raised : (sources : Sources) (course : Course) (fact : Fact) (old now new : Waiting) (mutex : ℕ) →
-    now ≡ record old { effective = now.effective } → length now.effective.items ≡ length old.effective.items → KeepsQueue old →
+    now ≡ record old { effective = now.effective } → length now.effective.items ≡ length old.effective.items →
+    KeepsQueue old →
     protects_at old mutex ≡ true → AreSound (before_at sources course fact old) now →
     (KeepsQueue now → IsTrue (protects_at now mutex) → AreSound (before_at sources course fact now) now →
     MatchOption ((before_at sources course fact now).world.owner mutex) (new ≡ now)
-    (λ owner. IsRaised (before_at sources course fact now) now new owner ((before_at sources course fact now).world.ceiling mutex))) →
+    (λ owner. IsRaised (before_at sources course fact now) now new owner
+    ((before_at sources course fact now).world.ceiling mutex))) →
     AreSound (before_at sources course fact old) new × ((t : ℕ) → level_at now t ≤ level_at new t) ×
     ((t : ℕ) → (before_at sources course fact old).world.owner mutex ≡ Some t → t < length now.effective.items →
     (before_at sources course fact old).world.ceiling mutex ≤ level_at new t)
 ceiling-raised sources course fact old now new mutex rest len k protects sound raises =
     let same = ap (before_at sources course fact) rest in
-    owner-raised (before_at sources course fact old) now new mutex ((before_at sources course fact old).world.ceiling mutex) sound
-    (subst (λ b. MatchOption (b.world.owner mutex) (new ≡ now) (λ owner. IsRaised b now new owner (b.world.ceiling mutex))) same
+    owner-raised (before_at sources course fact old) now new mutex
+    ((before_at sources course fact old).world.ceiling mutex) sound
+    (subst (λ b. MatchOption (b.world.owner mutex) (new ≡ now) (λ owner. IsRaised b now new owner (b.world.ceiling mutex)))
+    same
     (raises (queue-kept old now (ap (λ w. w.open) rest) (ap (λ w. w.queue) rest) len k)
     (ap (λ w. protects_at w mutex) rest ∙ protects) (subst (λ b. AreSound b now) (sym same) sound)))
 
 -- all of them
 pub all-raised : (sources : Sources) (course : Course) (fact : Fact) (old new : Waiting) (n : ℕ) → KeepsQueue old →
     AreSound (before_at sources course fact old) new →
-    ((wait : Queued) → Contains old.queue.items wait → (before_at sources course fact old).world.level wait.thread ≤ level_at new wait.thread) →
+    ((wait : Queued) → Contains old.queue.items wait →
+    (before_at sources course fact old).world.level wait.thread ≤ level_at new wait.thread) →
     length old.protecting.items ≤ n →
     ((j : ℕ) → j < n → (t : ℕ) → (before_at sources course fact old).world.owner (get_or old.protecting.items j 0) ≡ Some t →
-    t < length old.effective.items → (before_at sources course fact old).world.ceiling (get_or old.protecting.items j 0) ≤ level_at new t) →
+    t < length old.effective.items → (before_at sources course fact old).world.ceiling
+    (get_or old.protecting.items j 0) ≤ level_at new t) →
     AreEffective (before_at sources course fact old) new
 all-raised sources course fact old new n k sound levels whole ceilings =
     all-effective (before_at sources course fact old) new sound (λ t mutex a.
     let q = waits-queued old mutex t k a in
     record {
-      own = subst (λ one. (before_at sources course fact old).world.level one ≤ level_at new one) q.of_it (levels q.wait q.queued);
-      ceilings = all-ceilings old.protecting.items (before_at sources course fact old).world.owner (before_at sources course fact old).world.ceiling
+      own = subst (λ one. (before_at sources course fact old).world.level one ≤ level_at new one) q.of_it
+          (levels q.wait q.queued);
+      ceilings = all-ceilings old.protecting.items (before_at sources course fact old).world.owner
+          (before_at sources course fact old).world.ceiling
           t (level_at new t) n whole (λ j lt e. ceilings j lt t e (waits-inside old t mutex k a));
     })
 
 -- the lowest levels
 pub sound-lowest : (sources : Sources) (course : Course) (fact : Fact) (old new : Waiting) → KeepsQueue old →
-    ((wait : Queued) → Contains old.queue.items wait → level_at new wait.thread ≡ 0) → AreSound (before_at sources course fact old) new
+    ((wait : Queued) → Contains old.queue.items wait → level_at new wait.thread ≡ 0) →
+    AreSound (before_at sources course fact old) new
 sound-lowest sources course fact old new k lowest =
     sound-none (before_at sources course fact old) new low
     (λ t heir h. let w = heir-waits (before_at sources course fact old) t heir h in low t w.0 w.1)

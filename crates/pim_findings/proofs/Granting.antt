@@ -12,12 +12,14 @@ use Rattle.pim_findings.proofs.Owning.{last_granted-one, owned, ownerships_of-on
 
 -- ---- the last grant
 
-pub granted-from : (facts : List Moment) (mutex since : ℕ) → last_granted facts mutex ≡ Some since → WasGranted facts mutex since
+pub granted-from : (facts : List Moment) (mutex since : ℕ) → last_granted facts mutex ≡ Some since →
+    WasGranted facts mutex since
 granted-from [] mutex since h = absurd (none-some since h)
 granted-from (m ∷ before) mutex since h = go (grants mutex m) refl (λ k. granted-from before mutex since k) h
   where
     go : (b : Bool) → grants mutex m ≡ b → (last_granted before mutex ≡ Some since → WasGranted before mutex since) →
-        option_map (λ m. m.time) (cond b (Some m) (find (grants mutex) before)) ≡ Some since → WasGranted (m ∷ before) mutex since
+        option_map (λ m. m.time) (cond b (Some m) (find (grants mutex) before)) ≡ Some since →
+        WasGranted (m ∷ before) mutex since
     go true is rest k = record {
       later = [];
       granting = m;
@@ -44,13 +46,16 @@ granted-at (n ∷ later) m earlier mutex is none =
     last_granted-one n (later ++ m ∷ earlier) mutex false (All-head (λ m. grants mutex m ≡ false) n later none)
     ∙ granted-at later m earlier mutex is (All-tail (λ m. grants mutex m ≡ false) n later none)
 
-pub granted-to : (facts : List Moment) (mutex since : ℕ) → WasGranted facts mutex since → last_granted facts mutex ≡ Some since
+pub granted-to : (facts : List Moment) (mutex since : ℕ) → WasGranted facts mutex since →
+    last_granted facts mutex ≡ Some since
 granted-to facts mutex since w =
-    ap (λ l. last_granted l mutex) w.these ∙ granted-at w.later w.granting w.earlier mutex w.grant w.no_other ∙ ap (λ n. Some n) (sym w.is)
+    ap (λ l. last_granted l mutex) w.these ∙ granted-at w.later w.granting w.earlier mutex w.grant w.no_other
+    ∙ ap (λ n. Some n) (sym w.is)
 
 -- ---- the ownerships that ended
 
-owned-more : (m : Moment) (facts : List Moment) (mutex : ℕ) (one : FoundOwnership) → HasOwned facts mutex one → HasOwned (m ∷ facts) mutex one
+owned-more : (m : Moment) (facts : List Moment) (mutex : ℕ) (one : FoundOwnership) → HasOwned facts mutex one →
+    HasOwned (m ∷ facts) mutex one
 owned-more m facts mutex one w = record {
   later = m ∷ w.later;
   ending = w.ending;
@@ -63,29 +68,33 @@ owned-more m facts mutex one w = record {
 }
 
 owned-now : (m : Moment) (before : List Moment) (mutex : ℕ) (one : FoundOwnership) → releases mutex m ≡ true →
-    (Contains (ownerships_of before mutex) one → HasOwned before mutex one) → (since : Option ℕ) → last_granted before mutex ≡ since →
+    (Contains (ownerships_of before mutex) one → HasOwned before mutex one) → (since : Option ℕ) →
+    last_granted before mutex ≡ since →
     Contains (and_since since m.fact.thread m.time (ownerships_of before mutex)) one → HasOwned (m ∷ before) mutex one
 owned-now m before mutex one ends rest None is h = owned-more m before mutex one (rest h)
-owned-now m before mutex one ends rest (Some since) is h = elim (contains-cases (owned m.fact.thread (m.time - since)) one (ownerships_of before mutex) h) [
-  | inl same ↦ record {
-    later = [];
-    ending = m;
-    earlier = before;
-    these = refl;
-    ends = ends;
-    since = since;
-    granted = granted-from before mutex since is;
-    is = sym same;
-  }
-  | inr behind ↦ owned-more m before mutex one (rest behind)
-]
+owned-now m before mutex one ends rest (Some since) is h =
+    elim (contains-cases (owned m.fact.thread (m.time - since)) one (ownerships_of before mutex) h) [
+      | inl same ↦ record {
+        later = [];
+        ending = m;
+        earlier = before;
+        these = refl;
+        ends = ends;
+        since = since;
+        granted = granted-from before mutex since is;
+        is = sym same;
+      }
+      | inr behind ↦ owned-more m before mutex one (rest behind)
+    ]
 
-pub owned-from : (facts : List Moment) (mutex : ℕ) (one : FoundOwnership) → Contains (ownerships_of facts mutex) one → HasOwned facts mutex one
+pub owned-from : (facts : List Moment) (mutex : ℕ) (one : FoundOwnership) → Contains (ownerships_of facts mutex) one →
+    HasOwned facts mutex one
 owned-from [] mutex one h = absurd (omega (arith, h.1))
 owned-from (m ∷ before) mutex one h = go (releases mutex m) refl (λ k. owned-from before mutex one k) h
   where
     go : (b : Bool) → releases mutex m ≡ b → (Contains (ownerships_of before mutex) one → HasOwned before mutex one) →
-        Contains (cond b (and_since (last_granted before mutex) m.fact.thread m.time (ownerships_of before mutex)) (ownerships_of before mutex)) one →
+        Contains (cond b (and_since (last_granted before mutex) m.fact.thread m.time (ownerships_of before mutex))
+        (ownerships_of before mutex)) one →
         HasOwned (m ∷ before) mutex one
     go true ends rest k = owned-now m before mutex one ends rest (last_granted before mutex) refl k
     go false ends rest k = owned-more m before mutex one (rest k)
@@ -93,26 +102,33 @@ owned-from (m ∷ before) mutex one h = go (releases mutex m) refl (λ k. owned-
 contains-since : (since : Option ℕ) (thread time : ℕ) (ownerships : List FoundOwnership) (one : FoundOwnership) →
     Contains ownerships one → Contains (and_since since thread time ownerships) one
 contains-since None thread time ownerships one h = h
-contains-since (Some since) thread time ownerships one h = Contains-append_right (owned thread (time - since) ∷ []) ownerships one h
+contains-since (Some since) thread time ownerships one h =
+    Contains-append_right (owned thread (time - since) ∷ []) ownerships one h
 
 contains-more : (m : Moment) (facts : List Moment) (mutex : ℕ) (one : FoundOwnership) →
     Contains (ownerships_of facts mutex) one → Contains (ownerships_of (m ∷ facts) mutex) one
 contains-more m facts mutex one h = go (releases mutex m)
   where
-    go : (b : Bool) → Contains (cond b (and_since (last_granted facts mutex) m.fact.thread m.time (ownerships_of facts mutex)) (ownerships_of facts mutex)) one
+    go : (b : Bool) → Contains
+        (cond b (and_since (last_granted facts mutex) m.fact.thread m.time (ownerships_of facts mutex))
+        (ownerships_of facts mutex)) one
     go true = contains-since (last_granted facts mutex) m.fact.thread m.time (ownerships_of facts mutex) one h
     go false = h
 
 owned-at : (later : List Moment) (m : Moment) (earlier : List Moment) (mutex since : ℕ) → releases mutex m ≡ true →
-    last_granted earlier mutex ≡ Some since → Contains (ownerships_of (later ++ m ∷ earlier) mutex) (owned m.fact.thread (m.time - since))
+    last_granted earlier mutex ≡ Some since →
+    Contains (ownerships_of (later ++ m ∷ earlier) mutex) (owned m.fact.thread (m.time - since))
 owned-at [] m earlier mutex since ends is =
     subst (λ l. Contains l (owned m.fact.thread (m.time - since)))
-    (sym (ownerships_of-one m earlier mutex true ends ∙ ap (λ o. and_since o m.fact.thread m.time (ownerships_of earlier mutex)) is))
+    (sym (ownerships_of-one m earlier mutex true ends
+    ∙ ap (λ o. and_since o m.fact.thread m.time (ownerships_of earlier mutex)) is))
     (contains-first (owned m.fact.thread (m.time - since)) (ownerships_of earlier mutex))
 owned-at (n ∷ later) m earlier mutex since ends is =
-    contains-more n (later ++ m ∷ earlier) mutex (owned m.fact.thread (m.time - since)) (owned-at later m earlier mutex since ends is)
+    contains-more n (later ++ m ∷ earlier) mutex (owned m.fact.thread (m.time - since))
+    (owned-at later m earlier mutex since ends is)
 
-pub owned-to : (facts : List Moment) (mutex : ℕ) (one : FoundOwnership) → HasOwned facts mutex one → Contains (ownerships_of facts mutex) one
+pub owned-to : (facts : List Moment) (mutex : ℕ) (one : FoundOwnership) → HasOwned facts mutex one →
+    Contains (ownerships_of facts mutex) one
 owned-to facts mutex one w =
     subst (λ l. Contains (ownerships_of l mutex) one) (sym w.these)
     (subst (Contains (ownerships_of (w.later ++ w.ending ∷ w.earlier) mutex)) (sym w.is)
@@ -137,7 +153,8 @@ unfolding rest_of
 same-rest x y xs ys e = ap rest_of e
 
 -- what holds of all holds of one in the middle
-all-middle : (P : FoundOwnership → Type 0) (later : List FoundOwnership) (one : FoundOwnership) (earlier : List FoundOwnership) →
+all-middle : (P : FoundOwnership → Type 0) (later : List FoundOwnership) (one : FoundOwnership)
+    (earlier : List FoundOwnership) →
     All P (later ++ one ∷ earlier) → P one
 all-middle P [] one earlier h = All-head P one earlier h
 all-middle P (x ∷ later) one earlier h = all-middle P later one earlier (All-tail P x (later ++ one ∷ earlier) h)
@@ -170,15 +187,19 @@ same-longest a b (x ∷ la) ea (y ∷ lb) eb e h i j k =
     same-longest a b la ea lb eb (same-rest x y (la ++ a ∷ ea) (lb ++ b ∷ eb) e)
     (All-tail (NoLonger a) x la h) i (All-tail (NoLonger b) y lb j) k
 
-took-none : (ownerships : List FoundOwnership) (one : FoundOwnership) → All (λ one. one.lasted ≡ 0) ownerships → IsFirstLongest ownerships one → ⊥
+took-none : (ownerships : List FoundOwnership) (one : FoundOwnership) → All (λ one. one.lasted ≡ 0) ownerships →
+    IsFirstLongest ownerships one → ⊥
 took-none ownerships one none w =
-    let is : one.lasted ≡ 0 = all-middle (λ one. one.lasted ≡ 0) w.later one w.earlier (subst (All (λ one. one.lasted ≡ 0)) w.these none) in
+    let is : one.lasted ≡ 0 = all-middle (λ one. one.lasted ≡ 0) w.later one w.earlier
+    (subst (All (λ one. one.lasted ≡ 0)) w.these none) in
     let took : 0 < one.lasted = w.took_time in
     omega arith
 
-pub one-longest : (ownerships : List FoundOwnership) (one other : Option FoundOwnership) → IsLongest ownerships one → IsLongest ownerships other → one ≡ other
+pub one-longest : (ownerships : List FoundOwnership) (one other : Option FoundOwnership) → IsLongest ownerships one →
+    IsLongest ownerships other → one ≡ other
 one-longest ownerships None None h i = refl
 one-longest ownerships None (Some b) h i = absurd (took-none ownerships b h i)
 one-longest ownerships (Some a) None h i = absurd (took-none ownerships a i h)
 one-longest ownerships (Some a) (Some b) h i =
-    ap (λ one. Some one) (same-longest a b h.later h.earlier i.later i.earlier (sym h.these ∙ i.these) h.none_longer h.shorter i.none_longer i.shorter)
+    ap (λ one. Some one) (same-longest a b h.later h.earlier i.later i.earlier (sym h.these ∙ i.these) h.none_longer
+    h.shorter i.none_longer i.shorter)

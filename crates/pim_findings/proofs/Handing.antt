@@ -38,7 +38,8 @@ begun-same m facts e = begun_by-one m facts false e ∙ ap capped (none (count_b
 capped-more : (n : ℕ) → capped (1 + n) ≡ capped (capped n + 1)
 capped-more n = omega arith
 
-pub begun-more : (m : Moment) (facts : List Moment) → begins_wait m.fact.what ≡ true → begun_by (m ∷ facts) ≡ capped (begun_by facts + 1)
+pub begun-more : (m : Moment) (facts : List Moment) → begins_wait m.fact.what ≡ true →
+    begun_by (m ∷ facts) ≡ capped (begun_by facts + 1)
 begun-more m facts e = begun_by-one m facts true e ∙ capped-more (count_by (λ m. begins_wait m.fact.what) facts)
 
 -- ---- the waits that last
@@ -46,11 +47,13 @@ begun-more m facts e = begun_by-one m facts true e ∙ capped-more (count_by (λ
 abbrev numbered : ℕ → ℕ → Option FoundWait → Option Queued
 numbered n t wait = option_map (λ one. record { number = n; thread = t; mutex = one.mutex }) wait
 
-number_of-one : (m : Moment) (facts : List Moment) (t : ℕ) (b : Bool) → ((m.fact.thread == t) && begins_wait m.fact.what) ≡ b →
+number_of-one : (m : Moment) (facts : List Moment) (t : ℕ) (b : Bool) →
+    ((m.fact.thread == t) && begins_wait m.fact.what) ≡ b →
     number_of (m ∷ facts) t ≡ cond b (begun_by (m ∷ facts)) (number_of facts t)
 number_of-one m facts t b e = ap (λ b. cond b (begun_by (m ∷ facts)) (number_of facts t)) e
 
-pub queued-other : (m : Moment) (facts : List Moment) (t : ℕ) → m.fact.thread ≢ t → queued_by (m ∷ facts) t ≡ queued_by facts t
+pub queued-other : (m : Moment) (facts : List Moment) (t : ℕ) → m.fact.thread ≢ t →
+    queued_by (m ∷ facts) t ≡ queued_by facts t
 queued-other m facts t ne =
     ap (λ n. numbered n t (wait_of (m ∷ facts) t)) (number_of-one m facts t false (and_left _ _ (ne_eqb m.fact.thread t ne)))
     ∙ ap (numbered (number_of facts t) t) (wait_of-other m facts t ne)
@@ -62,7 +65,8 @@ queued-ended m facts t e gone = ap (numbered (number_of (m ∷ facts) t) t) (wai
 pub queued-begun : (m : Moment) (facts : List Moment) (t : ℕ) → m.fact.thread ≡ t → m.fact.what ≡ Waits →
     queued_by (m ∷ facts) t ≡ Some (record { number = begun_by (m ∷ facts); thread = t; mutex = m.fact.mutex })
 queued-begun m facts t e is =
-    ap (λ n. numbered n t (wait_of (m ∷ facts) t)) (number_of-one m facts t true (and_from _ _ (eq-eqb m.fact.thread t e) (ap begins_wait is)))
+    ap (λ n. numbered n t (wait_of (m ∷ facts) t))
+    (number_of-one m facts t true (and_from _ _ (eq-eqb m.fact.thread t e) (ap begins_wait is)))
     ∙ ap (numbered (begun_by (m ∷ facts)) t) (wait_of-own m facts t e ∙ ap (λ what. after_own m what (wait_of facts t)) is)
 
 pub queued-same : (m : Moment) (facts : List Moment) (t : ℕ) → begins_wait m.fact.what ≡ false →
@@ -106,7 +110,8 @@ handed-still n k facts m old new no_grant no_release mutexes threads begun waits
 }
 
 -- the same facts, and the mutexes and the waits as they were
-pub handed-kept : (n k : ℕ) (facts : List Moment) (old new : Findings) → new.mutexes ≡ old.mutexes → new.waiting ≡ old.waiting →
+pub handed-kept : (n k : ℕ) (facts : List Moment) (old new : Findings) → new.mutexes ≡ old.mutexes →
+    new.waiting ≡ old.waiting →
     HandsOver n k facts old → HandsOver n k facts new
 handed-kept n k facts old new mutexes waiting o = record {
   threads = ap (λ w. length w.open.items) waiting ∙ o.threads;
@@ -123,55 +128,68 @@ handed-kept n k facts old new mutexes waiting o = record {
 -- nothing changes but the levels and ceilings
 pub handed-same : (n k : ℕ) (facts : List Moment) (m : Moment) (found : Findings) →
     is_grant m.fact.what ≡ false → is_release m.fact.what ≡ false → begins_wait m.fact.what ≡ false →
-    ((wait : Option FoundWait) → after_own m m.fact.what wait ≡ wait) → HandsOver n k facts found → HandsOver n k (m ∷ facts) found
+    ((wait : Option FoundWait) → after_own m m.fact.what wait ≡ wait) → HandsOver n k facts found →
+    HandsOver n k (m ∷ facts) found
 handed-same n k facts m found no_grant no_release no_begin same o =
     handed-still n k facts m found found no_grant no_release refl refl (o.begun ∙ sym (begun-same m facts no_begin))
     (λ t. o.waits t ∙ sym (queued-same m facts t no_begin same)) o.queue refl o
 
 -- a wait begins
-pub handed-begun : (n k : ℕ) (facts : List Moment) (m : Moment) (old new : Findings) → m.fact.what ≡ Waits → m.fact.thread < n →
+pub handed-begun : (n k : ℕ) (facts : List Moment) (m : Moment) (old new : Findings) → m.fact.what ≡ Waits →
+    m.fact.thread < n →
     new.mutexes ≡ old.mutexes → length new.waiting.open.items ≡ length old.waiting.open.items →
     ((t : ℕ) → queued_at new.waiting t ≡ cond ((t == m.fact.thread) && nat_lt t (length old.waiting.open.items))
     (Some (record { number = new.waiting.begun; thread = t; mutex = m.fact.mutex })) (queued_at old.waiting t)) →
-    new.waiting.begun ≡ cond (nat_lt m.fact.thread (length old.waiting.open.items)) (capped (old.waiting.begun + 1)) old.waiting.begun →
+    new.waiting.begun ≡ cond (nat_lt m.fact.thread (length old.waiting.open.items)) (capped (old.waiting.begun + 1))
+    old.waiting.begun →
     (KeepsQueue old.waiting → KeepsQueue new.waiting) → new.waiting.protecting ≡ old.waiting.protecting →
     HandsOver n k facts old → HandsOver n k (m ∷ facts) new
 handed-begun n k facts m old new is lt mutexes threads at begun queue protecting o =
-    handed-still n k facts m old new (ap is_grant is) (ap is_release is) mutexes threads now waits (queue o.queue) protecting o
+    handed-still n k facts m old new (ap is_grant is) (ap is_release is) mutexes threads now waits
+    (queue o.queue) protecting o
   where
     inside : nat_lt m.fact.thread (length old.waiting.open.items) ≡ true
     inside = lt-ltb _ _ (subst (λ l. m.fact.thread < l) (sym o.threads) lt)
 
     now : new.waiting.begun ≡ begun_by (m ∷ facts)
-    now = begun ∙ ap (λ b. cond b (capped (old.waiting.begun + 1)) old.waiting.begun) inside ∙ ap (λ n. capped (n + 1)) o.begun
+    now = begun ∙ ap (λ b. cond b (capped (old.waiting.begun + 1)) old.waiting.begun) inside
+        ∙ ap (λ n. capped (n + 1)) o.begun
         ∙ sym (begun-more m facts (ap begins_wait is))
 
     own : (t : ℕ) → m.fact.thread ≡ t → ((t == m.fact.thread) && nat_lt t (length old.waiting.open.items)) ≡ true
-    own t e = and_from _ _ (eq-eqb t m.fact.thread (sym e)) (ap (λ t. nat_lt t (length old.waiting.open.items)) (sym e) ∙ inside)
+    own t e = and_from _ _ (eq-eqb t m.fact.thread (sym e))
+        (ap (λ t. nat_lt t (length old.waiting.open.items)) (sym e) ∙ inside)
 
     waits : (t : ℕ) → queued_at new.waiting t ≡ queued_by (m ∷ facts) t
     waits t = elim (cases_eq m.fact.thread t) [
       | inl e ↦ at t
-          ∙ ap (λ b. cond b (Some (record { number = new.waiting.begun; thread = t; mutex = m.fact.mutex })) (queued_at old.waiting t)) (own t e)
+          ∙ ap (λ b. cond b (Some (record { number = new.waiting.begun; thread = t; mutex = m.fact.mutex }))
+          (queued_at old.waiting t)) (own t e)
           ∙ ap (λ n. Some (record { number = n; thread = t; mutex = m.fact.mutex })) now ∙ sym (queued-begun m facts t e is)
       | inr ne ↦ at t
-          ∙ ap (λ b. cond b (Some (record { number = new.waiting.begun; thread = t; mutex = m.fact.mutex })) (queued_at old.waiting t))
+          ∙ ap (λ b. cond b (Some (record { number = new.waiting.begun; thread = t; mutex = m.fact.mutex }))
+          (queued_at old.waiting t))
           (and_left _ _ (ne_eqb t m.fact.thread (λ e. ne (sym e))))
           ∙ o.waits t ∙ sym (queued-other m facts t ne)
     ]
 
-pub handed-begins : {T E : Type 0} (r : Result T E) (m : Moment) (old new : Findings) (wait : FoundWait) → wait ≡ begun_wait m → m.fact.what ≡ Waits →
+pub handed-begins : {T E : Type 0} (r : Result T E) (m : Moment) (old new : Findings) (wait : FoundWait) →
+    wait ≡ begun_wait m → m.fact.what ≡ Waits →
     new.mutexes ≡ old.mutexes → length new.waiting.open.items ≡ length old.waiting.open.items →
     IfOk r (λ _. (t : ℕ) → queued_at new.waiting t ≡ cond ((t == wait.thread) && nat_lt t (length old.waiting.open.items))
     (Some (record { number = new.waiting.begun; thread = t; mutex = wait.mutex })) (queued_at old.waiting t)) →
-    IfOk r (λ _. new.waiting.begun ≡ cond (nat_lt wait.thread (length old.waiting.open.items)) (capped (old.waiting.begun + 1)) old.waiting.begun) →
+    IfOk r (λ _. new.waiting.begun ≡ cond (nat_lt wait.thread (length old.waiting.open.items))
+    (capped (old.waiting.begun + 1)) old.waiting.begun) →
     IfOk r (λ _. KeepsQueue old.waiting → KeepsQueue new.waiting) → new.waiting.protecting ≡ old.waiting.protecting →
-    IfOk r (λ _. (n k : ℕ) (facts : List Moment) → m.fact.thread < n → HandsOver n k facts old → HandsOver n k (m ∷ facts) new)
+    IfOk r (λ _. (n k : ℕ) (facts : List Moment) → m.fact.thread < n → HandsOver n k facts old →
+    HandsOver n k (m ∷ facts) new)
 handed-begins (Ok x) m old new wait e is mutexes threads at begun queue protecting = λ n k facts lt o.
     handed-begun n k facts m old new is lt mutexes threads
-    (subst (λ (w : FoundWait). (t : ℕ) → queued_at new.waiting t ≡ cond ((t == w.thread) && nat_lt t (length old.waiting.open.items))
+    (subst (λ (w : FoundWait). (t : ℕ) → queued_at new.waiting t
+    ≡ cond ((t == w.thread) && nat_lt t (length old.waiting.open.items))
     (Some (record { number = new.waiting.begun; thread = t; mutex = w.mutex })) (queued_at old.waiting t)) e at)
-    (subst (λ (w : FoundWait). new.waiting.begun ≡ cond (nat_lt w.thread (length old.waiting.open.items)) (capped (old.waiting.begun + 1)) old.waiting.begun) e begun)
+    (subst (λ (w : FoundWait). new.waiting.begun ≡ cond (nat_lt w.thread (length old.waiting.open.items))
+    (capped (old.waiting.begun + 1)) old.waiting.begun) e begun)
     queue protecting o
 handed-begins (Err x) m old new wait e is mutexes threads at begun queue protecting = tt
 
@@ -181,7 +199,8 @@ waits-ended : (n k : ℕ) (facts : List Moment) (m : Moment) (old : Findings) (n
     ((t : ℕ) → queued_at new t ≡ cond (t == m.fact.thread) None (queued_at old.waiting t)) →
     HandsOver n k facts old → (t : ℕ) → queued_at new t ≡ queued_by (m ∷ facts) t
 waits-ended n k facts m old new gone at o t = elim (cases_eq m.fact.thread t) [
-  | inl e ↦ at t ∙ ap (λ b. cond b None (queued_at old.waiting t)) (eq-eqb t m.fact.thread (sym e)) ∙ sym (queued-ended m facts t e gone)
+  | inl e ↦ at t ∙ ap (λ b. cond b None (queued_at old.waiting t)) (eq-eqb t m.fact.thread (sym e))
+      ∙ sym (queued-ended m facts t e gone)
   | inr ne ↦ at t ∙ ap (λ b. cond b None (queued_at old.waiting t)) (ne_eqb t m.fact.thread (λ e. ne (sym e)))
       ∙ o.waits t ∙ sym (queued-other m facts t ne)
 ]
@@ -195,7 +214,8 @@ pub handed-gave_up : (n k : ℕ) (facts : List Moment) (m : Moment) (old new : F
 handed-gave_up n k facts m old new is mutexes threads at begun queue protecting o =
     handed-still n k facts m old new (ap is_grant is) (ap is_release is) mutexes threads
     (begun ∙ o.begun ∙ sym (begun-same m facts (ap begins_wait is)))
-    (waits-ended n k facts m old new.waiting (λ wait. ap (λ what. after_own m what wait) is) at o) (queue o.queue) protecting o
+    (waits-ended n k facts m old new.waiting (λ wait. ap (λ what. after_own m what wait) is) at o)
+    (queue o.queue) protecting o
 
 -- ---- a mutex is granted
 
@@ -208,7 +228,8 @@ or-swap false false = refl
 pub handed-granted : (n k : ℕ) (facts : List Moment) (m : Moment) (old mid new : Findings) → m.fact.what ≡ Granted →
     length mid.mutexes.items ≡ length old.mutexes.items →
     mid.waiting ≡ record old.waiting { protecting = mid.waiting.protecting } →
-    ((mutex : ℕ) → protects_at mid.waiting mutex ≡ (protects_at old.waiting mutex || ((m.fact.mutex == mutex) && is_protect (family_in m.sources m.fact.mutex)))) →
+    ((mutex : ℕ) → protects_at mid.waiting mutex
+    ≡ (protects_at old.waiting mutex || ((m.fact.mutex == mutex) && is_protect (family_in m.sources m.fact.mutex)))) →
     ((mutex : ℕ) → mutex < length old.mutexes.items →
     (mutex_at mid.mutexes.items mutex).left ≡ cond (mutex == m.fact.mutex) None (mutex_at old.mutexes.items mutex).left) →
     (KeepsQueue old.waiting → m.fact.mutex < length old.mutexes.items →
@@ -220,32 +241,39 @@ pub handed-granted : (n k : ℕ) (facts : List Moment) (m : Moment) (old mid new
     ((t : ℕ) → queued_at new.waiting t ≡ cond (t == m.fact.thread) None (queued_at mid.waiting t)) →
     new.waiting.begun ≡ mid.waiting.begun → (KeepsQueue mid.waiting → KeepsQueue new.waiting) →
     new.waiting.protecting ≡ mid.waiting.protecting → HandsOver n k facts old → HandsOver n k (m ∷ facts) new
-handed-granted n k facts m old mid new is len same protects left handed others mutexes threads at begun queue protecting o = record {
-  threads = threads ∙ ap (λ w. length w.open.items) same ∙ o.threads;
-  mutexes = ap (λ v. length v.items) mutexes ∙ len ∙ o.mutexes;
-  begun = begun ∙ ap (λ w. w.begun) same ∙ o.begun ∙ sym (begun-same m facts (ap begins_wait is));
-  waits = waits-ended n k facts m old new.waiting (λ wait. ap (λ what. after_own m what wait) is) was o;
-  queue = queue (queue-kept old.waiting mid.waiting (ap (λ w. w.open) same) (ap (λ w. w.queue) same) (ap (λ w. length w.effective.items) same) o.queue);
-  protects = λ mutex. ap (λ v. protects_in v.items mutex) protecting ∙ protects mutex
-      ∙ ap (λ b. b || ((m.fact.mutex == mutex) && is_protect (family_in m.sources m.fact.mutex))) (o.protects mutex)
-      ∙ or-swap (protects_by facts mutex) ((m.fact.mutex == mutex) && is_protect (family_in m.sources m.fact.mutex))
-      ∙ ap (λ b. b || protects_by facts mutex) (same-family mutex)
-      ∙ sym (protects_by-one m facts mutex false (m.fact.mutex == mutex) (no-release mutex) (is-grant mutex));
-  left = λ mutex h. subst (λ v. IsLeft (m ∷ facts) mutex (mutex_at v.items mutex).left) (sym mutexes) (elim (cases_eq mutex m.fact.mutex) [
-    | inl e ↦ subst (IsLeft (m ∷ facts) mutex)
-        (sym (left mutex (inside mutex h) ∙ ap (λ b. cond b None (mutex_at old.mutexes.items mutex).left) (eq-eqb mutex m.fact.mutex e)))
-        (taken (is-grant mutex ∙ eq-eqb m.fact.mutex mutex (sym e)))
-    | inr ne ↦ subst (IsLeft (m ∷ facts) mutex)
-        (sym (left mutex (inside mutex h) ∙ ap (λ b. cond b None (mutex_at old.mutexes.items mutex).left) (ne_eqb mutex m.fact.mutex ne)))
-        (still_left (is-grant mutex ∙ ne_eqb m.fact.mutex mutex (λ e. ne (sym e))) (no-release mutex) (o.left mutex h))
-  ]);
-  hand_overs = λ mutex h. subst (λ v. AreHandOvers (m ∷ facts) mutex (mutex_at v.items mutex).hand_overs) (sym mutexes) (elim (cases_eq mutex m.fact.mutex) [
-    | inl e ↦ subst (λ one. AreHandOvers (m ∷ facts) one (mutex_at mid.mutexes.items one).hand_overs) (sym e)
-        (granted (subst (λ one. one < k) e h))
-    | inr ne ↦ by_other (is-grant mutex ∙ ne_eqb m.fact.mutex mutex (λ e. ne (sym e)))
-        (subst (AreHandOvers facts mutex) (sym (others mutex (inside mutex h) ne)) (o.hand_overs mutex h))
-  ]);
-}
+handed-granted n k facts m old mid new is len same protects left handed others mutexes threads at begun queue protecting o =
+    record {
+      threads = threads ∙ ap (λ w. length w.open.items) same ∙ o.threads;
+      mutexes = ap (λ v. length v.items) mutexes ∙ len ∙ o.mutexes;
+      begun = begun ∙ ap (λ w. w.begun) same ∙ o.begun ∙ sym (begun-same m facts (ap begins_wait is));
+      waits = waits-ended n k facts m old new.waiting (λ wait. ap (λ what. after_own m what wait) is) was o;
+      queue = queue (queue-kept old.waiting mid.waiting (ap (λ w. w.open) same) (ap (λ w. w.queue) same)
+          (ap (λ w. length w.effective.items) same) o.queue);
+      protects = λ mutex. ap (λ v. protects_in v.items mutex) protecting ∙ protects mutex
+          ∙ ap (λ b. b || ((m.fact.mutex == mutex) && is_protect (family_in m.sources m.fact.mutex))) (o.protects mutex)
+          ∙ or-swap (protects_by facts mutex) ((m.fact.mutex == mutex) && is_protect (family_in m.sources m.fact.mutex))
+          ∙ ap (λ b. b || protects_by facts mutex) (same-family mutex)
+          ∙ sym (protects_by-one m facts mutex false (m.fact.mutex == mutex) (no-release mutex) (grants-own mutex));
+      left = λ mutex h. subst (λ v. IsLeft (m ∷ facts) mutex (mutex_at v.items mutex).left) (sym mutexes)
+          (elim (cases_eq mutex m.fact.mutex) [
+            | inl e ↦ subst (IsLeft (m ∷ facts) mutex)
+                (sym (left mutex (inside mutex h) ∙ ap (λ b. cond b None (mutex_at old.mutexes.items mutex).left)
+                (eq-eqb mutex m.fact.mutex e)))
+                (taken (grants-own mutex ∙ eq-eqb m.fact.mutex mutex (sym e)))
+            | inr ne ↦ subst (IsLeft (m ∷ facts) mutex)
+                (sym (left mutex (inside mutex h) ∙ ap (λ b. cond b None (mutex_at old.mutexes.items mutex).left)
+                (ne_eqb mutex m.fact.mutex ne)))
+                (still_left (grants-own mutex ∙ ne_eqb m.fact.mutex mutex (λ e. ne (sym e)))
+                (no-release mutex) (o.left mutex h))
+          ]);
+      hand_overs = λ mutex h. subst (λ v. AreHandOvers (m ∷ facts) mutex (mutex_at v.items mutex).hand_overs) (sym mutexes)
+          (elim (cases_eq mutex m.fact.mutex) [
+            | inl e ↦ subst (λ one. AreHandOvers (m ∷ facts) one (mutex_at mid.mutexes.items one).hand_overs) (sym e)
+                (granted (subst (λ one. one < k) e h))
+            | inr ne ↦ by_other (grants-own mutex ∙ ne_eqb m.fact.mutex mutex (λ e. ne (sym e)))
+                (subst (AreHandOvers facts mutex) (sym (others mutex (inside mutex h) ne)) (o.hand_overs mutex h))
+          ]);
+    }
   where
     inside : (mutex : ℕ) → mutex < k → mutex < length old.mutexes.items
     inside mutex h = subst (λ l. mutex < l) (sym o.mutexes) h
@@ -253,8 +281,8 @@ handed-granted n k facts m old mid new is len same protects left handed others m
     was : (t : ℕ) → queued_at new.waiting t ≡ cond (t == m.fact.thread) None (queued_at old.waiting t)
     was t = at t ∙ ap (λ w. cond (t == m.fact.thread) None (queued_at w t)) same
 
-    is-grant : (mutex : ℕ) → grants mutex m ≡ (m.fact.mutex == mutex)
-    is-grant mutex = by (m.fact.mutex == mutex) (is_grant m.fact.what) (ap is_grant is)
+    grants-own : (mutex : ℕ) → grants mutex m ≡ (m.fact.mutex == mutex)
+    grants-own mutex = by (m.fact.mutex == mutex) (is_grant m.fact.what) (ap is_grant is)
       where
         by : (a b : Bool) → b ≡ true → (a && b) ≡ a
         by true b e = e
@@ -263,14 +291,16 @@ handed-granted n k facts m old mid new is len same protects left handed others m
     no-release : (mutex : ℕ) → releases mutex m ≡ false
     no-release mutex = and_right _ _ (ap is_release is)
 
-    same-family : (mutex : ℕ) → ((m.fact.mutex == mutex) && is_protect (family_in m.sources m.fact.mutex)) ≡ ((m.fact.mutex == mutex) && is_protect (family_in m.sources mutex))
+    same-family : (mutex : ℕ) → ((m.fact.mutex == mutex) && is_protect (family_in m.sources m.fact.mutex))
+        ≡ ((m.fact.mutex == mutex) && is_protect (family_in m.sources mutex))
     same-family mutex = elim (cases_eq m.fact.mutex mutex) [
       | inl e ↦ ap (λ one. (m.fact.mutex == mutex) && is_protect (family_in m.sources one)) e
       | inr ne ↦ and_left _ _ (ne_eqb m.fact.mutex mutex ne) ∙ sym (and_left _ _ (ne_eqb m.fact.mutex mutex ne))
     ]
 
     granted : m.fact.mutex < k → AreHandOvers (m ∷ facts) m.fact.mutex (mutex_at mid.mutexes.items m.fact.mutex).hand_overs
-    granted h = by_grant (is-grant m.fact.mutex ∙ eq-eqb m.fact.mutex m.fact.mutex refl) (o.left m.fact.mutex h) (o.hand_overs m.fact.mutex h)
+    granted h = by_grant (grants-own m.fact.mutex ∙ eq-eqb m.fact.mutex m.fact.mutex refl) (o.left m.fact.mutex h)
+        (o.hand_overs m.fact.mutex h)
         (subst (λ waits. HandsOn waits m.fact.thread m.fact.mutex (mutex_at old.mutexes.items m.fact.mutex).left
         (mutex_at old.mutexes.items m.fact.mutex).hand_overs (mutex_at mid.mutexes.items m.fact.mutex).hand_overs)
         (fun_ext o.waits) (handed o.queue (inside m.fact.mutex h)))
@@ -289,31 +319,33 @@ pub handed-released : (n k : ℕ) (facts : List Moment) (m : Moment) (old new : 
     m.fact.mutex m.fact.thread old.waiting.begun (mutex_at new.mutexes.items m.fact.mutex).left) →
     ((mutex : ℕ) → mutex < length old.mutexes.items → mutex ≢ m.fact.mutex →
     (mutex_at new.mutexes.items mutex).left ≡ (mutex_at old.mutexes.items mutex).left) →
-    ((mutex : ℕ) → mutex < length old.mutexes.items → (mutex_at new.mutexes.items mutex).hand_overs ≡ (mutex_at old.mutexes.items mutex).hand_overs) →
+    ((mutex : ℕ) → mutex < length old.mutexes.items → (mutex_at new.mutexes.items mutex).hand_overs
+    ≡ (mutex_at old.mutexes.items mutex).hand_overs) →
     HandsOver n k facts old → HandsOver n k (m ∷ facts) new
-handed-released n k facts m old new no_grant release no_begin unchanged len same places protects left others hand_overs o = record {
-  threads = ap (λ w. length w.open.items) same ∙ o.threads;
-  mutexes = len ∙ o.mutexes;
-  begun = ap (λ w. w.begun) same ∙ o.begun ∙ sym (begun-same m facts no_begin);
-  waits = λ t. ap (λ w. queued_at w t) same ∙ o.waits t ∙ sym (queued-same m facts t no_begin unchanged);
-  queue = queue-kept old.waiting new.waiting (ap (λ w. w.open) same) (ap (λ w. w.queue) same) places o.queue;
-  protects = λ mutex. protects mutex ∙ ap (λ b. not (m.fact.mutex == mutex) && b) (o.protects mutex)
-      ∙ sym (protects_by-one m facts mutex (m.fact.mutex == mutex) false (is-release mutex) (no-grant mutex));
-  left = λ mutex h. elim (cases_eq mutex m.fact.mutex) [
-    | inl e ↦ subst (λ one. IsLeft (m ∷ facts) one (mutex_at new.mutexes.items one).left) (sym e)
-        (released (subst (λ one. one < k) e h))
-    | inr ne ↦ still_left (no-grant mutex) (is-release mutex ∙ ne_eqb m.fact.mutex mutex (λ e. ne (sym e)))
-        (subst (IsLeft facts mutex) (sym (others mutex (inside mutex h) ne)) (o.left mutex h))
-  ];
-  hand_overs = λ mutex h. by_other (no-grant mutex)
-      (subst (AreHandOvers facts mutex) (sym (hand_overs mutex (inside mutex h))) (o.hand_overs mutex h));
-}
+handed-released n k facts m old new no_grant release no_begin unchanged len same places protects left others hand_overs o =
+    record {
+      threads = ap (λ w. length w.open.items) same ∙ o.threads;
+      mutexes = len ∙ o.mutexes;
+      begun = ap (λ w. w.begun) same ∙ o.begun ∙ sym (begun-same m facts no_begin);
+      waits = λ t. ap (λ w. queued_at w t) same ∙ o.waits t ∙ sym (queued-same m facts t no_begin unchanged);
+      queue = queue-kept old.waiting new.waiting (ap (λ w. w.open) same) (ap (λ w. w.queue) same) places o.queue;
+      protects = λ mutex. protects mutex ∙ ap (λ b. not (m.fact.mutex == mutex) && b) (o.protects mutex)
+          ∙ sym (protects_by-one m facts mutex (m.fact.mutex == mutex) false (releases-own mutex) (no-grant mutex));
+      left = λ mutex h. elim (cases_eq mutex m.fact.mutex) [
+        | inl e ↦ subst (λ one. IsLeft (m ∷ facts) one (mutex_at new.mutexes.items one).left) (sym e)
+            (released (subst (λ one. one < k) e h))
+        | inr ne ↦ still_left (no-grant mutex) (releases-own mutex ∙ ne_eqb m.fact.mutex mutex (λ e. ne (sym e)))
+            (subst (IsLeft facts mutex) (sym (others mutex (inside mutex h) ne)) (o.left mutex h))
+      ];
+      hand_overs = λ mutex h. by_other (no-grant mutex)
+          (subst (AreHandOvers facts mutex) (sym (hand_overs mutex (inside mutex h))) (o.hand_overs mutex h));
+    }
   where
     inside : (mutex : ℕ) → mutex < k → mutex < length old.mutexes.items
     inside mutex h = subst (λ l. mutex < l) (sym o.mutexes) h
 
-    is-release : (mutex : ℕ) → releases mutex m ≡ (m.fact.mutex == mutex)
-    is-release mutex = by (m.fact.mutex == mutex) (is_release m.fact.what) release
+    releases-own : (mutex : ℕ) → releases mutex m ≡ (m.fact.mutex == mutex)
+    releases-own mutex = by (m.fact.mutex == mutex) (is_release m.fact.what) release
       where
         by : (a b : Bool) → b ≡ true → (a && b) ≡ a
         by true b e = e
@@ -323,12 +355,15 @@ handed-released n k facts m old new no_grant release no_begin unchanged len same
     no-grant mutex = and_right _ _ no_grant
 
     released : m.fact.mutex < k → IsLeft (m ∷ facts) m.fact.mutex (mutex_at new.mutexes.items m.fact.mutex).left
-    released h = left_by (is-release m.fact.mutex ∙ eq-eqb m.fact.mutex m.fact.mutex refl)
-        (subst (λ begun. Leaves (before_release m.sources m.course m.fact (queued_by facts) (protects_by facts)) m.fact.mutex m.fact.thread begun
+    released h = left_by (releases-own m.fact.mutex ∙ eq-eqb m.fact.mutex m.fact.mutex refl)
+        (subst (λ begun. Leaves (before_release m.sources m.course m.fact (queued_by facts) (protects_by facts)) m.fact.mutex
+        m.fact.thread begun
         (mutex_at new.mutexes.items m.fact.mutex).left) o.begun
-        (subst (λ waits. Leaves (before_release m.sources m.course m.fact waits (protects_by facts)) m.fact.mutex m.fact.thread old.waiting.begun
+        (subst (λ waits. Leaves (before_release m.sources m.course m.fact waits (protects_by facts)) m.fact.mutex
+        m.fact.thread old.waiting.begun
         (mutex_at new.mutexes.items m.fact.mutex).left) (fun_ext o.waits)
-        (subst (λ protects. Leaves (before_release m.sources m.course m.fact (queued_at old.waiting) protects) m.fact.mutex m.fact.thread old.waiting.begun
+        (subst (λ protects. Leaves (before_release m.sources m.course m.fact (queued_at old.waiting) protects) m.fact.mutex
+        m.fact.thread old.waiting.begun
         (mutex_at new.mutexes.items m.fact.mutex).left) (fun_ext o.protects)
         (left o.queue (inside m.fact.mutex h)))))
 

@@ -18,7 +18,8 @@ pub find-some : {X : Type 0} (p : X → Bool) (xs : List X) (x : X) → find p x
 find-some p [] x h = absurd (none-some x h)
 find-some p (y ∷ ys) x h = go (p y) refl (find-some p ys x) h
   where
-    go : (b : Bool) → p y ≡ b → (find p ys ≡ Some x → Contains ys x × (p x ≡ true)) → cond b (Some y) (find p ys) ≡ Some x → Contains (y ∷ ys) x × (p x ≡ true)
+    go : (b : Bool) → p y ≡ b → (find p ys ≡ Some x → Contains ys x × (p x ≡ true)) → cond b (Some y) (find p ys) ≡ Some x →
+        Contains (y ∷ ys) x × (p x ≡ true)
     go true e rest k =
         let same = same_Some y x k in
         (subst (Contains (y ∷ ys)) same (contains-first y ys), ap p (sym same) ∙ e)
@@ -28,7 +29,8 @@ pub find-none : {X : Type 0} (p : X → Bool) (xs : List X) (x : X) → find p x
 find-none p [] x h c = absurd (omega (arith, c.1))
 find-none p (y ∷ ys) x h c = go (p y) refl (find-none p ys x) h (contains-cases y x ys c)
   where
-    go : (b : Bool) → p y ≡ b → (find p ys ≡ None → Contains ys x → p x ≡ false) → cond b (Some y) (find p ys) ≡ None → (y ≡ x) ⊎ Contains ys x → p x ≡ false
+    go : (b : Bool) → p y ≡ b → (find p ys ≡ None → Contains ys x → p x ≡ false) → cond b (Some y) (find p ys) ≡ None →
+        (y ≡ x) ⊎ Contains ys x → p x ≡ false
     go true e rest k at = absurd (none-some y (sym k))
     go false e rest k (inl same) = ap p (sym same) ∙ e
     go false e rest k (inr behind) = rest k behind
@@ -38,7 +40,8 @@ find-none p (y ∷ ys) x h c = go (p y) refl (find-none p ys x) h (contains-case
 pub behind-itself : (waiting : Waiting) (wait : Queued) → IsBehind waiting wait wait
 behind-itself waiting wait = record { not_higher = omega arith; not_before = λ e. omega arith }
 
-pub behind-further : (waiting : Waiting) (a b c : Queued) → IsBehind waiting a b → IsBehind waiting b c → IsBehind waiting a c
+pub behind-further : (waiting : Waiting) (a b c : Queued) → IsBehind waiting a b → IsBehind waiting b c →
+    IsBehind waiting a c
 behind-further waiting a b c f g = record {
   not_higher = omega (arith, f.not_higher, g.not_higher);
   not_before = λ e.
@@ -48,7 +51,8 @@ behind-further waiting a b c f g = record {
 }
 
 -- a wait that is before another
-pub behind-before : (waiting : Waiting) (wait other : Queued) → is_before_at waiting wait other ≡ true → IsBehind waiting other wait
+pub behind-before : (waiting : Waiting) (wait other : Queued) → is_before_at waiting wait other ≡ true →
+    IsBehind waiting other wait
 behind-before waiting wait other h = elim (or_cases _ _ h) [
   | inl higher ↦
       let lt : level_at waiting other.thread < level_at waiting wait.thread = ltb-true _ _ higher in
@@ -69,7 +73,8 @@ and-second true b h e = h
 and-second false b h e = absurd (true≢false (sym e))
 
 -- one that isn't
-pub behind-not : (waiting : Waiting) (wait other : Queued) → is_before_at waiting wait other ≡ false → IsBehind waiting wait other
+pub behind-not : (waiting : Waiting) (wait other : Queued) → is_before_at waiting wait other ≡ false →
+    IsBehind waiting wait other
 behind-not waiting wait other h =
     let parts = or-none _ _ h in
     record {
@@ -78,11 +83,14 @@ behind-not waiting wait other h =
     }
 
 same-item : (xs : List Queued) (i : ℕ) (d e : Queued) → i < length xs → get_or xs i d ≡ get_or xs i e
-same-item xs i d e inside = same_Some (get_or xs i d) (get_or xs i e) (sym (slice_get-get_or xs i d inside) ∙ slice_get-get_or xs i e inside)
+same-item xs i d e inside = same_Some (get_or xs i d) (get_or xs i e) (sym (slice_get-get_or xs i d inside)
+    ∙ slice_get-get_or xs i e inside)
 
 -- what is behind the first so far, if the next wait is before that, and if it isn't
-pub behind-taken : (waiting : Waiting) (xs ys : List Queued) (i mutex : ℕ) (first new d : Queued) → ys ≡ xs → i < length xs → new ≡ get_or ys i d →
-    IsBehind waiting first (get_or ys i d) → ((k : ℕ) (e : Queued) → k < i → (get_or xs k e).mutex ≡ mutex → IsBehind waiting (get_or xs k e) first) →
+pub behind-taken : (waiting : Waiting) (xs ys : List Queued) (i mutex : ℕ) (first new d : Queued) → ys ≡ xs → i < length xs →
+    new ≡ get_or ys i d →
+    IsBehind waiting first (get_or ys i d) →
+    ((k : ℕ) (e : Queued) → k < i → (get_or xs k e).mutex ≡ mutex → IsBehind waiting (get_or xs k e) first) →
     (k : ℕ) (e : Queued) → k < i + 1 → (get_or xs k e).mutex ≡ mutex → IsBehind waiting (get_or xs k e) new
 behind-taken waiting xs ys i mutex first new d same inside is further behind k e within for_it =
     subst (IsBehind waiting (get_or xs k e)) (sym is) (elim (cases_lt k i) [
@@ -90,10 +98,12 @@ behind-taken waiting xs ys i mutex first new d same inside is further behind k e
       | inr ge ↦
           let last : k ≡ i = omega arith in
           subst (λ (wait : Queued). IsBehind waiting wait (get_or ys i d))
-          (ap (λ l. get_or l i d) same ∙ same-item xs i d e inside ∙ ap (λ j. get_or xs j e) (sym last)) (behind-itself waiting (get_or ys i d))
+          (ap (λ l. get_or l i d) same ∙ same-item xs i d e inside ∙ ap (λ j. get_or xs j e) (sym last))
+          (behind-itself waiting (get_or ys i d))
     ])
 
-pub behind-kept : (waiting : Waiting) (xs ys : List Queued) (i mutex : ℕ) (first new d : Queued) → ys ≡ xs → i < length xs → new ≡ first →
+pub behind-kept : (waiting : Waiting) (xs ys : List Queued) (i mutex : ℕ) (first new d : Queued) → ys ≡ xs →
+    i < length xs → new ≡ first →
     ((get_or ys i d).mutex ≡ mutex → IsBehind waiting (get_or ys i d) first) →
     ((k : ℕ) (e : Queued) → k < i → (get_or xs k e).mutex ≡ mutex → IsBehind waiting (get_or xs k e) first) →
     (k : ℕ) (e : Queued) → k < i + 1 → (get_or xs k e).mutex ≡ mutex → IsBehind waiting (get_or xs k e) new
@@ -102,14 +112,17 @@ behind-kept waiting xs ys i mutex first new d same inside is here behind k e wit
       | inl lt ↦ behind k e lt for_it
       | inr ge ↦
           let last : k ≡ i = omega arith in
-          let item : get_or ys i d ≡ get_or xs k e = ap (λ l. get_or l i d) same ∙ same-item xs i d e inside ∙ ap (λ j. get_or xs j e) (sym last) in
-          subst (λ (wait : Queued). IsBehind waiting wait first) item (here (ap (λ (wait : Queued). wait.mutex) item ∙ for_it))
+          let item : get_or ys i d ≡ get_or xs k e = ap (λ l. get_or l i d) same ∙ same-item xs i d e inside
+          ∙ ap (λ j. get_or xs j e) (sym last) in
+          subst (λ (wait : Queued). IsBehind waiting wait first) item
+          (here (ap (λ (wait : Queued). wait.mutex) item ∙ for_it))
     ])
 
 -- ---- the queue and the threads that wait
 
 -- the thread of a wait of the queue waits for its mutex
-pub queue-waits : (waiting : Waiting) (wait : Queued) (mutex : ℕ) → KeepsQueue waiting → Contains waiting.queue.items wait → wait.mutex ≡ mutex →
+pub queue-waits : (waiting : Waiting) (wait : Queued) (mutex : ℕ) → KeepsQueue waiting → Contains waiting.queue.items wait →
+    wait.mutex ≡ mutex →
     awaits_by (queued_at waiting) wait.thread ≡ Some mutex
 queue-waits waiting wait mutex k h e = ap (option_map (λ one. one.mutex)) ((k.exactly wait).0 h) ∙ ap (λ m. Some m) e
 
@@ -124,10 +137,12 @@ pub record IsQueued (waiting : Waiting) (mutex t : ℕ) : Type 0 where
   pub for_it : wait.mutex ≡ mutex
   pub of_it : wait.thread ≡ t
 
-pub waits-queued : (waiting : Waiting) (mutex t : ℕ) → KeepsQueue waiting → awaits_by (queued_at waiting) t ≡ Some mutex → IsQueued waiting mutex t
+pub waits-queued : (waiting : Waiting) (mutex t : ℕ) → KeepsQueue waiting → awaits_by (queued_at waiting) t ≡ Some mutex →
+    IsQueued waiting mutex t
 waits-queued waiting mutex t k h = go (get_or waiting.open.items t None) refl h
   where
-    go : (o : Option Open) → get_or waiting.open.items t None ≡ o → option_map (λ (wait : Queued). wait.mutex) (queued t o) ≡ Some mutex → IsQueued waiting mutex t
+    go : (o : Option Open) → get_or waiting.open.items t None ≡ o → option_map (λ (wait : Queued). wait.mutex) (queued t o)
+        ≡ Some mutex → IsQueued waiting mutex t
     go None e h = absurd (none-some mutex h)
     go (Some one) e h = record {
       wait = record { number = one.number; thread = t; mutex = one.wait.mutex };

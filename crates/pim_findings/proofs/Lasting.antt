@@ -12,7 +12,8 @@ use Rattle.pim_findings.proofs.Steps.{ended_waits-one, wait_of-other, wait_of-ow
 
 -- ---- the waits that last
 
-waiting-more : (m : Moment) (facts : List Moment) (t : ℕ) (wait : FoundWait) → StaysStill t m → IsWaiting facts t wait → IsWaiting (m ∷ facts) t wait
+waiting-more : (m : Moment) (facts : List Moment) (t : ℕ) (wait : FoundWait) → StaysStill t m → IsWaiting facts t wait →
+    IsWaiting (m ∷ facts) t wait
 waiting-more m facts t wait still w = record {
   later = m ∷ w.later;
   beginning = w.beginning;
@@ -39,15 +40,20 @@ waiting-own m before t Waits is own rest wait h = record {
 }
 waiting-own m before t Granted is own rest wait h = absurd (none-some wait h)
 waiting-own m before t GaveUp is own rest wait h = absurd (none-some wait h)
-waiting-own m before t (Released next) is own rest wait h = waiting-more m before t wait (λ same. subst IsStill (sym is) tt) (rest wait h)
-waiting-own m before t (Level level) is own rest wait h = waiting-more m before t wait (λ same. subst IsStill (sym is) tt) (rest wait h)
-waiting-own m before t (Ceiling level) is own rest wait h = waiting-more m before t wait (λ same. subst IsStill (sym is) tt) (rest wait h)
+waiting-own m before t (Released next) is own rest wait h =
+    waiting-more m before t wait (λ same. subst IsStill (sym is) tt) (rest wait h)
+waiting-own m before t (Level level) is own rest wait h =
+    waiting-more m before t wait (λ same. subst IsStill (sym is) tt) (rest wait h)
+waiting-own m before t (Ceiling level) is own rest wait h =
+    waiting-more m before t wait (λ same. subst IsStill (sym is) tt) (rest wait h)
 
 pub waiting-from : (facts : List Moment) (t : ℕ) (wait : FoundWait) → wait_of facts t ≡ Some wait → IsWaiting facts t wait
 waiting-from [] t wait h = absurd (none-some wait h)
 waiting-from (m ∷ before) t wait h = elim (cases_eq m.fact.thread t) [
-  | inl own ↦ waiting-own m before t m.fact.what refl own (λ v k. waiting-from before t v k) wait (sym (wait_of-own m before t own) ∙ h)
-  | inr other ↦ waiting-more m before t wait (λ own. absurd (other own)) (waiting-from before t wait (sym (wait_of-other m before t other) ∙ h))
+  | inl own ↦ waiting-own m before t m.fact.what refl own (λ v k. waiting-from before t v k) wait
+      (sym (wait_of-own m before t own) ∙ h)
+  | inr other ↦ waiting-more m before t wait (λ own. absurd (other own))
+      (waiting-from before t wait (sym (wait_of-other m before t other) ∙ h))
 ]
 
 still-same : (m : Moment) (what : What) (wait : Option FoundWait) → IsStill what → after_own m what wait ≡ wait
@@ -58,9 +64,11 @@ still-same m (Released next) wait h = refl
 still-same m (Level level) wait h = refl
 still-same m (Ceiling level) wait h = refl
 
-wait_of-begun : (later : List Moment) (b : Moment) (earlier : List Moment) (t : ℕ) → b.fact.what ≡ Waits → b.fact.thread ≡ t →
+wait_of-begun : (later : List Moment) (b : Moment) (earlier : List Moment) (t : ℕ) → b.fact.what ≡ Waits →
+    b.fact.thread ≡ t →
     All (StaysStill t) later → wait_of (later ++ b ∷ earlier) t ≡ Some (begun_wait b)
-wait_of-begun [] b earlier t begins own still = wait_of-own b earlier t own ∙ ap (λ what. after_own b what (wait_of earlier t)) begins
+wait_of-begun [] b earlier t begins own still = wait_of-own b earlier t own
+    ∙ ap (λ what. after_own b what (wait_of earlier t)) begins
 wait_of-begun (m ∷ later) b earlier t begins own still =
     let behind = wait_of-begun later b earlier t begins own (All-tail (StaysStill t) m later still) in
     elim (cases_eq m.fact.thread t) [
@@ -71,7 +79,8 @@ wait_of-begun (m ∷ later) b earlier t begins own still =
 
 pub waiting-to : (facts : List Moment) (t : ℕ) (wait : FoundWait) → IsWaiting facts t wait → wait_of facts t ≡ Some wait
 waiting-to facts t wait w =
-    ap (λ l. wait_of l t) w.these ∙ wait_of-begun w.later w.beginning w.earlier t w.begins w.thread w.still ∙ ap (λ x. Some x) (sym w.is)
+    ap (λ l. wait_of l t) w.these ∙ wait_of-begun w.later w.beginning w.earlier t w.begins w.thread w.still
+    ∙ ap (λ x. Some x) (sym w.is)
 
 -- ---- the waits that ended
 
@@ -97,40 +106,46 @@ waited-more m facts wait w = record {
 }
 
 ended-own : (m : Moment) (before : List Moment) (wait : FoundWait) → ends_wait m.fact.what ≡ true →
-    (Contains (ended_waits before) wait → HasWaited before wait) → (o : Option FoundWait) → wait_of before m.fact.thread ≡ o →
+    (Contains (ended_waits before) wait → HasWaited before wait) → (o : Option FoundWait) →
+    wait_of before m.fact.thread ≡ o →
     Contains (and_until m.time false o (ended_waits before)) wait → HasWaited (m ∷ before) wait
 ended-own m before wait ends rest None is h = waited-more m before wait (rest h)
-ended-own m before wait ends rest (Some v) is h = elim (contains-cases (lasting_until v m.time false) wait (ended_waits before) h) [
-  | inl same ↦ record {
-    later = [];
-    ending = m;
-    earlier = before;
-    these = refl;
-    ends = ends;
-    begun = v;
-    waiting = waiting-from before m.fact.thread v is;
-    is = sym same;
-  }
-  | inr behind ↦ waited-more m before wait (rest behind)
-]
+ended-own m before wait ends rest (Some v) is h =
+    elim (contains-cases (lasting_until v m.time false) wait (ended_waits before) h) [
+      | inl same ↦ record {
+        later = [];
+        ending = m;
+        earlier = before;
+        these = refl;
+        ends = ends;
+        begun = v;
+        waiting = waiting-from before m.fact.thread v is;
+        is = sym same;
+      }
+      | inr behind ↦ waited-more m before wait (rest behind)
+    ]
 
 pub ended-from : (facts : List Moment) (wait : FoundWait) → Contains (ended_waits facts) wait → HasWaited facts wait
 ended-from [] wait h = absurd (omega (arith, h.1))
 ended-from (m ∷ before) wait h = go (ends_wait m.fact.what) refl (λ k. ended-from before wait k) h
   where
     go : (b : Bool) → ends_wait m.fact.what ≡ b → (Contains (ended_waits before) wait → HasWaited before wait) →
-        Contains (cond b (and_until m.time false (wait_of before m.fact.thread) (ended_waits before)) (ended_waits before)) wait → HasWaited (m ∷ before) wait
+        Contains (cond b (and_until m.time false (wait_of before m.fact.thread) (ended_waits before)) (ended_waits before))
+        wait → HasWaited (m ∷ before) wait
     go true ends rest k = ended-own m before wait ends rest (wait_of before m.fact.thread) refl k
     go false ends rest k = waited-more m before wait (rest k)
 
-contains-until : (time : ℕ) (o : Option FoundWait) (waits : List FoundWait) (wait : FoundWait) → Contains waits wait → Contains (and_until time false o waits) wait
+contains-until : (time : ℕ) (o : Option FoundWait) (waits : List FoundWait) (wait : FoundWait) → Contains waits wait →
+    Contains (and_until time false o waits) wait
 contains-until time None waits wait h = h
 contains-until time (Some v) waits wait h = Contains-append_right (lasting_until v time false ∷ []) waits wait h
 
-contains-more : (m : Moment) (facts : List Moment) (wait : FoundWait) → Contains (ended_waits facts) wait → Contains (ended_waits (m ∷ facts)) wait
+contains-more : (m : Moment) (facts : List Moment) (wait : FoundWait) → Contains (ended_waits facts) wait →
+    Contains (ended_waits (m ∷ facts)) wait
 contains-more m facts wait h = go (ends_wait m.fact.what)
   where
-    go : (b : Bool) → Contains (cond b (and_until m.time false (wait_of facts m.fact.thread) (ended_waits facts)) (ended_waits facts)) wait
+    go : (b : Bool) → Contains (cond b (and_until m.time false (wait_of facts m.fact.thread) (ended_waits facts))
+        (ended_waits facts)) wait
     go true = contains-until m.time (wait_of facts m.fact.thread) (ended_waits facts) wait h
     go false = h
 
@@ -143,7 +158,8 @@ ended-at [] m earlier v ends is =
     subst (λ l. Contains l (lasting_until v m.time false))
     (sym (ended_waits-one m earlier ends ∙ ap (λ o. and_until m.time false o (ended_waits earlier)) is))
     (contains-first (lasting_until v m.time false) (ended_waits earlier))
-ended-at (n ∷ later) m earlier v ends is = contains-more n (later ++ m ∷ earlier) (lasting_until v m.time false) (ended-at later m earlier v ends is)
+ended-at (n ∷ later) m earlier v ends is = contains-more n (later ++ m ∷ earlier) (lasting_until v m.time false)
+    (ended-at later m earlier v ends is)
 
 pub ended-to : (facts : List Moment) (wait : FoundWait) → HasWaited facts wait → Contains (ended_waits facts) wait
 ended-to facts wait w =

@@ -1,8 +1,7 @@
-pub mod Placing
-pub mod Counting
 pub mod Steps
 pub mod Following
 pub mod Ordering
+pub mod Counting
 pub mod Owners
 pub mod Lasting
 pub mod Walking

@@ -1,61 +1,119 @@
--- The waits, the longest first, are all of them and in order.
-use Rattle.std.proofs.Common.{◌≡◌, ◌<◌, ◌≤◌, Bool, true, false, cond, List, [], ◌∷◌, refl, subst, arith, AllPairs, nat_lt}
-use Rattle.std.specs.List.{AllByRecursion, position_or_len}
-use Rattle.std.specs.List.Sorted.{IsPermutation}
-use Rattle.std.proofs.lemmas.Bool.{ltb-true, ltb-false}
-use Rattle.std.proofs.lemmas.List.Elements.{All-from_recursion}
-use Rattle.std.proofs.lemmas.List.Kept.{AllPairs-cons}
-use Rattle.std.proofs.lemmas.List.Sorted.{IsPermutation-refl, IsPermutation-cons, IsPermutation-insert, IsPermutation-trans}
+-- The waits, the longest first: there is just one such order.
+use Rattle.std.proofs.Common.{◌≡◌, ◌∙◌, ◌≤◌, ℕ, suc, nat_lt, Bool, true, false, not, ◌&&◌, cond, List, [], ◌∷◌, length, get_or, reverse, refl, sym, ap, subst, arith, AllPairs}
+use Rattle.std.specs.List.{filter}
+use Rattle.std.specs.List.Sorted.{ties}
+use Rattle.std.proofs.lemmas.Bool.{le-ltb, ltb-false, ltb-true}
+use Rattle.std.proofs.lemmas.List.{reverse-append, reverse-reverse}
+use Rattle.std.proofs.lemmas.List.Sorted.{IsPermutation-refl}
+use Rattle.pim_blocking.proofs.Placing.{exceeds, placed}
+use Rattle.pim_blocking.proofs.Ranking.{AllUpTo, Descends, descends-sorted, none-ties, placed-permutes, placed-sorted, placed-stable, sorted-pairs}
 use Rattle.pim_findings.specs.declared.found_wait.FoundWait.{FoundWait}
-use Rattle.pim_findings.specs.Longest.{is_shorter, longest_first, placed}
+use Rattle.pim_findings.specs.Longest.{IsLongestFirst}
 use Rattle.pim_findings.specs.Laws.{IsNoShorter}
-use Rattle.pim_findings.proofs.Placing.{insert-placed}
 
-placed-permutes : (wait : FoundWait) (xs : List FoundWait) → IsPermutation (wait ∷ xs) (placed wait xs)
-placed-permutes wait xs =
-    subst (IsPermutation (wait ∷ xs)) (insert-placed wait xs) (IsPermutation-insert xs (position_or_len (is_shorter wait.lasted) xs) wait)
+-- ---- one wait more
 
-pub longest_first-permutes : (waits : List FoundWait) → IsPermutation waits (longest_first waits)
-longest_first-permutes [] = IsPermutation-refl []
-longest_first-permutes (wait ∷ waits) =
-    IsPermutation-trans (wait ∷ waits) (wait ∷ longest_first waits) (placed wait (longest_first waits))
-    (IsPermutation-cons wait waits (longest_first waits) (longest_first-permutes waits)) (placed-permutes wait (longest_first waits))
+pub longest-none : IsLongestFirst [] []
+longest-none = record {
+  these = IsPermutation-refl [];
+  longest_first = λ i d from inside. absurd (omega arith);
+  in_order = λ x. refl;
+}
 
--- each is no shorter than all later ones
-abbrev IsOrdered : List FoundWait → Type 0
-IsOrdered [] = Unit {0}
-IsOrdered (x ∷ xs) = AllByRecursion (IsNoShorter x) xs × IsOrdered xs
+-- one that ended behind the others is behind those that are as long
+pub longest-placed : (wait : FoundWait) (waits ordered : List FoundWait) → IsLongestFirst (reverse waits) ordered →
+    IsLongestFirst (reverse (wait ∷ waits)) (placed (λ w. w.lasted) wait ordered)
+longest-placed wait waits ordered o =
+    subst (λ all. IsLongestFirst all (placed (λ w. w.lasted) wait ordered))
+    (sym (reverse-append (wait ∷ []) waits)) (record {
+      these = placed-permutes (λ w. w.lasted) wait (reverse waits) ordered o.these;
+      longest_first = placed-sorted (λ w. w.lasted) wait ordered o.longest_first;
+      in_order = placed-stable (λ w. w.lasted) wait (reverse waits) ordered o.longest_first o.in_order;
+    })
 
-longer_too : (w v : FoundWait) (xs : List FoundWait) → v.lasted ≤ w.lasted → AllByRecursion (IsNoShorter v) xs → AllByRecursion (IsNoShorter w) xs
-longer_too w v [] le h = tt
-longer_too w v (x ∷ xs) le h = (let first : x.lasted ≤ v.lasted = h.0 in omega arith, longer_too w v xs le h.1)
+some-reversed : (waits : List FoundWait) → (ordered : List FoundWait) × IsLongestFirst (reverse waits) ordered
+some-reversed [] = ([], longest-none)
+some-reversed (wait ∷ waits) =
+    let before = some-reversed waits in (placed (λ w. w.lasted) wait before.0, longest-placed wait waits before.0 before.1)
 
-all-placed : (v w : FoundWait) (xs : List FoundWait) → w.lasted ≤ v.lasted → AllByRecursion (IsNoShorter v) xs → AllByRecursion (IsNoShorter v) (placed w xs)
-all-placed v w [] le h = (le, tt)
-all-placed v w (x ∷ xs) le h = go (nat_lt x.lasted w.lasted) (all-placed v w xs le h.1)
+-- waits have such an order
+pub longest-some : (waits : List FoundWait) → (ordered : List FoundWait) × IsLongestFirst waits ordered
+longest-some waits =
+    subst (λ all. (ordered : List FoundWait) × IsLongestFirst all ordered) (reverse-reverse waits)
+    (some-reversed (reverse waits))
+
+-- ---- and no other
+
+-- two sizes of which none is below the other tie
+tied : (a b : ℕ) → a ≤ b → b ≤ a → (not (nat_lt b a) && not (nat_lt a b)) ≡ true
+tied a b le ge = ap (λ t. not t && not (nat_lt a b)) (le-ltb b a le) ∙ ap not (le-ltb a b ge)
+
+-- the first is among those of its size
+first-ties : {X : Type 0} (size : X → ℕ) (x y : X) (ys : List X) → size x ≤ size y → size y ≤ size x →
+    filter (ties (exceeds size) x) (y ∷ ys) ≡ y ∷ filter (ties (exceeds size) x) ys
+first-ties size x y ys le ge =
+    ap (λ b. cond b (y ∷ filter (ties (exceeds size) x) ys) (filter (ties (exceeds size) x) ys))
+    (tied (size x) (size y) le ge)
+
+first-itself : {X : Type 0} (size : X → ℕ) (x : X) (xs : List X) →
+    filter (ties (exceeds size) x) (x ∷ xs) ≡ x ∷ filter (ties (exceeds size) x) xs
+first-itself size x xs = let le : size x ≤ size x = omega arith in first-ties size x x xs le le
+
+not-none : {X : Type 0} (x : X) (xs : List X) → x ∷ xs ≡ [] → ⊥
+not-none x xs none = let zero : suc (length xs) ≡ 0 = ap length none in absurd (omega arith)
+
+-- of lists that have the same items of each size the first of one is no greater than that of the other
+first-up-to : {X : Type 0} (size : X → ℕ) (x y : X) (xs ys : List X) → AllUpTo size (size y) ys →
+    filter (ties (exceeds size) x) (x ∷ xs) ≡ filter (ties (exceeds size) x) (y ∷ ys) → size x ≤ size y
+first-up-to size x y xs ys most same = go (nat_lt (size y) (size x)) refl
   where
-    go : (b : Bool) → AllByRecursion (IsNoShorter v) (placed w xs) → AllByRecursion (IsNoShorter v) (cond b (w ∷ x ∷ xs) (x ∷ placed w xs))
-    go true rest = (le, h)
-    go false rest = (h.0, rest)
+    go : (b : Bool) → nat_lt (size y) (size x) ≡ b → size x ≤ size y
+    go true less =
+        let le : size y ≤ size y = omega arith in
+        absurd (not-none x _ (sym (first-itself size x xs) ∙ same
+        ∙ none-ties size x (size y) (y ∷ ys) (ltb-true (size y) (size x) less) (le, most)))
+    go false no_less = ltb-false (size y) (size x) no_less
 
-ordered-placed : (w : FoundWait) (xs : List FoundWait) → IsOrdered xs → IsOrdered (placed w xs)
-ordered-placed w [] h = (tt, tt)
-ordered-placed w (v ∷ xs) h = go (nat_lt v.lasted w.lasted) refl (ordered-placed w xs h.1)
+-- the items behind the first
+abbrev tail_of : {X : Type 0} → List X → List X
+tail_of [] = []
+tail_of (x ∷ xs) = xs
+
+-- lists that have the same items of each size, and the same first one, have the same others of each size
+rest-ties : {X : Type 0} (size : X → ℕ) (x y : X) (ys zs : List X) →
+    filter (ties (exceeds size) x) (y ∷ ys) ≡ filter (ties (exceeds size) x) (y ∷ zs) →
+    filter (ties (exceeds size) x) ys ≡ filter (ties (exceeds size) x) zs
+rest-ties {X} size x y ys zs = go (ties (exceeds size) x y)
   where
-    go : (b : Bool) → nat_lt v.lasted w.lasted ≡ b → IsOrdered (placed w xs) → IsOrdered (cond b (w ∷ v ∷ xs) (v ∷ placed w xs))
-    go true e rest =
-        let shorter : v.lasted < w.lasted = ltb-true v.lasted w.lasted e in
-        let no_longer : v.lasted ≤ w.lasted = omega arith in
-        ((no_longer, longer_too w v xs no_longer h.0), h)
-    go false e rest = (all-placed v w xs (ltb-false v.lasted w.lasted e) h.0, rest)
+    of_size : List X → List X
+    of_size = filter (ties (exceeds size) x)
 
-ordered-longest_first : (waits : List FoundWait) → IsOrdered (longest_first waits)
-ordered-longest_first [] = tt
-ordered-longest_first (wait ∷ waits) = ordered-placed wait (longest_first waits) (ordered-longest_first waits)
+    go : (b : Bool) → cond b (y ∷ of_size ys) (of_size ys) ≡ cond b (y ∷ of_size zs) (of_size zs) → of_size ys ≡ of_size zs
+    go true same = ap tail_of same
+    go false same = same
 
-pairs : (xs : List FoundWait) → IsOrdered xs → AllPairs IsNoShorter xs
-pairs [] h = λ i j d lt inside. absurd (omega arith)
-pairs (x ∷ xs) h = AllPairs-cons IsNoShorter x xs (All-from_recursion (IsNoShorter x) xs h.0) (pairs xs h.1)
+-- lists that have the same items of each size in the same order are the same if no item is greater than an earlier one
+only-order : {X : Type 0} (size : X → ℕ) (ys zs : List X) → Descends size ys → Descends size zs →
+    ((x : X) → filter (ties (exceeds size) x) ys ≡ filter (ties (exceeds size) x) zs) → ys ≡ zs
+only-order size [] [] up down same = refl
+only-order size [] (z ∷ zs) up down same = absurd (not-none z _ (sym (first-itself size z zs) ∙ sym (same z)))
+only-order size (y ∷ ys) [] up down same = absurd (not-none y _ (sym (first-itself size y ys) ∙ same y))
+only-order size (y ∷ ys) (z ∷ zs) up down same =
+    let le = first-up-to size y z ys zs down.0 (same y) in
+    let ge = first-up-to size z y zs ys up.0 (sym (same z)) in
+    let first : y ≡ z = ap (λ l. get_or l 0 y) (sym (first-itself size y ys) ∙ same y ∙ first-ties size y z zs le ge) in
+    let others = only-order size ys zs up.1 down.1
+    (λ x. rest-ties size x y ys zs
+    (subst (λ w. filter (ties (exceeds size) x) (y ∷ ys) ≡ filter (ties (exceeds size) x) (w ∷ zs))
+    (sym first) (same x))) in
+    ap (λ w. w ∷ ys) first ∙ ap (λ l. z ∷ l) others
 
-pub longest_first-ordered : (waits : List FoundWait) → AllPairs IsNoShorter (longest_first waits)
-longest_first-ordered waits = pairs (longest_first waits) (ordered-longest_first waits)
+pub longest-one : (waits ordered other : List FoundWait) → IsLongestFirst waits ordered →
+    IsLongestFirst waits other → ordered ≡ other
+longest-one waits ordered other o p =
+    only-order (λ w. w.lasted) ordered other (descends-sorted (λ w. w.lasted) ordered o.longest_first)
+    (descends-sorted (λ w. w.lasted) other p.longest_first) (λ x. o.in_order x ∙ sym (p.in_order x))
+
+-- in it each wait is no shorter than all later ones
+pub longest-no_shorter : (waits ordered : List FoundWait) → IsLongestFirst waits ordered → AllPairs IsNoShorter ordered
+longest-no_shorter waits ordered o = sorted-pairs (λ w. w.lasted) ordered o.longest_first

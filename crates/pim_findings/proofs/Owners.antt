@@ -17,15 +17,18 @@ owner_for-other course t = go (awaited_by course t)
     found : ℕ → FoundOwner
     found owner = record { thread = owner; level = level_in course owner; at = place_of_owner course t }
 
-    other : (owner : ℕ) (b : Bool) → (owner == t) ≡ b → IfSome {T = FoundOwner} (cond b None (Some (found owner))) (λ owner. owner.thread ≢ t)
+    other : (owner : ℕ) (b : Bool) → (owner == t) ≡ b →
+        IfSome {T = FoundOwner} (cond b None (Some (found owner))) (λ owner. owner.thread ≢ t)
     other owner true e = tt
     other owner false e = eqb-false owner t e
 
-    go : (o : Option ℕ) → IfSome (option_and_then (λ owner. cond (owner == t) None (Some (found owner))) o) (λ owner. owner.thread ≢ t)
+    go : (o : Option ℕ) → IfSome (option_and_then (λ owner. cond (owner == t) None (Some (found owner))) o)
+        (λ owner. owner.thread ≢ t)
     go None = tt
     go (Some owner) = other owner (owner == t) refl
 
-after_own-other : (m : Moment) (what : What) (wait : Option FoundWait) → IfSome wait HasOther → IfSome (after_own m what wait) HasOther
+after_own-other : (m : Moment) (what : What) (wait : Option FoundWait) → IfSome wait HasOther →
+    IfSome (after_own m what wait) HasOther
 after_own-other m Waits wait h = owner_for-other m.course m.fact.thread
 after_own-other m Granted wait h = tt
 after_own-other m GaveUp wait h = tt
@@ -37,7 +40,8 @@ wait_of-other : (facts : List Moment) (t : ℕ) → IfSome (wait_of facts t) Has
 wait_of-other [] t = tt
 wait_of-other (m ∷ before) t = go (m.fact.thread == t) (wait_of-other before t)
   where
-    go : (b : Bool) → IfSome (wait_of before t) HasOther → IfSome (cond b (after_own m m.fact.what (wait_of before t)) (wait_of before t)) HasOther
+    go : (b : Bool) → IfSome (wait_of before t) HasOther →
+        IfSome (cond b (after_own m m.fact.what (wait_of before t)) (wait_of before t)) HasOther
     go true h = after_own-other m m.fact.what (wait_of before t) h
     go false h = h
 
@@ -50,10 +54,14 @@ ended_waits-other : (facts : List Moment) → All HasOther (ended_waits facts)
 ended_waits-other [] = All-nil HasOther
 ended_waits-other (m ∷ before) = go (ends_wait m.fact.what) (ended_waits-other before)
   where
-    go : (b : Bool) → All HasOther (ended_waits before) → All HasOther (cond b (and_until m.time false (wait_of before m.fact.thread) (ended_waits before)) (ended_waits before))
-    go true all = and_until-other m.time false (wait_of before m.fact.thread) (ended_waits before) (wait_of-other before m.fact.thread) all
+    go : (b : Bool) → All HasOther (ended_waits before) →
+        All HasOther (cond b (and_until m.time false (wait_of before m.fact.thread) (ended_waits before))
+        (ended_waits before))
+    go true all = and_until-other m.time false (wait_of before m.fact.thread) (ended_waits before)
+        (wait_of-other before m.fact.thread) all
     go false all = all
 
 pub all_waits-other : (facts : List Moment) (time n : ℕ) → All HasOther (all_waits facts time n)
 all_waits-other facts time zero = ended_waits-other facts
-all_waits-other facts time (suc n) = and_until-other time true (wait_of facts n) (all_waits facts time n) (wait_of-other facts n) (all_waits-other facts time n)
+all_waits-other facts time (suc n) = and_until-other time true (wait_of facts n) (all_waits facts time n)
+    (wait_of-other facts n) (all_waits-other facts time n)

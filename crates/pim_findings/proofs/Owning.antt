@@ -19,7 +19,8 @@ owned thread lasted = record { thread = thread; lasted = lasted }
 abbrev pub lasted_of : Option FoundOwnership → ℕ
 lasted_of longest = option_map_or (λ one. one.lasted) longest 0
 
-longest-longer : (thread lasted : ℕ) (old : Option FoundOwnership) (ownerships : List FoundOwnership) → lasted_of old < lasted →
+longest-longer : (thread lasted : ℕ) (old : Option FoundOwnership) (ownerships : List FoundOwnership) →
+    lasted_of old < lasted →
     IsLongest ownerships old → IsLongest (owned thread lasted ∷ ownerships) (Some (owned thread lasted))
 longest-longer thread lasted None ownerships lt all = record {
   later = [];
@@ -36,13 +37,16 @@ longest-longer thread lasted (Some one) ownerships lt h = record {
   none_longer = All-nil (λ other. other.lasted ≤ lasted);
   shorter = All-same (λ other. other.lasted < lasted) ownerships _ h.these
       (All-append (λ other. other.lasted < lasted) h.later (one ∷ h.earlier)
-      (All-weaker (λ other. other.lasted ≤ one.lasted) (λ other. other.lasted < lasted) (λ other le. omega arith) h.later h.none_longer)
+      (All-weaker (λ other. other.lasted ≤ one.lasted) (λ other. other.lasted < lasted) (λ other le. omega arith)
+      h.later h.none_longer)
       (All-cons (λ other. other.lasted < lasted) one h.earlier lt
-      (All-weaker (λ other. other.lasted < one.lasted) (λ other. other.lasted < lasted) (λ other less. omega arith) h.earlier h.shorter)));
+      (All-weaker (λ other. other.lasted < one.lasted) (λ other. other.lasted < lasted) (λ other less. omega arith)
+      h.earlier h.shorter)));
   took_time = let took : 0 < one.lasted = h.took_time in omega arith;
 }
 
-longest-stays : (thread lasted : ℕ) (old : Option FoundOwnership) (ownerships : List FoundOwnership) → lasted ≤ lasted_of old →
+longest-stays : (thread lasted : ℕ) (old : Option FoundOwnership) (ownerships : List FoundOwnership) →
+    lasted ≤ lasted_of old →
     IsLongest ownerships old → IsLongest (owned thread lasted ∷ ownerships) old
 longest-stays thread lasted None ownerships le all =
     All-cons (λ one. one.lasted ≡ 0) (owned thread lasted) ownerships (let none : lasted ≡ 0 = omega arith in none) all
@@ -64,30 +68,39 @@ released-longer (Some since) thread time old ownerships lt h = longest-longer th
 
 -- a release that doesn't
 pub released-stays : (since : Option ℕ) (thread time : ℕ) (old : Option FoundOwnership) (ownerships : List FoundOwnership) →
-    time - unwrap_or since time ≤ lasted_of old → IsLongest ownerships old → IsLongest (and_since since thread time ownerships) old
+    time - unwrap_or since time ≤ lasted_of old → IsLongest ownerships old →
+    IsLongest (and_since since thread time ownerships) old
 released-stays None thread time old ownerships le h = h
 released-stays (Some since) thread time old ownerships le h = longest-stays thread (time - since) old ownerships le h
 
 -- the release of a mutex ends an ownership of it, and none of another
-pub released-at : (old new : List FoundMutex) (found released : FoundMutex) (mutex thread time one : ℕ) (ownerships : List FoundOwnership) →
+pub released-at : (old new : List FoundMutex) (found released : FoundMutex) (mutex thread time one : ℕ)
+    (ownerships : List FoundOwnership) →
     found ≡ mutex_at old mutex →
-    ((these : List FoundOwnership) → IsLongest these found.longest → IsLongest (and_since found.owned_since thread time these) released.longest) →
+    ((these : List FoundOwnership) → IsLongest these found.longest →
+    IsLongest (and_since found.owned_since thread time these) released.longest) →
     mutex_at new one ≡ cond (one == mutex) released (mutex_at old one) → IsLongest ownerships (mutex_at old one).longest →
-    IsLongest (cond (one == mutex) (and_since (mutex_at old one).owned_since thread time ownerships) ownerships) (mutex_at new one).longest
+    IsLongest (cond (one == mutex) (and_since (mutex_at old one).owned_since thread time ownerships) ownerships)
+    (mutex_at new one).longest
 released-at old new found released mutex thread time one ownerships is more at h =
-    subst (λ f. IsLongest (cond (one == mutex) (and_since (mutex_at old one).owned_since thread time ownerships) ownerships) f.longest) (sym at)
+    subst (λ f. IsLongest (cond (one == mutex) (and_since (mutex_at old one).owned_since thread time ownerships) ownerships)
+    f.longest) (sym at)
     (elim (cases_eq one mutex) [
       | inl e ↦ by true (eq-eqb one mutex e)
-          (subst (λ f. (these : List FoundOwnership) → IsLongest these f.longest → IsLongest (and_since f.owned_since thread time these) released.longest)
+          (subst (λ f. (these : List FoundOwnership) → IsLongest these f.longest →
+          IsLongest (and_since f.owned_since thread time these) released.longest)
           (is ∙ ap (mutex_at old) (sym e)) more ownerships h)
       | inr ne ↦ by false (ne_eqb one mutex ne) h
     ])
   where
     by : (b : Bool) → (one == mutex) ≡ b →
-        IsLongest (cond b (and_since (mutex_at old one).owned_since thread time ownerships) ownerships) (cond b released (mutex_at old one)).longest →
-        IsLongest (cond (one == mutex) (and_since (mutex_at old one).owned_since thread time ownerships) ownerships) (cond (one == mutex) released (mutex_at old one)).longest
+        IsLongest (cond b (and_since (mutex_at old one).owned_since thread time ownerships) ownerships)
+        (cond b released (mutex_at old one)).longest →
+        IsLongest (cond (one == mutex) (and_since (mutex_at old one).owned_since thread time ownerships) ownerships)
+        (cond (one == mutex) released (mutex_at old one)).longest
     by b e =
-        subst (λ b. IsLongest (cond b (and_since (mutex_at old one).owned_since thread time ownerships) ownerships) (cond b released (mutex_at old one)).longest) (sym e)
+        subst (λ b. IsLongest (cond b (and_since (mutex_at old one).owned_since thread time ownerships) ownerships)
+        (cond b released (mutex_at old one)).longest) (sym e)
 
 -- ---- one more fact
 
@@ -106,17 +119,23 @@ pub last_granted-one : (m : Moment) (facts : List Moment) (mutex : ℕ) (is : Bo
 last_granted-one m facts mutex is e = ap (λ b. option_map (λ m. m.time) (cond b (Some m) (find (grants mutex) facts))) e
 
 pub ownerships_of-one : (m : Moment) (facts : List Moment) (mutex : ℕ) (is : Bool) → releases mutex m ≡ is →
-    ownerships_of (m ∷ facts) mutex ≡ cond is (and_since (last_granted facts mutex) m.fact.thread m.time (ownerships_of facts mutex)) (ownerships_of facts mutex)
+    ownerships_of (m ∷ facts) mutex
+    ≡ cond is (and_since (last_granted facts mutex) m.fact.thread m.time (ownerships_of facts mutex))
+    (ownerships_of facts mutex)
 ownerships_of-one m facts mutex is e =
-    ap (λ b. cond b (and_since (last_granted facts mutex) m.fact.thread m.time (ownerships_of facts mutex)) (ownerships_of facts mutex)) e
+    ap (λ b. cond b (and_since (last_granted facts mutex) m.fact.thread m.time (ownerships_of facts mutex))
+    (ownerships_of facts mutex)) e
 
 -- a fact that releases a mutex
 pub owns-released : (k : ℕ) (facts : List Moment) (m : Moment) (old new : Findings) →
     is_grant m.fact.what ≡ false → is_release m.fact.what ≡ true →
     length new.mutexes.items ≡ length old.mutexes.items →
-    ((mutex : ℕ) → mutex < length old.mutexes.items → (mutex_at new.mutexes.items mutex).owned_since ≡ (mutex_at old.mutexes.items mutex).owned_since) →
-    ((mutex : ℕ) (ownerships : List FoundOwnership) → mutex < length old.mutexes.items → IsLongest ownerships (mutex_at old.mutexes.items mutex).longest →
-    IsLongest (cond (mutex == m.fact.mutex) (and_since (mutex_at old.mutexes.items mutex).owned_since m.fact.thread m.time ownerships) ownerships)
+    ((mutex : ℕ) → mutex < length old.mutexes.items → (mutex_at new.mutexes.items mutex).owned_since
+    ≡ (mutex_at old.mutexes.items mutex).owned_since) →
+    ((mutex : ℕ) (ownerships : List FoundOwnership) → mutex < length old.mutexes.items →
+    IsLongest ownerships (mutex_at old.mutexes.items mutex).longest →
+    IsLongest (cond (mutex == m.fact.mutex)
+    (and_since (mutex_at old.mutexes.items mutex).owned_since m.fact.thread m.time ownerships) ownerships)
     (mutex_at new.mutexes.items mutex).longest) →
     Owns k facts old → Owns k (m ∷ facts) new
 owns-released k facts m old new no_grant release len since longest o = record {
@@ -132,34 +151,45 @@ owns-released k facts m old new no_grant release len since longest o = record {
 }
   where
     these : (mutex : ℕ) → mutex < k →
-        cond (mutex == m.fact.mutex) (and_since (mutex_at old.mutexes.items mutex).owned_since m.fact.thread m.time (ownerships_of facts mutex)) (ownerships_of facts mutex)
+        cond (mutex == m.fact.mutex) (and_since (mutex_at old.mutexes.items mutex).owned_since m.fact.thread m.time
+        (ownerships_of facts mutex)) (ownerships_of facts mutex)
         ≡ ownerships_of (m ∷ facts) mutex
-    these mutex h = ap (λ since. cond (mutex == m.fact.mutex) (and_since since m.fact.thread m.time (ownerships_of facts mutex)) (ownerships_of facts mutex)) (o.since mutex h)
+    these mutex h = ap (λ since. cond (mutex == m.fact.mutex)
+        (and_since since m.fact.thread m.time (ownerships_of facts mutex)) (ownerships_of facts mutex)) (o.since mutex h)
         ∙ elim (cases_eq mutex m.fact.mutex) [
-          | inl e ↦ ap (λ b. cond b (and_since (last_granted facts mutex) m.fact.thread m.time (ownerships_of facts mutex)) (ownerships_of facts mutex)) (eq-eqb mutex m.fact.mutex e)
-              ∙ sym (ownerships_of-one m facts mutex true (both (m.fact.mutex == mutex) (is_release m.fact.what) true (eq-eqb m.fact.mutex mutex (sym e)) release))
-          | inr ne ↦ ap (λ b. cond b (and_since (last_granted facts mutex) m.fact.thread m.time (ownerships_of facts mutex)) (ownerships_of facts mutex)) (ne_eqb mutex m.fact.mutex ne)
-              ∙ sym (ownerships_of-one m facts mutex false (not-first (m.fact.mutex == mutex) (is_release m.fact.what) (ne_eqb m.fact.mutex mutex (λ e. ne (sym e)))))
+          | inl e ↦ ap (λ b. cond b (and_since (last_granted facts mutex) m.fact.thread m.time (ownerships_of facts mutex))
+              (ownerships_of facts mutex)) (eq-eqb mutex m.fact.mutex e)
+              ∙ sym (ownerships_of-one m facts mutex true
+              (both (m.fact.mutex == mutex) (is_release m.fact.what) true (eq-eqb m.fact.mutex mutex (sym e)) release))
+          | inr ne ↦ ap (λ b. cond b (and_since (last_granted facts mutex) m.fact.thread m.time (ownerships_of facts mutex))
+              (ownerships_of facts mutex)) (ne_eqb mutex m.fact.mutex ne)
+              ∙ sym (ownerships_of-one m facts mutex false
+              (not-first (m.fact.mutex == mutex) (is_release m.fact.what) (ne_eqb m.fact.mutex mutex (λ e. ne (sym e)))))
         ]
 
 -- a fact that neither grants nor releases a mutex
-pub owns-still : (k : ℕ) (facts : List Moment) (m : Moment) (old new : Findings) → is_grant m.fact.what ≡ false → is_release m.fact.what ≡ false →
+pub owns-still : (k : ℕ) (facts : List Moment) (m : Moment) (old new : Findings) → is_grant m.fact.what ≡ false →
+    is_release m.fact.what ≡ false →
     new.mutexes ≡ old.mutexes → Owns k facts old → Owns k (m ∷ facts) new
 owns-still k facts m old new no_grant no_release mutexes o = record {
   mutexes = ap (λ v. length v.items) mutexes ∙ o.mutexes;
   since = λ mutex h. ap (λ v. (mutex_at v.items mutex).owned_since) mutexes ∙ o.since mutex h
       ∙ sym (last_granted-one m facts mutex false (not-second (m.fact.mutex == mutex) (is_grant m.fact.what) no_grant));
-  longest = λ mutex h. subst (λ v. IsLongest (ownerships_of (m ∷ facts) mutex) (mutex_at v.items mutex).longest) (sym mutexes)
+  longest = λ mutex h. subst (λ v. IsLongest (ownerships_of (m ∷ facts) mutex) (mutex_at v.items mutex).longest)
+      (sym mutexes)
       (subst (λ l. IsLongest l (mutex_at old.mutexes.items mutex).longest)
-      (sym (ownerships_of-one m facts mutex false (not-second (m.fact.mutex == mutex) (is_release m.fact.what) no_release))) (o.longest mutex h));
+      (sym (ownerships_of-one m facts mutex false (not-second (m.fact.mutex == mutex) (is_release m.fact.what) no_release)))
+      (o.longest mutex h));
 }
 
 -- a fact that grants a mutex
-pub owns-granted : (k : ℕ) (facts : List Moment) (m : Moment) (old mid new : Findings) → is_grant m.fact.what ≡ true → is_release m.fact.what ≡ false →
+pub owns-granted : (k : ℕ) (facts : List Moment) (m : Moment) (old mid new : Findings) → is_grant m.fact.what ≡ true →
+    is_release m.fact.what ≡ false →
     length mid.mutexes.items ≡ length old.mutexes.items →
     ((mutex : ℕ) → mutex < length old.mutexes.items → (mutex_at mid.mutexes.items mutex).owned_since ≡
     cond (mutex == m.fact.mutex) (Some m.time) (mutex_at old.mutexes.items mutex).owned_since) →
-    ((mutex : ℕ) → mutex < length old.mutexes.items → (mutex_at mid.mutexes.items mutex).longest ≡ (mutex_at old.mutexes.items mutex).longest) →
+    ((mutex : ℕ) → mutex < length old.mutexes.items → (mutex_at mid.mutexes.items mutex).longest
+    ≡ (mutex_at old.mutexes.items mutex).longest) →
     new.mutexes ≡ mid.mutexes → Owns k facts old → Owns k (m ∷ facts) new
 owns-granted k facts m old mid new grant no_release len since longest mutexes o = record {
   mutexes = ap (λ v. length v.items) mutexes ∙ len ∙ o.mutexes;
@@ -167,9 +197,12 @@ owns-granted k facts m old mid new grant no_release len since longest mutexes o 
       let inside : mutex < length old.mutexes.items = omega (arith, o.mutexes) in
       ap (λ v. (mutex_at v.items mutex).owned_since) mutexes ∙ since mutex inside ∙ elim (cases_eq mutex m.fact.mutex) [
         | inl e ↦ ap (λ b. cond b (Some m.time) (mutex_at old.mutexes.items mutex).owned_since) (eq-eqb mutex m.fact.mutex e)
-            ∙ sym (last_granted-one m facts mutex true (both (m.fact.mutex == mutex) (is_grant m.fact.what) true (eq-eqb m.fact.mutex mutex (sym e)) grant))
-        | inr ne ↦ ap (λ b. cond b (Some m.time) (mutex_at old.mutexes.items mutex).owned_since) (ne_eqb mutex m.fact.mutex ne) ∙ o.since mutex h
-            ∙ sym (last_granted-one m facts mutex false (not-first (m.fact.mutex == mutex) (is_grant m.fact.what) (ne_eqb m.fact.mutex mutex (λ e. ne (sym e)))))
+            ∙ sym (last_granted-one m facts mutex true
+            (both (m.fact.mutex == mutex) (is_grant m.fact.what) true (eq-eqb m.fact.mutex mutex (sym e)) grant))
+        | inr ne ↦ ap (λ b. cond b (Some m.time) (mutex_at old.mutexes.items mutex).owned_since)
+            (ne_eqb mutex m.fact.mutex ne) ∙ o.since mutex h
+            ∙ sym (last_granted-one m facts mutex false
+            (not-first (m.fact.mutex == mutex) (is_grant m.fact.what) (ne_eqb m.fact.mutex mutex (λ e. ne (sym e)))))
       ];
   longest = λ mutex h.
       let inside : mutex < length old.mutexes.items = omega (arith, o.mutexes) in

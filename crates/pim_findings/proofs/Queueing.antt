@@ -13,7 +13,8 @@ use Rattle.pim_findings.proofs.Lasting.{contains-cases, contains-first}
 
 -- ---- what a filter keeps
 
-pub contains-filter : {X : Type 0} (p : X → Bool) (xs : List X) (x : X) → p x ≡ true → Contains xs x → Contains (filter p xs) x
+pub contains-filter : {X : Type 0} (p : X → Bool) (xs : List X) (x : X) → p x ≡ true → Contains xs x →
+    Contains (filter p xs) x
 contains-filter p [] x pass h = absurd (omega (arith, h.1))
 contains-filter p (y ∷ ys) x pass h = go (p y) refl (contains-filter p ys x pass) (contains-cases y x ys h)
   where
@@ -38,19 +39,25 @@ from-filter p (y ∷ ys) x h = go (p y) refl (from-filter p ys x) h
 
 -- whether a number is among those that are left without another
 pub any-without : (this one : ℕ) (xs : List ℕ) →
-    list_any (λ other. other == one) (filter (λ other. not (other == this)) xs) ≡ (not (this == one) && list_any (λ other. other == one) xs)
+    list_any (λ other. other == one) (filter (λ other. not (other == this)) xs)
+    ≡ (not (this == one) && list_any (λ other. other == one) xs)
 any-without this one [] = none (this == one)
   where
     none : (b : Bool) → false ≡ (not b && false)
     none true = refl
     none false = refl
 any-without this one (x ∷ xs) = elim (cases_eq x this) [
-  | inl e ↦ ap (λ b. list_any (λ other. other == one) (cond (not b) (x ∷ filter (λ other. not (other == this)) xs) (filter (λ other. not (other == this)) xs))) (eq-eqb x this e)
+  | inl e ↦ ap (λ b. list_any (λ other. other == one)
+      (cond (not b) (x ∷ filter (λ other. not (other == this)) xs) (filter (λ other. not (other == this)) xs)))
+      (eq-eqb x this e)
       ∙ any-without this one xs ∙ gone (this == one) (x == one) (list_any (λ other. other == one) xs) (ap (λ n. n == one) e)
-  | inr ne ↦ ap (λ b. list_any (λ other. other == one) (cond (not b) (x ∷ filter (λ other. not (other == this)) xs) (filter (λ other. not (other == this)) xs))) (ne_eqb x this ne)
+  | inr ne ↦ ap (λ b. list_any (λ other. other == one)
+      (cond (not b) (x ∷ filter (λ other. not (other == this)) xs) (filter (λ other. not (other == this)) xs)))
+      (ne_eqb x this ne)
       ∙ ap (λ b. (x == one) || b) (any-without this one xs)
       ∙ elim (cases_eq x one) [
-        | inl is ↦ stays (this == one) (x == one) (list_any (λ other. other == one) xs) (ne_eqb this one (λ same. ne (is ∙ sym same)))
+        | inl is ↦ stays (this == one) (x == one) (list_any (λ other. other == one) xs)
+            (ne_eqb this one (λ same. ne (is ∙ sym same)))
         | inr not_one ↦ past (this == one) (x == one) (list_any (λ other. other == one) xs) (ne_eqb x one not_one)
       ]
 ]
@@ -73,18 +80,22 @@ abbrev pub not_of : ℕ → Queued → Bool
 not_of thread wait = not (wait.thread == thread)
 
 -- the wait of a thread ends
-pub queue-left : (old new : Waiting) (thread : ℕ) → thread < length old.open.items → new.open.items ≡ set old.open.items thread None →
-    new.queue.items ≡ filter (λ wait. not (wait.thread == thread)) old.queue.items → new.effective ≡ old.effective → KeepsQueue old → KeepsQueue new
+pub queue-left : (old new : Waiting) (thread : ℕ) → thread < length old.open.items →
+    new.open.items ≡ set old.open.items thread None →
+    new.queue.items ≡ filter (λ wait. not (wait.thread == thread)) old.queue.items → new.effective ≡ old.effective →
+    KeepsQueue old → KeepsQueue new
 queue-left old new thread inside opens queues levels k = record {
   exactly = λ wait. (left wait, stays wait);
   places = ap (λ v. length v.items) levels ∙ k.places ∙ sym (ap length opens ∙ length-set old.open.items thread None);
 }
   where
     at : (t : ℕ) → t ≢ thread → queued_at new t ≡ queued_at old t
-    at t ne = ap (λ l. queued t (get_or l t None)) opens ∙ ap (queued t) (get_or-set_other old.open.items thread t None None ne)
+    at t ne = ap (λ l. queued t (get_or l t None)) opens
+        ∙ ap (queued t) (get_or-set_other old.open.items thread t None None ne)
 
     here : queued_at new thread ≡ None
-    here = ap (λ l. queued thread (get_or l thread None)) opens ∙ ap (queued thread) (get_or-set_same old.open.items thread None None inside)
+    here = ap (λ l. queued thread (get_or l thread None)) opens
+        ∙ ap (queued thread) (get_or-set_same old.open.items thread None None inside)
 
     left : (wait : Queued) → Contains new.queue.items wait → queued_at new wait.thread ≡ Some wait
     left wait h =
@@ -107,11 +118,13 @@ pub queue-joined : (old new : Waiting) (one : Open) (wait : Queued) → wait.thr
     new.queue.items ≡ old.queue.items ++ wait ∷ [] → new.effective ≡ old.effective → KeepsQueue old → KeepsQueue new
 queue-joined old new one wait inside is none opens queues levels k = record {
   exactly = λ other. (joined other, stays other);
-  places = ap (λ v. length v.items) levels ∙ k.places ∙ sym (ap length opens ∙ length-set old.open.items wait.thread (Some one));
+  places = ap (λ v. length v.items) levels ∙ k.places
+      ∙ sym (ap length opens ∙ length-set old.open.items wait.thread (Some one));
 }
   where
     at : (t : ℕ) → t ≢ wait.thread → queued_at new t ≡ queued_at old t
-    at t ne = ap (λ l. queued t (get_or l t None)) opens ∙ ap (queued t) (get_or-set_other old.open.items wait.thread t (Some one) None ne)
+    at t ne = ap (λ l. queued t (get_or l t None)) opens
+        ∙ ap (queued t) (get_or-set_other old.open.items wait.thread t (Some one) None ne)
 
     here : queued_at new wait.thread ≡ Some wait
     here = ap (λ l. queued wait.thread (get_or l wait.thread None)) opens

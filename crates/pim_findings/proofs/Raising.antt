@@ -22,7 +22,8 @@ heir-to before t mutex heir waits inherits owner =
     ∙ ap (λ b. cond b (before.world.owner mutex) None) inherits ∙ owner
 
 -- the heir of a thread gets what that gets
-heir-gets : (before : Before) (t heir level : ℕ) → heir_by before t ≡ Some heir → Gets before t level → Gets before heir level
+heir-gets : (before : Before) (t heir level : ℕ) → heir_by before t ≡ Some heir → Gets before t level →
+    Gets before heir level
 heir-gets before t heir level h g = go (before.world.awaits t) refl h
   where
     of : (mutex : ℕ) (b : Bool) → before.world.awaits t ≡ Some mutex → before.inherits mutex ≡ b →
@@ -31,7 +32,8 @@ heir-gets before t heir level h g = go (before.world.awaits t) refl h
     of mutex false waits inherits none = absurd (none-some heir none)
 
     go : (o : Option ℕ) → before.world.awaits t ≡ o →
-        option_and_then (λ mutex. cond (before.inherits mutex) (before.world.owner mutex) None) o ≡ Some heir → Gets before heir level
+        option_and_then (λ mutex. cond (before.inherits mutex) (before.world.owner mutex) None) o ≡ Some heir →
+        Gets before heir level
     go None waits none = absurd (none-some heir none)
     go (Some mutex) waits k = of mutex (before.inherits mutex) waits refl k
 
@@ -80,7 +82,8 @@ raising-begun before old first level g s = record {
   lower = omega (arith, count_by-le-length (below level) old.effective.items);
 }
 
-module _ (before : Before) (old now new : Waiting) (first thread level hops : ℕ) (inside : thread < length now.effective.items)
+module _ (before : Before) (old now new : Waiting) (first thread level hops : ℕ)
+    (inside : thread < length now.effective.items)
     (low : level_at now thread < level) (levels : new.effective.items ≡ set now.effective.items thread level)
     (r : IsRaising before old now first thread level hops) where
   raised-at : (t : ℕ) → t ≢ thread → level_at new t ≡ level_at now t
@@ -100,7 +103,8 @@ module _ (before : Before) (old now new : Waiting) (first thread level hops : �
 
   raised-gotten : (t mutex : ℕ) → before.world.awaits t ≡ Some mutex → (level_at new t ≡ 0) ⊎ Gets before t (level_at new t)
   raised-gotten t mutex a = elim (cases_eq t thread) [
-    | inl e ↦ inr (subst (λ one. Gets before one (level_at new one)) (sym e) (subst (Gets before thread) (sym raised-here) r.gets))
+    | inl e ↦ inr (subst (λ one. Gets before one (level_at new one)) (sym e)
+        (subst (Gets before thread) (sym raised-here) r.gets))
     | inr ne ↦ subst (λ l. (l ≡ 0) ⊎ Gets before t l) (sym (raised-at t ne)) (r.gotten t mutex a)
   ]
 
@@ -152,7 +156,8 @@ module _ (before : Before) (old now new : Waiting) (first thread level hops : �
     where
       fewer : count_by (below level) new.effective.items + (hops + 1) ≤ length new.effective.items
       fewer =
-          let all : length new.effective.items ≡ length now.effective.items = ap length levels ∙ length-set now.effective.items thread level in
+          let all : length new.effective.items ≡ length now.effective.items = ap length levels
+          ∙ length-set now.effective.items thread level in
           let one : count_by (below level) new.effective.items + 1 ≡ count_by (below level) now.effective.items =
           ap (λ l. count_by (below level) l + 1) levels ∙ fewer-lower level now.effective.items thread inside low in
           let before_it : count_by (below level) now.effective.items + hops ≤ length now.effective.items = r.lower in
@@ -163,7 +168,8 @@ module _ (before : Before) (old now new : Waiting) (first thread level hops : �
   raised-last none = record {
     sound = record {
       gotten = raised-gotten;
-      passed = λ t heir mutex h a. raised-passed t heir mutex (λ e. none-some heir (sym none ∙ ap (heir_by before) (sym e) ∙ h)) h a;
+      passed = λ t heir mutex h a. raised-passed t heir mutex
+          (λ e. none-some heir (sym none ∙ ap (heir_by before) (sym e) ∙ h)) h a;
     };
     kept = raised-kept;
     reached = raised-reached;
@@ -181,14 +187,17 @@ raised-high before old now first thread level hops within len high r = record {
     passed = λ t heir mutex h a. elim (r.passed t heir mutex h a) [
       | inl le ↦ le
       | inr at ↦
-          let up : level ≤ level_at now heir = subst (λ one. level ≤ level_at now one) (sym at.0) (high (subst (λ one. one < length now.effective.items) at.0 (within heir mutex a))) in
+          let up : level ≤ level_at now heir =
+          subst (λ one. level ≤ level_at now one) (sym at.0)
+          (high (subst (λ one. one < length now.effective.items) at.0 (within heir mutex a))) in
           let le : level_at now t ≤ level = at.1 in
           omega arith
     ];
   };
   kept = r.kept;
   reached = λ inside. elim r.reached [
-    | inl e ↦ subst (λ one. level ≤ level_at now one) (sym e) (high (subst (λ one. one < length now.effective.items) e (subst (λ n. first < n) (sym len) inside)))
+    | inl e ↦ subst (λ one. level ≤ level_at now one) (sym e)
+        (high (subst (λ one. one < length now.effective.items) e (subst (λ n. first < n) (sym len) inside)))
     | inr f ↦ f inside
   ];
 }
@@ -199,7 +208,8 @@ pub none-lower : (before : Before) (old now : Waiting) (first thread level hops 
 none-lower before old now first thread level hops t all r inside = elim (cases_lt (level_at now t) level) [
   | inl lt ↦
       let some : 1 ≤ count_by (below level) now.effective.items =
-      subst (λ n. n ≤ count_by (below level) now.effective.items) (ap (λ (b : Bool). cond {A = ℕ} b 1 0) (lt-ltb (level_at now t) level lt))
+      subst (λ n. n ≤ count_by (below level) now.effective.items)
+      (ap (λ (b : Bool). cond {A = ℕ} b 1 0) (lt-ltb (level_at now t) level lt))
       (get_or-le-sum_by (λ one. cond (below level one) 1 0) now.effective.items t 0 inside) in
       let few : count_by (below level) now.effective.items + hops ≤ length now.effective.items = r.lower in
       absurd (omega arith)
@@ -214,7 +224,8 @@ pub all-ceilings : (mutexes : List ℕ) (owner : ℕ → Option ℕ) (ceilings :
     (mutex : ℕ) → list_any (λ other. other == mutex) mutexes ≡ true → owner mutex ≡ Some t → ceilings mutex ≤ level
 all-ceilings mutexes owner ceilings t level n whole all mutex protects e =
     let found = Any-from_list_any (λ other. other == mutex) mutexes protects in
-    let is : get_or mutexes found.0 0 ≡ mutex = get_or_default mutexes found.0 0 found.1 found.2 ∙ found.3 ∙ eqb-true found.1 mutex found.4 in
+    let is : get_or mutexes found.0 0 ≡ mutex = get_or_default mutexes found.0 0 found.1 found.2 ∙ found.3
+    ∙ eqb-true found.1 mutex found.4 in
     let inside : found.0 < n = omega (arith, found.2) in
     subst (λ m. ceilings m ≤ level) is (all found.0 inside (ap owner is ∙ e))
 
@@ -225,7 +236,8 @@ pub owner-raised : (before : Before) (old new : Waiting) (mutex level : ℕ) →
     ((t : ℕ) → before.world.owner mutex ≡ Some t → t < length old.effective.items → level ≤ level_at new t)
 owner-raised before old new mutex level s h = go (before.world.owner mutex) refl h
   where
-    go : (o : Option ℕ) → before.world.owner mutex ≡ o → MatchOption o (new ≡ old) (λ owner. IsRaised before old new owner level) →
+    go : (o : Option ℕ) → before.world.owner mutex ≡ o →
+        MatchOption o (new ≡ old) (λ owner. IsRaised before old new owner level) →
         AreSound before new × ((t : ℕ) → level_at old t ≤ level_at new t) ×
         ((t : ℕ) → before.world.owner mutex ≡ Some t → t < length old.effective.items → level ≤ level_at new t)
     go None none same = (
@@ -238,7 +250,8 @@ owner-raised before old new mutex level s h = go (before.world.owner mutex) refl
       r.kept,
       (λ t e inside.
           let is : owner ≡ t = same_Some owner t (sym some ∙ e) in
-          subst (λ one. level ≤ level_at new one) is (r.reached (subst (λ one. one < length old.effective.items) (sym is) inside))),
+          subst (λ one. level ≤ level_at new one) is
+          (r.reached (subst (λ one. one < length old.effective.items) (sym is) inside))),
     )
 
 -- ---- all of them
@@ -246,7 +259,8 @@ owner-raised before old new mutex level s h = go (before.world.owner mutex) refl
 -- the level of a thread is as high as its own, and the ceilings of its PROTECT mutexes
 pub record HasOwn (before : Before) (waiting : Waiting) (t : ℕ) : Type 0 where
   pub own : before.world.level t ≤ level_at waiting t
-  pub ceilings : (mutex : ℕ) → IsTrue (before.protects mutex) → before.world.owner mutex ≡ Some t → before.world.ceiling mutex ≤ level_at waiting t
+  pub ceilings : (mutex : ℕ) → IsTrue (before.protects mutex) → before.world.owner mutex ≡ Some t →
+      before.world.ceiling mutex ≤ level_at waiting t
 
 gets-within : (before : Before) (waiting : Waiting) → AreSound before waiting →
     ((t mutex : ℕ) → before.world.awaits t ≡ Some mutex → HasOwn before waiting t) →
@@ -255,7 +269,8 @@ gets-within before waiting s all (own {t}) mutex a = (all t mutex a).own
 gets-within before waiting s all (ceiling {t} {mutex = m} protects owner) mutex a = (all t mutex a).ceilings m protects owner
 gets-within before waiting s all (inherited {t} {waiter} {mutex = m} {level} waits inherits owner g) mutex a =
     let one : level ≤ level_at waiting waiter = gets-within before waiting s all g m waits in
-    let two : level_at waiting waiter ≤ level_at waiting t = s.passed waiter t mutex (heir-to before waiter m t waits inherits owner) a in
+    let two : level_at waiting waiter ≤ level_at waiting t =
+    s.passed waiter t mutex (heir-to before waiter m t waits inherits owner) a in
     omega arith
 
 pub all-effective : (before : Before) (waiting : Waiting) → AreSound before waiting →
@@ -283,7 +298,8 @@ raised-as before old now new first level same r = record {
         let two : level_at new heir ≡ level_at now heir = at heir in
         omega arith;
   };
-  kept = λ t. let le : level_at old t ≤ level_at now t = r.kept t in let one : level_at new t ≡ level_at now t = at t in omega arith;
+  kept = λ t. let le : level_at old t ≤ level_at now t = r.kept t in let one : level_at new t ≡ level_at now t =
+      at t in omega arith;
   reached = λ inside. subst (λ l. level ≤ l) (sym (at first)) (r.reached inside);
 }
   where
@@ -293,16 +309,20 @@ raised-as before old now new first level same r = record {
 -- ---- over the queue
 
 -- a thread that waits has a place
-pub waits-inside : (waiting : Waiting) (t mutex : ℕ) → KeepsQueue waiting → awaits_by (queued_at waiting) t ≡ Some mutex → t < length waiting.effective.items
+pub waits-inside : (waiting : Waiting) (t mutex : ℕ) → KeepsQueue waiting → awaits_by (queued_at waiting) t ≡ Some mutex →
+    t < length waiting.effective.items
 waits-inside waiting t mutex k a = elim (cases_lt t (length waiting.effective.items)) [
   | inl lt ↦ lt
   | inr past ↦
       let out : length waiting.open.items ≤ t = subst (λ n. n ≤ t) k.places past in
-      absurd (none-some mutex (sym (ap (λ o. option_map (λ (wait : Queued). wait.mutex) (queued t o)) (get_or_past waiting.open.items t None out)) ∙ a))
+      absurd (none-some mutex
+      (sym (ap (λ o. option_map (λ (wait : Queued). wait.mutex) (queued t o))
+      (get_or_past waiting.open.items t None out)) ∙ a))
 ]
 
 -- the levels before the first is computed
-pub sound-none : (before : Before) (waiting : Waiting) → ((t mutex : ℕ) → before.world.awaits t ≡ Some mutex → level_at waiting t ≡ 0) →
+pub sound-none : (before : Before) (waiting : Waiting) →
+    ((t mutex : ℕ) → before.world.awaits t ≡ Some mutex → level_at waiting t ≡ 0) →
     ((t heir : ℕ) → heir_by before t ≡ Some heir → level_at waiting t ≡ 0) → AreSound before waiting
 sound-none before waiting none none_given = record {
   gotten = λ t mutex a. inl (none t mutex a);
@@ -310,10 +330,12 @@ sound-none before waiting none none_given = record {
 }
 
 -- who has an heir waits
-pub heir-waits : (before : Before) (t heir : ℕ) → heir_by before t ≡ Some heir → (mutex : ℕ) × (before.world.awaits t ≡ Some mutex)
+pub heir-waits : (before : Before) (t heir : ℕ) → heir_by before t ≡ Some heir →
+    (mutex : ℕ) × (before.world.awaits t ≡ Some mutex)
 heir-waits before t heir h = go (before.world.awaits t) refl h
   where
     go : (o : Option ℕ) → before.world.awaits t ≡ o →
-        option_and_then (λ mutex. cond (before.inherits mutex) (before.world.owner mutex) None) o ≡ Some heir → (mutex : ℕ) × (before.world.awaits t ≡ Some mutex)
+        option_and_then (λ mutex. cond (before.inherits mutex) (before.world.owner mutex) None) o ≡ Some heir →
+        (mutex : ℕ) × (before.world.awaits t ≡ Some mutex)
     go None waits none = absurd (none-some heir none)
     go (Some mutex) waits k = (mutex, waits)

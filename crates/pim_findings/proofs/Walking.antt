@@ -17,7 +17,8 @@ unseen-set [] t new = absurd (true≢false new)
 unseen-set (true ∷ seen) zero new = absurd (true≢false new)
 unseen-set (false ∷ seen) zero new = omega arith
 unseen-set (true ∷ seen) (suc t) new = unseen-set seen t new
-unseen-set (false ∷ seen) (suc t) new = let less : unseen (set seen t true) < unseen seen = unseen-set seen t new in omega arith
+unseen-set (false ∷ seen) (suc t) new = let less : unseen (set seen t true) < unseen seen =
+    unseen-set seen t new in omega arith
 
 set-marked : (seen : List Bool) (t : ℕ) → get_or (set seen t true) t true ≡ true
 set-marked seen t = elim (cases_lt t (length seen)) [
@@ -49,7 +50,8 @@ walk-none next seen start = record {
   len = refl;
 }
 
-pub walk-more : (next : ℕ → Option ℕ) (before : List Bool) (start : ℕ) (seen : List Bool) (passed : List ℕ) (end : Option ℕ) (t : ℕ) →
+pub walk-more : (next : ℕ → Option ℕ) (before : List Bool) (start : ℕ) (seen : List Bool) (passed : List ℕ)
+    (end : Option ℕ) (t : ℕ) →
     end ≡ Some t → get_or seen t true ≡ false → IsWalk next before start seen passed end →
     IsWalk next before start (set seen t true) (passed ++ t ∷ []) (next t)
 walk-more next before start seen passed end t at fresh w = record {
@@ -61,7 +63,8 @@ walk-more next before start seen passed end t at fresh w = record {
         newest 0 (sym empty) ∙ same_Some t start (sym at ∙ w.none empty)
   ];
   begun = inr (elim w.begun [
-    | inl first ↦ subst (λ v. get_or (set seen t true) v true ≡ true) (same_Some t start (sym at ∙ first)) (set-marked seen t)
+    | inl first ↦ subst (λ v. get_or (set seen t true) v true ≡ true) (same_Some t start (sym at ∙ first))
+        (set-marked seen t)
     | inr is ↦ set-kept seen t start is
   ]);
   each = λ k h.

@@ -16,7 +16,8 @@ AreApart a b = (t : ℕ) → Contains a t → Contains b t → ⊥
 -- A number leads into a cycle: this is the first number of the cycle on the way from it.
 pub data Enters (next : ℕ → Option ℕ) (cycle : List ℕ) : ℕ → ℕ → Type 0 where
   entered : {t : ℕ} → Contains cycle t → Enters next cycle t t
-  leads_on : {t u first : ℕ} → (Contains cycle t → ⊥) → next t ≡ Some u → Enters next cycle u first → Enters next cycle t first
+  leads_on : {t u first : ℕ} → (Contains cycle t → ⊥) → next t ≡ Some u → Enters next cycle u first →
+      Enters next cycle t first
 
 -- the lowest number that leads into a cycle; the cycle is listed from where the way from it enters
 pub record IsLowest (next : ℕ → Option ℕ) (cycle : List ℕ) (t : ℕ) : Type 0 where

@@ -32,11 +32,13 @@ begun_by facts = capped (count_by (λ m. begins_wait m.fact.what) facts)
 -- the number of the last wait of a thread: how many had begun with it
 abbrev pub number_of : List Moment → ℕ → ℕ
 number_of [] t = 0
-number_of (m ∷ before) t = if (m.fact.thread == t) && begins_wait m.fact.what then begun_by (m ∷ before) else number_of before t
+number_of (m ∷ before) t = if (m.fact.thread == t) && begins_wait m.fact.what then begun_by
+    (m ∷ before) else number_of before t
 
 -- the wait of a thread that lasts after these facts
 abbrev pub queued_by : List Moment → levels.Waits
-queued_by facts t = option_map (λ wait. record { number = number_of facts t; thread = t; mutex = wait.mutex }) (wait_of facts t)
+queued_by facts t = option_map (λ wait. record { number = number_of facts t; thread = t; mutex = wait.mutex })
+    (wait_of facts t)
 
 -- whether a mutex was granted as a PROTECT one, and wasn't released since
 abbrev pub protects_by : List Moment → ℕ → Bool
@@ -51,7 +53,8 @@ before_by facts m = before_release m.sources m.course m.fact (queued_by facts) (
 -- the release leaves threads that wait: this is the number of the first one's wait
 abbrev pub Leaves : Before → ℕ → ℕ → ℕ → Option Left → Type 0
 Leaves before mutex thread begun None = (t : ℕ) → before.world.awaits t ≡ Some mutex → ⊥
-Leaves before mutex thread begun (Some left) = (left.thread ≡ thread) × (left.begun ≡ begun) × HasFirst before mutex left.first
+Leaves before mutex thread begun (Some left) =
+    (left.thread ≡ thread) × (left.begun ≡ begun) × HasFirst before mutex left.first
 
 -- the last release of a mutex, while it is free, if threads waited for it then
 pub data IsLeft : List Moment → ℕ → Option Left → Type 0 where
@@ -59,7 +62,8 @@ pub data IsLeft : List Moment → ℕ → Option Left → Type 0 where
   taken : {mutex : ℕ} {m : Moment} {facts : List Moment} → grants mutex m ≡ true → IsLeft (m ∷ facts) mutex None
   left_by : {mutex : ℕ} {m : Moment} {facts : List Moment} {left : Option Left} → releases mutex m ≡ true →
       Leaves (before_by facts m) mutex m.fact.thread (begun_by facts) left → IsLeft (m ∷ facts) mutex left
-  still_left : {mutex : ℕ} {m : Moment} {facts : List Moment} {left : Option Left} → grants mutex m ≡ false → releases mutex m ≡ false →
+  still_left : {mutex : ℕ} {m : Moment} {facts : List Moment} {left : Option Left} → grants mutex m ≡ false →
+      releases mutex m ≡ false →
       IsLeft facts mutex left → IsLeft (m ∷ facts) mutex left
 
 -- To whom a mutex goes: to the thread that was the first waiter as it was released, to one behind that, to the thread that
@@ -100,7 +104,8 @@ pub record IsEarly (waits : levels.Waits) (mutex begun : ℕ) : Type 0 where
 -- A thread is granted a mutex. That is a hand-over if a thread waits that did so as the mutex was released.
 pub data HandsOn (waits : levels.Waits) (thread mutex : ℕ) : Option Left → HandOvers → HandOvers → Type 0 where
   unawaited : {counts : HandOvers} → HandsOn waits thread mutex None counts counts
-  left_alone : {left : Left} {counts : HandOvers} → (IsEarly waits mutex left.begun → ⊥) → HandsOn waits thread mutex (Some left) counts counts
+  left_alone : {left : Left} {counts : HandOvers} → (IsEarly waits mutex left.begun → ⊥) →
+      HandsOn waits thread mutex (Some left) counts counts
   handed_over : {left : Left} {counts : HandOvers} → IsEarly waits mutex left.begun →
       HandsOn waits thread mutex (Some left) counts (and_to (handed_to left thread (number_for waits thread mutex)) counts)
 
@@ -111,10 +116,13 @@ no_hand_overs = record { in_order = 0; to_later = 0; to_last_owner = 0; to_newco
 -- the hand-overs of a mutex
 pub data AreHandOvers : List Moment → ℕ → HandOvers → Type 0 where
   at_first : {mutex : ℕ} → AreHandOvers [] mutex no_hand_overs
-  by_grant : {mutex : ℕ} {m : Moment} {facts : List Moment} {left : Option Left} {counts more : HandOvers} → grants mutex m ≡ true →
-      IsLeft facts mutex left → AreHandOvers facts mutex counts → HandsOn (queued_by facts) m.fact.thread mutex left counts more →
+  by_grant : {mutex : ℕ} {m : Moment} {facts : List Moment} {left : Option Left} {counts more : HandOvers} →
+      grants mutex m ≡ true →
+      IsLeft facts mutex left → AreHandOvers facts mutex counts →
+      HandsOn (queued_by facts) m.fact.thread mutex left counts more →
       AreHandOvers (m ∷ facts) mutex more
-  by_other : {mutex : ℕ} {m : Moment} {facts : List Moment} {counts : HandOvers} → grants mutex m ≡ false → AreHandOvers facts mutex counts →
+  by_other : {mutex : ℕ} {m : Moment} {facts : List Moment} {counts : HandOvers} → grants mutex m ≡ false →
+      AreHandOvers facts mutex counts →
       AreHandOvers (m ∷ facts) mutex counts
 
 -- The findings are those of these facts, of threads below n and mutexes below k: the hand-overs of each mutex, and what

@@ -1,11 +1,11 @@
 -- What the definitions of waits and ownerships come to.
-use Rattle.std.specs.Prelude.{◌≡◌, ◌≢◌, ◌↔◌, ℕ, ◌-◌, ◌≤◌, false, List, ◌∷◌, ◌++◌, Option, Some, IsTrue, IfSome, All, AllPairs, Contains, IsPermutation}
+use Rattle.std.specs.Prelude.{◌≡◌, ◌≢◌, ◌↔◌, ℕ, ◌-◌, ◌≤◌, false, List, ◌∷◌, ◌++◌, Option, Some, IsTrue, IfSome, All, AllPairs, Contains}
 use Rattle.pim_facts.specs.declared.fact.What.{What}
 use Rattle.pim_facts.specs.declared.fact.What.TheVariants.{Granted, Waits, GaveUp, Released, Level, Ceiling}
 use Rattle.pim_findings.specs.declared.found_mutex.FoundOwnership.{FoundOwnership}
 use Rattle.pim_findings.specs.declared.found_wait.FoundWait.{FoundWait}
 use Rattle.pim_findings.specs.Waits.{Moment, all_waits, begun_wait, ended_waits, ends_wait, lasting_until, wait_of}
-use Rattle.pim_findings.specs.Longest.{longest_first}
+use Rattle.pim_findings.specs.Longest.{IsLongestFirst}
 use Rattle.pim_findings.specs.Ownerships.{IsLongest, grants, last_granted, ownerships_of, releases}
 
 -- what happened neither begins a wait of its thread nor ends one
@@ -60,10 +60,12 @@ OthersLaw = (facts : List Moment) (time n : ℕ) → All HasOther (all_waits fac
 abbrev pub IsNoShorter : FoundWait → FoundWait → Type 0
 IsNoShorter a b = b.lasted ≤ a.lasted
 
--- the longest first: all of the waits, each no shorter than all later ones
+-- the longest first: waits have just one such order, and in it each is no shorter than all later ones
 pub record LongestLaw : Type 0 where
-  pub same : (waits : List FoundWait) → IsPermutation waits (longest_first waits)
-  pub ordered : (waits : List FoundWait) → AllPairs IsNoShorter (longest_first waits)
+  pub some : (waits : List FoundWait) → (ordered : List FoundWait) × IsLongestFirst waits ordered
+  pub one : (waits ordered other : List FoundWait) → IsLongestFirst waits ordered →
+      IsLongestFirst waits other → ordered ≡ other
+  pub no_shorter : (waits ordered : List FoundWait) → IsLongestFirst waits ordered → AllPairs IsNoShorter ordered
 
 -- a mutex was last granted at this time: one of these facts grants it, and no later one does
 pub record WasGranted (facts : List Moment) (mutex since : ℕ) : Type 0 where
@@ -88,7 +90,9 @@ pub record HasOwned (facts : List Moment) (mutex : ℕ) (one : FoundOwnership) :
 
 -- the ownerships are those from a grant to a release: none is invented, and none is missing; and only one is the longest
 pub record OwnershipsLaw : Type 0 where
-  pub ended : (facts : List Moment) (mutex : ℕ) (one : FoundOwnership) → Contains (ownerships_of facts mutex) one ↔ HasOwned facts mutex one
-  pub granted : (facts : List Moment) (mutex since : ℕ) → (last_granted facts mutex ≡ Some since) ↔ WasGranted facts mutex since
+  pub ended : (facts : List Moment) (mutex : ℕ) (one : FoundOwnership) →
+      Contains (ownerships_of facts mutex) one ↔ HasOwned facts mutex one
+  pub granted : (facts : List Moment) (mutex since : ℕ) →
+      (last_granted facts mutex ≡ Some since) ↔ WasGranted facts mutex since
   pub longest : (ownerships : List FoundOwnership) (one other : Option FoundOwnership) →
       IsLongest ownerships one → IsLongest ownerships other → one ≡ other

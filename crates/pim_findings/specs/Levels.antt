@@ -43,8 +43,10 @@ pub record GetsMore (before : Before) (t other : ℕ) : Type 0 where
 -- to wait before has the same one.
 pub record IsFirst (before : Before) (mutex t : ℕ) : Type 0 where
   pub waits : before.world.awaits t ≡ Some mutex
-  pub none_higher : (other level : ℕ) → before.world.awaits other ≡ Some mutex → Gets before other level → GetsAtLeast before t level
-  pub none_before : (other : ℕ) → before.world.awaits other ≡ Some mutex → before.number other < before.number t → GetsMore before t other
+  pub none_higher : (other level : ℕ) → before.world.awaits other ≡ Some mutex → Gets before other level →
+      GetsAtLeast before t level
+  pub none_before : (other : ℕ) → before.world.awaits other ≡ Some mutex → before.number other < before.number t →
+      GetsMore before t other
 
 -- a number is that of the first wait for a mutex
 pub record HasFirst (before : Before) (mutex number : ℕ) : Type 0 where
@@ -95,4 +97,5 @@ before_release sources course fact waits protects = record {
 
 -- who gets the levels of a thread: the owner of the INHERIT mutex that it waits for
 abbrev pub heir_by : Before → ℕ → Option ℕ
-heir_by before t = option_and_then (λ mutex. if before.inherits mutex then before.world.owner mutex else None) (before.world.awaits t)
+heir_by before t = option_and_then (λ mutex. if before.inherits mutex then before.world.owner mutex else None)
+    (before.world.awaits t)

@@ -1,5 +1,6 @@
 pub mod Waits
 pub mod Longest
+pub mod Counted
 pub mod Found
 pub mod Ownerships
 pub mod Levels

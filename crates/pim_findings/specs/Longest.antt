@@ -1,5 +1,6 @@
 -- What is reported of waits: how many, and the longest.
-use Rattle.std.specs.Prelude.{◌≡◌, ℕ, ◌+◌, ◌<◌, ◌==◌, nat_lt, ◌&&◌, Bool, List, [], ◌∷◌, length, take, reverse, min, max, count_by, sum_by, slice_index_or, if◌then◌else◌, Option, IfSome, Vec}
+use Rattle.std.specs.Prelude.{◌≡◌, ℕ, ◌<◌, ◌==◌, nat_lt, ◌&&◌, Bool, List, [], ◌∷◌, length, take, reverse, min, max, count_by, sum_by, slice_index_or, if◌then◌else◌, Option, IfSome, Vec}
+use Rattle.std.specs.List.Sorted.{IsPermutation, IsSortedBy, IsStableBy}
 use Rattle.std.specs.Global.{Global}
 use Rattle.std.specs.Option.{option_map}
 use Rattle.pim_findings.specs.declared.found_wait.FoundWait.{FoundWait}
@@ -7,15 +8,22 @@ use Rattle.pim_findings.specs.declared.found_waits.FoundWaits.{FoundWaits}
 use Rattle.pim_findings.specs.declared.found_waits.MutexWaits.{MutexWaits}
 use Rattle.pim_findings.specs.declared.found_waits.TheConstants.{LONGEST}
 
--- waits with one more in front of the first that is shorter
-abbrev pub placed : FoundWait → List FoundWait → List FoundWait
-placed wait [] = wait ∷ []
-placed wait (other ∷ waits) = if nat_lt other.lasted wait.lasted then wait ∷ other ∷ waits else other ∷ placed wait waits
+-- whether a wait is longer than another
+abbrev pub is_longer : FoundWait → FoundWait → Bool
+is_longer one other = nat_lt other.lasted one.lasted
 
--- waits of which the one that ended last is first, the longest first: of equally long ones that which ended first
-abbrev pub longest_first : List FoundWait → List FoundWait
-longest_first [] = []
-longest_first (wait ∷ waits) = placed wait (longest_first waits)
+-- These waits are ordered with the longest first, and equally long ones as they were.
+pub record IsLongestFirst (waits ordered : List FoundWait) : Type 0 where
+  pub these : IsPermutation waits ordered
+  pub longest_first : IsSortedBy is_longer ordered
+  pub in_order : IsStableBy is_longer waits ordered
+
+-- Of waits in the order in which they ended the ten longest are listed, or all if there are fewer: the longest first, of
+-- equally long ones that which ended first.
+pub record ListsLongest (waits listed : List FoundWait) : Type 0 where
+  pub ordered : List FoundWait
+  pub longest_first : IsLongestFirst waits ordered
+  pub is : listed ≡ take LONGEST ordered
 
 -- a number, or the highest that a u64 has if that is higher
 abbrev pub capped : ℕ → ℕ
@@ -43,31 +51,18 @@ counts_of mutex waits = record {
 
 -- what is counted so far of the waits for a mutex
 abbrev pub waits_at : List MutexWaits → ℕ → MutexWaits
-waits_at by_mutex mutex = slice_index_or by_mutex mutex (record { count = 0; time = 0; longest = 0; unbounded = 0; unbounded_time = 0 })
+waits_at by_mutex mutex = slice_index_or by_mutex mutex
+    (record { count = 0; time = 0; longest = 0; unbounded = 0; unbounded_time = 0 })
 
 -- the waits of a list, if there is one
 abbrev pub listed : Option (Vec FoundWait Global) → Option (List FoundWait)
 listed = option_map (λ (all : Vec FoundWait Global). all.items)
 
--- These waits are reported, none more and none less: how many, the longest, those for each of k mutexes, and all, if they
--- are listed, the one that ended first first.
+-- These waits, of which the one that ended last is first, are reported, none more and none less: how many, the longest,
+-- those for each of k mutexes, and all, if they are listed, the one that ended first first.
 pub record AreReported (k : ℕ) (waits : List FoundWait) (found : FoundWaits) : Type 0 where
   pub count : found.count ≡ capped (length waits)
-  pub longest : found.longest.items ≡ take LONGEST (longest_first waits)
+  pub longest : ListsLongest (reverse waits) found.longest.items
   pub all : IfSome (listed found.all) (λ all. all ≡ reverse waits)
   pub mutexes : length found.by_mutex.items ≡ k
   pub by_mutex : (mutex : ℕ) → mutex < k → waits_at found.by_mutex.items mutex ≡ counts_of mutex waits
-
--- whether a wait is shorter than this
-abbrev pub is_shorter : ℕ → FoundWait → Bool
-is_shorter lasted wait = nat_lt wait.lasted lasted
-
--- the counts with one wait more
-abbrev pub counted_with : MutexWaits → FoundWait → MutexWaits
-counted_with counts wait = record {
-  count = capped (counts.count + 1);
-  time = capped (counts.time + wait.lasted);
-  longest = max counts.longest wait.lasted;
-  unbounded = if wait.is_unbounded then capped (counts.unbounded + 1) else counts.unbounded;
-  unbounded_time = if wait.is_unbounded then capped (counts.unbounded_time + wait.lasted) else counts.unbounded_time;
-}

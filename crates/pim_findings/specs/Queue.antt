@@ -57,8 +57,10 @@ pub record HasHighest (waiting : Waiting) (mutex number : ℕ) : Type 0 where
 -- Levels of the threads that wait, as far as they are computed: each is one that the thread gets, or the lowest still, and
 -- isn't higher than that of its heir.
 pub record AreSound (before : Before) (waiting : Waiting) : Type 0 where
-  pub gotten : (t mutex : ℕ) → before.world.awaits t ≡ Some mutex → (level_at waiting t ≡ 0) ⊎ Gets before t (level_at waiting t)
-  pub passed : (t heir mutex : ℕ) → heir_by before t ≡ Some heir → before.world.awaits heir ≡ Some mutex → level_at waiting t ≤ level_at waiting heir
+  pub gotten : (t mutex : ℕ) → before.world.awaits t ≡ Some mutex →
+      (level_at waiting t ≡ 0) ⊎ Gets before t (level_at waiting t)
+  pub passed : (t heir mutex : ℕ) → heir_by before t ≡ Some heir → before.world.awaits heir ≡ Some mutex →
+      level_at waiting t ≤ level_at waiting heir
 
 -- a thread's level is as high as this now, and no level is lower than it was
 pub record IsRaised (before : Before) (old new : Waiting) (first level : ℕ) : Type 0 where

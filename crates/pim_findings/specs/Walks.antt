@@ -12,7 +12,8 @@ is_seen seen t = slice_index_or seen t true
 
 -- From a number a walk passed these, which weren't seen before, and are now: each leads to the one behind it, and the last
 -- one to the end, if to one.
-pub record IsWalk (next : ℕ → Option ℕ) (before : List Bool) (start : ℕ) (seen : List Bool) (passed : List ℕ) (end : Option ℕ)
+pub record IsWalk (next : ℕ → Option ℕ) (before : List Bool) (start : ℕ) (seen : List Bool)
+    (passed : List ℕ) (end : Option ℕ)
     : Type 0 where
   pub none : length passed ≡ 0 → end ≡ Some start
   pub first : 0 < length passed → slice_index passed 0 ≡ start

@@ -1,8 +1,9 @@
 //! The waits of a program: how many, and the longest.
-ghost use Rattle.std.specs.Prelude.{◌≡◌, ℕ, ◌<◌, ◌==◌, ◌↔◌, List, [], ◌∷◌, ◌++◌, length, take, is_some, Any, IsTrue, IfOk, if◌then◌else◌};
+ghost use Rattle.std.specs.Prelude.{◌≡◌, ℕ, ◌<◌, nat_lt, ◌==◌, ◌↔◌, List, [], ◌∷◌, ◌++◌, length, take, insert, is_some, Any, IsTrue, IfOk, if◌then◌else◌};
 ghost use Rattle.std.specs.List.{position_or_len};
 ghost use Rattle.std.specs.Option.{option_map};
-ghost use Rattle.pim_findings.specs.Longest.{AreReported, counted_with, is_shorter, listed, placed, waits_at};
+ghost use Rattle.pim_findings.specs.Longest.{AreReported, is_longer, listed, waits_at};
+ghost use Rattle.pim_findings.specs.Counted.{counted_with};
 
 use crate::found_wait::FoundWait;
 use std::alloc::{AllocError, Global};
@@ -164,7 +165,8 @@ fn count(by_mutex: &mut Vec<MutexWaits>, wait: &FoundWait)
 ///
 /// Returns `AllocError` if out of memory.
 fn put(longest: &mut Vec<FoundWait>, wait: FoundWait) -> Result<(), AllocError>
-    ensures { IfOk result (λ _. longest.new.items ≡ take LONGEST (placed wait longest.old.items)) }
+    ensures { IfOk result (λ _. longest.new.items ≡
+        take LONGEST (insert longest.old.items (position_or_len (is_longer wait) longest.old.items) wait)) }
 {
     let place = place_of(longest, wait.lasted);
     if longest.insert(place, wait).is_err() {
@@ -176,7 +178,7 @@ fn put(longest: &mut Vec<FoundWait>, wait: FoundWait) -> Result<(), AllocError>
 
 /// Returns the place of the first wait that is shorter, or how many there are.
 fn place_of(longest: &[FoundWait], lasted: u64) -> usize
-    ensures { result ≡ position_or_len (is_shorter lasted) longest.now }
+    ensures { result ≡ position_or_len (λ other. nat_lt other.lasted lasted) longest.now }
 {
     for (place, other) in longest.iter().enumerate() {
         if other.lasted < lasted {

@@ -8,11 +8,13 @@ use Rattle.pim_findings.proofs.cycles.cycles_of.Goals as goal
 pub loop-start-init : goal.loop-start-init
 loop-start-init c =
     let next = next_in c.args.next.now in
-    let seen : c.in_ok-seen.seen.items ≡ replicate (length c.args.next.now) false = c.in_ok-seen.ensures.items_if_clones_equal (search rules) in
+    let seen : c.in_ok-seen.seen.items ≡ replicate (length c.args.next.now) false =
+    c.in_ok-seen.ensures.items_if_clones_equal (search rules) in
     record {
       len = ap length seen ∙ length-replicate (length c.args.next.now) false;
       found = subst (λ seen. Found next 0 seen (threads_of c.new-cycles.result.items)) (sym seen)
-          (subst (λ cycles. Found next 0 (replicate (length c.args.next.now) false) (threads_of cycles)) (sym c.new-cycles.ensures.items)
+          (subst (λ cycles. Found next 0 (replicate (length c.args.next.now) false) (threads_of cycles))
+          (sym c.new-cycles.ensures.items)
           (found-none next (length c.args.next.now) (λ t le. get_or_past c.args.next.now t None le)));
     }
 

@@ -8,6 +8,8 @@ pub returns-clause-each : goal.returns-clause-each
 returns-clause-each c = λ t. elim (cases_lt t c.loop-thread.thread) [
   | inl lt ↦ c.loop-thread.invariant.each t lt
   | inr le ↦
-      let past : min (length c.args.course.now.threads.items) 4294967295 ≤ t = omega (arith, c.len.ensures, c.min-threads.ensures, c.loop-thread-test.false) in
-      get_or_past c.loop-thread.blockers.items t None (omega (arith, c.loop-thread.invariant.len)) ∙ sym (blocker_of-none c.args.course.now t past)
+      let past : min (length c.args.course.now.threads.items) 4294967295 ≤ t =
+      omega (arith, c.len.ensures, c.min-threads.ensures, c.loop-thread-test.false) in
+      get_or_past c.loop-thread.blockers.items t None (omega (arith, c.loop-thread.invariant.len))
+      ∙ sym (blocker_of-none c.args.course.now t past)
 ]

@@ -1,5 +1,5 @@
-use Rattle.pim_findings.proofs.Ordering.{longest_first-ordered, longest_first-permutes}
+use Rattle.pim_findings.proofs.Ordering.{longest-no_shorter, longest-one, longest-some}
 use Rattle.pim_findings.proofs.laws.longest_law.Goals as goal
 
 pub returns : goal.returns
-returns c = record { same = longest_first-permutes; ordered = longest_first-ordered }
+returns c = record { some = longest-some; one = longest-one; no_shorter = longest-no_shorter }

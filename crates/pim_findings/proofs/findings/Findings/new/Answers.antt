@@ -8,20 +8,21 @@ use Rattle.pim_findings.specs.HandOvers.{AreHandOvers, IsLeft, at_first, never}
 use Rattle.pim_findings.proofs.findings.Findings.new.Goals as goal
 
 -- no mutex was seen yet
-unseen_in : (mutexes : List FoundMutex) (k : ℕ) → mutexes ≡ replicate k UNSEEN → (mutex : ℕ) → mutex < k →
+unseen-in : (mutexes : List FoundMutex) (k : ℕ) → mutexes ≡ replicate k UNSEEN → (mutex : ℕ) → mutex < k →
     mutex_at mutexes mutex ≡ UNSEEN
-unseen_in mutexes k all mutex h = ap (λ l. mutex_at l mutex) all ∙ get_or-replicate k mutex UNSEEN UNSEEN h
+unseen-in mutexes k all mutex h = ap (λ l. mutex_at l mutex) all ∙ get_or-replicate k mutex UNSEEN UNSEEN h
 
 pub returns-clause-owns : goal.returns-clause-owns
 returns-clause-owns c =
     let count = c.len-mutexes.result in
     let all = c.in_ok-vec.ensures.items_if_clones_equal (search rules) in
     let unseen = λ (mutex : ℕ) (h : mutex < length c.args.sources.now.ids.mutexes.items).
-    unseen_in c.in_ok-vec.field-0.items count all mutex (omega (arith, h, c.len-mutexes.ensures)) in
+    unseen-in c.in_ok-vec.field-0.items count all mutex (omega (arith, h, c.len-mutexes.ensures)) in
     record {
       mutexes = search rules;
       since = λ mutex h. ap (λ (f : FoundMutex). f.owned_since) (unseen mutex h);
-      longest = λ mutex h. subst (λ (f : FoundMutex). IsLongest [] f.longest) (sym (unseen mutex h)) (All-nil (λ one. one.lasted ≡ 0));
+      longest = λ mutex h. subst (λ (f : FoundMutex). IsLongest [] f.longest) (sym (unseen mutex h))
+          (All-nil (λ one. one.lasted ≡ 0));
     }
 
 pub returns-clause-hand_overs : goal.returns-clause-hand_overs
@@ -29,7 +30,7 @@ returns-clause-hand_overs c =
     let count = c.len-mutexes.result in
     let all = c.in_ok-vec.ensures.items_if_clones_equal (search rules) in
     let unseen = λ (mutex : ℕ) (h : mutex < length c.args.sources.now.ids.mutexes.items).
-    unseen_in c.in_ok-vec.field-0.items count all mutex (omega (arith, h, c.len-mutexes.ensures)) in
+    unseen-in c.in_ok-vec.field-0.items count all mutex (omega (arith, h, c.len-mutexes.ensures)) in
     record {
       threads = search rules;
       mutexes = search rules;

@@ -21,7 +21,8 @@ returns-clause-longest c = λ ownerships before.
           (sym (ap (λ found. found.longest) w.self-is ∙ ap (λ n. Some (owned c.args.thread n)) lasted))
           (released-longer since c.args.thread c.args.time old ownerships longer before)
       | else-lasted-longest w ↦
-          let no_longer : c.args.time - unwrap_or since c.args.time ≤ lasted_of old = omega (arith, w.if-lasted-longest.false) in
+          let no_longer : c.args.time - unwrap_or since c.args.time ≤ lasted_of old =
+          omega (arith, w.if-lasted-longest.false) in
           subst (IsLongest (and_since since c.args.thread c.args.time ownerships))
           (sym (ap (λ found. found.longest) w.self-is))
           (released-stays since c.args.thread c.args.time old ownerships no_longer before)

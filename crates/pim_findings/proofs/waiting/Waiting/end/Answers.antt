@@ -9,6 +9,7 @@ returns-clause-queue c = λ k.
     elim c.if-thread-len.branch [
       | then-thread-len w ↦
           let inside : c.args.thread < length c.args.self.now.open.items = omega (arith, w.if-thread-len.true) in
-          subst KeepsQueue (sym w.self-is) (queue-left c.args.self.now _ c.args.thread inside refl w.leave_queue.ensures refl k)
+          subst KeepsQueue (sym w.self-is)
+          (queue-left c.args.self.now _ c.args.thread inside refl w.leave_queue.ensures refl k)
       | else-thread-len w ↦ subst KeepsQueue (sym w.self-is) k
     ]

@@ -15,7 +15,8 @@ pub loop-place-init : goal.loop-place-init
 loop-place-init c = record {
   rest = c.forget_levels.ensures.rest;
   len = c.forget_levels.ensures.len;
-  sound = λ k. sound-lowest c.args.sources.now c.args.course.now c.args.fact.now c.args.self.now c.forget_levels.new.self k c.forget_levels.ensures.lowest;
+  sound = λ k. sound-lowest c.args.sources.now c.args.course.now c.args.fact.now c.args.self.now c.forget_levels.new.self k
+      c.forget_levels.ensures.lowest;
   levels = λ k j d lt. absurd (omega arith);
 }
 
@@ -23,34 +24,48 @@ pub loop-place-preserved : goal.loop-place-preserved
 loop-place-preserved c =
     let before = before_at c.args.sources.now c.args.course.now c.args.fact.now c.args.self.now in
     let wait = c.index.result.now in
-    let level_is : c.thread-level.result.level ≡ before.world.level wait.thread = ap (λ (thread : CourseThread). thread.level) c.thread-level.ensures in
+    let level_is : c.thread-level.result.level ≡ before.world.level wait.thread =
+    ap (λ (thread : CourseThread). thread.level) c.thread-level.ensures in
     let raised = λ (k : KeepsQueue c.args.self.now).
     level-raised c.args.sources.now c.args.course.now c.args.fact.now c.args.self.now c.loop-place.self c.raise_from.new.self
     wait.thread c.thread-level.result.level c.loop-place.invariant.rest c.loop-place.invariant.len k
     (subst (Gets before wait.thread) (sym level_is) own) (c.loop-place.invariant.sound k) c.raise_from.ensures.levels in
     record {
-      rest = c.raise_from.ensures.rest ∙ ap (λ (w : Waiting). record w { effective = c.raise_from.new.self.effective }) c.loop-place.invariant.rest;
+      rest = c.raise_from.ensures.rest ∙ ap (λ (w : Waiting). record w { effective = c.raise_from.new.self.effective })
+          c.loop-place.invariant.rest;
       len = c.raise_from.ensures.len ∙ c.loop-place.invariant.len;
       sound = λ k. (raised k).sound;
       levels = λ k j d lt. elim (cases_lt j c.loop-place.place) [
         | inl less ↦
             let thread = (get_or c.args.self.now.queue.items j d).thread in
-            let had : before.world.level thread ≤ level_at c.loop-place.self thread = c.loop-place.invariant.levels k j d less in
+            let had : before.world.level thread ≤ level_at c.loop-place.self thread =
+            c.loop-place.invariant.levels k j d less in
             let up : level_at c.loop-place.self thread ≤ level_at c.raise_from.new.self thread = (raised k).kept thread in
             omega arith
         | inr ge ↦
             let last : c.loop-place.place ≡ j = omega arith in
-            let queues : c.loop-place.self.queue.items ≡ c.args.self.now.queue.items = ap (λ (w : Waiting). w.queue.items) c.loop-place.invariant.rest in
+            let queues : c.loop-place.self.queue.items ≡ c.args.self.now.queue.items =
+            ap (λ (w : Waiting). w.queue.items) c.loop-place.invariant.rest in
             let inside : c.loop-place.place < length c.loop-place.self.queue.items =
-            omega (arith, ap length queues, c.loop-place-test.true, c.len-place-end.ensures, ap (λ (w : Waiting). length w.queue.items) c.forget_levels.ensures.rest) in
+            omega (
+              arith,
+              ap length queues,
+              c.loop-place-test.true,
+              c.len-place-end.ensures,
+              ap (λ (w : Waiting). length w.queue.items) c.forget_levels.ensures.rest,
+            ) in
             let is : wait ≡ get_or c.args.self.now.queue.items j d =
             c.index.ensures ∙ get_or_default c.loop-place.self.queue.items c.loop-place.place _ d inside
             ∙ ap (λ l. get_or l c.loop-place.place d) queues ∙ ap (λ i. get_or c.args.self.now.queue.items i d) last in
             let within : j < length c.args.self.now.queue.items = omega (arith, ap length queues) in
             let place : wait.thread < length c.args.self.now.effective.items =
-            queue-inside c.args.self.now wait k (subst (Contains c.args.self.now.queue.items) (sym is) (Contains-get_or c.args.self.now.queue.items j d within)) in
-            let reached : c.thread-level.result.level ≤ level_at c.raise_from.new.self wait.thread = (raised k).reached (omega (arith, c.loop-place.invariant.len)) in
-            let here : before.world.level wait.thread ≤ level_at c.raise_from.new.self wait.thread = omega (arith, level_is) in
+            queue-inside c.args.self.now wait k
+            (subst (Contains c.args.self.now.queue.items) (sym is)
+            (Contains-get_or c.args.self.now.queue.items j d within)) in
+            let reached : c.thread-level.result.level ≤ level_at c.raise_from.new.self wait.thread =
+            (raised k).reached (omega (arith, c.loop-place.invariant.len)) in
+            let here : before.world.level wait.thread ≤ level_at c.raise_from.new.self wait.thread =
+            omega (arith, level_is) in
             subst (λ (wait : Queued). before.world.level wait.thread ≤ level_at c.raise_from.new.self wait.thread) is here
       ];
     }
@@ -63,8 +78,15 @@ loop-protected-init c = record {
   levels = λ k wait h.
       let before = before_at c.args.sources.now c.args.course.now c.args.fact.now c.args.self.now in
       let whole : h.0 < c.loop-place.place =
-      omega (arith, h.1, c.loop-place-test.false, c.len-place-end.ensures, ap (λ (w : Waiting). length w.queue.items) c.forget_levels.ensures.rest) in
-      subst (λ (wait : Queued). before.world.level wait.thread ≤ level_at c.loop-place.self wait.thread) h.2 (c.loop-place.invariant.levels k h.0 wait whole);
+      omega (
+        arith,
+        h.1,
+        c.loop-place-test.false,
+        c.len-place-end.ensures,
+        ap (λ (w : Waiting). length w.queue.items) c.forget_levels.ensures.rest,
+      ) in
+      subst (λ (wait : Queued). before.world.level wait.thread ≤ level_at c.loop-place.self wait.thread) h.2
+      (c.loop-place.invariant.levels k h.0 wait whole);
   ceilings = λ k j lt. absurd (omega arith);
 }
 
@@ -73,29 +95,41 @@ loop-protected-preserved c =
     let before = before_at c.args.sources.now c.args.course.now c.args.fact.now c.args.self.now in
     let mutex = c.index-mutex.result.now in
     let mutexes = c.args.self.now.protecting.items in
-    let same : c.loop-protected.self.protecting.items ≡ mutexes = ap (λ (w : Waiting). w.protecting.items) c.loop-protected.invariant.rest in
+    let same : c.loop-protected.self.protecting.items ≡ mutexes =
+    ap (λ (w : Waiting). w.protecting.items) c.loop-protected.invariant.rest in
     let within : c.loop-protected.protected < length c.loop-protected.self.protecting.items =
-    omega (arith, ap length same, c.loop-protected-test.true, c.len-protected-end.ensures, ap (λ (w : Waiting). length w.protecting.items) c.loop-place.invariant.rest) in
+    omega (
+      arith,
+      ap length same,
+      c.loop-protected-test.true,
+      c.len-protected-end.ensures,
+      ap (λ (w : Waiting). length w.protecting.items) c.loop-place.invariant.rest,
+    ) in
     let is : mutex ≡ get_or mutexes c.loop-protected.protected 0 =
     c.index-mutex.ensures ∙ get_or_default c.loop-protected.self.protecting.items c.loop-protected.protected _ 0 within
     ∙ ap (λ l. get_or l c.loop-protected.protected 0) same in
     let inside : c.loop-protected.protected < length mutexes = omega (arith, ap length same) in
     let raised = λ (k : KeepsQueue c.args.self.now).
-    ceiling-raised c.args.sources.now c.args.course.now c.args.fact.now c.args.self.now c.loop-protected.self c.raise_owner.new.self mutex
+    ceiling-raised c.args.sources.now c.args.course.now c.args.fact.now c.args.self.now c.loop-protected.self
+    c.raise_owner.new.self mutex
     c.loop-protected.invariant.rest c.loop-protected.invariant.len k
     (list_any_at (λ other. other == mutex) mutexes c.loop-protected.protected 0 inside (eq-eqb _ _ (sym is)))
     (c.loop-protected.invariant.sound k) c.raise_owner.ensures.levels in
     record {
-      rest = c.raise_owner.ensures.rest ∙ ap (λ (w : Waiting). record w { effective = c.raise_owner.new.self.effective }) c.loop-protected.invariant.rest;
+      rest = c.raise_owner.ensures.rest ∙ ap (λ (w : Waiting). record w { effective = c.raise_owner.new.self.effective })
+          c.loop-protected.invariant.rest;
       len = c.raise_owner.ensures.len ∙ c.loop-protected.invariant.len;
       sound = λ k. (raised k).0;
       levels = λ k wait h.
-          let had : before.world.level wait.thread ≤ level_at c.loop-protected.self wait.thread = c.loop-protected.invariant.levels k wait h in
-          let up : level_at c.loop-protected.self wait.thread ≤ level_at c.raise_owner.new.self wait.thread = (raised k).1 wait.thread in
+          let had : before.world.level wait.thread ≤ level_at c.loop-protected.self wait.thread =
+          c.loop-protected.invariant.levels k wait h in
+          let up : level_at c.loop-protected.self wait.thread ≤ level_at c.raise_owner.new.self wait.thread =
+          (raised k).1 wait.thread in
           omega arith;
       ceilings = λ k j lt t e place. elim (cases_lt j c.loop-protected.protected) [
         | inl less ↦
-            let had : before.world.ceiling (get_or mutexes j 0) ≤ level_at c.loop-protected.self t = c.loop-protected.invariant.ceilings k j less t e place in
+            let had : before.world.ceiling (get_or mutexes j 0) ≤ level_at c.loop-protected.self t =
+            c.loop-protected.invariant.ceilings k j less t e place in
             let up : level_at c.loop-protected.self t ≤ level_at c.raise_owner.new.self t = (raised k).1 t in
             omega arith
         | inr ge ↦
@@ -109,6 +143,12 @@ loop-protected-preserved c =
 pub returns-clause-levels : goal.returns-clause-levels
 returns-clause-levels c = λ k.
     let whole : length c.args.self.now.protecting.items ≤ c.loop-protected.protected =
-    omega (arith, c.loop-protected-test.false, c.len-protected-end.ensures, ap (λ (w : Waiting). length w.protecting.items) c.loop-place.invariant.rest) in
-    all-raised c.args.sources.now c.args.course.now c.args.fact.now c.args.self.now c.loop-protected.self c.loop-protected.protected k
+    omega (
+      arith,
+      c.loop-protected-test.false,
+      c.len-protected-end.ensures,
+      ap (λ (w : Waiting). length w.protecting.items) c.loop-place.invariant.rest,
+    ) in
+    all-raised c.args.sources.now c.args.course.now c.args.fact.now c.args.self.now c.loop-protected.self
+    c.loop-protected.protected k
     (c.loop-protected.invariant.sound k) (c.loop-protected.invariant.levels k) whole (c.loop-protected.invariant.ceilings k)

@@ -25,5 +25,6 @@ invariant-loop-protected l = record {
   ceilings : KeepsQueue l.fn.self → (k : ℕ) → k < l.protected → (t : ℕ) →
       (before_at l.fn.sources l.fn.course l.fn.fact l.fn.self).world.owner (get_or l.fn.self.protecting.items k 0) ≡ Some t →
       t < length l.fn.self.effective.items →
-      (before_at l.fn.sources l.fn.course l.fn.fact l.fn.self).world.ceiling (get_or l.fn.self.protecting.items k 0) ≤ level_at l.self t;
+      (before_at l.fn.sources l.fn.course l.fn.fact l.fn.self).world.ceiling
+      (get_or l.fn.self.protecting.items k 0) ≤ level_at l.self t;
 }

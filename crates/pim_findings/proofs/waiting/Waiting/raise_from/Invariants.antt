@@ -11,5 +11,6 @@ invariant-loop-hop l = record {
   len : length l.self.effective.items ≡ length l.fn.self.effective.items;
   levels : Gets (before_at l.fn.sources l.fn.course l.fn.fact l.fn.self) l.fn.first l.fn.level →
       AreSound (before_at l.fn.sources l.fn.course l.fn.fact l.fn.self) l.fn.self →
-      IsRaising (before_at l.fn.sources l.fn.course l.fn.fact l.fn.self) l.fn.self l.self l.fn.first l.thread l.fn.level l.hop;
+      IsRaising (before_at l.fn.sources l.fn.course l.fn.fact l.fn.self) l.fn.self l.self l.fn.first
+      l.thread l.fn.level l.hop;
 }
