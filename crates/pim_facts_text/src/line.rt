@@ -10,7 +10,7 @@ pub const MAX_MUTEX: u64 = 9_999_999_999_999_999_999;
 pub const MAX_LEVEL: u64 = 100;
 
 /// The protocol of a mutex.
-#[derive(Clone, Copy, Debug)]
+#[derive(Clone, Copy)]
 pub enum Protocol {
     /// Its waiters change no priority.
     None,
@@ -21,7 +21,7 @@ pub enum Protocol {
 }
 
 /// What happened to a thread.
-#[derive(Clone, Copy, Debug)]
+#[derive(Clone, Copy)]
 pub enum What {
     /// It owns the mutex with this number, once more if it did already.
     Granted(u64),
@@ -40,7 +40,7 @@ pub enum What {
 }
 
 /// A line below the first. A name or a place at its end is apart from it.
-#[derive(Clone, Copy, Debug)]
+#[derive(Clone, Copy)]
 pub enum Line {
     /// There is a thread with this number, which has this level.
     Thread {
