@@ -7,7 +7,7 @@ use crate::words::{Words, address_of, number_of};
 const WAITS_SINCE: u64 = 2;
 
 /// What a line below the head says.
-#[derive(Clone, Copy, PartialEq, Eq)]
+#[derive(Clone, Copy)]
 pub enum Line<'a> {
     Event(Event),
     Name(Name<'a>),
@@ -15,7 +15,7 @@ pub enum Line<'a> {
 }
 
 /// A task's name.
-#[derive(Clone, Copy, PartialEq, Eq)]
+#[derive(Clone, Copy)]
 pub struct Name<'a> {
     /// The time of the line.
     pub time: u64,
@@ -24,7 +24,7 @@ pub struct Name<'a> {
 }
 
 /// The last line.
-#[derive(Clone, Copy, PartialEq, Eq)]
+#[derive(Clone, Copy)]
 pub struct End {
     /// When recording ended.
     pub time: u64,

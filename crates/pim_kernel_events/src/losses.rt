@@ -15,7 +15,7 @@ pub struct Losses {
 }
 
 /// Where a time is, compared with the stretches in which events were lost.
-#[derive(Clone, Copy, PartialEq, Eq)]
+#[derive(Clone, Copy)]
 pub enum Place {
     /// Nothing was lost since the time before.
     Certain,

@@ -19,7 +19,7 @@ pub struct Call {
 }
 
 /// A line, its time, and the CPU on which its task ran.
-#[derive(Clone, Copy, PartialEq, Eq)]
+#[derive(Clone, Copy)]
 pub struct Sign {
     pub line: u64,
     pub time: u64,
