@@ -199,26 +199,33 @@ fn wait_during(
     let calls = track.calls.as_slice();
     for place in (0..first_from(calls, difference.end).min(calls.len())).rev() {
         let call = calls[place];
-        if call.end <= difference.begin {
+        if call.has_returned_by(difference.begin) {
             break;
         }
-        let is_wait = !call.is_unlock && call.address == address && call.slept != 0;
-        if is_wait && call.slept < difference.end {
+        if call.address == address && slept_before(&call, difference.end) {
             return Some(wait_of_call(thread, &call));
         }
     }
     None
 }
 
+/// Returns whether the task slept in a call for a mutex, before this time.
+fn slept_before(call: &Call, time: u64) -> bool {
+    match call.waited_from() {
+        Some(from) => from < time,
+        None => false,
+    }
+}
+
 fn wait_of_call(thread: u32, call: &Call) -> Lengthened {
+    let lasted = match call.end {
+        Some(end) => Some(end.saturating_sub(call.begin)),
+        None => None,
+    };
     Lengthened {
         thread,
         began: call.begin,
-        lasted: if call.end == u64::MAX {
-            None
-        } else {
-            Some(call.end.saturating_sub(call.begin))
-        },
+        lasted,
     }
 }
 

@@ -139,13 +139,9 @@ impl Timing {
             return Ok(());
         };
         match call_between(track, is_unlock, mutex.address, time, next) {
-            Some(call) if is_unlock => self.put(time, (call.begin, call.end)),
+            Some(call) if is_unlock => self.put(time, (call.begin, end_of(&call))),
             Some(call) => {
-                let slept = if call.slept == 0 {
-                    call.end
-                } else {
-                    call.slept
-                };
+                let slept = call.slept.unwrap_or(end_of(&call));
                 put(&mut self.known, (track.task, call.begin), true)?;
                 self.put(time, (call.begin, slept))
             }
@@ -181,7 +177,7 @@ impl Timing {
             if let Some(track) = tracks.of_task(thread.task) {
                 if let Some(call) = call_asleep(track, time) {
                     put(&mut self.known, (track.task, call.begin), true)?;
-                    self.put(time, (call.begin, call.slept))?;
+                    self.put(time, (call.begin, time))?;
                 }
             }
         }
@@ -193,9 +189,9 @@ impl Timing {
         for thread in &imported.sources.ids.threads {
             if let Some(track) = tracks.of_task(thread.task) {
                 for call in &track.calls {
-                    let is_wait = !call.is_unlock && call.slept != 0;
+                    let is_wait = call.waited_from().is_some();
                     if is_wait && self.known.get(&(track.task, call.begin)).is_none() {
-                        self.unknown.push((call.begin, call.end))?;
+                        self.unknown.push((call.begin, end_of(call)))?;
                     }
                 }
             }
@@ -203,6 +199,11 @@ impl Timing {
         self.unknown.sort_unstable();
         Ok(())
     }
+}
+
+/// Returns when a call returned: the highest time there is if that isn't known.
+fn end_of(call: &Call) -> u64 {
+    call.end.unwrap_or(u64::MAX)
 }
 
 /// Returns the first call for a mutex that begins between two times.
@@ -225,7 +226,11 @@ fn call_asleep(track: &Track, time: u64) -> Option<Call> {
     let calls = track.calls.as_slice();
     let place = first_from(calls, time).checked_sub(1)?;
     let call = *calls.get(place)?;
-    if call.slept == time { Some(call) } else { None }
+    if call.slept == Some(time) {
+        Some(call)
+    } else {
+        None
+    }
 }
 
 /// Returns when the last lock call that began between two times returned, if it returned by then.
@@ -237,8 +242,8 @@ fn last_return(track: &Track, from: u64, to: u64) -> Option<u64> {
         if call.begin > to {
             break;
         }
-        if !call.is_unlock && call.end <= to {
-            end = Some(call.end);
+        if !call.is_unlock && call.has_returned_by(to) {
+            end = call.end;
         }
     }
     end

@@ -37,9 +37,9 @@ pub fn waits_of(
 /// Adds the waits of a task.
 fn take(waits: &mut Vec<Wait>, track: &Track) -> Result<(), AllocError> {
     for call in &track.calls {
-        if !call.is_unlock && call.slept != 0 {
+        if let Some(from) = call.waited_from() {
             waits.push(Wait {
-                from: call.slept,
+                from,
                 task: track.task,
                 address: call.address,
             })?;

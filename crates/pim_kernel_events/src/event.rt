@@ -11,7 +11,7 @@ pub struct Switch {
     pub is_blocked: bool,
     /// Whether it has ended.
     pub has_ended: bool,
-    /// The task that runs next, or 0 if none does.
+    /// The task that runs next. The kernel's idle task has the number 0.
     pub next: u32,
     /// Its level.
     pub next_level: u8,

@@ -12,10 +12,25 @@ pub struct Call {
     /// The mutex.
     pub address: u64,
     pub begin: u64,
-    /// When its task first slept within it, or 0 if it never did.
-    pub slept: u64,
-    /// When it returned. `u64::MAX` if that isn't known.
-    pub end: u64,
+    /// When its task first slept within it, if it did.
+    pub slept: Option<u64>,
+    /// When it returned, if that is known.
+    pub end: Option<u64>,
+}
+
+impl Call {
+    /// Returns since when the task waited for the mutex, if it asked for it and slept.
+    pub fn waited_from(&self) -> Option<u64> {
+        if self.is_unlock { None } else { self.slept }
+    }
+
+    /// Returns whether it had returned by this time. One of which that isn't known hadn't.
+    pub fn has_returned_by(&self, time: u64) -> bool {
+        match self.end {
+            Some(end) => end <= time,
+            None => false,
+        }
+    }
 }
 
 /// A line, its time, and the CPU on which its task ran.
@@ -160,8 +175,8 @@ impl Track {
                 is_unlock,
                 address,
                 begin: sign.time,
-                slept: 0,
-                end: u64::MAX,
+                slept: None,
+                end: None,
             })?,
         )
     }
@@ -169,8 +184,8 @@ impl Track {
     /// The last call returned, if it hadn't.
     pub(crate) fn end_call(&mut self, time: u64) {
         if let Some(call) = self.calls.last_mut() {
-            if call.end == u64::MAX {
-                call.end = time;
+            if call.end.is_none() {
+                call.end = Some(time);
             }
         }
     }
@@ -178,8 +193,8 @@ impl Track {
     /// The task sleeps, within its last call if that hasn't returned.
     fn sleep(&mut self, time: u64) {
         if let Some(call) = self.calls.last_mut() {
-            if call.end == u64::MAX && call.slept == 0 {
-                call.slept = time;
+            if call.end.is_none() && call.slept.is_none() {
+                call.slept = Some(time);
             }
         }
     }

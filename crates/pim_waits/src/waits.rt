@@ -25,26 +25,20 @@ pub struct Wait {
 
 /// Returns the wait of a call, or `None` if its thread didn't sleep within it.
 pub fn wait_of(recording: &Recording, task: u32, call: &Call) -> Option<Wait> {
-    if call.is_unlock || call.slept == 0 {
-        return None;
-    }
-    let is_open = call.end == u64::MAX;
-    let end = if is_open {
-        match recording.tasks.end_of(task) {
-            Some(end) if end >= call.slept => end,
-            _ => recording.ended,
-        }
-    } else {
-        call.end
+    let slept = call.waited_from()?;
+    let end = match (call.end, recording.tasks.end_of(task)) {
+        (Some(end), _) => end,
+        (None, Some(end)) if end >= slept => end,
+        (None, _) => recording.ended,
     };
     Some(Wait {
         task,
-        level: level_at(recording.events.as_slice(), task, call.slept)?,
+        level: level_at(recording.events.as_slice(), task, slept)?,
         address: call.address,
         began: call.begin,
-        slept: call.slept,
+        slept,
         lasted: end.saturating_sub(call.begin),
-        is_open,
+        is_open: call.end.is_none(),
     })
 }
 
