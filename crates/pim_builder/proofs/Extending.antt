@@ -1,23 +1,25 @@
 -- A trace that shows facts, as it goes on.
-use Rattle.std.proofs.Common.{◌≡◌, ◌∙◌, refl, sym, ap, subst, inl, inr, ℕ, List, [], ◌∷◌, ◌++◌, Option, Some}
-use Rattle.std.proofs.Common.{Bool, true, false, IsTrue}
+use Rattle.std.proofs.Common.{◌≡◌, ◌∙◌, refl, sym, ap, subst, inl, inr, ℕ, ◌≤◌, List, [], ◌∷◌, ◌++◌, All, Option, Some}
+use Rattle.std.proofs.Common.{Bool, true, false, IsTrue, append_assoc, length, arith}
+use Rattle.std.proofs.lemmas.List.{append-nil}
+use Rattle.std.proofs.lemmas.List.Elements.{All-append, All-cons, All-nil, All-weaker}
 use Rattle.pim_base.specs.Lists.{put}
-use Rattle.pim_base.proofs.Prefixes.{prefix_self, prefix_trans}
 use Rattle.pim_facts.specs.declared.fact.Fact.{Fact}
 use Rattle.pim_replay.specs.Priorities.{priority_of}
 use Rattle.pim_replay.specs.declared.piece.Piece.{Piece}
-use Rattle.pim_builder.specs.Pieces.{Point, GoesOn, EndWith}
+use Rattle.pim_replay.specs.Replays.{ReplayState}
+use Rattle.pim_builder.specs.Pieces.{Point, GoesOn, EndWith, HasTimes, steps_of}
 use Rattle.pim_builder.specs.Showing.{number_in, held, ShowsWhat, SetsNone, Shows, task_now, mutex_now}
 use Rattle.pim_builder.specs.Shown.{as_thread, as_mutex, given_to, taken_by, holders_after, nobody, threads_after}
-use Rattle.pim_builder.specs.Shown.{mutexes_after, Stage, LeadsTo, IsShownAt, AreShownBy}
-use Rattle.pim_builder.specs.Shown.{AreShownIn, stage_of, HasHolders, AreShown, Extends}
+use Rattle.pim_builder.specs.Shown.{mutexes_after, Dated, Stage, AppearsBetween, LeadsTo}
+use Rattle.pim_builder.specs.Shown.{IsShownAt, AreShownBy, AreShownIn, stage_of, HasHolders, AreShown, Extends}
 use Rattle.pim_builder.specs.declared.builder.Appearance.{Appearance}
 use Rattle.pim_builder.specs.declared.builder.Context.{Context}
 use Rattle.pim_builder.specs.declared.builder.TraceBuilder.{TraceBuilder}
 use Rattle.pim_builder.specs.declared.builder.Who.{Who}
 use Rattle.pim_builder.specs.declared.builder.Who.TheVariants.{Thread, Mutex}
 use Rattle.pim_builder.specs.declared.numbering.Numbers.{Numbers}
-use Rattle.pim_builder.proofs.GoingOn.{goes_on_refl, goes_on_trans, is_in_on, is_in_end}
+use Rattle.pim_builder.proofs.GoingOn.{goes_on_refl, goes_on_trans, more_steps}
 
 -- ---- who has a number
 
@@ -29,79 +31,116 @@ holders_one_more numbers one_of holders (b ∷ es) a = holders_one_more numbers 
 
 -- ---- from stage to stage
 
-leads_refl : (s : Stage) → LeadsTo s s
-leads_refl s = record { point = goes_on_refl s.point; appeared = prefix_self s.appeared }
-
-leads_trans : (s t u : Stage) → LeadsTo s t → LeadsTo t u → LeadsTo s u
-leads_trans s t u a b = record {
-  point = goes_on_trans s.point t.point u.point a.point b.point;
-  appeared = prefix_trans s.appeared t.appeared u.appeared a.appeared b.appeared;
+leads_refl : (time : ℕ) (s : Stage) → LeadsTo time s s
+leads_refl time s = record {
+  point = goes_on_refl time s.point;
+  further = [];
+  appeared = sym (append-nil s.appeared);
+  between = All-nil (AppearsBetween s.point s.point);
 }
 
--- what is shown stays shown
-shown_on : (context : Context) (facts : List Fact) (s t : Stage) → LeadsTo s t → AreShownBy context facts s → AreShownBy context facts t
-shown_on context [] s t leads shown = tt
-shown_on context (fact ∷ facts) s t leads shown = (shown.0, leads_trans shown.0 s t shown.1 leads, shown.2, shown.3)
+leads_trans : (time : ℕ) (s t u : Stage) → LeadsTo time s t → LeadsTo time t u → LeadsTo time s u
+leads_trans time s t u a b =
+    let first : steps_of s.point ≤ steps_of t.point = more_steps s.point t.point a.point.reached in
+    let second : steps_of t.point ≤ steps_of u.point = more_steps t.point u.point b.point.reached in
+    record {
+      point = goes_on_trans time s.point t.point u.point a.point b.point;
+      further = a.further ++ b.further;
+      appeared = b.appeared ∙ ap (λ es. es ++ b.further) a.appeared ∙ append_assoc s.appeared a.further b.further;
+      between = All-append (AppearsBetween s.point u.point) a.further b.further
+          (All-weaker (AppearsBetween s.point t.point) (AppearsBetween s.point u.point)
+          (λ one between. record { from = between.from; upto = omega (arith, between.upto, second) }) a.further a.between)
+          (All-weaker (AppearsBetween t.point u.point) (AppearsBetween s.point u.point)
+          (λ one between. record { from = omega (arith, between.from, first); upto = between.upto }) b.further b.between);
+    }
 
-pub extends_trans : (context : Context) (a b c : TraceBuilder) → Extends context a b → Extends context b c → Extends context a c
-extends_trans context a b c e f = record {
-  leads = leads_trans (stage_of a) (stage_of b) (stage_of c) e.leads f.leads;
+pub extends_trans :
+    (context : Context) (time : ℕ) (a b c : TraceBuilder)
+    → Extends context time a b
+    → Extends context time b c
+    → Extends context time a c
+extends_trans context time a b c e f = record {
+  leads = leads_trans time (stage_of a) (stage_of b) (stage_of c) e.leads f.leads;
   holders = λ h. f.holders (e.holders h);
 }
 
-pub extends_refl : (context : Context) (a : TraceBuilder) → Extends context a a
-extends_refl context a = record { leads = leads_refl (stage_of a); holders = λ h. h }
+pub extends_refl : (context : Context) (time : ℕ) (a : TraceBuilder) → Extends context time a a
+extends_refl context time a = record { leads = leads_refl time (stage_of a); holders = λ h. h }
 
 -- further steps, and nobody appears
-pub extends_steps : (context : Context) (a : TraceBuilder) (p : Point) → GoesOn a.pieces p → Extends context a (record a { pieces = p })
-extends_steps context a p on = record {
-  leads = record { point = on; appeared = prefix_self a.appearances.items };
+pub extends_steps :
+    (context : Context) (time : ℕ) (a : TraceBuilder) (p : Point)
+    → GoesOn time a.pieces p
+    → Extends context time a (record a { pieces = p })
+extends_steps context time a p on = record {
+  leads = record {
+    point = on;
+    further = [];
+    appeared = sym (append-nil a.appearances.items);
+    between = All-nil (AppearsBetween a.pieces p);
+  };
   holders = λ h. record { threads = h.threads; mutexes = h.mutexes };
 }
 
 -- a piece may end, and then there are further steps
 pub cut_and_on :
-    (context : Context) (a : TraceBuilder) (p q : Point)
-    → GoesOn a.pieces p
-    → GoesOn p q
-    → Extends context a (record a { pieces = q })
-cut_and_on context a p q cut on = extends_steps context a q (goes_on_trans a.pieces p q cut on)
+    (context : Context) (time : ℕ) (a : TraceBuilder) (p q : Point)
+    → GoesOn time a.pieces p
+    → GoesOn time p q
+    → Extends context time a (record a { pieces = q })
+cut_and_on context time a p q cut on = extends_steps context time a q (goes_on_trans time a.pieces p q cut on)
 
 -- and then the trace goes on
 pub cut_and_extended :
-    (context : Context) (a : TraceBuilder) (p : Point) (b : TraceBuilder)
-    → GoesOn a.pieces p
-    → Extends context (record a { pieces = p }) b
-    → Extends context a b
-cut_and_extended context a p b cut on =
-    extends_trans context a (record a { pieces = p }) b (extends_steps context a p cut) on
+    (context : Context) (time : ℕ) (a : TraceBuilder) (p : Point) (b : TraceBuilder)
+    → GoesOn time a.pieces p
+    → Extends context time (record a { pieces = p }) b
+    → Extends context time a b
+cut_and_extended context time a p b cut on =
+    extends_trans context time a (record a { pieces = p }) b (extends_steps context time a p cut) on
 
 -- two appear, and then further steps
 pub acted :
-    (context : Context) (a b c : TraceBuilder) (p : Point)
-    → Extends context a b
-    → Extends context b c
-    → GoesOn c.pieces p
-    → Extends context a (record c { pieces = p })
-acted context a b c p first second on =
-    extends_trans context a c (record c { pieces = p }) (extends_trans context a b c first second) (extends_steps context c p on)
+    (context : Context) (time : ℕ) (a b c : TraceBuilder) (p : Point)
+    → Extends context time a b
+    → Extends context time b c
+    → GoesOn time c.pieces p
+    → Extends context time a (record c { pieces = p })
+acted context time a b c p first second on =
+    extends_trans context time a c (record c { pieces = p }) (extends_trans context time a b c first second)
+    (extends_steps context time c p on)
+
+-- one appears before the next step
+one_appears :
+    (time : ℕ) (a b : TraceBuilder) (it : Appearance)
+    → it.step ≡ steps_of a.pieces
+    → b.pieces ≡ a.pieces
+    → b.appearances.items ≡ a.appearances.items ++ it ∷ []
+    → LeadsTo time (stage_of a) (stage_of b)
+one_appears time a b it now same more = record {
+  point = subst (GoesOn time a.pieces) (sym same) (goes_on_refl time a.pieces);
+  further = it ∷ [];
+  appeared = more;
+  between =
+      subst (λ p. All (AppearsBetween a.pieces p) (it ∷ [])) (sym same)
+      (All-cons (AppearsBetween a.pieces a.pieces) it []
+      (record { from = omega (arith, now); upto = omega (arith, now) }) (All-nil (AppearsBetween a.pieces a.pieces)));
+}
 
 -- a thread appears and takes its number
 pub thread_appears :
-    (context : Context) (a b : TraceBuilder) (step t k : ℕ)
+    (context : Context) (time : ℕ) (a b : TraceBuilder) (step t k : ℕ)
     → number_in context.numbering.now.threads t ≡ Some k
+    → step ≡ steps_of a.pieces
     → b.pieces ≡ a.pieces
     → b.appearances.items ≡ a.appearances.items ++ record { step = step; who = Thread t } ∷ []
     → b.threads.items ≡ put a.threads.items k (Some t)
     → b.mutexes.items ≡ a.mutexes.items
-    → Extends context a b
-thread_appears context a b step t k number same more threads mutexes =
+    → Extends context time a b
+thread_appears context time a b step t k number now same more threads mutexes =
     let it : Appearance = record { step = step; who = Thread t } in
     record {
-      leads = record {
-        point = subst (GoesOn a.pieces) (sym same) (goes_on_refl a.pieces);
-        appeared = (it ∷ [], sym more);
-      };
+      leads = one_appears time a b it now same more;
       holders = λ h. record {
         threads =
             let numbers = context.numbering.now.threads in
@@ -121,20 +160,18 @@ thread_appears context a b step t k number same more threads mutexes =
 
 -- a mutex appears and takes its number
 pub mutex_appears :
-    (context : Context) (a b : TraceBuilder) (step m n : ℕ)
+    (context : Context) (time : ℕ) (a b : TraceBuilder) (step m n : ℕ)
     → number_in context.numbering.now.mutexes m ≡ Some n
+    → step ≡ steps_of a.pieces
     → b.pieces ≡ a.pieces
     → b.appearances.items ≡ a.appearances.items ++ record { step = step; who = Mutex m } ∷ []
     → b.mutexes.items ≡ put a.mutexes.items n (Some m)
     → b.threads.items ≡ a.threads.items
-    → Extends context a b
-mutex_appears context a b step m n number same more mutexes threads =
+    → Extends context time a b
+mutex_appears context time a b step m n number now same more mutexes threads =
     let it : Appearance = record { step = step; who = Mutex m } in
     record {
-      leads = record {
-        point = subst (GoesOn a.pieces) (sym same) (goes_on_refl a.pieces);
-        appeared = (it ∷ [], sym more);
-      };
+      leads = one_appears time a b it now same more;
       holders = λ h. record {
         mutexes =
             let numbers = context.numbering.now.mutexes in
@@ -166,7 +203,8 @@ by_holders context b h P holds =
 
 shown_now : (context : Context) (b : TraceBuilder) (fact : Fact) → HasHolders context b → Shows context b fact → IsShownAt context fact (stage_of b)
 shown_now context b fact h shows = inl (by_holders context b h (λ ts ms.
-    ShowsWhat b.pieces.replay (priority_of context.priorities.now) (λ t. held ts t (number_in context.numbering.now.threads t)) fact.what
+    ShowsWhat b.pieces.piece.replay (priority_of context.priorities.now)
+    (λ t. held ts t (number_in context.numbering.now.threads t)) fact.what
     (held ts fact.thread (number_in context.numbering.now.threads fact.thread))
     (held ms fact.mutex (number_in context.numbering.now.mutexes fact.mutex))) shows)
 
@@ -180,24 +218,29 @@ unset_now context b fact h unset = inr (by_holders context b h (λ ts ms.
     (held ts fact.thread (number_in context.numbering.now.threads fact.thread))
     (held ms fact.mutex (number_in context.numbering.now.mutexes fact.mutex))) unset)
 
+-- where facts are shown, there is a time for each step
+timed_by : (context : Context) (facts : List Dated) (now : Stage) → AreShownBy context facts now → HasTimes now.point.piece
+timed_by context [] now begin = ap (λ ts. length ts) begin.times ∙ sym (ap (λ es. length es) begin.steps)
+timed_by context (latest ∷ facts) now shown = shown.3
+
 -- one fact more
 pub shown_more :
-    (context : Context) (fact : Fact) (a b : TraceBuilder) (is_used : Bool)
-    → Extends context a b
+    (context : Context) (fact : Fact) (time : ℕ) (a b : TraceBuilder) (is_used : Bool)
+    → Extends context time a b
     → (IsTrue is_used → Shows context b fact)
     → (is_used ≡ false → SetsNone fact.what (task_now context b fact.thread) (mutex_now context b fact.mutex))
-    → (facts : List Fact)
+    → (facts : List Dated)
     → AreShown context facts a
-    → AreShown context (fact ∷ facts) b
-shown_more context fact a b is_used extends shows unset facts shown =
-    let holders : HasHolders context b = extends.holders shown.holders in
+    → AreShown context (record { fact = fact; time = time } ∷ facts) b
+shown_more context fact time a b is_used extends shows unset facts shown =
     record {
-      holders = holders;
+      holders = extends.holders shown.holders;
       shown = (
-        stage_of b,
-        leads_refl (stage_of b),
+        stage_of a,
+        shown.shown,
+        extends.leads,
+        extends.leads.point.timed (timed_by context facts (stage_of a) shown.shown),
         is_shown is_used shows unset,
-        shown_on context facts (stage_of a) (stage_of b) extends.leads shown.shown,
       );
     }
   where
@@ -207,27 +250,30 @@ shown_more context fact a b is_used extends shows unset facts shown =
 
 -- a trace that ended shows what it showed
 pub shown_in_end :
-    (context : Context) (facts : List Fact) (b : TraceBuilder) (pieces : List Piece)
+    (context : Context) (facts : List Dated) (b : TraceBuilder) (pieces : List Piece)
     → EndWith b.pieces pieces
     → AreShown context facts b
     → AreShownIn context facts pieces b.appearances.items
-shown_in_end context facts b pieces end shown = go facts shown.shown
-  where
-    go : (facts : List Fact) → AreShownBy context facts (stage_of b) → AreShownIn context facts pieces b.appearances.items
-    go [] s = tt
-    go (fact ∷ facts) s = (s.0, is_in_on s.0.point b.pieces pieces s.1.point (is_in_end b.pieces pieces end), s.1.appeared, s.2, s.3)
+shown_in_end context facts b pieces end shown = (b.pieces, end, shown.shown)
 
 -- a trace at its begin
 pub shown_at_begin :
-    (context : Context) (b : TraceBuilder)
+    (context : Context) (b : TraceBuilder) (replay : ReplayState)
+    → b.pieces ≡ record { before = []; piece = record { replay = replay; times = []; restoring = 0 } }
+    → replay.entries ≡ []
     → b.appearances.items ≡ []
     → b.threads.items ≡ nobody context.numbering.now.threads
     → b.mutexes.items ≡ nobody context.numbering.now.mutexes
     → AreShown context [] b
-shown_at_begin context b none threads mutexes = record {
+shown_at_begin context b replay begin steps none threads mutexes = record {
   holders = record {
     threads = threads ∙ sym (ap (threads_after context) none);
     mutexes = mutexes ∙ sym (ap (mutexes_after context) none);
   };
-  shown = tt;
+  shown = record {
+    before = ap (λ (p : Point). p.before) begin;
+    steps = ap (λ (p : Point). p.piece.replay.entries) begin ∙ steps;
+    times = ap (λ (p : Point). p.piece.times) begin;
+    appeared = none;
+  };
 }

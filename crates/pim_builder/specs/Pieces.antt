@@ -1,5 +1,5 @@
 -- How the pieces of a trace go on from each other.
-use Rattle.std.specs.Prelude.{◌≡◌, ◌⊎◌, List, [], ◌∷◌, ◌++◌, length}
+use Rattle.std.specs.Prelude.{◌≡◌, ◌⊎◌, ℕ, ◌+◌, ◌-◌, ◌^◌, min, List, [], ◌∷◌, ◌++◌, length, replicate, sum_by, flat_map}
 use Rattle.pim_replay.specs.Replays.{ReplayState, Continues, StaysTheSame, KeepsOrder}
 use Rattle.pim_replay.specs.declared.piece.Piece.{Piece}
 
@@ -22,28 +22,50 @@ abbrev pub AreJoined : List Piece → Type 0
 AreJoined [] = ⊥
 AreJoined (first ∷ others) = (first.restoring ≡ 0) × FollowEach first others
 
--- a point of a trace: the pieces before it, and the replay of the piece that it is in, up to it
+-- a point of a trace: the pieces before it, and the piece that it is in, up to it
 pub record Point : Type 0 where
   pub before : List Piece
-  pub replay : ReplayState
+  pub piece : Piece
 
--- the last piece ends at this point
-pub record EndWith (point : Point) (pieces : List Piece) : Type 0 where
-  pub last : Piece
-  pub all : pieces ≡ point.before ++ last ∷ []
-  pub replayed : last.replay ≡ point.replay
+-- the pieces are those before this point and the one that it is in, which ends there
+abbrev pub EndWith : Point → List Piece → Type 0
+EndWith point pieces = pieces ≡ point.before ++ point.piece ∷ []
 
--- the point is in one of the pieces, whose steps go on from it
+-- a piece goes on: it has further steps
+pub record IsContinued (old new : Piece) : Type 0 where
+  pub restoring : new.restoring ≡ old.restoring
+  pub steps : Continues old.replay new.replay
+
+-- the point is in one of the pieces, which goes on from it
 pub record IsIn (point : Point) (pieces : List Piece) : Type 0 where
   pub piece : Piece
   pub others : List Piece
   pub all : pieces ≡ point.before ++ piece ∷ others
-  pub continued : Continues point.replay piece.replay
+  pub continued : IsContinued point.piece piece
 
--- the trace goes on from one point to another: they are in the same piece, or the piece of the first ends between
-abbrev pub GoesOn : Point → Point → Type 0
-GoesOn p q = ((q.before ≡ p.before) × Continues p.replay q.replay) ⊎ IsIn p q.before
+-- a trace comes from one point to another: they are in the same piece, or the piece of the first ends between
+abbrev pub Reaches : Point → Point → Type 0
+Reaches p q = ((q.before ≡ p.before) × IsContinued p.piece q.piece) ⊎ IsIn p q.before
 
 -- there is a time for each step
 abbrev pub HasTimes : Piece → Type 0
 HasTimes piece = length piece.times ≡ length piece.replay.entries
+
+-- the times of all steps up to a point, in order, also of those that restore a state
+abbrev pub times_of : Point → List ℕ
+times_of point = flat_map (λ piece. piece.times) point.before ++ point.piece.times
+
+-- the trace goes on from one point to another, and each step between happens at this time
+pub record GoesOn (time : ℕ) (p q : Point) : Type 0 where
+  pub reached : Reaches p q
+  pub further : ℕ
+  pub times : times_of q ≡ times_of p ++ replicate further time
+  pub timed : HasTimes p.piece → HasTimes q.piece
+
+-- how many steps a piece has, without those that restore a state
+abbrev pub own_steps : Piece → ℕ
+own_steps piece = length piece.replay.entries - piece.restoring
+
+-- how many steps a trace has up to a point, without those that restore a state; 2^64 - 1 if there are more
+abbrev pub steps_of : Point → ℕ
+steps_of point = min (sum_by own_steps point.before + own_steps point.piece) (2 ^ 64 - 1)

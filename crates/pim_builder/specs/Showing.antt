@@ -64,7 +64,7 @@ ShowsWhat r priority tasks (Ceiling level) task mutex = HoldsOf (HasCeiling r (p
 -- the trace shows a fact, of those that its thread and its mutex are now
 abbrev pub Shows : Context → TraceBuilder → Fact → Type 0
 Shows context builder fact =
-    ShowsWhat builder.pieces.replay (priority_of context.priorities.now) (task_now context builder) fact.what
+    ShowsWhat builder.pieces.piece.replay (priority_of context.priorities.now) (task_now context builder) fact.what
     (task_now context builder fact.thread) (mutex_now context builder fact.mutex)
 
 -- a level or a ceiling is set, which is in the trace only if its thread or mutex takes part by then

@@ -1,12 +1,11 @@
 -- How a trace shows facts, one after the other.
-use Rattle.std.specs.Prelude.{◌≡◌, ◌⊎◌, ℕ, List, [], ◌∷◌, replicate, Option, None, Some}
+use Rattle.std.specs.Prelude.{◌≡◌, ◌⊎◌, ◌≤◌, ℕ, List, [], ◌∷◌, ◌++◌, replicate, All, Option, None, Some}
 use Rattle.std.specs.Vec.{vec_len}
-use mathlib.Core.List.{IsPrefix}
 use Rattle.pim_base.specs.Lists.{put}
 use Rattle.pim_facts.specs.declared.fact.Fact.{Fact}
 use Rattle.pim_replay.specs.Priorities.{priority_of}
 use Rattle.pim_replay.specs.declared.piece.Piece.{Piece}
-use Rattle.pim_builder.specs.Pieces.{Point, GoesOn, IsIn}
+use Rattle.pim_builder.specs.Pieces.{Point, GoesOn, EndWith, HasTimes, steps_of}
 use Rattle.pim_builder.specs.Showing.{number_in, held, ShowsWhat, SetsNone}
 use Rattle.pim_builder.specs.declared.builder.Appearance.{Appearance}
 use Rattle.pim_builder.specs.declared.builder.Context.{Context}
@@ -54,15 +53,34 @@ abbrev pub mutexes_after : Context → List Appearance → List (Option ℕ)
 mutexes_after context appeared =
     let numbers = context.numbering.now.mutexes in holders_after numbers as_mutex (nobody numbers) appeared
 
--- a point of a trace, and the first of those who appear in it; that they appear by this point isn't said
+-- a fact, and when it happened
+pub record Dated : Type 0 where
+  pub fact : Fact
+  pub time : ℕ
+
+-- a point of a trace, and those who appear in it by this point
 pub record Stage : Type 0 where
   pub point : Point
   pub appeared : List Appearance
 
--- the trace goes on from one stage to another, with those who have appeared and further ones
-pub record LeadsTo (early late : Stage) : Type 0 where
-  pub point : GoesOn early.point late.point
-  pub appeared : IsPrefix early.appeared late.appeared
+-- a trace at its begin: no step, and nobody who appears
+pub record IsBegin (stage : Stage) : Type 0 where
+  pub before : stage.point.before ≡ []
+  pub steps : stage.point.piece.replay.entries ≡ []
+  pub times : stage.point.piece.times ≡ []
+  pub appeared : stage.appeared ≡ []
+
+-- one appears between two points: before no step that is before the first point, and none behind the second
+pub record AppearsBetween (early late : Point) (one : Appearance) : Type 0 where
+  pub from : steps_of early ≤ one.step
+  pub upto : one.step ≤ steps_of late
+
+-- The trace goes on from one stage to another, by steps that happen at this time. Who appears there appears between the two.
+pub record LeadsTo (time : ℕ) (early late : Stage) : Type 0 where
+  pub point : GoesOn time early.point late.point
+  pub further : List Appearance
+  pub appeared : late.appeared ≡ early.appeared ++ further
+  pub between : All (AppearsBetween early.point late.point) further
 
 -- the task that a thread is at a stage
 abbrev pub task_at : Context → Stage → ℕ → Option ℕ
@@ -77,22 +95,21 @@ abbrev pub IsShownAt : Context → Fact → Stage → Type 0
 IsShownAt context fact stage =
     let task = task_at context stage fact.thread in
     let mutex = mutex_at context stage fact.mutex in
-    ShowsWhat stage.point.replay (priority_of context.priorities.now) (task_at context stage) fact.what task mutex
+    ShowsWhat stage.point.piece.replay (priority_of context.priorities.now) (task_at context stage) fact.what task mutex
     ⊎ SetsNone fact.what task mutex
 
--- each of the facts, the latest first, is shown at a stage: that of the latest isn't behind this one, and that of each
--- other one isn't behind that of the next
-abbrev pub AreShownBy : Context → List Fact → Stage → Type 0
-AreShownBy context [] now = Unit {0}
-AreShownBy context (fact ∷ facts) now =
-    (stage : Stage) × LeadsTo stage now × IsShownAt context fact stage × AreShownBy context facts stage
+-- A trace comes from its begin to this stage by these facts, the latest first: from the stage of the one before the latest,
+-- or from the begin, by steps at the time of the latest, which is shown here.
+abbrev pub AreShownBy : Context → List Dated → Stage → Type 0
+AreShownBy context [] now = IsBegin now
+AreShownBy context (latest ∷ facts) now =
+    (before : Stage) × AreShownBy context facts before × LeadsTo latest.time before now × HasTimes now.point.piece
+    × IsShownAt context latest.fact now
 
--- the same in pieces of a trace and a list of those who appear in it
-abbrev pub AreShownIn : Context → List Fact → List Piece → List Appearance → Type 0
-AreShownIn context [] pieces appearances = Unit {0}
-AreShownIn context (fact ∷ facts) pieces appearances =
-    (stage : Stage) × IsIn stage.point pieces × IsPrefix stage.appeared appearances × IsShownAt context fact stage
-    × AreShownBy context facts stage
+-- the same of the pieces of a trace and of all who appear in it: it ends at the stage of the latest fact
+abbrev pub AreShownIn : Context → List Dated → List Piece → List Appearance → Type 0
+AreShownIn context facts pieces appearances =
+    (end : Point) × EndWith end pieces × AreShownBy context facts (record { point = end; appeared = appearances })
 
 -- the stage of the trace that is being made
 abbrev pub stage_of : TraceBuilder → Stage
@@ -104,11 +121,11 @@ pub record HasHolders (context : Context) (builder : TraceBuilder) : Type 0 wher
   pub mutexes : builder.mutexes.items ≡ mutexes_after context builder.appearances.items
 
 -- the trace that is being made shows the facts, the latest first
-pub record AreShown (context : Context) (facts : List Fact) (builder : TraceBuilder) : Type 0 where
+pub record AreShown (context : Context) (facts : List Dated) (builder : TraceBuilder) : Type 0 where
   pub holders : HasHolders context builder
   pub shown : AreShownBy context facts (stage_of builder)
 
--- the trace goes on, and who appears takes its number
-pub record Extends (context : Context) (old new : TraceBuilder) : Type 0 where
-  pub leads : LeadsTo (stage_of old) (stage_of new)
+-- the trace goes on by steps at this time, and who appears takes its number
+pub record Extends (context : Context) (time : ℕ) (old new : TraceBuilder) : Type 0 where
+  pub leads : LeadsTo time (stage_of old) (stage_of new)
   pub holders : HasHolders context old → HasHolders context new

@@ -11,6 +11,17 @@ use pim_course::lists::push;
 use pim_replay::Observation;
 use std::alloc::AllocError;
 
+/// A wait in the queue of a mutex. In order by the ticket, that is as they began.
+#[derive(Clone, Copy, PartialEq, Eq, PartialOrd, Ord)]
+struct QueuedWait {
+    /// The manager's number of the wait: of two waits the one that began later has the higher one.
+    ticket: u64,
+    /// The number of the task that waits.
+    task: u16,
+    /// The number of the mutex.
+    mutex: u16,
+}
+
 impl Pieces {
     /// Makes the steps of a release. The next owner may be one that the model would pass over.
     pub(crate) fn release(
@@ -20,7 +31,7 @@ impl Pieces {
         next: Option<TaskNo>,
         now: &Now,
     ) -> Result<(), ImportFault>
-        ensures on { IfOk result (λ _. GoesOn self.old self.new) }
+        ensures on { IfOk result (λ _. GoesOn now.now.time self.old self.new) }
         ensures fault { IfErr result (NamesOnly now.now.number) }
     {
         let release = Observation::Released(task, mutex, next);
@@ -36,7 +47,7 @@ impl Pieces {
         ceiling: Prio,
         now: &Now,
     ) -> Result<(), ImportFault>
-        ensures on { IfOk result (λ _. GoesOn self.old self.new) }
+        ensures on { IfOk result (λ _. GoesOn now.now.time self.old self.new) }
         ensures fault { IfErr result (NamesOnly now.now.number) }
     {
         let owner = self.replay().owner(mutex);
@@ -53,7 +64,7 @@ impl Pieces {
         prio: Prio,
         now: &Now,
     ) -> Result<(), ImportFault>
-        ensures on { IfOk result (λ _. GoesOn self.old self.new) }
+        ensures on { IfOk result (λ _. GoesOn now.now.time self.old self.new) }
         ensures fault { IfErr result (NamesOnly now.now.number) }
     {
         if self.replay().manager().base(task) == Some(prio) {
@@ -70,7 +81,7 @@ impl Pieces {
         ceiling: Prio,
         now: &Now,
     ) -> Result<(), ImportFault>
-        ensures on { IfOk result (λ _. GoesOn self.old self.new) }
+        ensures on { IfOk result (λ _. GoesOn now.now.time self.old self.new) }
         ensures fault { IfErr result (NamesOnly now.now.number) }
     {
         if self.replay().manager().protocol(mutex) == Some(Protocol::Protect(ceiling)) {
@@ -89,7 +100,7 @@ impl Pieces {
         observation: &Observation,
         now: &Now,
     ) -> Result<(), ImportFault>
-        ensures on { IfOk result (λ _. GoesOn self.old self.new) }
+        ensures on { IfOk result (λ _. GoesOn now.now.time self.old self.new) }
         ensures fault { IfErr result (NamesOnly now.now.number) }
     {
         let Some((task, base, ceiling)) = self.above_ceiling(task, mutex) else {
@@ -118,24 +129,19 @@ impl Pieces {
     /// Takes a task out of the queue in which it waits, so that it can act, and those who began to wait there after it.
     /// Returns the waits in their order.
     #[tactic(auto, using(crate::proofs::GoingOn::goes_on_refl))]
-    fn set_aside(
-        &mut self,
-        task: Option<TaskNo>,
-        now: &Now,
-    ) -> Result<Vec<(u64, u16, u16)>, ImportFault>
-        ensures on { IfOk result (λ _. GoesOn self.old self.new) }
+    fn set_aside(&mut self, task: Option<TaskNo>, now: &Now) -> Result<Vec<QueuedWait>, ImportFault>
+        ensures on { IfOk result (λ _. GoesOn now.now.time self.old self.new) }
         ensures fault { IfErr result (NamesOnly now.now.number) }
     {
         let waits = self.waits_from(task)?;
         for wait in &waits {
-            self.observe(&Observation::GaveUp(TaskNo(wait.1)), now)?;
+            self.observe(&Observation::GaveUp(TaskNo(wait.task)), now)?;
         }
         Ok(waits)
     }
 
-    /// Returns the waits in the queue of a task from its own on, in the order in which they began, each with its ticket,
-    /// its task and its mutex.
-    fn waits_from(&self, task: Option<TaskNo>) -> Result<Vec<(u64, u16, u16)>, AllocError> {
+    /// Returns the waits in the queue of a task from its own on, in the order in which they began.
+    fn waits_from(&self, task: Option<TaskNo>) -> Result<Vec<QueuedWait>, AllocError> {
         let mut waits = Vec::new(self.alloc);
         let Some((task, mutex)) = self.queue_of(task) else {
             return Ok(waits);
@@ -151,7 +157,12 @@ impl Pieces {
         }
         for waiter in waiters {
             if waiter.ticket >= own {
-                push(&mut waits, (waiter.ticket, waiter.task.get(), mutex.get()))?;
+                let wait = QueuedWait {
+                    ticket: waiter.ticket,
+                    task: waiter.task.get(),
+                    mutex: mutex.get(),
+                };
+                push(&mut waits, wait)?;
             }
         }
         waits.sort_unstable();
@@ -167,12 +178,12 @@ impl Pieces {
 
     /// Lets tasks wait again.
     #[tactic(auto, using(crate::proofs::GoingOn::goes_on_refl))]
-    fn put_back(&mut self, waits: &[(u64, u16, u16)], now: &Now) -> Result<(), ImportFault>
-        ensures on { IfOk result (λ _. GoesOn self.old self.new) }
+    fn put_back(&mut self, waits: &[QueuedWait], now: &Now) -> Result<(), ImportFault>
+        ensures on { IfOk result (λ _. GoesOn now.now.time self.old self.new) }
         ensures fault { IfErr result (NamesOnly now.now.number) }
     {
         for wait in waits {
-            let again = Observation::Waits(TaskNo(wait.1), MutexNo(wait.2));
+            let again = Observation::Waits(TaskNo(wait.task), MutexNo(wait.mutex));
             self.observe(&again, now)?;
         }
         Ok(())
@@ -181,7 +192,7 @@ impl Pieces {
     /// Ends the wait of a task, and releases its mutexes.
     #[tactic(auto, using(crate::proofs::GoingOn::goes_on_refl))]
     pub(crate) fn leave(&mut self, task: TaskNo, now: &Now) -> Result<(), ImportFault>
-        ensures on { IfOk result (λ _. GoesOn self.old self.new) }
+        ensures on { IfOk result (λ _. GoesOn now.now.time self.old self.new) }
         ensures fault { IfErr result (NamesOnly now.now.number) }
     {
         if self.replay().awaits(task).is_some() {
@@ -198,7 +209,7 @@ impl Pieces {
 
     /// Lets all tasks that wait for a mutex give up, and its owner release it.
     pub(crate) fn clear(&mut self, mutex: MutexNo, now: &Now) -> Result<(), ImportFault>
-        ensures on { IfOk result (λ _. GoesOn self.old self.new) }
+        ensures on { IfOk result (λ _. GoesOn now.now.time self.old self.new) }
         ensures fault { IfErr result (NamesOnly now.now.number) }
     {
         self.end_waits(mutex, now)?;
@@ -210,7 +221,7 @@ impl Pieces {
 
     /// Lets all tasks that wait for a mutex give up.
     fn end_waits(&mut self, mutex: MutexNo, now: &Now) -> Result<(), ImportFault>
-        ensures on { IfOk result (λ _. GoesOn self.old self.new) }
+        ensures on { IfOk result (λ _. GoesOn now.now.time self.old self.new) }
         ensures fault { IfErr result (NamesOnly now.now.number) }
     {
         for number in 1..=self.replay().manager().tasks() {

@@ -1,13 +1,12 @@
 //! The trace as it is made: who has which number at a time, and the steps of facts.
-ghost use Rattle.std.specs.Prelude.{IfOk, IfErr, IsTrue, ◌≡◌, All, List, [], ◌∷◌, Some, false};
+ghost use Rattle.std.specs.Prelude.{IfOk, IfErr, IsTrue, ◌≡◌, All, ℕ, List, [], ◌∷◌, Some, false};
 ghost use Rattle.std.specs.Option.{option_and_then};
 ghost use Rattle.pim_base.specs.Lists.{holds};
 ghost use Rattle.pim_base.specs.Lists as lists;
-ghost use Rattle.pim_facts.specs.declared.fact.Fact.{Fact};
 ghost use Rattle.pim_builder.specs.Faults.{NamesNone, NamesOnly};
 ghost use Rattle.pim_builder.specs.Pieces.{AreJoined, EndWith, HasTimes};
 ghost use Rattle.pim_builder.specs.Showing.{IsSetting, SetsNone, Shows, holder_in, mutex_now, number_in, task_now};
-ghost use Rattle.pim_builder.specs.Shown.{AreShown, AreShownIn, Extends};
+ghost use Rattle.pim_builder.specs.Shown.{AreShown, AreShownIn, Dated, Extends};
 
 use crate::fault::ImportFault;
 use crate::numbering::Numbering;
@@ -32,7 +31,8 @@ pub enum Who {
 /// Who appears in the trace, and when.
 #[derive(Clone, Copy, PartialEq, Eq)]
 pub struct Appearance {
-    /// The number of the step before which it appears, over all pieces, from 0 on.
+    /// The number of the step before which it appears, over all pieces, without those that restore a state, from 0 on.
+    /// 2^64 - 1 if it is higher.
     pub step: u64,
     pub who: Who,
 }
@@ -70,7 +70,8 @@ impl TraceBuilder {
         })
     }
 
-    /// Ends the trace, and returns its pieces and who appears in it. They show what the trace showed.
+    /// Ends the trace, and returns its pieces and who appears in it. They show what the trace showed, and have no further
+    /// steps.
     /// Each further piece begins with the owners, waits, bases, protocols and order of waiters with
     /// which the one before it ends.
     ///
@@ -81,7 +82,7 @@ impl TraceBuilder {
         ensures joined { IfOk result (λ made. AreJoined made.0.items) }
         ensures times { IfOk result (λ made. All HasTimes made.0.items) }
         ensures end { IfOk result (λ made. EndWith self.pieces made.0.items) }
-        ensures shown { IfOk result (λ made. (context : Context) (facts : List Fact) → AreShown context facts self →
+        ensures shown { IfOk result (λ made. (context : Context) (facts : List Dated) → AreShown context facts self →
             AreShownIn context facts made.0.items made.1.items) }
         ensures fault { IfErr result NamesNone }
     {
@@ -100,14 +101,17 @@ impl TraceBuilder {
     /// replay differed from the fact, the import would end with `Contradiction`. It doesn't unless
     /// the log contradicts itself, since a replay does what it observed.
     ///
+    /// Each step that is made has the record's time. Who appears does so before one of these steps,
+    /// or behind them.
+    ///
     /// # Errors
     ///
     /// Returns `Contradiction` if the log contradicts itself there, and `Memory` if out of memory.
     pub fn build(&mut self, context: &Context, fact: &Fact, now: &Now) -> Result<bool, ImportFault>
         ensures unused { IfOk result (λ is_used. is_used ≡ false → IsSetting fact.now.what) }
         ensures shows { IfOk result (λ is_used. IsTrue is_used → Shows context.now self.new fact.now) }
-        ensures shown { IfOk result (λ _. (facts : List Fact) → AreShown context.now facts self.old →
-            AreShown context.now (fact.now ∷ facts) self.new) }
+        ensures shown { IfOk result (λ _. (facts : List Dated) → AreShown context.now facts self.old →
+            AreShown context.now (record { fact = fact.now; time = now.now.time } ∷ facts) self.new) }
         ensures fault { IfErr result (NamesOnly now.now.number) }
     {
         let is_used = self.make(context, fact, now)?;
@@ -140,7 +144,7 @@ impl TraceBuilder {
         ensures unused { IfOk result (λ is_used. is_used ≡ false → IsSetting fact.now.what) }
         ensures unset { IfOk result (λ is_used. is_used ≡ false → SetsNone fact.now.what
             (task_now context.now self.new fact.now.thread) (mutex_now context.now self.new fact.now.mutex)) }
-        ensures on { IfOk result (λ _. Extends context.now self.old self.new) }
+        ensures on { IfOk result (λ _. Extends context.now now.now.time self.old self.new) }
         ensures fault { IfErr result (NamesOnly now.now.number) }
     {
         self.pieces.cut(now)?;
@@ -170,7 +174,7 @@ impl TraceBuilder {
 
     /// Makes the steps of a fact of a thread and a mutex, which appear first if they haven't.
     fn act(&mut self, context: &Context, fact: &Fact, now: &Now) -> Result<(), ImportFault>
-        ensures on { IfOk result (λ _. Extends context.now self.old self.new) }
+        ensures on { IfOk result (λ _. Extends context.now now.now.time self.old self.new) }
         ensures fault { IfErr result (NamesOnly now.now.number) }
     {
         let task = self.enter_thread(context, fact.thread, now)?;
@@ -227,7 +231,7 @@ impl TraceBuilder {
         thread: u32,
         now: &Now,
     ) -> Result<TaskNo, ImportFault>
-        ensures on { IfOk result (λ _. Extends context.now self.old self.new) }
+        ensures on { IfOk result (λ _. Extends context.now now.now.time self.old self.new) }
         ensures fault { IfErr result (NamesOnly now.now.number) }
     {
         if let Some(task) = self.task_of(context, thread) {
@@ -254,7 +258,7 @@ impl TraceBuilder {
         mutex: u32,
         now: &Now,
     ) -> Result<MutexNo, ImportFault>
-        ensures on { IfOk result (λ _. Extends context.now self.old self.new) }
+        ensures on { IfOk result (λ _. Extends context.now now.now.time self.old self.new) }
         ensures fault { IfErr result (NamesOnly now.now.number) }
     {
         if let Some(number) = self.mutex_of(context, mutex) {
@@ -282,7 +286,7 @@ impl TraceBuilder {
         number: u16,
     ) -> Result<(), AllocError>
         requires { number_in context.now.numbering.now.threads thread ≡ Some number }
-        ensures { IfOk result (λ _. Extends context.now self.old self.new) }
+        ensures { IfOk result (λ _. (time : ℕ) → Extends context.now time self.old self.new) }
     {
         let step = self.pieces.steps();
         let who = Who::Thread(thread);
@@ -294,7 +298,7 @@ impl TraceBuilder {
     /// Keeps that a mutex appears, which has its number from then on.
     fn admit_mutex(&mut self, context: &Context, mutex: u32, number: u16) -> Result<(), AllocError>
         requires { number_in context.now.numbering.now.mutexes mutex ≡ Some number }
-        ensures { IfOk result (λ _. Extends context.now self.old self.new) }
+        ensures { IfOk result (λ _. (time : ℕ) → Extends context.now time self.old self.new) }
     {
         let step = self.pieces.steps();
         let who = Who::Mutex(mutex);
@@ -389,7 +393,8 @@ fn replay_of(
     bases: Vec<Prio>,
     protocols: Vec<Protocol>,
 ) -> Result<Replay, ImportFault>
-    ensures { IfErr result NamesNone }
+    ensures begin { IfOk result (λ replay. replay.entries ≡ []) }
+    ensures fault { IfErr result NamesNone }
 {
     match Replay::new(alloc, bases, protocols) {
         Ok(replay) => Ok(replay),

@@ -1,8 +1,8 @@
 //! The pieces of the trace as they are made.
-ghost use Rattle.std.specs.Prelude.{◌≡◌, [], All, IfErr, IfOk, IsTrue, length};
+ghost use Rattle.std.specs.Prelude.{◌≡◌, ◌-◌, ◌++◌, [], All, IfErr, IfOk, IsTrue, length, replicate};
 ghost use Rattle.pim_replay.specs.Replays.{KeepsOrder, Observes, StaysTheSame};
 ghost use Rattle.pim_builder.specs.Faults.{NamesOnly};
-ghost use Rattle.pim_builder.specs.Pieces.{AreJoined, EndWith, GoesOn, HasTimes};
+ghost use Rattle.pim_builder.specs.Pieces.{AreJoined, EndWith, GoesOn, HasTimes, own_steps, steps_of};
 
 use crate::builder::Now;
 use crate::fault::ImportFault;
@@ -18,9 +18,9 @@ const ROOM: usize = 1024;
 
 /// The pieces of the trace as they are made.
 ///
-/// In contracts it is the point that the trace has come to: the pieces that ended, and the replay of the piece that is
-/// being made. The type keeps that each further piece begins with the owners, waits, bases, protocols and order of
-/// waiters with which the one before it ended.
+/// In contracts it is the point that the trace has come to: the pieces that ended, and the piece that is being made. The
+/// type keeps that each further piece begins with the owners, waits, bases, protocols and order of waiters with which the
+/// one before it ended.
 #[derive(Drop)]
 pub(crate) struct Pieces {
     pub(crate) alloc: Global,
@@ -28,25 +28,26 @@ pub(crate) struct Pieces {
     piece: Piece,
     /// Those before it.
     ended: Vec<Piece>,
-    /// The steps of those before it, without those that restore a state.
+    /// How many steps those before it have, without those that restore a state. 2^64 - 1 if there are more.
     steps_before: u64,
 }
 
 impl Model for Pieces {
-    ghost use Rattle.std.specs.Prelude.{[], ◌∷◌, ◌++◌, All};
-    ghost use Rattle.pim_builder.specs.Pieces.{AreJoined, HasTimes, Point};
+    ghost use Rattle.std.specs.Prelude.{◌≡◌, ◌-◌, ◌^◌, [], ◌∷◌, ◌++◌, All, min, sum_by};
+    ghost use Rattle.pim_builder.specs.Pieces.{AreJoined, HasTimes, Point, own_steps};
 
     ghost Value = { Point };
 
-    ghost view = { λ p. record { before = p.ended.items; replay = p.piece.replay } };
+    ghost view = { λ p. record { before = p.ended.items; piece = p.piece } };
 
-    ghost invariant = { λ p. AreJoined (p.ended.items ++ p.piece ∷ []) × All HasTimes p.ended.items };
+    ghost invariant = { λ p. AreJoined (p.ended.items ++ p.piece ∷ []) × All HasTimes p.ended.items
+        × (p.steps_before ≡ min (sum_by own_steps p.ended.items) (2 ^ 64 - 1)) };
 }
 
 impl Pieces {
     /// Returns the pieces of a trace that begins with this replay.
     pub(crate) fn new(alloc: Global, replay: Replay) -> Pieces
-        ensures { result ≡ record { before = []; replay = replay } }
+        ensures { result ≡ record { before = []; piece = record { replay = replay; times = []; restoring = 0 } } }
     {
         let piece = Piece {
             replay,
@@ -63,15 +64,16 @@ impl Pieces {
 
     /// Returns the replay of the piece that is being made.
     pub(crate) fn replay(&self) -> &Replay
-        ensures { result.now ≡ self.now.replay }
+        ensures { result.now ≡ self.now.piece.replay }
     {
         &self.piece.replay
     }
 
-    /// Returns how many steps there are, without those that restore a state.
-    pub(crate) fn steps(&self) -> u64 {
-        let steps = self.piece.times.len().saturating_sub(self.piece.restoring) as u64;
-        self.steps_before.saturating_add(steps)
+    /// Returns how many steps there are, without those that restore a state. 2^64 - 1 if there are more.
+    pub(crate) fn steps(&self) -> u64
+        ensures { result ≡ steps_of self.now }
+    {
+        self.steps_before.saturating_add(own_steps(&self.piece))
     }
 
     /// Makes the steps of an observation, and keeps when they happened.
@@ -81,8 +83,8 @@ impl Pieces {
         observation: &Observation,
         now: &Now,
     ) -> Result<(), ImportFault>
-        ensures observed { IfOk result (λ _. Observes self.old.replay observation.now self.new.replay) }
-        ensures on { IfOk result (λ _. GoesOn self.old self.new) }
+        ensures observed { IfOk result (λ _. Observes self.old.piece.replay observation.now self.new.piece.replay) }
+        ensures on { IfOk result (λ _. GoesOn now.now.time self.old self.new) }
         ensures fault { IfErr result (NamesOnly now.now.number) }
     {
         match self.piece.replay.observe(observation) {
@@ -95,9 +97,10 @@ impl Pieces {
     }
 
     /// Ends the piece if it is nearly full, and begins the next one with the state at its end.
+    #[tactic(auto, using(crate::proofs::GoingOn::goes_on_refl))]
     pub(crate) fn cut(&mut self, now: &Now) -> Result<(), ImportFault>
-        ensures same { IfOk result (λ _. StaysTheSame self.old.replay self.new.replay) }
-        ensures on { IfOk result (λ _. GoesOn self.old self.new) }
+        ensures same { IfOk result (λ _. StaysTheSame self.old.piece.replay self.new.piece.replay) }
+        ensures on { IfOk result (λ _. GoesOn now.now.time self.old self.new) }
         ensures fault { IfErr result (NamesOnly now.now.number) }
     {
         if self.piece.replay.entries().len().saturating_add(ROOM) <= MAX_STEPS as usize {
@@ -126,10 +129,10 @@ impl Pieces {
     /// Returns `AllocError` if out of memory, or if it was before so that a time is missing.
     fn begin(&mut self, next: Piece) -> Result<(), AllocError>
         requires steps { length next.replay.entries ≡ next.restoring }
-        requires same { StaysTheSame self.old.replay next.replay }
-        requires order { KeepsOrder self.old.replay next.replay }
+        requires same { StaysTheSame self.old.piece.replay next.replay }
+        requires order { KeepsOrder self.old.piece.replay next.replay }
         ensures ended { IfOk result (λ _. EndWith self.old self.new.before) }
-        ensures begun { IfOk result (λ _. self.new.replay ≡ next.replay) }
+        ensures begun { IfOk result (λ _. self.new.piece ≡ next) }
     {
         if !has_times(&self.piece) || self.ended.reserve(1).is_err() {
             return Err(AllocError);
@@ -166,8 +169,17 @@ fn has_times(piece: &Piece) -> bool
     piece.times.len() == piece.replay.entries().len()
 }
 
+/// Returns how many steps a piece has, without those that restore a state.
+fn own_steps(piece: &Piece) -> u64
+    ensures { result ≡ own_steps piece.now }
+{
+    piece.replay.entries().len().saturating_sub(piece.restoring) as u64
+}
+
 /// Appends the time until there are so many.
-fn push_times(times: &mut Times, count: usize, time: u64) -> Result<(), AllocError> {
+fn push_times(times: &mut Times, count: usize, time: u64) -> Result<(), AllocError>
+    ensures { IfOk result (λ _. times.new ≡ times.old ++ replicate (count - length times.old) time) }
+{
     for _step in times.len()..count {
         times.push(time)?;
     }

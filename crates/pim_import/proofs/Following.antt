@@ -35,10 +35,10 @@ use Rattle.pim_findings.specs.declared.findings.Findings.{Findings}
 use Rattle.pim_import.proofs.Adding.{all-added}
 use Rattle.pim_import.proofs.Going.{Adds, goes-by-record, goes-by-request}
 use Rattle.pim_import.specs.Following.{ArePlaced, FollowsLog, HasAdded, HasFollowed, IsLacking, IsOfThread, IsSpared, Knows, Stage}
-use Rattle.pim_builder.specs.Shown.{AreShown, AreShownIn}
+use Rattle.pim_builder.specs.Shown.{AreShown, AreShownIn, Dated}
 use Rattle.pim_builder.specs.declared.builder.Context.{Context}
 use Rattle.pim_builder.specs.declared.builder.TraceBuilder.{TraceBuilder}
-use Rattle.pim_import.specs.Following.{facts_of, is_kept, kept_of, moment_of, moments_of, stage_of, undated}
+use Rattle.pim_import.specs.Following.{facts_of, is_kept, kept_of, moment_of, moments_of, stage_of, dated}
 use Rattle.pim_import.specs.LeftOut.{IsKept, Keeps}
 use Rattle.pim_import.specs.declared.critical_sections.CriticalSections.{CriticalSections}
 
@@ -130,7 +130,7 @@ knows-without context n k sections m facts old new builder inside is spared keep
       observed = shown context.sources.now.ids facts knows.observed;
       threads = All-cons (IsOfThread n) m facts below knows.threads;
       spared = All-cons (IsSpared sections) m facts spared knows.spared;
-      trace = subst (λ b. AreShown context (undated (cond b (m ∷ rest) rest)) builder) (sym is) knows.trace;
+      trace = subst (λ b. AreShown context (dated (cond b (m ∷ rest) rest)) builder) (sym is) knows.trace;
     }
 
 -- one more fact, of a thread of the log, which is kept
@@ -143,7 +143,8 @@ pub knows-with : (context : Context) (n k : ℕ) (sections : CriticalSections) (
     ((rest : List Moment) → Finds n k rest mid → Finds n k (and_fact n m rest) new) →
     ((rest : List Moment) → Owns k rest mid → Owns k (m ∷ rest) new) →
     ((rest : List Moment) → m.fact.thread < n → HandsOver n k rest mid → HandsOver n k (m ∷ rest) new) →
-    ((rest : List Fact) → AreShown context rest before → AreShown context (m.fact ∷ rest) after) →
+    ((rest : List Dated) → AreShown context rest before →
+    AreShown context (record { fact = m.fact; time = m.time } ∷ rest) after) →
     Knows context n k sections facts old before → Knows context n k sections (m ∷ facts) new after
 knows-with context n k sections m facts old mid new before after inside is keeps same waiting orders shown still stays
     finds owns hands makes knows =
@@ -164,8 +165,8 @@ knows-with context n k sections m facts old mid new before after inside is keeps
           (shown context.sources.now.ids facts knows.observed);
       threads = All-cons (IsOfThread n) m facts below knows.threads;
       spared = All-cons (IsSpared sections) m facts (inl is) knows.spared;
-      trace = subst (λ b. AreShown context (undated (cond b (m ∷ rest) rest)) after) (sym kept)
-          (makes (undated rest) knows.trace);
+      trace = subst (λ b. AreShown context (dated (cond b (m ∷ rest) rest)) after) (sym kept)
+          (makes (dated rest) knows.trace);
     }
 
 -- one more of the facts that a course shows
@@ -258,7 +259,7 @@ pub follows-log : (bytes : List ℕ) (context : Context) (sections : CriticalSec
     ((facts : List Moment) → KnowsOrders n facts found → KnowsSections context.sources.now.ids facts found →
     FindsBounds context.sources.now.ids facts context.sources.now.ids.ended built.findings) →
     AreCycles (blocker_of walk.course) (threads_of built.findings.deadlocks.items) →
-    ((facts : List Fact) → AreShown context facts builder →
+    ((facts : List Dated) → AreShown context facts builder →
     AreShownIn context facts built.pieces.items built.appearances.items) →
     HasAdded bytes context sections n k (end - 1) last walk found builder → FollowsLog bytes context sections n k built
 follows-log bytes context sections n k end last walk found builder built is placed waits same course hands opposites bounds
@@ -282,6 +283,6 @@ follows-log bytes context sections n k end last walk found builder built is plac
         threads = f.knows.threads;
         spared = f.knows.spared;
       };
-      trace = trace (undated (kept_of sections facts)) f.knows.trace;
+      trace = trace (dated (kept_of sections facts)) f.knows.trace;
       course = course;
     }

@@ -35,7 +35,7 @@ use Rattle.pim_findings.specs.Orders.{FindsOpposites, KnowsOrders}
 use Rattle.pim_findings.specs.Ownerships.{Owns, mutex_at}
 use Rattle.pim_findings.specs.Waits.{Moment, all_waits}
 use Rattle.pim_findings.specs.declared.findings.Findings.{Findings}
-use Rattle.pim_builder.specs.Shown.{AreShown, AreShownIn}
+use Rattle.pim_builder.specs.Shown.{AreShown, AreShownIn, Dated}
 use Rattle.pim_builder.specs.declared.builder.Context.{Context}
 use Rattle.pim_builder.specs.declared.builder.TraceBuilder.{TraceBuilder}
 use Rattle.pim_import.specs.KeptSections.{KeepsThoseOf, room_of}
@@ -133,9 +133,9 @@ is_kept sections fact =
 abbrev pub kept_of : CriticalSections → List Moment → List Moment
 kept_of sections facts = filter (λ m. is_kept sections m.fact) facts
 
--- what happened, without when
-abbrev pub undated : List Moment → List Fact
-undated facts = map (λ m. m.fact) facts
+-- what happened, and when
+abbrev pub dated : List Moment → List Dated
+dated facts = map (λ m. record { fact = m.fact; time = m.time }) facts
 
 -- a fact is of a thread below n
 abbrev pub IsOfThread : ℕ → Moment → Type 0
@@ -147,7 +147,8 @@ IsSpared sections m = IsKept sections m.fact ⊎ MayBeLeftOut m.course m.sources
 
 -- The findings are those of these facts, of threads below n and mutexes below k: of those that are kept the waits, the
 -- ownerships and the hand-overs, and of all the orders of mutexes, and the critical sections, levels and waits of the threads of
--- a log. What isn't kept may be left out. The trace that is being made shows those that are kept, in turn.
+-- a log. What isn't kept may be left out. The trace that is being made shows those that are kept, in turn, by steps at their
+-- times.
 pub record Knows (context : Context) (n k : ℕ) (sections : CriticalSections) (facts : List Moment) (found : Findings)
     (builder : TraceBuilder) : Type 0 where
   pub finds : Finds n k (kept_of sections facts) found
@@ -157,7 +158,7 @@ pub record Knows (context : Context) (n k : ℕ) (sections : CriticalSections) (
   pub observed : KnowsSections context.sources.now.ids facts found
   pub threads : All (IsOfThread n) facts
   pub spared : All (IsSpared sections) facts
-  pub trace : AreShown context (undated (kept_of sections facts)) builder
+  pub trace : AreShown context (dated (kept_of sections facts)) builder
 
 -- the stage up to which a walk has come, of which the last record's time and that of what it went by last are known
 abbrev pub stage_of : ℕ → ℕ → ℕ → Walk → Stage
@@ -201,7 +202,8 @@ pub record AreFound (ids : Ids) (n k : ℕ) (sections : CriticalSections) (ended
   pub spared : All (IsSpared sections) facts
 
 -- There is a way through all records of a log and all requests that it lacks, such that what is found is what the facts on the
--- way show, the trace shows those of them that are kept, in turn, and the course is that behind the last of them.
+-- way show, the trace shows those of them that are kept, in turn, by steps at their times, and the course is that behind the
+-- last of them.
 pub record FollowsLog (bytes : List ℕ) (context : Context) (sections : CriticalSections) (n k : ℕ) (built : Built)
     : Type 0 where
   pub last : Stage
@@ -211,7 +213,7 @@ pub record FollowsLog (bytes : List ℕ) (context : Context) (sections : Critica
   pub added : last.added ≡ length context.sources.now.requests.list.items
   pub found : AreFound context.sources.now.ids n k sections context.sources.now.ids.ended
       (facts_of context.sources.now (last ∷ before)) last.course built.findings
-  pub trace : AreShownIn context (undated (kept_of sections (facts_of context.sources.now (last ∷ before))))
+  pub trace : AreShownIn context (dated (kept_of sections (facts_of context.sources.now (last ∷ before))))
       built.pieces.items built.appearances.items
   pub course : built.course ≡ last.course
 
@@ -242,8 +244,8 @@ pub record IsMadeFrom (context : Context) (imported : Imported) : Type 0 where
   pub priorities : imported.priorities ≡ context.priorities.now
 
 -- The findings are those of the log, with the threads and mutexes that it names, of the facts in the trace: those of the critical
--- sections that the facts on the same way must keep, or all. The trace shows these facts, in turn, by the numbers and the
--- priorities of the import.
+-- sections that the facts on the same way must keep, or all. The trace shows these facts, in turn, by steps at their times,
+-- and by the numbers and the priorities of the import.
 pub record IsOfLog (bytes : List ℕ) (waits : List Wait) (is_all : Bool) (imported : Imported) : Type 0 where
   pub context : Context
   pub made : IsMadeFrom context imported

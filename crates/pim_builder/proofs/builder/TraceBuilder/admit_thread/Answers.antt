@@ -4,7 +4,8 @@ use Rattle.pim_builder.proofs.Extending.{thread_appears}
 use Rattle.pim_builder.proofs.builder.TraceBuilder.admit_thread.Goals as goal
 
 pub returns : goal.returns
-returns c =
+returns c time =
     let new : TraceBuilder = record c.args.self.now { threads = c.put.new.list; appearances = c.push.new.list } in
-    thread_appears c.args.context.now c.args.self.now new c.steps-step.result c.args.thread c.args.number c.requires refl
+    thread_appears c.args.context.now time c.args.self.now new c.steps-step.result c.args.thread c.args.number
+    c.requires c.steps-step.ensures refl
     c.in_ok-push.ensures c.put.ensures refl

@@ -1,6 +1,10 @@
-use Rattle.std.proofs.Common.{inr}
-use Rattle.pim_builder.proofs.GoingOn.{is_in_end}
+use Rattle.std.proofs.Common.{ap, length}
+use Rattle.pim_builder.proofs.GoingOn.{piece_begun, times_begun}
 use Rattle.pim_builder.proofs.pieces.Pieces.cut.Goals as goal
 
 pub returns-clause-on : goal.returns-clause-on
-returns-clause-on c = inr (is_in_end c.args.self.now c.begin.new.self.before c.in_ok-begin.ensures.ended)
+returns-clause-on c =
+    piece_begun c.args.now.now.time c.args.self.now c.begin.new.self _ c.in_ok-begin.ensures.ended
+    c.in_ok-begin.ensures.begun
+    (times_begun c.args.now.now.time c.new-times.result c.push_times.new.times _ _ c.new-times.ensures
+    (ap (λ es. length es) c.entries-restoring.ensures.entries) c.in_ok-push_times.ensures)

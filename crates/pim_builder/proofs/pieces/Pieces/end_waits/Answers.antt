@@ -7,15 +7,17 @@ use Rattle.pim_builder.proofs.pieces.Pieces.end_waits.Goals as goal
 pub loop-number-preserved : goal.loop-number-preserved
 loop-number-preserved c = elim c.if-eq.branch [
   | then-eq+in_ok-observe w ↦
-      subst (GoesOn c.args.self.now) (sym w.self-is)
-      (goes_on_trans c.args.self.now c.loop-number.self w.observe.new.self c.loop-number.invariant w.in_ok-observe.ensures.on)
-  | else-eq w ↦ subst (GoesOn c.args.self.now) (sym w.self-is) c.loop-number.invariant
+      subst (GoesOn c.args.now.now.time c.args.self.now) (sym w.self-is)
+      (goes_on_trans c.args.now.now.time c.args.self.now c.loop-number.self w.observe.new.self
+      c.loop-number.invariant w.in_ok-observe.ensures.on)
+  | else-eq w ↦ subst (GoesOn c.args.now.now.time c.args.self.now) (sym w.self-is) c.loop-number.invariant
 ]
 
 pub returns-after-eq-clause-on : goal.returns-after-eq-clause-on
 returns-after-eq-clause-on c = elim c.if-eq.branch [
   | then-eq+in_ok-observe w ↦
-      subst (GoesOn c.args.self.now) (sym w.self-is)
-      (goes_on_trans c.args.self.now c.loop-number.self w.observe.new.self c.loop-number.invariant w.in_ok-observe.ensures.on)
-  | else-eq w ↦ subst (GoesOn c.args.self.now) (sym w.self-is) c.loop-number.invariant
+      subst (GoesOn c.args.now.now.time c.args.self.now) (sym w.self-is)
+      (goes_on_trans c.args.now.now.time c.args.self.now c.loop-number.self w.observe.new.self
+      c.loop-number.invariant w.in_ok-observe.ensures.on)
+  | else-eq w ↦ subst (GoesOn c.args.now.now.time c.args.self.now) (sym w.self-is) c.loop-number.invariant
 ]

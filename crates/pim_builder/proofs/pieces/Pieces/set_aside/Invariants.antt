@@ -3,4 +3,4 @@ use Rattle.pim_builder.proofs.pieces.Pieces.set_aside.Given as goal
 
 -- the trace goes on from where the function began
 abbrev pub invariant-loop-wait : goal.invariant-loop-wait
-invariant-loop-wait l = GoesOn l.fn.self l.self
+invariant-loop-wait l = GoesOn l.now.time l.fn.self l.self
