@@ -5,7 +5,7 @@ use Rattle.pim_orders.specs.Nestings as nesting
 use Rattle.pim_orders.specs.Seen as nested
 use Rattle.pim_facts.specs.declared.ids.Ids.{Ids}
 use Rattle.pim_blocking.specs.Listed as blocking
-use Rattle.pim_findings.specs.Bounds.{KnowsSections, observed_of}
+use Rattle.pim_findings.specs.Bounds.{KnowsBlocking, observed_of}
 use Rattle.pim_findings.specs.Orders.{KnowsOrders, nested_of}
 use Rattle.pim_findings.specs.Waits.{Moment}
 use Rattle.pim_findings.specs.declared.findings.Findings.{Findings}
@@ -28,5 +28,5 @@ orders-kept n facts old new same = subst (nested.Knows n (nested_of facts)) (sym
 
 -- the same facts, and the sections as they were
 pub sections-kept : (ids : Ids) (facts : List Moment) (old new : Findings) → new.blocking ≡ old.blocking →
-    KnowsSections ids facts old → KnowsSections ids facts new
+    KnowsBlocking ids facts old → KnowsBlocking ids facts new
 sections-kept ids facts old new same = subst (blocking.Knows ids (observed_of facts)) (sym same)

@@ -15,11 +15,11 @@ abbrev pub observed_of : List Moment → List observed.Moment
 observed_of facts = map (λ m. record { fact = m.fact; time = m.time; course = m.course }) facts
 
 -- the critical sections are those of these facts, and so are the levels and the waits of the threads of a log
-abbrev pub KnowsSections : Ids → List Moment → Findings → Type 0
-KnowsSections ids facts found = blocking.Knows ids (observed_of facts) found.blocking
+abbrev pub KnowsBlocking : Ids → List Moment → Findings → Type 0
+KnowsBlocking ids facts found = blocking.Knows ids (observed_of facts) found.blocking
 
--- The bounds that are found are those of all threads of a log by these facts, at this end of the log: by the longest critical
--- section of each user, and by the orders in which threads took mutexes.
+-- The bounds that are found are those of all threads of a log by these facts, at this end of the log: by the longest
+-- critical section of each user, and by the orders in which threads took mutexes.
 pub record FindsBounds (ids : Ids) (facts : List Moment) (time : ℕ) (found : Findings) : Type 0 where
   pub orders : List Order
   pub taken : AreOrders (nestings (nested_of facts)) orders

@@ -10,7 +10,7 @@ ghost use Rattle.pim_findings.specs.HandOvers.{AreHandOvers, HandsOn, HandsOver,
 ghost use Rattle.pim_findings.specs.Levels.{is_protect};
 ghost use Rattle.pim_findings.specs.Queue.{KeepsQueue, before_at, protects_at, queued_at};
 ghost use Rattle.pim_findings.specs.Ownerships.{IsLongest, Owns, and_since, mutex_at};
-ghost use Rattle.pim_findings.specs.Bounds.{FindsBounds, KnowsSections};
+ghost use Rattle.pim_findings.specs.Bounds.{FindsBounds, KnowsBlocking};
 ghost use Rattle.pim_findings.specs.Orders.{KnowsOrders};
 ghost use Rattle.pim_blocking.specs.Listed as blocking;
 ghost use Rattle.pim_facts.specs.declared.ids.Ids.{Ids};
@@ -59,7 +59,7 @@ impl Findings {
         ensures lists { IfOk result (λ found. is_some found.waits.all ≡ lists_waits) }
         ensures waits { IfOk result (λ found. Finds (length sources.now.ids.threads.items) (length sources.now.ids.mutexes.items) [] found) }
         ensures orders { IfOk result (λ found. nested.Knows (length sources.now.ids.threads.items) [] found.orders) }
-        ensures sections { IfOk result (KnowsSections sources.now.ids []) }
+        ensures sections { IfOk result (KnowsBlocking sources.now.ids []) }
         ensures owns { IfOk result (λ found. Owns (length sources.now.ids.mutexes.items) [] found) }
         ensures hand_overs { IfOk result (λ found.
             HandsOver (length sources.now.ids.threads.items) (length sources.now.ids.mutexes.items) [] found) }
@@ -306,7 +306,7 @@ impl Findings {
         ensures opposites { IfOk result (λ _. (n : ℕ) (facts : List nesting.Moment) → nested.Knows n facts self.old.orders →
             AreOpposites (nesting.nestings facts) self.new.opposites.items) }
         ensures bounds { IfOk result (λ _. (n : ℕ) (ids : Ids) (facts : List Moment) → KnowsOrders n facts self.old →
-            KnowsSections ids facts self.old → FindsBounds ids facts time self.new) }
+            KnowsBlocking ids facts self.old → FindsBounds ids facts time self.new) }
     {
         for thread in 0..self.waiting.threads() {
             self.end_wait(thread, time, true)?;

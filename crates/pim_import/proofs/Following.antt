@@ -20,7 +20,7 @@ use Rattle.pim_facts.specs.declared.ids.Ids.{Ids}
 use Rattle.pim_findings.proofs.Following.{finds-kept}
 use Rattle.pim_findings.proofs.Handing.{handed-kept}
 use Rattle.pim_findings.proofs.Nested.{orders-kept, sections-kept}
-use Rattle.pim_findings.specs.Bounds.{FindsBounds, KnowsSections}
+use Rattle.pim_findings.specs.Bounds.{FindsBounds, KnowsBlocking}
 use Rattle.pim_findings.specs.Cycles.{AreCycles}
 use Rattle.pim_findings.specs.Deadlocks.{blocker_of, threads_of}
 use Rattle.pim_findings.specs.Found.{Finds, KeepsWaits}
@@ -109,7 +109,7 @@ OrdersMore m old new =
 
 -- the critical sections are those with one more fact
 abbrev pub SectionsMore : Moment → Findings → Findings → Type 0
-SectionsMore m old new = (ids : Ids) (facts : List Moment) → KnowsSections ids facts old → KnowsSections ids (m ∷ facts) new
+SectionsMore m old new = (ids : Ids) (facts : List Moment) → KnowsBlocking ids facts old → KnowsBlocking ids (m ∷ facts) new
 
 -- one more fact, of a thread of the log, which isn't kept
 pub knows-without : (context : Context) (n k : ℕ) (sections : CriticalSections) (m : Moment) (facts : List Moment)
@@ -256,7 +256,7 @@ pub follows-log : (bytes : List ℕ) (context : Context) (sections : CriticalSec
     ((facts : List Moment) → HandsOver n k facts found → (mutex : ℕ) → mutex < k →
     AreHandOvers facts mutex (mutex_at built.findings.mutexes.items mutex).hand_overs) →
     ((facts : List Moment) → KnowsOrders n facts found → FindsOpposites facts built.findings) →
-    ((facts : List Moment) → KnowsOrders n facts found → KnowsSections context.sources.now.ids facts found →
+    ((facts : List Moment) → KnowsOrders n facts found → KnowsBlocking context.sources.now.ids facts found →
     FindsBounds context.sources.now.ids facts context.sources.now.ids.ended built.findings) →
     AreCycles (blocker_of walk.course) (threads_of built.findings.deadlocks.items) →
     ((facts : List Dated) → AreShown context facts builder →

@@ -25,7 +25,7 @@ use Rattle.pim_course.specs.declared.walk.Walk.{Walk}
 use Rattle.pim_requests.specs.Asked.{IsPlaced, IsShown}
 use Rattle.pim_requests.specs.Laws.{HasBoth}
 use Rattle.pim_requests.specs.declared.waits.Wait.{Wait}
-use Rattle.pim_findings.specs.Bounds.{FindsBounds, KnowsSections}
+use Rattle.pim_findings.specs.Bounds.{FindsBounds, KnowsBlocking}
 use Rattle.pim_findings.specs.Cycles.{AreCycles}
 use Rattle.pim_findings.specs.Deadlocks.{blocker_of, threads_of}
 use Rattle.pim_findings.specs.Found.{Finds}
@@ -155,7 +155,7 @@ pub record Knows (context : Context) (n k : ℕ) (sections : CriticalSections) (
   pub owns : Owns k (kept_of sections facts) found
   pub hand_overs : HandsOver n k (kept_of sections facts) found
   pub orders : KnowsOrders n facts found
-  pub observed : KnowsSections context.sources.now.ids facts found
+  pub observed : KnowsBlocking context.sources.now.ids facts found
   pub threads : All (IsOfThread n) facts
   pub spared : All (IsSpared sections) facts
   pub trace : AreShown context (dated (kept_of sections facts)) builder
