@@ -7,3 +7,4 @@ pub mod KeptSections
 pub mod Whole
 pub mod OneWay
 pub mod Waiting
+pub mod Numbers

@@ -1,5 +1,5 @@
 -- On a way through a log the threads that wait for each mutex are counted.
-use Rattle.std.proofs.Common.{◌≡◌, ℕ, ◌-◌, ◌^◌, ◌<◌, ◌≤◌, List, [], ◌∷◌, ◌∙◌, length, All, sym, subst, inl, inr, arith}
+use Rattle.std.proofs.Common.{◌≡◌, ℕ, ◌+◌, ◌-◌, ◌^◌, ◌<◌, ◌≤◌, List, [], ◌∷◌, ◌∙◌, length, All, sym, subst, inl, inr, arith}
 use Rattle.std.specs.Prelude.{IfSome}
 use Rattle.pim_log.specs.Headers.{header_of, end_of}
 use Rattle.pim_facts.specs.Covering.{Covers}
@@ -80,7 +80,9 @@ on-way bytes waits sources last (from ∷ before) covers shown few way end =
     ]
 
 pub nobody : NobodyLaw
-nobody bytes waits sources last before m is few way end =
+nobody bytes waits sources last before m is way end =
+    let places : length sources.ids.threads.items ≤ 2 ^ 22 + 1 = is.few in
+    let few : length sources.ids.threads.items < 2 ^ 32 = omega (arith, places) in
     let good : IsGood sources last.course =
     on-way bytes waits sources last before is.covers is.requests few way end in
     let n : ℕ = length last.course.threads.items in (

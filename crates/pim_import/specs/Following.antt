@@ -4,7 +4,7 @@ use Rattle.std.specs.Prelude.{reverse, filter, length, slice_get, slice_index_or
 use Rattle.std.specs.Option.{option_map_or, unwrap_or}
 use Rattle.pim_log.specs.Headers.{header_of, end_of}
 use Rattle.pim_log.specs.Logs.{IsLog}
-use Rattle.pim_facts.specs.Covering.{Covers}
+use Rattle.pim_facts.specs.Covering.{Covers, HasFewThreads}
 use Rattle.pim_facts.specs.Ending.{EndsAt}
 use Rattle.pim_facts.specs.Shown.{shown_in}
 use Rattle.pim_facts.specs.declared.fact.Fact.{Fact}
@@ -228,10 +228,11 @@ pub record KeepsThoseOfLog (bytes : List ℕ) (sources : Sources) (is_all : Bool
   pub added : last.added ≡ length sources.requests.list.items
   pub keeps : KeepsThoseOf is_all (room_of bytes sources) (facts_of sources (last ∷ before)) sections
 
--- What is found first is that of a log: whom each record is about, when the log ended, who has a mutex next, and the requests
--- that the log lacks, which its calls or these waits show.
+-- What is found first is that of a log: whom each record is about, no thread with a number above 2 ^ 22, when the log ended, who
+-- has a mutex next, and the requests that the log lacks, which its calls or these waits show.
 pub record AreOfLog (bytes : List ℕ) (waits : List Wait) (sources : Sources) : Type 0 where
   pub covers : Covers sources.ids bytes
+  pub few : HasFewThreads sources.ids
   pub ended : EndsAt bytes sources.ids.ended
   pub releases : FindsFrom bytes sources.ids sources.next_owners 1
   pub asked : FindsAskedFrom bytes sources.ids sources.next_owners 1

@@ -2,4 +2,5 @@ pub mod Tallies
 pub mod Following
 pub mod KeptSections
 pub mod LeftOut
+pub mod Numbers
 pub mod Waiting

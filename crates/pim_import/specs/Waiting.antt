@@ -1,5 +1,5 @@
 -- What the number of threads that wait for a mutex says, by which a fact may be left out.
-use Rattle.std.specs.Prelude.{◌≡◌, ◌≢◌, ◌↔◌, ◌-◌, ◌^◌, ◌<◌, ◌≤◌, ℕ, List, length, Some}
+use Rattle.std.specs.Prelude.{◌≡◌, ◌≢◌, ◌↔◌, ◌-◌, ◌≤◌, ℕ, List, Some}
 use Rattle.pim_log.specs.Headers.{header_of, end_of}
 use Rattle.pim_course.specs.Courses.{mutex_in}
 use Rattle.pim_course.specs.World.{world_of}
@@ -12,9 +12,8 @@ use Rattle.pim_import.specs.Following.{AreOfLog, IsWay, Stage}
 abbrev pub NobodyAwaits : Course → ℕ → Type 0
 NobodyAwaits course m = (t : ℕ) → (world_of course).awaits t ≢ Some m
 
--- On each way through a log of fewer than 2 ^ 32 threads, a mutex has the number 0 of threads that wait exactly if none
--- does.
+-- On each way through a log a mutex has the number 0 of threads that wait exactly if none does.
 abbrev pub NobodyLaw : Type 0
 NobodyLaw = (bytes : List ℕ) (waits : List Wait) (sources : Sources) (last : Stage) (before : List Stage) (m : ℕ) →
-    AreOfLog bytes waits sources → length sources.ids.threads.items < 2 ^ 32 → IsWay bytes sources last before →
-    last.number ≤ end_of (header_of bytes) - 1 → ((mutex_in last.course m).waiting ≡ 0) ↔ NobodyAwaits last.course m
+    AreOfLog bytes waits sources → IsWay bytes sources last before → last.number ≤ end_of (header_of bytes) - 1 →
+    ((mutex_in last.course m).waiting ≡ 0) ↔ NobodyAwaits last.course m

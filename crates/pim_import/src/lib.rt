@@ -16,7 +16,7 @@
 //!
 //! [`whole_law`] has no code: its contract says that what the trace is without are whole critical
 //! sections. That of [`nobody_law`] says that the number of those who wait for a mutex, by which a fact is left out, is 0
-//! exactly if nobody waits.
+//! exactly if nobody waits. That of [`room_law`] says that there is room for the number of each critical section of a log.
 #![tactic(auto)]
 
 mod critical_sections;
@@ -27,5 +27,5 @@ mod seen;
 mod tally;
 
 pub use importing::{Built, ImportOptions, Imported, import_log};
-pub use laws::{nobody_law, whole_law};
+pub use laws::{nobody_law, room_law, whole_law};
 pub use tally::Tally;

@@ -6,6 +6,7 @@ returns-clause-of_log c is =
     let names = c.in-Ok.ensures.named is in
     record {
       covers = covers;
+      few = c.in-Ok.ensures.few;
       ended = c.in-Ok.ensures.ended is;
       releases = c.in_ok-next_owners.ensures.releases covers names;
       asked = c.in_ok-next_owners.ensures.requests covers names;
