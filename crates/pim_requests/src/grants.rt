@@ -26,6 +26,7 @@ pub(crate) struct Grants {
 const LASTING: u64 = u64::MAX;
 
 /// Returns whether a call ends with this record that got its mutex.
+#[inline(always)]
 pub(crate) fn is_grant(record: &Record) -> bool
     ensures { IsTrue result → IsGrant record.now.event }
 {

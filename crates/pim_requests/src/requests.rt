@@ -181,23 +181,37 @@ fn misses_some(alloc: Global, log: &Log, ids: &Ids) -> Result<bool, AllocError> 
     let mut asked = vec![in alloc; None; ids.threads.len()]?;
     let mut latest = vec![in alloc; None; ids.mutexes.len()]?;
     for number in 1..log.header().end() {
-        if let Some(record) = log.record(number) {
-            let mutex = ids.of_record(number);
-            let is_missing = misses_request(&mut asked, &record, mutex);
-            if is_missing && may_have_lasted(&record, get(&latest, mutex)) {
-                return Ok(true);
-            }
-            if matches!(record.event, Event::Granted { .. }) {
-                let before = get(&latest, mutex);
-                set(&mut latest, mutex, before.max(record.time));
-            }
+        let Some(record) = log.record(number) else {
+            continue;
+        };
+        if !is_of_call(&record.event) {
+            continue;
+        }
+        let mutex = ids.of_record(number);
+        let before = get(&latest, mutex);
+        if misses_request(&mut asked, &record, mutex) && may_have_lasted(&record, before) {
+            return Ok(true);
+        }
+        if is_grant(&record) {
+            set(&mut latest, mutex, before.max(record.time));
         }
     }
     Ok(false)
 }
 
+/// Returns whether a call asks for its mutex at this event, or ends there. Other events say nothing of requests: they are
+/// passed before any more of their records is decoded.
+#[inline(always)]
+fn is_of_call(event: &Event) -> bool {
+    matches!(
+        event,
+        Event::Request { .. } | Event::Granted { .. } | Event::Failed { .. }
+    )
+}
+
 /// Returns whether the call that ends with this record may have lasted at this time, if there is one. A call whose
 /// begin isn't known may have lasted anyway.
+#[inline(always)]
 fn may_have_lasted(record: &Record, time: Option<u64>) -> bool
     ensures { IsTrue result → IsAfter (began_of record.now) time }
 {
@@ -210,6 +224,7 @@ fn may_have_lasted(record: &Record, time: Option<u64>) -> bool
 
 /// Returns whether a call ends with this record that may have waited, and put no REQUEST. The list has the mutex that each
 /// thread asked for at last, until a call of it ends.
+#[inline(always)]
 fn misses_request(asked: &mut Vec<Option<u32>>, record: &Record, mutex: u32) -> bool
     ensures asked { asked.new.items ≡ asked_after record.now.event record.now.thread mutex asked.old.items }
     ensures waited { IsTrue result → MayHaveWaited record.now.event }
@@ -222,6 +237,7 @@ fn misses_request(asked: &mut Vec<Option<u32>>, record: &Record, mutex: u32) -> 
 }
 
 /// Returns whether a call that ends with this event may have waited.
+#[inline(always)]
 fn may_have_waited(event: &Event) -> bool
     ensures { IsTrue result → MayHaveWaited event.now }
 {
@@ -237,6 +253,7 @@ fn may_have_waited(event: &Event) -> bool
 }
 
 /// Returns whether there is a thread with this number, and it asked for no mutex at last or for another.
+#[inline(always)]
 fn is_other(asked: &[Option<u32>], thread: u32, mutex: u32) -> bool
     ensures { IsTrue result → (thread < length asked.now) × (slice_index_or asked.now thread None ≢ Some mutex) }
 {
@@ -247,6 +264,7 @@ fn is_other(asked: &[Option<u32>], thread: u32, mutex: u32) -> bool
 }
 
 /// Keeps what the thread of a record asks for, until a call of it ends.
+#[inline(always)]
 fn note(asked: &mut Vec<Option<u32>>, record: &Record, mutex: u32)
     ensures { asked.new.items ≡ asked_after record.now.event record.now.thread mutex asked.old.items }
 {
@@ -258,6 +276,7 @@ fn note(asked: &mut Vec<Option<u32>>, record: &Record, mutex: u32)
 }
 
 /// Puts an item at a place, if there is one.
+#[inline(always)]
 fn put(list: &mut Vec<Option<u32>>, place: u32, item: Option<u32>)
     ensures { list.new.items ≡ slice_set list.old.items place item }
 {
