@@ -3,7 +3,7 @@
 use crate::place_texts::PlaceTexts;
 use crate::stacks::{Asked, Stacks};
 use pim_facts::{Ids, LoggedMutex};
-use pim_log::{Event, Log, Record, Text};
+use pim_log::{Event, Log, Text};
 use pim_out::Out;
 use std::alloc::{AllocError, Global};
 
@@ -93,9 +93,7 @@ impl Labels {
             stacks: Stacks::none(alloc, ids.threads.len())?,
         };
         for number in 1..log.header().end() {
-            if let Some(record) = log.record(number) {
-                labels.read(alloc, ids, &record)?;
-            }
+            labels.read(alloc, log, ids, number)?;
         }
         Ok(labels)
     }
@@ -120,7 +118,33 @@ impl Labels {
         self.given.is_some()
     }
 
-    fn read(&mut self, alloc: Global, ids: &Ids, record: &Record) -> Result<(), AllocError> {
+    /// Learns what the record with this number says. By far the most records are of locks: of these it asks for the thread
+    /// and the time alone, so that no more needs to be decoded.
+    #[inline(always)]
+    fn read(&mut self, alloc: Global, log: &Log, ids: &Ids, number: u64) -> Result<(), AllocError> {
+        let Some(record) = log.record(number) else {
+            return Ok(());
+        };
+        let next = match record.event {
+            Event::Request { .. } => asked(ids, number, record.time),
+            Event::Granted { .. } | Event::Release { .. } => Pending::Nothing,
+            _ => return self.read_other(alloc, log, ids, number),
+        };
+        self.expect(record.thread as usize, next);
+        Ok(())
+    }
+
+    /// Learns what the record with this number says, which is of no lock.
+    fn read_other(
+        &mut self,
+        alloc: Global,
+        log: &Log,
+        ids: &Ids,
+        number: u64,
+    ) -> Result<(), AllocError> {
+        let Some(record) = log.record(number) else {
+            return Ok(());
+        };
         let thread = record.thread as usize;
         let Some(pending) = self.pending.get(thread).copied() else {
             return Ok(());
@@ -131,10 +155,9 @@ impl Labels {
                 self.read_place(pending, address);
                 Pending::Nothing
             }
-            Event::Name { .. } => self.begin_name(ids.of_record(record.number)),
+            Event::Name { .. } => self.begin_name(ids.of_record(number)),
             Event::Module { address } => self.add_module(alloc, record.process, address)?,
-            Event::Init(_) => Pending::Init(ids.of_record(record.number)),
-            Event::Request { .. } => asked(ids, record),
+            Event::Init(_) => Pending::Init(ids.of_record(number)),
             Event::Frame { .. } => return self.read_frame(alloc, thread, pending, record.place),
             Event::Child { parent } => {
                 self.add_child(ids, record.process, parent)?;
@@ -375,12 +398,12 @@ fn name_in(names: &[Vec<u8>], number: u32) -> &[u8] {
     }
 }
 
-/// Returns the request that a record is, which frames may follow.
-fn asked(ids: &Ids, record: &Record) -> Pending {
-    match record.time {
+/// Returns the request that the record with this number is, which frames may follow.
+fn asked(ids: &Ids, number: u64, time: Option<u64>) -> Pending {
+    match time {
         Some(time) => Pending::Request(Asked {
             time,
-            mutex: ids.of_record(record.number),
+            mutex: ids.of_record(number),
         }),
         None => Pending::Nothing,
     }
