@@ -47,8 +47,7 @@ pub data AreOfThreads (Has : ℕ → Bound → Type 0) (highest : ℕ → ℕ) :
 -- Of the threads below a number the ten greatest bounds above 0 are listed, or all if there are fewer: the greatest first,
 -- of equal ones that of the lower thread.
 pub record AreListed (n k : ℕ) (highest longest : ℕ → ℕ) (seen : List Section) (inner : ℕ → List ℕ) (below : ℕ)
-    (bounds : List Bound)
-    : Type 0 where
+    (bounds : List Bound) : Type 0 where
   pub all : List Bound
   pub each : AreOfThreads (IsBoundOf n k highest longest seen inner) highest below all
   pub ordered : List Bound
@@ -67,5 +66,4 @@ pub record AreBounds (ids : Ids) (facts : List Moment) (time : ℕ) (orders : Li
   pub longest : AreLongest (all_sections (length ids.mutexes.items) facts time) seen
   pub order : AreInOrder seen
   pub listed : AreListed (length ids.threads.items) (length ids.mutexes.items) (highest_level ids facts)
-      (longest_wait facts time)
-      seen (inner_of orders) (length ids.threads.items) bounds
+      (longest_wait facts time) seen (inner_of orders) (length ids.threads.items) bounds

@@ -74,7 +74,7 @@ longest_by [] user = None
 longest_by (s ∷ sections) user =
     if same_user s.user user then Some (max s.lasted (unwrap_or (longest_by sections user) 0)) else longest_by sections user
 
--- these are the longest sections of their users, and of all users; `AreInOrder` says that each user has one
+-- these are the longest sections of all users, each that of its own; that no user has two, `AreInOrder` says
 abbrev pub AreLongest : List Section → List Section → Type 0
 AreLongest all seen = (s : Section) → Contains seen s ↔ (longest_by all s.user ≡ Some s.lasted)
 

@@ -31,7 +31,7 @@ pub record Point : Type 0 where
 abbrev pub EndWith : Point → List Piece → Type 0
 EndWith point pieces = pieces ≡ point.before ++ point.piece ∷ []
 
--- a piece goes on: it has further steps
+-- a piece goes on: by further steps if it has any, and it restores as much
 pub record IsContinued (old new : Piece) : Type 0 where
   pub restoring : new.restoring ≡ old.restoring
   pub steps : Continues old.replay new.replay
@@ -55,7 +55,8 @@ HasTimes piece = length piece.times ≡ length piece.replay.entries
 abbrev pub times_of : Point → List ℕ
 times_of point = flat_map (λ piece. piece.times) point.before ++ point.piece.times
 
--- the trace goes on from one point to another, and each step between happens at this time
+-- the trace goes on from one point to another, and each further time is this one: that of each step between, where each
+-- piece has a time for each of its steps
 pub record GoesOn (time : ℕ) (p q : Point) : Type 0 where
   pub reached : Reaches p q
   pub further : ℕ

@@ -70,7 +70,7 @@ pub record IsBegin (stage : Stage) : Type 0 where
   pub times : stage.point.piece.times ≡ []
   pub appeared : stage.appeared ≡ []
 
--- one appears between two points: before no step that is before the first point, and none behind the second
+-- one appears between two points: the step before which it does is none before the first point, nor behind the second
 pub record AppearsBetween (early late : Point) (one : Appearance) : Type 0 where
   pub from : steps_of early ≤ one.step
   pub upto : one.step ≤ steps_of late

@@ -31,8 +31,8 @@ pub enum Who {
 /// Who appears in the trace, and when.
 #[derive(Clone, Copy, PartialEq, Eq)]
 pub struct Appearance {
-    /// The number of the step before which it appears, over all pieces, without those that restore a state, from 0 on.
-    /// 2^64 - 1 if it is higher.
+    /// The number of the step before which it appears, over all pieces, without those that restore a state, from 0 on: at
+    /// most 2^64 - 1.
     pub step: u64,
     pub who: Who,
 }
@@ -71,9 +71,8 @@ impl TraceBuilder {
     }
 
     /// Ends the trace, and returns its pieces and who appears in it. They show what the trace showed, and have no further
-    /// steps.
-    /// Each further piece begins with the owners, waits, bases, protocols and order of waiters with
-    /// which the one before it ends.
+    /// steps. Each further piece begins with the owners, waits, bases, protocols and order of waiters with which the one
+    /// before it ends.
     ///
     /// # Errors
     ///
@@ -101,7 +100,7 @@ impl TraceBuilder {
     /// replay differed from the fact, the import would end with `Contradiction`. It doesn't unless
     /// the log contradicts itself, since a replay does what it observed.
     ///
-    /// Each step that is made has the record's time. Who appears does so before one of these steps,
+    /// Each step that is made has the time of `now`. Who appears does so before one of these steps,
     /// or behind them.
     ///
     /// # Errors
@@ -317,12 +316,12 @@ pub struct Context<'a> {
     pub numbering: &'a Numbering,
 }
 
-/// A record's place in the log, and its time.
+/// The record that shows a fact, and when that happened.
 #[derive(Clone, Copy, PartialEq, Eq)]
 pub struct Now {
     /// The number of the record.
     pub number: u64,
-    /// CLOCK_MONOTONIC in nanoseconds.
+    /// When the fact happened: CLOCK_MONOTONIC in nanoseconds.
     pub time: u64,
 }
 

@@ -18,7 +18,7 @@
 //!
 //! It is proved that the trace shows the facts that it was built from, one behind the other, each of
 //! those who have its numbers by then, that each step has the time of the fact for which it was made,
-//! and that threads and mutexes appear before the steps that it says (specs/Shown.antt).
+//! and that who appears for a fact does so before one of its steps, or behind them (specs/Shown.antt).
 //!
 //! It is proved that each further piece begins with the owners, waits, bases, protocols and order
 //! of waiters with which the one before it ends (specs/Pieces.antt).

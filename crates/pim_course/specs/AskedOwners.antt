@@ -4,8 +4,7 @@
 --
 -- The records behind one are in the order of their numbers, those before it the other way, so that the first is the nearest.
 use Rattle.std.specs.Prelude.{◌≡◌, ◌+◌, ◌-◌, ◌^◌, ◌<◌, ◌≤◌, ℕ, ◌==◌, nat_lt, Bool, false, true, ◌&&◌, ◌||◌, if◌then◌else◌}
-use Rattle.std.specs.Prelude.{List, [], ◌∷◌, length, slice_get, slice_index_or, find, is_some, IsSome, IfSome, Option, Some}
-use Rattle.std.specs.Prelude.{None}
+use Rattle.std.specs.Prelude.{List, [], ◌∷◌, length, slice_get, slice_index_or, find, is_some, IsSome, IfSome, Option, Some, None}
 use Rattle.std.specs.Option.{option_and_then, option_map_or, option_or}
 use Rattle.pim_log.specs.Logs.{IsNumbered, began_of}
 use Rattle.pim_log.specs.declared.event.Event.{Event}
@@ -102,9 +101,8 @@ IsAskedBy ids m r before behind kept (Some task) = kept ≡ named_kept ids m r t
 abbrev pub IsAsked : Ids → ℕ → Record → List Record → List Record → Kept → Type 0
 IsAsked ids m r before behind kept = IfSome (asked_task r.event) (IsAskedBy ids m r before behind kept)
 
--- what was found of the record of a log with this number, if it is a REQUEST, is what it, those before it and those behind
--- it
--- say
+-- what was found of the record of a log with this number, if it is a REQUEST, is what it, those before it and those
+-- behind it say
 pub record FindsAsked (bytes : List ℕ) (ids : Ids) (next_owners : NextOwners) (number : ℕ) : Type 0 where
   pub r : Record
   pub before : List Record

@@ -1,6 +1,5 @@
 -- What is known beside the facts after each record: the owners of waits, places in the code, and whether the record
--- contradicts
--- those before it. docs/FINDINGS.md, 'Facts', 'The owner of a wait' and 'Where in the code'.
+-- contradicts those before it. docs/FINDINGS.md, 'Facts', 'The owner of a wait' and 'Where in the code'.
 use Rattle.std.specs.Prelude.{ℕ, ◌==◌, nat_lt, Bool, true, false, not, ◌&&◌, ◌||◌, if◌then◌else◌, List, [], ◌∷◌, find}
 use Rattle.std.specs.Prelude.{is_none, is_some, Option, Some, None}
 use Rattle.std.specs.Option.{option_and_then, option_flatten, option_map_or, option_or, unwrap_or}
@@ -26,17 +25,15 @@ use Rattle.pim_course.specs.declared.course.Sources.{Sources}
 use Rattle.pim_course.specs.declared.next_owners.Kept.{Kept}
 use Rattle.pim_course.specs.declared.requests.Request.{Request}
 
--- what is known of a mutex: who had it before its owner, or last if it is free; and where its owner took it, or the last one
--- if
--- it is free, and whether by a trylock
+-- what is known of a mutex: who had it before its owner, or last if it is free; and where its owner took it, or the last
+-- one if it is free, and whether by a trylock
 pub record OfMutex : Type 0 where
   pub last_owner : Option ℕ
   pub taken_at : Option ℕ
   pub was_tried : Bool
 
--- what is known of a thread: of its last wait who had the mutex as it began, where that thread took it, where this one asked
--- last,
--- and whether its level was above the ceiling then; and its own mutex, if it locks that again
+-- what is known of a thread: of its last wait who had the mutex as it began, where that thread took it, where this one
+-- asked last, and whether its level was above the ceiling then; and its own mutex, if it locks that again
 pub record OfThread : Type 0 where
   pub awaited_owner : Option ℕ
   pub owner_at : Option ℕ
@@ -104,11 +101,9 @@ is_other t owner = is_some owner && not (is_that owner t)
 abbrev pub first_other : ℕ → List (Option ℕ) → Option ℕ
 first_other t owners = option_flatten (find (is_other t) owners)
 
--- who may have the mutex of a REQUEST, the likeliest first, by what is kept of that, the owner and the last one: if it names
--- a
--- task, the thread with that, and the owner; or else the owner, who is granted the mutex next if its call had begun, the
--- last
--- owner, and who is granted it next
+-- who may have the mutex of a REQUEST, the likeliest first, by what is kept of that, the owner and the last one: if it
+-- names a task, the thread with that, and the owner; or else the owner, who is granted the mutex next if its call had
+-- begun, the last owner, and who is granted it next
 abbrev pub owners_asked : Kept → Bool → Option ℕ → Option ℕ → List (Option ℕ)
 owners_asked kept is_named owner last =
     if is_named then next_by kept ∷ owner ∷ []
@@ -120,9 +115,8 @@ owner_asked sources world details r task m =
     first_other r.thread (owners_asked (kept_of sources.next_owners r.number) (is_some task) (world.owner m)
     (details.mutexes m).last_owner)
 
--- where the thread took a mutex that has it: where it asked, if it waits for the mutex, since its grant comes late; or else
--- where
--- the owner took it, or the last one if it is free, if it is that
+-- where the thread took a mutex that has it: where it asked, if it waits for the mutex, since its grant comes late; or
+-- else where the owner took it, or the last one if it is free, if it is that
 abbrev pub place_of_owner : World → Details → ℕ → ℕ → Option ℕ
 place_of_owner world details m owner =
     if is_that (world.awaits owner) m then (details.threads owner).asked_at
@@ -204,9 +198,8 @@ details_requested sources world details r said task m =
     wait_begun sources (corrected sources world m said) r.thread m (owner_asked sources world details r task m)
     (asked r.thread r.place details)
 
--- a GRANTED: its thread doesn't wait for its own mutex. Unless it owns this one, or that isn't known, the owner released it,
--- and
--- the thread took it
+-- a GRANTED: its thread doesn't wait for its own mutex. Unless it owns this one, or that isn't known, the owner released
+-- it, and the thread took it
 abbrev pub details_granted : Sources → World → Details → Record → Mutex → ℕ → Details
 details_granted sources world details r said m =
     let forgotten = own_forgotten r.thread details in
@@ -239,9 +232,8 @@ details_after sources course r =
     details_by sources (world_of course) (depths_of course) (record (details_of course) { is_contradiction = false }) r
     (id_of sources.ids r.number) r.event
 
--- what is known after a request that the log lacks: its thread begins to wait, if it waits for nothing and doesn't own the
--- mutex,
--- for the owner or the last one
+-- what is known after a request that the log lacks: its thread begins to wait, if it waits for nothing and doesn't own
+-- the mutex, for the owner or the last one
 abbrev pub added_details : Sources → World → Details → Request → Details
 added_details sources world details request =
     let t = request.thread in

@@ -1,6 +1,5 @@
 -- What is kept of a release or a request, in four bytes.
-use Rattle.std.specs.Prelude.{ℕ, ◌^◌, ◌-◌, ◌==◌, nat_lt, Bool, true, false, if◌then◌else◌, slice_index_or, Option, Some}
-use Rattle.std.specs.Prelude.{None}
+use Rattle.std.specs.Prelude.{ℕ, ◌^◌, ◌-◌, ◌==◌, nat_lt, Bool, true, false, if◌then◌else◌, slice_index_or, Option, Some, None}
 use Rattle.pim_course.specs.declared.next_owners.NextOwners.{NextOwners}
 use Rattle.pim_course.specs.declared.next_owners.Kept.{Kept}
 use Rattle.pim_course.specs.declared.next_owners.Kept.TheVariants.{Owner, Later, Refused}

@@ -66,8 +66,7 @@ abbrev pub granted_by : Ids → Record → Option ℕ
 granted_by ids r = if is_granted r.event then Some (id_of ids r.number) else None
 
 -- the mutex that a thread is granted before it calls anything else: of its first REQUEST, RELEASE, FAILED or GRANTED, if
--- that
--- is a GRANTED
+-- that is a GRANTED
 abbrev pub granted_first : Ids → ℕ → List Record → Option ℕ
 granted_first ids t records =
     option_and_then (granted_by ids) (find (λ r. is_call r.event && r.thread == t) records)

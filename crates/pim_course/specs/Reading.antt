@@ -29,8 +29,7 @@ abbrev pub world_before : Ids → World
 world_before ids = record { owner = λ m. None; awaits = λ t. None; level = first_level ids; ceiling = first_ceiling ids }
 
 -- a course begins: it has the threads and mutexes of a log, no mutex is locked, there was no critical section, nothing is
--- known
--- beside the facts, and nothing is shown yet
+-- known beside the facts, and nothing is shown yet
 pub record Begins (ids : Ids) (course : Course) : Type 0 where
   pub world : world_of course ≡ world_before ids
   pub threads : length course.threads.items ≡ length ids.threads.items
@@ -102,10 +101,9 @@ pub record HasAllOf (ids : Ids) (course : Course) : Type 0 where
   pub threads : length course.threads.items ≡ length ids.threads.items
   pub mutexes : length course.mutexes.items ≡ length ids.mutexes.items
 
--- what a record of a log shows leads from the world in which it is read to the one behind it, each mutex is locked then as
--- often as the record says, what is shown has the numbers of the critical sections, and what is known beside the facts is
--- what
--- the record says, in a course that has the threads and mutexes of the log
+-- what a record of a log shows leads from the world in which it is read to the one behind it, each mutex is locked then
+-- as often as the record says, what is shown has the numbers of the critical sections, and what is known beside the facts
+-- is what the record says, in a course that has the threads and mutexes of the log
 abbrev pub ReadingLaw : Type 0
 ReadingLaw = (bytes : List ℕ) (sources : Sources) (number : ℕ) (old new : Course) → Covers sources.ids bytes →
     HasAllOf sources.ids old → number < end_of (header_of bytes) → (goes : GoesBy bytes sources number old new) →

@@ -1,6 +1,5 @@
 -- The numbers of critical sections, and how facts change which ones last.
-use Rattle.std.specs.Prelude.{◌≡◌, ◌≢◌, ◌↔◌, ℕ, ◌+◌, ◌-◌, ◌^◌, ◌<◌, min, if◌then◌else◌, List, [], ◌∷◌, ◌++◌, Option, Some}
-use Rattle.std.specs.Prelude.{None, is_none}
+use Rattle.std.specs.Prelude.{◌≡◌, ◌≢◌, ◌↔◌, ℕ, ◌+◌, ◌-◌, ◌^◌, ◌<◌, min, if◌then◌else◌, List, [], ◌∷◌, ◌++◌, Option, Some, None, is_none}
 use Rattle.std.specs.List.{AllByRecursion}
 use Rattle.std.specs.Option.{unwrap_or}
 use Rattle.pim_facts.specs.declared.fact.Fact.{Fact}
@@ -10,9 +9,9 @@ use Rattle.pim_course.specs.Courses.{mutex_in, thread_in}
 use Rattle.pim_course.specs.World.{but_for}
 use Rattle.pim_course.specs.declared.course.Course.{Course}
 
--- the critical section that lasts at each mutex, the thread that it was handed over to, up to the next grant, and how many
--- wait
--- for it; the critical section in which each thread that waits began to; and how many critical sections there were
+-- the critical section that lasts at each mutex, the thread that it was handed over to, up to the next grant, and how
+-- many wait for it; the critical section in which each thread that waits began to; and how many critical sections there
+-- were
 pub record Sections : Type 0 where
   pub lasting : ℕ → Option ℕ
   pub next : ℕ → Option ℕ
@@ -52,10 +51,8 @@ lasts_at sections m =
     }
 
 -- the number of the critical section in which this happens to a thread and a mutex: a thread gives up in the one in which
--- its
--- wait began, and all else but a level, which is in none, happens in the one of the mutex; a grant and a wait are in the
--- next
--- one if none lasts
+-- its wait began, and all else but a level, which is in none, happens in the one of the mutex; a grant and a wait are in
+-- the next one if none lasts
 abbrev pub number_of : Sections → What → ℕ → ℕ → Option ℕ
 number_of sections Granted t m = Some (number_at sections m)
 number_of sections Waits t m = Some (number_at sections m)
@@ -77,12 +74,10 @@ one_more_at m waiting = but_for m (min (waiting m + 1) (2 ^ 32 - 1)) waiting
 abbrev pub one_less_at : ℕ → (ℕ → ℕ) → ℕ → ℕ
 one_less_at m waiting = but_for m (waiting m - 1) waiting
 
--- the critical sections after this happened: a grant or a wait begins one if none lasts, and a release ends it, unless the
--- mutex is handed over; a wait begins in the one of its mutex, and lasts until its thread is granted a mutex or gives up. A
--- release
--- sets who has the mutex next, and a grant takes that back. A wait counts one thread more at its mutex; a give-up, or a
--- grant to
--- one who waited, one fewer
+-- the critical sections after this happened: a grant or a wait begins one if none lasts, and a release ends it, unless
+-- the mutex is handed over; a wait begins in the one of its mutex, and lasts until its thread is granted a mutex or gives
+-- up. A release sets who has the mutex next, and a grant takes that back. A wait counts one thread more at its mutex; a
+-- give-up, or a grant to one who waited, one fewer
 abbrev pub sections_after : Sections → What → ℕ → ℕ → Sections
 sections_after sections Granted t m =
     record (lasts_at sections m) {

@@ -142,6 +142,7 @@ impl Course {
             .unwrap_or_default()
     }
 
+    /// Keeps what is known of a mutex, if there is one with the number.
     pub(crate) fn put_mutex(&mut self, mutex: u32, is: CourseMutex)
         ensures mutexes { self.new.mutexes.items ≡ slice_set self.old.mutexes.items mutex is }
         ensures rest { self.new ≡ record self.old { mutexes = self.new.mutexes } }
@@ -151,6 +152,7 @@ impl Course {
         }
     }
 
+    /// Keeps what is known of a thread, if there is one with the number.
     pub(crate) fn put_thread(&mut self, thread: u32, is: CourseThread)
         ensures threads { self.new.threads.items ≡ slice_set self.old.threads.items thread is }
         ensures rest { self.new ≡ record self.old { threads = self.new.threads } }

@@ -180,7 +180,10 @@ impl NextOwners {
     pub fn asked_owner(&self, number: u64) -> Option<u32>
         ensures { result ≡ next_by (kept_of self.now number) }
     {
-        self.next_owner(number)
+        match self.kept(number) {
+            Kept::Owner(owner) => owner,
+            _ => None,
+        }
     }
 
     /// Returns the thread that is granted the mutex next after the REQUEST with this number, which names no thread.

@@ -155,6 +155,7 @@ impl Course {
         LeftOut::Uncontended
     }
 
+    /// Keeps that a thread doesn't wait for its own mutex.
     pub(crate) fn forget_own(&mut self, thread: u32)
         ensures size { HasSameSize self.old self.new }
         ensures depths { KeepsDepths self.old self.new }

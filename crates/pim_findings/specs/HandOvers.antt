@@ -32,8 +32,10 @@ begun_by facts = capped (count_by (λ m. begins_wait m.fact.what) facts)
 -- the number of the last wait of a thread: how many had begun with it
 abbrev pub number_of : List Moment → ℕ → ℕ
 number_of [] t = 0
-number_of (m ∷ before) t = if (m.fact.thread == t) && begins_wait m.fact.what then begun_by
-    (m ∷ before) else number_of before t
+number_of (m ∷ before) t =
+    if (m.fact.thread == t) && begins_wait m.fact.what
+    then begun_by (m ∷ before)
+    else number_of before t
 
 -- the wait of a thread that lasts after these facts
 abbrev pub queued_by : List Moment → levels.Waits

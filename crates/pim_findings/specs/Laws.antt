@@ -60,7 +60,8 @@ OthersLaw = (facts : List Moment) (time n : ℕ) → All HasOther (all_waits fac
 abbrev pub IsNoShorter : FoundWait → FoundWait → Type 0
 IsNoShorter a b = b.lasted ≤ a.lasted
 
--- the longest first: waits have just one such order, and in it each is no shorter than all later ones
+-- the longest first, equally long ones as they were: waits have just one such order, and in it each is no shorter than all
+-- later ones
 pub record LongestLaw : Type 0 where
   pub some : (waits : List FoundWait) → (ordered : List FoundWait) × IsLongestFirst waits ordered
   pub one : (waits ordered other : List FoundWait) → IsLongestFirst waits ordered →

@@ -106,8 +106,9 @@ and_until time is_open (Some wait) waits = lasting_until wait time is_open ∷ w
 abbrev pub ended_waits : List Moment → List FoundWait
 ended_waits [] = []
 ended_waits (m ∷ before) =
-    if ends_wait m.fact.what then and_until m.time false (wait_of before m.fact.thread)
-    (ended_waits before) else ended_waits before
+    if ends_wait m.fact.what
+    then and_until m.time false (wait_of before m.fact.thread) (ended_waits before)
+    else ended_waits before
 
 -- those, and behind them the waits that last at the end of the log, which has this time, of the threads below n: the one
 -- with the highest number first

@@ -8,7 +8,7 @@ pub fn waits_law()
     ensures { WaitsLaw }
 {}
 
-/// The longest waits first: waits have just one such order, with each before those that are shorter.
+/// The longest waits first, equally long ones as they were: waits have just one such order.
 pub fn longest_law()
     ensures { LongestLaw }
 {}

@@ -85,8 +85,8 @@ pub record GoesByRecord (bytes : List ℕ) (sources : Sources) (from to : Stage)
   pub size : HasSameSize from.course to.course
   pub shown : IsLacking bytes to.number from.course to.course ⊎ GoesBy bytes sources to.number from.course to.course
 
--- A stage leads to the next by the next of the requests that the log lacks, which belongs behind the last record and shows what
--- it tells. If no wait shows when it was made, the time is that of the record.
+-- A stage leads to the next by the next of the requests that the log lacks, which belongs behind the last record and
+-- shows what it tells. If no wait shows when it was made, the time is that of the record.
 pub record GoesByRequest (sources : Sources) (from to : Stage) : Type 0 where
   pub number : to.number ≡ from.number
   pub record_time : to.record_time ≡ from.record_time
@@ -146,9 +146,9 @@ abbrev pub IsSpared : CriticalSections → Moment → Type 0
 IsSpared sections m = IsKept sections m.fact ⊎ MayBeLeftOut m.course m.sources m.fact
 
 -- The findings are those of these facts, of threads below n and mutexes below k: of those that are kept the waits, the
--- ownerships and the hand-overs, and of all the orders of mutexes, and the critical sections, levels and waits of the threads of
--- a log. What isn't kept may be left out. The trace that is being made shows those that are kept, in turn, by steps at their
--- times.
+-- ownerships and the hand-overs, and of all the orders of mutexes, and the critical sections, levels and waits of the
+-- threads of a log. What isn't kept may be left out. The trace that is being made shows those that are kept, in turn, by
+-- steps at their times.
 pub record Knows (context : Context) (n k : ℕ) (sections : CriticalSections) (facts : List Moment) (found : Findings)
     (builder : TraceBuilder) : Type 0 where
   pub finds : Finds n k (kept_of sections facts) found
@@ -165,15 +165,15 @@ abbrev pub stage_of : ℕ → ℕ → ℕ → Walk → Stage
 stage_of number record_time time walk =
     record { number = number; record_time = record_time; added = walk.added; time = time; course = walk.course }
 
--- A walk went through a log up to the record with this number and time, and the findings and the trace are those of the facts on
--- its way.
+-- A walk went through a log up to the record with this number and time, and the findings and the trace are those of the
+-- facts on its way.
 pub record HasFollowed (bytes : List ℕ) (context : Context) (sections : CriticalSections) (n k number record_time : ℕ)
     (walk : Walk) (found : Findings) (builder : TraceBuilder) : Type 0 where
   pub time : ℕ
   pub before : List Stage
   pub way : IsWay bytes context.sources.now (stage_of number record_time time walk) before
-  pub knows : Knows context n k sections (facts_of context.sources.now (stage_of number record_time time walk ∷ before)) found
-      builder
+  pub knows : Knows context n k sections
+      (facts_of context.sources.now (stage_of number record_time time walk ∷ before)) found builder
 
 -- A walk went through a log, and added each request behind the records so far.
 pub record HasAdded (bytes : List ℕ) (context : Context) (sections : CriticalSections) (n k number record_time : ℕ)
@@ -186,9 +186,10 @@ pub record ArePlaced (bytes : List ℕ) (requests : List Request) : Type 0 where
   pub order : IsInOrder requests
   pub placed : All (IsPlaced bytes) requests
 
--- What is found is what these facts show, of threads below n and mutexes below k, at this end of the log: of those that are
--- kept the waits, the ownerships and the hand-overs, and of all the mutexes that were taken in opposite orders, and the bounds
--- of what threads of the log can be blocked for. The deadlocks are those of the last course. What isn't kept may be left out.
+-- What is found is what these facts show, of threads below n and mutexes below k, at this end of the log: of those that
+-- are kept the waits, the ownerships and the hand-overs, and of all the mutexes that were taken in opposite orders, and
+-- the bounds of what threads of the log can be blocked for. The deadlocks are those of the last course. What isn't kept
+-- may be left out.
 pub record AreFound (ids : Ids) (n k : ℕ) (sections : CriticalSections) (ended : ℕ) (facts : List Moment) (last : Course)
     (found : Findings) : Type 0 where
   pub waits : AreReported k (all_waits (kept_of sections facts) ended n) found.waits
@@ -201,9 +202,9 @@ pub record AreFound (ids : Ids) (n k : ℕ) (sections : CriticalSections) (ended
   pub threads : All (IsOfThread n) facts
   pub spared : All (IsSpared sections) facts
 
--- There is a way through all records of a log and all requests that it lacks, such that what is found is what the facts on the
--- way show, the trace shows those of them that are kept, in turn, by steps at their times, and the course is that behind the
--- last of them.
+-- There is a way through all records of a log and all requests that it lacks, such that what is found is what the facts
+-- on the way show, the trace shows those of them that are kept, in turn, by steps at their times, and the course is that
+-- behind the last of them.
 pub record FollowsLog (bytes : List ℕ) (context : Context) (sections : CriticalSections) (n k : ℕ) (built : Built)
     : Type 0 where
   pub last : Stage
@@ -217,9 +218,9 @@ pub record FollowsLog (bytes : List ℕ) (context : Context) (sections : Critica
       built.pieces.items built.appearances.items
   pub course : built.course ≡ last.course
 
--- There is a way through all records of a log and all requests that it lacks, such that the critical sections in the trace
--- are exactly those of which a fact on the way must stay: a thread begins to wait in it, or the fact may change a priority; or
--- all, if that is asked for.
+-- There is a way through all records of a log and all requests that it lacks, such that the critical sections in the
+-- trace are exactly those of which a fact on the way must stay: a thread begins to wait in it, or the fact may change a
+-- priority; or all, if that is asked for.
 pub record KeepsThoseOfLog (bytes : List ℕ) (sources : Sources) (is_all : Bool) (sections : CriticalSections) : Type 0 where
   pub last : Stage
   pub before : List Stage
@@ -228,8 +229,8 @@ pub record KeepsThoseOfLog (bytes : List ℕ) (sources : Sources) (is_all : Bool
   pub added : last.added ≡ length sources.requests.list.items
   pub keeps : KeepsThoseOf is_all (room_of bytes sources) (facts_of sources (last ∷ before)) sections
 
--- What is found first is that of a log: whom each record is about, no thread with a number above 2 ^ 22, when the log ended, who
--- has a mutex next, and the requests that the log lacks, which its calls or these waits show.
+-- What is found first is that of a log: whom each record is about, no thread with a number above 2 ^ 22, when the log
+-- ended, who has a mutex next, and the requests that the log lacks, which its calls or these waits show.
 pub record AreOfLog (bytes : List ℕ) (waits : List Wait) (sources : Sources) : Type 0 where
   pub covers : Covers sources.ids bytes
   pub few : HasFewThreads sources.ids
@@ -244,9 +245,9 @@ pub record IsMadeFrom (context : Context) (imported : Imported) : Type 0 where
   pub numbering : imported.numbering ≡ context.numbering.now
   pub priorities : imported.priorities ≡ context.priorities.now
 
--- The findings are those of the log, with the threads and mutexes that it names, of the facts in the trace: those of the critical
--- sections that the facts on the same way must keep, or all. The trace shows these facts, in turn, by steps at their times,
--- and by the numbers and the priorities of the import.
+-- The findings are those of the log, with the threads and mutexes that it names, of the facts in the trace: those of the
+-- critical sections that the facts on the same way must keep, or all. The trace shows these facts, in turn, by steps at
+-- their times, and by the numbers and the priorities of the import.
 pub record IsOfLog (bytes : List ℕ) (waits : List Wait) (is_all : Bool) (imported : Imported) : Type 0 where
   pub context : Context
   pub made : IsMadeFrom context imported

@@ -11,13 +11,13 @@ abbrev pub MustBeKept : ℕ → List Moment → Type 0
 MustBeKept n [] = ⊥
 MustBeKept n (m ∷ facts) = ((m.fact.section ≡ Some n) × MustStay m.course m.sources m.fact) ⊎ MustBeKept n facts
 
--- for so many numbers, from 0 on, it is kept whether the critical section is in the trace: 0, which none has, and one for each
--- record and each request that the log lacks
+-- for so many numbers, from 0 on, it is kept whether the critical section is in the trace: 0, which none has, and one for
+-- each record and each request that the log lacks
 abbrev pub room_of : List ℕ → Sources → ℕ
 room_of bytes sources = end_of (header_of bytes) + length sources.requests.list.items
 
--- The critical sections in the trace are exactly those that these facts must keep, or all. A number for which there is no room
--- is kept, too: no fact of a log is of a critical section with such a number, by RoomLaw of Numbers.antt.
+-- The critical sections in the trace are exactly those that these facts must keep, or all. A number for which there is no
+-- room is kept, too: no fact of a log is of a critical section with such a number, by RoomLaw of Numbers.antt.
 abbrev pub KeepsThoseOf : Bool → ℕ → List Moment → CriticalSections → Type 0
 KeepsThoseOf is_all room facts sections =
     (n : ℕ) → Keeps sections n ↔ (IsTrue is_all ⊎ (MustBeKept n facts ⊎ (room ≤ n)))

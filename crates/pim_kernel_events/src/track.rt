@@ -24,7 +24,7 @@ impl Call {
         if self.is_unlock { None } else { self.slept }
     }
 
-    /// Returns whether it had returned by this time. One of which that isn't known hadn't.
+    /// Returns whether it is known to have returned by this time.
     pub fn has_returned_by(&self, time: u64) -> bool {
         match self.end {
             Some(end) => end <= time,

@@ -76,5 +76,6 @@ and_nested course fact outers before = fold (and_outer course fact) before outer
 abbrev pub nestings : List Moment → List Nesting
 nestings [] = []
 nestings (m ∷ before) =
-    if asks m.course m.fact then and_nested m.course m.fact (owned before m.fact.thread)
-    (nestings before) else nestings before
+    if asks m.course m.fact
+    then and_nested m.course m.fact (owned before m.fact.thread) (nestings before)
+    else nestings before

@@ -56,5 +56,6 @@ opposite_with None those = None
 -- what is found of an order, if its outer mutex has the lower number
 abbrev pub opposite_at : BTreeMap Order Seen → Order → Option Opposite
 opposite_at seen order =
-    if nat_lt order.outer order.inner then opposite_with (tree.get by_mutexes seen order)
-    (tree.get by_mutexes seen (back order)) else None
+    if nat_lt order.outer order.inner
+    then opposite_with (tree.get by_mutexes seen order) (tree.get by_mutexes seen (back order))
+    else None

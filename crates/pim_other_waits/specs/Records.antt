@@ -18,8 +18,8 @@ pub record IsRecordOf (bytes : List ℕ) (number : ℕ) (r : Record) : Type 0 wh
 -- no moment is missing at a number: the log has no record of it, or a lock's, or one without a time
 abbrev pub IsPassed : List ℕ → ℕ → Type 0
 IsPassed bytes number =
-    ((slot : ℕ) → IsNumbered bytes slot number →
-    ⊥) ⊎ (IsOfLock bytes number ⊎ ((r : Record) × IsRecordOf bytes number r × (r.time ≡ None)))
+    ((slot : ℕ) → IsNumbered bytes slot number → ⊥)
+    ⊎ (IsOfLock bytes number ⊎ ((r : Record) × IsRecordOf bytes number r × (r.time ≡ None)))
 
 -- the moments are the records with numbers below this one, but those of locks and parts of texts: the last one first
 abbrev pub AreMoments : List ℕ → ℕ → List Moment → Type 0
@@ -32,8 +32,8 @@ AreMoments bytes (suc n) (m ∷ before) =
 -- the waits are those that the moments of the log show, by the threads and the levels of ids
 abbrev pub ShowsWaits : List ℕ → Ids → List OtherWait → Type 0
 ShowsWaits bytes ids waits =
-    (moments : List Moment) × (AreMoments bytes (end_of (header_of bytes)) moments × (waits
-    ≡ all_waits ids moments ids.ended (length ids.threads.items)))
+    (moments : List Moment) × (AreMoments bytes (end_of (header_of bytes)) moments
+    × (waits ≡ all_waits ids moments ids.ended (length ids.threads.items)))
 
 -- so it is from version 3 on; an earlier log has none
 pub record AreOtherWaits (bytes : List ℕ) (ids : Ids) (waits : List OtherWait) : Type 0 where

@@ -101,8 +101,8 @@ gift_of r level = record { thread = r.thread; level = level; number = r.number; 
 abbrev pub last_gift : Ids → List Moment → Awaited → ℕ → Option Gift
 last_gift ids [] awaited t = None
 last_gift ids (m ∷ before) awaited t =
-    if gives m.record awaited && not (m.record.thread == t) then Some
-    (gift_of m.record (level_at ids (m ∷ before) m.record.thread))
+    if gives m.record awaited && not (m.record.thread == t)
+    then Some (gift_of m.record (level_at ids (m ∷ before) m.record.thread))
     else last_gift ids before awaited t
 
 -- a gift, if it came during a wait that began with the record of this number; a joined thread, with its level at the end
