@@ -5,10 +5,11 @@ use Rattle.std.proofs.lemmas.List.{reverse-append}
 use Rattle.std.proofs.lemmas.List.Elements.{All-append, All-nil, All-push}
 use Rattle.std.proofs.lemmas.Option.{slice_get_within}
 use Rattle.std.specs.List.{AllByRecursion}
-use Rattle.std.specs.Option.{option_or}
+use Rattle.std.specs.Option.{option_or, unwrap_or}
 use Rattle.std.specs.Prelude.{IfSome}
 use Rattle.pim_log.specs.Headers.{end_of, form_fault_of, header_of, is_contradictory}
 use Rattle.pim_log.specs.Logs.{IsLog}
+use Rattle.pim_log.specs.Numbers.{number_at}
 use Rattle.pim_log.specs.declared.fault.HeaderFault.{HeaderFault}
 use Rattle.pim_log.specs.declared.header.Header.{Header}
 use Rattle.pim_facts.specs.Covering.{Covers}
@@ -163,12 +164,16 @@ next-above : (h : Header) → is_contradictory h ≡ false → (h.next_number ==
 next-above h sound =
     first-false _ _ (first-false _ _ (first-false _ _ (first-false _ _ (first-false _ _ (first-false _ _ sound)))))
 
-end-above : (h : Header) → is_contradictory h ≡ false → 0 < end_of h
-end-above h sound =
-    elim (h.first_lost == 0) as (λ b. (h.first_lost == 0) ≡ b → 0 < cond b h.next_number h.first_lost) [
+end-above : (bytes : List ℕ) → is_contradictory (header_of bytes) ≡ false → 0 < end_of (header_of bytes)
+end-above bytes sound =
+    elim (number_at 8 216 bytes == 0)
+    as (λ b. (number_at 8 216 bytes == 0) ≡ b → 0 < unwrap_or (cond b None (Some (number_at 8 216 bytes))) h.next_number) [
       | true ↦ λ whole. positive h.next_number (next-above h sound)
-      | false ↦ λ some. positive h.first_lost some
+      | false ↦ λ some. positive (number_at 8 216 bytes) some
     ] refl
+  where
+    h : Header
+    h = header_of bytes
 
 second-none : (o p : Option HeaderFault) → option_or o p ≡ None → p ≡ None
 second-none None p e = e
@@ -181,7 +186,7 @@ no-fault false fault o e = refl
 -- the numbers of a log end above 0
 log-above : (bytes : List ℕ) → IsLog bytes → 0 < end_of (header_of bytes)
 log-above bytes log =
-    end-above (header_of bytes) (no-fault _ _ _ (second-none (form_fault_of bytes) _ log.header))
+    end-above bytes (no-fault _ _ _ (second-none (form_fault_of bytes) _ log.header))
 
 all-room : (n room : ℕ) (facts : List Moment) → n < room → All (HasUpTo n) facts → All (HasRoom room) facts
 all-room n room facts lt all k d within = go (get_or facts k d).fact.section (all k d within)

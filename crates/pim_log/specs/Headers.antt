@@ -1,11 +1,15 @@
 -- The header of a log.
-use Rattle.std.specs.Prelude.{ℕ, ◌+◌, ◌*◌, ◌-◌, ◌^◌, ◌==◌, min, nat_lt, nat_le, List, length, Bool, not, ◌&&◌, ◌||◌, if◌then◌else◌, Option, Some, None}
-use Rattle.std.specs.Option.{option_or}
+use Rattle.std.specs.Prelude.{ℕ, ◌+◌, ◌*◌, ◌-◌, ◌^◌, ◌==◌, min, nat_lt, nat_le, List, length, Bool, not, ◌&&◌, ◌||◌, if◌then◌else◌, Option, Some, None, is_none, is_some, false}
+use Rattle.std.specs.Option.{option_map_or, option_or, unwrap_or}
 use Rattle.pim_log.specs.Numbers.{number_at}
 use Rattle.pim_log.specs.declared.header.Header.{Header}
 use Rattle.pim_log.specs.declared.header.TheConstants.{HEADER_BYTES, SLOT_BYTES, CHUNK_SLOTS, RECORDS_OF_CHUNK, MAGIC, BYTE_ORDER, FIRST_VERSION, PLACED_VERSION, VERSION, PLACES, COMMAND_BYTES}
 use Rattle.pim_log.specs.declared.fault.HeaderFault.{HeaderFault}
 use Rattle.pim_log.specs.declared.fault.HeaderFault.TheVariants.{NotALog, OtherByteOrder, OtherVersion, OtherSizes, Contradiction, CutShort, TooManyNumbers}
+
+-- the lowest number for which a log had no room; its header has 0 where nothing was lost
+abbrev pub first_lost_in : List ℕ → Option ℕ
+first_lost_in bytes = if number_at 8 216 bytes == 0 then None else Some (number_at 8 216 bytes)
 
 -- the fields of a header, each by its offset
 abbrev pub header_of : List ℕ → Header
@@ -23,7 +27,7 @@ header_of bytes = record {
   next_chunk = number_at 8 192 bytes;
   next_thread = number_at 8 200 bytes;
   lost = number_at 8 208 bytes;
-  first_lost = number_at 8 216 bytes;
+  first_lost = first_lost_in bytes;
   left_out = number_at 8 224 bytes;
   unplaced = number_at 8 248 bytes;
 }
@@ -56,14 +60,14 @@ used_of h = h.length + SLOT_BYTES * (CHUNK_SLOTS * chunks_of h)
 
 -- the number from which on the log isn't whole
 abbrev pub end_of : Header → ℕ
-end_of h = if h.first_lost == 0 then h.next_number else h.first_lost
+end_of h = unwrap_or h.first_lost h.next_number
 
 -- no recorder writes such counters
 abbrev pub is_contradictory : Header → Bool
 is_contradictory h =
     h.next_number == 0 || h.next_thread == 0 || nat_lt COMMAND_BYTES h.command_length
-    || (h.lost == 0 && not (h.first_lost == 0)) || (not (h.lost == 0) && h.first_lost == 0)
-    || nat_le h.next_number h.lost || nat_le h.next_number h.first_lost
+    || (h.lost == 0 && is_some h.first_lost) || (not (h.lost == 0) && is_none h.first_lost)
+    || nat_le h.next_number h.lost || option_map_or (nat_le h.next_number) h.first_lost false
 
 -- what is wrong with the counters, in a log of that many bytes: the first line that applies
 abbrev pub counter_fault : Header → ℕ → Option HeaderFault

@@ -1,6 +1,6 @@
 //! The header of a log.
 ghost use Rattle.std.specs.Prelude.{◌≡◌, ◌≤◌, ℕ, List, length, take, nat_le, None, Some, IfOk, MatchResult};
-ghost use Rattle.pim_log.specs.Headers.{header_of, header_bytes_of, has_sizes, form_fault_of, counter_fault, fault_within, start_fault, is_contradictory, end_of, chunks_of, used_of};
+ghost use Rattle.pim_log.specs.Headers.{header_of, header_bytes_of, has_sizes, form_fault_of, counter_fault, fault_within, start_fault, first_lost_in, is_contradictory, end_of, chunks_of, used_of};
 ghost use Rattle.pim_log.specs.Logs.{ReadsAs};
 
 use crate::fault::HeaderFault;
@@ -117,8 +117,8 @@ pub struct Header {
     pub next_thread: u64,
     /// The records for which there was no room.
     pub lost: u64,
-    /// The lowest number of those, or 0 where nothing was lost.
-    pub first_lost: u64,
+    /// The lowest number of those, if something was lost.
+    pub first_lost: Option<u64>,
     /// The calls of which something couldn't be known.
     pub left_out: u64,
     /// The records without a place because the table of places had no room for another.
@@ -166,7 +166,7 @@ impl Header {
             next_chunk: u64_at(bytes, 192),
             next_thread: u64_at(bytes, 200),
             lost: u64_at(bytes, 208),
-            first_lost: u64_at(bytes, 216),
+            first_lost: first_lost_at(bytes),
             left_out: u64_at(bytes, 224),
             unplaced: u64_at(bytes, 248),
         }
@@ -206,10 +206,12 @@ impl Header {
         self.next_number == 0
             || self.next_thread == 0
             || self.command_length > COMMAND_BYTES
-            || self.lost == 0 && self.first_lost != 0
-            || self.lost != 0 && self.first_lost == 0
+            || self.lost == 0 && self.first_lost.is_some()
+            || self.lost != 0 && self.first_lost.is_none()
             || self.lost >= self.next_number
-            || self.first_lost >= self.next_number
+            || self
+                .first_lost
+                .is_some_and(|number| number >= self.next_number)
     }
 
     /// Returns how many chunks a reader reads.
@@ -223,10 +225,17 @@ impl Header {
     pub fn end(&self) -> u64
         ensures { result ≡ end_of self.now }
     {
-        if self.first_lost == 0 {
-            self.next_number
-        } else {
-            self.first_lost
-        }
+        self.first_lost.unwrap_or(self.next_number)
+    }
+}
+
+/// Returns the lowest number for which a log had no room, for which its header has 0 where nothing was lost.
+fn first_lost_at(bytes: &[u8]) -> Option<u64>
+    requires { HEADER_BYTES ≤ length bytes.now }
+    ensures { result ≡ first_lost_in bytes.now }
+{
+    match u64_at(bytes, 216) {
+        0 => None,
+        number => Some(number),
     }
 }

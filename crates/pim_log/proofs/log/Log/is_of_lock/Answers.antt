@@ -1,22 +1,24 @@
-use Rattle.std.proofs.Common.{arith, ◌≡◌, ◌≢◌, ◌<◌, length, get_or, sym, ◌∙◌, ap, subst}
-use Rattle.std.proofs.lemmas.Grind.{get_or_default_zero}
+use Rattle.std.proofs.Common.{◌+◌, ◌≤◌, length, sym, ◌∙◌, ap, subst}
+use Rattle.pim_log.proofs.FoundLemmas.{at-number, within}
 use Rattle.pim_log.specs.Headers.{end_of}
-use Rattle.pim_log.specs.Logs.{IsNumbered, IsOfLock}
+use Rattle.pim_log.specs.Logs.{IsNumbered, IsOfLock, slot_at}
 use Rattle.pim_log.proofs.log.Log.is_of_lock.Goals as goal
+
+pub is_lock_in-requires-clause-slot : goal.is_lock_in-requires-clause-slot
+is_lock_in-requires-clause-slot c =
+    let bytes = c.self.inside.bytes.now in
+    let slot = c.index-slot.result.now in
+    let kept = c.self.invariant in
+    let numbered : IsNumbered bytes slot c.args.number = at-number bytes c.self.inside.index.items c.args.number slot c.end.result
+    kept.2 (c.end.ensures ∙ ap end_of kept.1) c.if-number-end.false c.index-slot.ensures c.if-slot-eq0.false in
+    subst (λ h. slot_at h slot + 32 ≤ length bytes) (sym kept.1) (within bytes slot kept.0.header numbered.slot)
 
 pub returns : goal.returns
 returns c =
     let bytes = c.self.inside.bytes.now in
-    let index = c.self.inside.index.items in
-    let number = c.args.number in
+    let slot = c.index-slot.result.now in
     let kept = c.self.invariant in
-    let room : c.end.result ≡ length index = c.end.ensures ∙ ap end_of kept.1 ∙ sym kept.2.room in
-    let below : number < length index = omega arith in
-    let slot : c.index-slot.result.now ≡ get_or index number 0 = c.index-slot.ensures ∙ get_or_default_zero index number c.index-slot.result.now below in
-    let there : get_or index number 0 ≢ 0 = λ none. c.if-slot-eq0.false (slot ∙ none) in
-    let numbered : IsNumbered bytes c.index-slot.result.now number = subst (λ s. IsNumbered bytes s number) (sym slot) (kept.2.has number there).1 in
-    λ yes. subst (λ bs. IsOfLock bs number) c.self.view_is (record {
-      slot = c.index-slot.result.now;
-      numbered = numbered;
-      is_lock = sym c.is_lock_in.ensures ∙ yes;
-    })
+    let numbered : IsNumbered bytes slot c.args.number = at-number bytes c.self.inside.index.items c.args.number slot c.end.result
+    kept.2 (c.end.ensures ∙ ap end_of kept.1) c.if-number-end.false c.index-slot.ensures c.if-slot-eq0.false in
+    λ yes. subst (λ bs. IsOfLock bs c.args.number) c.self.view_is
+    (record { slot = slot; numbered = numbered; is_lock = sym c.is_lock_in.ensures ∙ yes })
