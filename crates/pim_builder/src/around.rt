@@ -8,19 +8,8 @@ use crate::fault::ImportFault;
 use crate::pieces::Pieces;
 use pim_base::{MutexNo, Prio, Protocol, TaskNo};
 use pim_course::lists::push;
-use pim_replay::Observation;
+use pim_replay::{Observation, TicketedWait};
 use std::alloc::AllocError;
-
-/// A wait in the queue of a mutex. In order by the ticket, that is as they began.
-#[derive(Clone, Copy, PartialEq, Eq, PartialOrd, Ord)]
-struct QueuedWait {
-    /// The manager's number of the wait: of two waits the one that began later has the higher one.
-    ticket: u64,
-    /// The number of the task that waits.
-    task: u16,
-    /// The number of the mutex.
-    mutex: u16,
-}
 
 impl Pieces {
     /// Makes the steps of a release. The next owner may be one that the model would pass over.
@@ -129,7 +118,11 @@ impl Pieces {
     /// Takes a task out of the queue in which it waits, so that it can act, and those who began to wait there after it.
     /// Returns the waits in their order.
     #[tactic(auto, using(crate::proofs::GoingOn::goes_on_refl))]
-    fn set_aside(&mut self, task: Option<TaskNo>, now: &Now) -> Result<Vec<QueuedWait>, ImportFault>
+    fn set_aside(
+        &mut self,
+        task: Option<TaskNo>,
+        now: &Now,
+    ) -> Result<Vec<TicketedWait>, ImportFault>
         ensures on { IfOk result (λ _. GoesOn now.now.time self.old self.new) }
         ensures fault { IfErr result (NamesOnly now.now.number) }
     {
@@ -141,7 +134,7 @@ impl Pieces {
     }
 
     /// Returns the waits in the queue of a task from its own on, in the order in which they began.
-    fn waits_from(&self, task: Option<TaskNo>) -> Result<Vec<QueuedWait>, AllocError> {
+    fn waits_from(&self, task: Option<TaskNo>) -> Result<Vec<TicketedWait>, AllocError> {
         let mut waits = Vec::new(self.alloc);
         let Some((task, mutex)) = self.queue_of(task) else {
             return Ok(waits);
@@ -157,7 +150,7 @@ impl Pieces {
         }
         for waiter in waiters {
             if waiter.ticket >= own {
-                let wait = QueuedWait {
+                let wait = TicketedWait {
                     ticket: waiter.ticket,
                     task: waiter.task.get(),
                     mutex: mutex.get(),
@@ -178,7 +171,7 @@ impl Pieces {
 
     /// Lets tasks wait again.
     #[tactic(auto, using(crate::proofs::GoingOn::goes_on_refl))]
-    fn put_back(&mut self, waits: &[QueuedWait], now: &Now) -> Result<(), ImportFault>
+    fn put_back(&mut self, waits: &[TicketedWait], now: &Now) -> Result<(), ImportFault>
         ensures on { IfOk result (λ _. GoesOn now.now.time self.old self.new) }
         ensures fault { IfErr result (NamesOnly now.now.number) }
     {

@@ -111,7 +111,7 @@ impl Walk {
             let set = set_by(step, tracked.manager());
             let _done = tracked.step(*step);
             for one in tracked.changed() {
-                let is_set = one.task == set;
+                let is_set = set == Some(one.task);
                 self.note(one.task, Some(one.prio), one.reason, bounds, is_set)?;
             }
         }
@@ -240,19 +240,19 @@ fn make_turn(
     }
 }
 
-/// Returns the task whose own priority a step sets: that of a new base, or that which locks or unlocks a PROTECT mutex,
-/// since glibc sets it then. 0: none.
-fn set_by(step: &Step, manager: &Manager) -> TaskNo {
+/// Returns the task whose own priority a step sets, if it sets one: that of a new base, or that which locks or unlocks a
+/// PROTECT mutex, since glibc sets it then.
+fn set_by(step: &Step, manager: &Manager) -> Option<TaskNo> {
     match &step.op {
-        Op::SetBase(task, _) => *task,
+        Op::SetBase(task, _) => Some(*task),
         Op::Lock(mutex) | Op::Try(mutex) | Op::Unlock(mutex) => {
             match manager.protocol(*mutex) {
-                Some(Protocol::Protect(_)) => step.actor,
-                _ => TaskNo(0),
+                Some(Protocol::Protect(_)) => Some(step.actor),
+                _ => None,
             }
         }
-        Op::ReleaseAll => step.actor,
-        Op::Cancel(_) | Op::SetCeiling(..) => TaskNo(0),
+        Op::ReleaseAll => Some(step.actor),
+        Op::Cancel(_) | Op::SetCeiling(..) => None,
     }
 }
 

@@ -11,6 +11,17 @@ use pim_base::{MutexNo, Prio, Protocol, TaskNo};
 use pim_manager::MakeFault;
 use std::alloc::{AllocError, Global};
 
+/// A wait of a task for a mutex. In order by the ticket, that is as they began.
+#[derive(Clone, Copy, PartialEq, Eq, PartialOrd, Ord)]
+pub struct TicketedWait {
+    /// The manager's number of the wait: of two waits the one that began later has the higher one.
+    pub ticket: u64,
+    /// The number of the task that waits.
+    pub task: u16,
+    /// The number of the mutex.
+    pub mutex: u16,
+}
+
 /// Returns a replay whose first steps restore the state of another one but for the tickets. Their order stays, among the
 /// tasks in queues and among those outside. All tasks begin at priority 1, so that no ceiling refuses what was granted; the
 /// owners lock, then the waiters queue, then each task has its base, and those that wait outside of the queues come last.
@@ -39,9 +50,7 @@ fn begun(alloc: Global, replay: &Replay) -> Result<Replay, ReplayFault> {
             next.observe(&Observation::Granted(owner, MutexNo(number)))?;
         }
     }
-    for (_ticket, task, mutex) in &queued(alloc, replay)? {
-        next.observe(&Observation::Waits(TaskNo(*task), MutexNo(*mutex)))?;
-    }
+    observe_all(&mut next, queued(alloc, replay)?.as_slice())?;
     for number in 1..=replay.manager().tasks() {
         if let Some(prio) = replay.manager().base(TaskNo(number)) {
             if prio.get() != 1 {
@@ -49,10 +58,16 @@ fn begun(alloc: Global, replay: &Replay) -> Result<Replay, ReplayFault> {
             }
         }
     }
-    for (_ticket, task, mutex) in &outside(alloc, replay)? {
-        next.observe(&Observation::Waits(TaskNo(*task), MutexNo(*mutex)))?;
-    }
+    observe_all(&mut next, outside(alloc, replay)?.as_slice())?;
     Ok(next)
+}
+
+/// Lets these waits begin, one after the other.
+fn observe_all(replay: &mut Replay, waits: &[TicketedWait]) -> Result<(), ReplayFault> {
+    for wait in waits {
+        replay.observe(&Observation::Waits(TaskNo(wait.task), MutexNo(wait.mutex)))?;
+    }
+    Ok(())
 }
 
 /// Returns a replay with the tasks and the mutexes of another one, and their ceilings. All bases are 1.
@@ -75,13 +90,18 @@ fn at_start(alloc: Global, replay: &Replay) -> Result<Replay, ReplayFault> {
     }
 }
 
-/// Returns the waits in the queues, each with its ticket, its task and its mutex, in the order of the tickets.
-fn queued(alloc: Global, replay: &Replay) -> Result<Vec<(u64, u16, u16)>, AllocError> {
+/// Returns the waits in the queues, in order.
+fn queued(alloc: Global, replay: &Replay) -> Result<Vec<TicketedWait>, AllocError> {
     let mut waits = Vec::new(alloc);
     for number in 1..=replay.manager().mutexes() {
         if let Some(waiters) = replay.manager().waiters(MutexNo(number)) {
             for waiter in waiters {
-                push(&mut waits, (waiter.ticket, waiter.task.get(), number))?;
+                let wait = TicketedWait {
+                    ticket: waiter.ticket,
+                    task: waiter.task.get(),
+                    mutex: number,
+                };
+                push(&mut waits, wait)?;
             }
         }
     }
@@ -89,12 +109,17 @@ fn queued(alloc: Global, replay: &Replay) -> Result<Vec<(u64, u16, u16)>, AllocE
     Ok(waits)
 }
 
-/// Returns the waits outside of the queues in the same way.
-fn outside(alloc: Global, replay: &Replay) -> Result<Vec<(u64, u16, u16)>, AllocError> {
+/// Returns the waits outside of the queues, in order.
+fn outside(alloc: Global, replay: &Replay) -> Result<Vec<TicketedWait>, AllocError> {
     let mut waits = Vec::new(alloc);
     for number in 1..=replay.manager().tasks() {
         if let Some(wait) = replay.outside_wait(TaskNo(number)) {
-            push(&mut waits, (wait.ticket, number, wait.mutex.get()))?;
+            let is = TicketedWait {
+                ticket: wait.ticket,
+                task: number,
+                mutex: wait.mutex.get(),
+            };
+            push(&mut waits, is)?;
         }
     }
     waits.sort_unstable();
